@@ -1,0 +1,51 @@
+-- Characters: a text is cut from left to right into CRLF, well-formed sequences of UTF-8, else single bytes.
+-- [Unicode Table 3-7; CRLF as one: own]
+use Rattle.std.specs.Prelude.{ℕ, zero, suc, ◌+◌, ◌-◌, nat_le, nat_lt, ◌&&◌, Bool, true, false, List, [], ◌∷◌, length, filter, find, reverse, unwrap_or, Option, Some, None}
+use Rattle.ed_model.specs.Matches.{is_from_to}
+
+-- CRLF, then the rows of the table: the least and the greatest byte at each place of a sequence
+abbrev pub sequences : List (List (ℕ × ℕ))
+sequences =
+    ((13, 13) ∷ (10, 10) ∷ [])
+    ∷ ((0x00, 0x7F) ∷ [])
+    ∷ ((0xC2, 0xDF) ∷ (0x80, 0xBF) ∷ [])
+    ∷ ((0xE0, 0xE0) ∷ (0xA0, 0xBF) ∷ (0x80, 0xBF) ∷ [])
+    ∷ ((0xE1, 0xEC) ∷ (0x80, 0xBF) ∷ (0x80, 0xBF) ∷ [])
+    ∷ ((0xED, 0xED) ∷ (0x80, 0x9F) ∷ (0x80, 0xBF) ∷ [])
+    ∷ ((0xEE, 0xEF) ∷ (0x80, 0xBF) ∷ (0x80, 0xBF) ∷ [])
+    ∷ ((0xF0, 0xF0) ∷ (0x90, 0xBF) ∷ (0x80, 0xBF) ∷ (0x80, 0xBF) ∷ [])
+    ∷ ((0xF1, 0xF3) ∷ (0x80, 0xBF) ∷ (0x80, 0xBF) ∷ (0x80, 0xBF) ∷ [])
+    ∷ ((0xF4, 0xF4) ∷ (0x80, 0x8F) ∷ (0x80, 0xBF) ∷ (0x80, 0xBF) ∷ [])
+    ∷ []
+
+-- whether the text begins with bytes in these ranges
+abbrev pub begins_with : List ℕ → List (ℕ × ℕ) → Bool
+begins_with text [] = true
+begins_with [] (r ∷ rs) = false
+begins_with (b ∷ bs) (r ∷ rs) = is_from_to r.0 r.1 b && begins_with bs rs
+
+abbrev pub sequence_length : Option (List (ℕ × ℕ)) → ℕ
+sequence_length None = 1
+sequence_length (Some ranges) = length ranges
+
+-- how long the first character of the text is
+abbrev pub character_length : List ℕ → ℕ
+character_length text = sequence_length (find (begins_with text) sequences)
+
+-- the cuts of a text that begins at place p, `left` bytes before the end of a character
+abbrev pub cuts_from : ℕ → ℕ → List ℕ → List ℕ
+cuts_from p left [] = p ∷ []
+cuts_from p zero (b ∷ bs) = p ∷ cuts_from (p + 1) (character_length (b ∷ bs) - 1) bs
+cuts_from p (suc left) (b ∷ bs) = cuts_from (p + 1) left bs
+
+-- the places between two characters, and both ends
+abbrev pub cuts : List ℕ → List ℕ
+cuts text = cuts_from 0 0 text
+
+-- the greatest cut below p, or 0
+abbrev pub cut_before : List ℕ → ℕ → ℕ
+cut_before text p = unwrap_or (find (λ cut. nat_lt cut p) (reverse (cuts text))) 0
+
+-- the least cut above p, or the end
+abbrev pub cut_after : List ℕ → ℕ → ℕ
+cut_after text p = unwrap_or (find (nat_lt p) (cuts text)) (length text)

@@ -1,0 +1,63 @@
+-- Edits: the plans of messages that change the text. [Scintilla: text modification; selection, clipboard]
+use Rattle.std.specs.Prelude.{ℕ, ◌+◌, ◌-◌, nat_le, nat_lt, ◌&&◌, if◌then◌else◌, Bool, true, false, ℤ, pos, List, [], ◌∷◌, length, take, Result, Ok, Err}
+use Rattle.ed_types.specs.declared.refusal.Refusal.TheVariants.{TooLong}
+use Rattle.ed_model.specs.declared.plan.Source.{Source}
+use Rattle.ed_model.specs.declared.plan.Source.TheVariants as source
+use Rattle.ed_model.specs.declared.plan.Edit.{Edit}
+use Rattle.ed_model.specs.declared.plan.Edit.TheVariants as edit
+use Rattle.ed_model.specs.declared.plan.Follow.{Follow}
+use Rattle.ed_model.specs.declared.plan.Follow.TheVariants as follow
+use Rattle.ed_model.specs.declared.plan.Plan.{Plan}
+use Rattle.ed_model.specs.declared.plan.Plan.TheVariants as plan
+use Rattle.ed_model.specs.Steps.{Step, Insert, Delete, replacement}
+use Rattle.ed_model.specs.LineEnds.{line_end_bytes, converted, conversion_steps}
+use Rattle.ed_model.specs.Session.{limit_of}
+use Rattle.ed_model.specs.Requests.{Request, Planned, text, size}
+
+abbrev pub converted_if : Bool → Request → List ℕ → List ℕ
+converted_if true r bytes = converted r.document.line_end bytes
+converted_if false r bytes = bytes
+
+-- the bytes that are put in
+abbrev pub source_bytes : Request → Source → List ℕ
+source_bytes r source.Nothing = []
+source_bytes r (source.MessageText count) = take count r.message.text
+source_bytes r (source.Clipboard convert) = converted_if convert r r.session.clipboard
+source_bytes r source.LineEnd = line_end_bytes r.document.line_end
+
+-- the steps of an edit
+abbrev pub steps_of : Request → Edit → List Step
+steps_of r (edit.Replace start count from) = replacement start count (source_bytes r from) (text r)
+steps_of r (edit.ConvertLineEnds to) = conversion_steps to (text r)
+
+abbrev pub size_after : ℕ → Step → ℕ
+size_after n (Insert p bytes) = n + length bytes
+size_after n (Delete p bytes) = n - length bytes
+
+-- whether no step takes a text of n bytes past the limit
+abbrev pub stays_within : ℕ → ℕ → List Step → Bool
+stays_within limit n [] = true
+stays_within limit n (step ∷ steps) = nat_le (size_after n step) limit && stays_within limit (size_after n step) steps
+
+abbrev pub has_steps : List Step → Bool
+has_steps [] = false
+has_steps (step ∷ steps) = true
+
+-- what these steps come to: on a read-only document they are only told of, and a text too long is refused
+abbrev pub edit_of_steps : Request → Plan → List Step → Planned
+edit_of_steps r done steps =
+    if r.document.read_only && has_steps steps then Ok plan.Attempt
+    else (if stays_within (limit_of r.session.limits r.document) (size r) steps then Ok done else Err TooLong)
+
+-- the plan of an edit, with the value that it answers and what follows it
+abbrev pub edit_plan : Request → Edit → ℤ → Follow → Planned
+edit_plan r change value after = edit_of_steps r (plan.Edit change value after) (steps_of r change)
+
+-- an edit that replaces bytes, answers 0, and is followed by nothing
+abbrev pub replace_plan : Request → ℕ → ℕ → Source → Planned
+replace_plan r start count from = edit_plan r (edit.Replace start count from) (pos 0) follow.Nothing
+
+-- an edit that replaces bytes and leaves anchor and caret behind what it put in
+abbrev pub replace_and_go : Request → ℕ → ℕ → Source → Planned
+replace_and_go r start count from =
+    edit_plan r (edit.Replace start count from) (pos 0) (follow.Caret (start + length (source_bytes r from)))

@@ -1,0 +1,128 @@
+-- Worked examples, written by tools/example_theorems.py from examples/.
+use Rattle.std.specs.Prelude.{[], ◌∷◌, codes}
+use Rattle.ed_model.specs.Prints.{Prints, lines}
+
+abbrev pub Folding : Type 0
+Folding = Prints ([])
+    (lines (
+    codes "sci 1" ∷
+    codes "open" ∷
+    codes "send 1 2003 0 0 \"a\\x0ab\\x0ac\\x0ad\"" ∷
+    codes "send 1 2222 0 9216 \"\"" ∷
+    codes "send 1 2222 1 9217 \"\"" ∷
+    codes "send 1 2222 2 1026 \"\"" ∷
+    codes "send 1 2222 3 1025 \"\"" ∷
+    codes "send 1 2237 1 0 \"\"" ∷
+    codes "send 1 2237 0 0 \"\"" ∷
+    codes "send 1 2237 0 1 \"\"" ∷
+    codes "send 1 2228 0 0 \"\"" ∷
+    codes "send 1 2228 1 0 \"\"" ∷
+    codes "send 1 2228 2 0 \"\"" ∷
+    codes "send 1 2228 3 0 \"\"" ∷
+    codes "send 1 2220 2 0 \"\"" ∷
+    codes "send 1 2221 3 0 \"\"" ∷
+    codes "send 1 2232 2 0 \"\"" ∷
+    codes "send 1 2228 0 0 \"\"" ∷
+    codes "send 1 2228 1 0 \"\"" ∷
+    codes "send 1 2228 2 0 \"\"" ∷
+    codes "send 1 2228 3 0 \"\"" ∷
+    []))
+    (lines (
+    codes "= 1 \"\"" ∷
+    codes "= 0 \"\"" ∷
+    codes "@ 1 2008 1040 0 7 0 0 0 0 0 0 0 0 \"a\\x0ab\\x0ac\\x0ad\"" ∷
+    codes "@ 1 2003 0 0 0 0 0 0 0 0 0 0 0 \"\"" ∷
+    codes "@ 1 2008 8209 0 7 3 0 0 0 0 0 0 0 \"a\\x0ab\\x0ac\\x0ad\"" ∷
+    codes "= 0 \"\"" ∷
+    codes "@ 1 2008 8 0 0 0 0 9216 1024 0 0 0 0 \"\"" ∷
+    codes "= 0 \"\"" ∷
+    codes "@ 1 2008 8 0 0 0 1 9217 1024 0 0 0 0 \"\"" ∷
+    codes "= 0 \"\"" ∷
+    codes "@ 1 2008 8 0 0 0 2 1026 1024 0 0 0 0 \"\"" ∷
+    codes "= 0 \"\"" ∷
+    codes "@ 1 2008 8 0 0 0 3 1025 1024 0 0 0 0 \"\"" ∷
+    codes "= 0 \"\"" ∷
+    codes "= 0 \"\"" ∷
+    codes "= 0 \"\"" ∷
+    codes "= 1 \"\"" ∷
+    codes "= 1 \"\"" ∷
+    codes "= 0 \"\"" ∷
+    codes "= 1 \"\"" ∷
+    codes "= 1 \"\"" ∷
+    codes "= 4 \"\"" ∷
+    codes "= 0 \"\"" ∷
+    codes "= 1 \"\"" ∷
+    codes "= 1 \"\"" ∷
+    codes "= 1 \"\"" ∷
+    codes "= 1 \"\"" ∷
+    []))
+
+abbrev pub HiddenLines : Type 0
+HiddenLines = Prints ([])
+    (lines (
+    codes "sci 1" ∷
+    codes "open" ∷
+    codes "send 1 2003 0 0 \"a\\x0ab\\x0ac\\x0ad\"" ∷
+    codes "send 1 2227 0 9 \"\"" ∷
+    codes "send 1 2228 0 0 \"\"" ∷
+    codes "send 1 2228 1 0 \"\"" ∷
+    codes "send 1 2228 2 0 \"\"" ∷
+    codes "send 1 2228 3 0 \"\"" ∷
+    codes "send 1 2236 0 0 \"\"" ∷
+    codes "send 1 2220 3 0 \"\"" ∷
+    codes "send 1 2221 1 0 \"\"" ∷
+    codes "send 1 2226 1 2 \"\"" ∷
+    codes "send 1 2221 2 0 \"\"" ∷
+    []))
+    (lines (
+    codes "= 1 \"\"" ∷
+    codes "= 0 \"\"" ∷
+    codes "@ 1 2008 1040 0 7 0 0 0 0 0 0 0 0 \"a\\x0ab\\x0ac\\x0ad\"" ∷
+    codes "@ 1 2003 0 0 0 0 0 0 0 0 0 0 0 \"\"" ∷
+    codes "@ 1 2008 8209 0 7 3 0 0 0 0 0 0 0 \"a\\x0ab\\x0ac\\x0ad\"" ∷
+    codes "= 0 \"\"" ∷
+    codes "= 1 \"\"" ∷
+    codes "= 0 \"\"" ∷
+    codes "= 0 \"\"" ∷
+    codes "= 0 \"\"" ∷
+    codes "= 0 \"\"" ∷
+    codes "= 0 \"\"" ∷
+    codes "= 4 \"\"" ∷
+    codes "= 0 \"\"" ∷
+    codes "= 2 \"\"" ∷
+    []))
+
+abbrev pub HiddenLinesInRange : Type 0
+HiddenLinesInRange = Prints ([])
+    (lines (
+    codes "sci 1" ∷
+    codes "open" ∷
+    codes "send 1 2003 0 0 \"a\\x0ab\\x0ac\\x0ad\"" ∷
+    codes "send 1 2227 0 3 \"\"" ∷
+    codes "send 1 2228 0 0 \"\"" ∷
+    codes "send 1 2228 1 0 \"\"" ∷
+    codes "send 1 2228 2 0 \"\"" ∷
+    codes "send 1 2228 3 0 \"\"" ∷
+    codes "send 1 2236 0 0 \"\"" ∷
+    codes "send 1 2220 3 0 \"\"" ∷
+    codes "send 1 2221 1 0 \"\"" ∷
+    codes "send 1 2226 1 2 \"\"" ∷
+    codes "send 1 2221 2 0 \"\"" ∷
+    []))
+    (lines (
+    codes "= 1 \"\"" ∷
+    codes "= 0 \"\"" ∷
+    codes "@ 1 2008 1040 0 7 0 0 0 0 0 0 0 0 \"a\\x0ab\\x0ac\\x0ad\"" ∷
+    codes "@ 1 2003 0 0 0 0 0 0 0 0 0 0 0 \"\"" ∷
+    codes "@ 1 2008 8209 0 7 3 0 0 0 0 0 0 0 \"a\\x0ab\\x0ac\\x0ad\"" ∷
+    codes "= 0 \"\"" ∷
+    codes "= 1 \"\"" ∷
+    codes "= 0 \"\"" ∷
+    codes "= 0 \"\"" ∷
+    codes "= 0 \"\"" ∷
+    codes "= 0 \"\"" ∷
+    codes "= 0 \"\"" ∷
+    codes "= 4 \"\"" ∷
+    codes "= 0 \"\"" ∷
+    codes "= 2 \"\"" ∷
+    []))

@@ -1,0 +1,76 @@
+-- Line ends of a kind, and turning others into it. [Scintilla: line ends; the order of the steps: own]
+use Rattle.std.specs.Prelude.{ℕ, ◌+◌, ◌==◌, ◌&&◌, ◌||◌, not, if◌then◌else◌, Bool, true, false, List, [], ◌∷◌, ◌++◌, fold}
+use Rattle.ed_model.specs.declared.plan.LineEnd.{LineEnd}
+use Rattle.ed_model.specs.declared.plan.LineEnd.TheVariants.{CrLf, Cr, Lf}
+use Rattle.ed_model.specs.Text.{line_feed, carriage_return}
+use Rattle.ed_model.specs.Steps.{Step, Insert, Delete, edited}
+
+abbrev pub line_end_bytes : LineEnd → List ℕ
+line_end_bytes CrLf = carriage_return ∷ line_feed ∷ []
+line_end_bytes Cr = carriage_return ∷ []
+line_end_bytes Lf = line_feed ∷ []
+
+abbrev pub begins_with_line_feed : List ℕ → Bool
+begins_with_line_feed [] = false
+begins_with_line_feed (b ∷ bs) = b == line_feed
+
+-- a text with each CRLF, CR and LF turned into the line end; `after_return` says that a CR stands before it
+abbrev pub converted_after : Bool → LineEnd → List ℕ → List ℕ
+converted_after after_return to [] = []
+converted_after after_return to (b ∷ bs) =
+    if b == line_feed && after_return then converted_after false to bs
+    else (if b == line_feed || b == carriage_return then line_end_bytes to ++ converted_after (b == carriage_return) to bs else b ∷ converted_after false to bs)
+
+abbrev pub converted : LineEnd → List ℕ → List ℕ
+converted to text = converted_after false to text
+
+-- The steps that turn a text's line ends into one kind: first each missing byte is put in, left to right, so that each line end
+-- of another kind is a CRLF; then each unwanted byte of these is deleted. A step names the place of its own moment.
+
+-- whether an LF alone, or a CR alone, is of another kind than wanted
+abbrev pub is_feed_foreign : LineEnd → Bool
+is_feed_foreign CrLf = true
+is_feed_foreign Cr = true
+is_feed_foreign Lf = false
+
+abbrev pub is_return_foreign : LineEnd → Bool
+is_return_foreign CrLf = true
+is_return_foreign Cr = false
+is_return_foreign Lf = true
+
+abbrev pub missing_from : ℕ → Bool → LineEnd → List ℕ → List Step
+missing_from p after_return to [] = []
+missing_from p after_return to (b ∷ bs) =
+    if b == line_feed && not after_return && is_feed_foreign to
+    then Insert p (carriage_return ∷ []) ∷ missing_from (p + 2) false to bs
+    else (if b == carriage_return && not (begins_with_line_feed bs) && is_return_foreign to
+    then Insert (p + 1) (line_feed ∷ []) ∷ missing_from (p + 2) false to bs
+    else missing_from (p + 1) (b == carriage_return) to bs)
+
+-- whether the CR, or the LF, of a CRLF is unwanted
+abbrev pub is_return_unwanted : LineEnd → Bool
+is_return_unwanted CrLf = false
+is_return_unwanted Cr = false
+is_return_unwanted Lf = true
+
+abbrev pub is_feed_unwanted : LineEnd → Bool
+is_feed_unwanted CrLf = false
+is_feed_unwanted Cr = true
+is_feed_unwanted Lf = false
+
+abbrev pub unwanted_from : ℕ → Bool → LineEnd → List ℕ → List Step
+unwanted_from p after_return to [] = []
+unwanted_from p after_return to (b ∷ bs) =
+    if b == carriage_return && begins_with_line_feed bs && is_return_unwanted to
+    then Delete p (carriage_return ∷ []) ∷ unwanted_from p false to bs
+    else (if b == line_feed && after_return && is_feed_unwanted to
+    then Delete p (line_feed ∷ []) ∷ unwanted_from p false to bs
+    else unwanted_from (p + 1) (b == carriage_return) to bs)
+
+abbrev pub after_steps : List Step → List ℕ → List ℕ
+after_steps steps text = fold (λ t step. edited step t) text steps
+
+abbrev pub conversion_steps : LineEnd → List ℕ → List Step
+conversion_steps to text =
+    let missing = missing_from 0 false to text in
+    missing ++ unwanted_from 0 false to (after_steps missing text)

@@ -1,0 +1,59 @@
+-- Scripts as text. A script is lines, each ended by LF: the first names the version, each other is one command, its fields with
+-- single spaces between. [own]
+use Rattle.std.specs.Prelude.{ℕ, ◌==◌, ◌&&◌, ◌||◌, nat_le, Bool, true, false, not, List, [], ◌∷◌, ◌++◌, length, flat_map, codes}
+use Rattle.std.specs.List.{join_with_byte, list_all}
+use Rattle.ed_types.specs.declared.script.Command.{Command}
+use Rattle.ed_types.specs.declared.script.Command.TheVariants.{OpenView, CloseView, LoadFile, SendMessage, Expect}
+use Rattle.ed_model.specs.Text.{line_feed}
+use Rattle.ed_model.specs.Spelling.{space, spelled, spelled_int, spelled_text}
+
+abbrev pub fields_of : Command → List (List ℕ)
+fields_of OpenView = codes "open" ∷ []
+fields_of (CloseView view) = codes "close" ∷ spelled view ∷ []
+fields_of (LoadFile view file) = codes "load" ∷ spelled view ∷ spelled file ∷ []
+fields_of (SendMessage view message) = codes "send" ∷ spelled view ∷ spelled message.number ∷ spelled_int message.w ∷ spelled_int message.l ∷ spelled_text message.text ∷ []
+fields_of (Expect value) = codes "expect" ∷ spelled_int value ∷ []
+
+-- a command's line, without the LF
+abbrev pub listed_command : Command → List ℕ
+listed_command command = join_with_byte space (fields_of command)
+
+abbrev pub ended_line : List ℕ → List ℕ
+ended_line line = line ++ line_feed ∷ []
+
+-- the first line
+abbrev pub version_line : ℕ → List ℕ
+version_line version = codes "sci " ++ spelled version
+
+-- the listing of a script in a version
+abbrev pub listing : ℕ → List Command → List ℕ
+listing version commands = ended_line (version_line version) ++ flat_map (λ command. ended_line (listed_command command)) commands
+
+-- what version 1 cannot say
+abbrev pub is_expect : Command → Bool
+is_expect OpenView = false
+is_expect (CloseView view) = false
+is_expect (LoadFile view file) = false
+is_expect (SendMessage view message) = false
+is_expect (Expect value) = true
+
+-- whether the version has words for the commands; there are versions 1 and 2
+abbrev pub speaks : ℕ → List Command → Bool
+speaks version commands = version == 2 || (version == 1 && list_all (λ command. not (is_expect command)) commands)
+
+-- the greatest length of a line, without its LF, and of a script, in bytes
+abbrev pub line_limit : ℕ
+line_limit = 65536
+
+abbrev pub script_limit : ℕ
+script_limit = 16777216
+
+abbrev pub fits_line : List ℕ → Bool
+fits_line line = nat_le (length line) line_limit
+
+abbrev pub fits_script : List ℕ → Bool
+fits_script text = nat_le (length text) script_limit
+
+-- Whether commands are a script: no line and not the whole pass their limits. Both versions' listings are as long.
+abbrev pub keeps_limits : List Command → Bool
+keeps_limits commands = list_all (λ command. fits_line (listed_command command)) commands && fits_script (listing 2 commands)

@@ -1,0 +1,186 @@
+-- What a plan does: the session afterwards, and the reply.
+use Rattle.std.specs.Prelude.{ℕ, ◌+◌, ◌-◌, ◌*◌, ◌==◌, nat_lt, nat_le, min, max, not, ◌&&◌, if◌then◌else◌, Bool, true, false, ℤ, pos, negsuc, List, [], ◌∷◌, ◌++◌, length, map, filter, flat_map, take, drop, replicate, reverse, slice_range, slice_set, slice_index, slice_index_or, bit_or, Option, Some, None}
+use Rattle.ed_types.specs.Notices.{Notice, Response}
+use Rattle.ed_model.specs.declared.plan.LineEndTypes.{LineEndTypes}
+use Rattle.ed_model.specs.declared.plan.Edit.{Edit}
+use Rattle.ed_model.specs.declared.plan.Follow.{Follow}
+use Rattle.ed_model.specs.declared.plan.Follow.TheVariants as follow
+use Rattle.ed_model.specs.declared.plan.Plan.{Plan}
+use Rattle.ed_model.specs.declared.plan.Plan.TheVariants as plan
+use Rattle.ed_model.specs.Text.{Cell, bytes_of}
+use Rattle.ed_model.specs.Steps.{Step, Insert, Delete, place_of, step_bytes, edited_cells, moved_position}
+use Rattle.ed_model.specs.Carry.{carried_by}
+use Rattle.ed_model.specs.Rows.{rows_together, flags_together}
+use Rattle.ed_model.specs.Indicators.{indicators_after}
+use Rattle.ed_model.specs.History.{History, Change, TextStep, ContainerStep, appended, begins_transaction, at_save_point, sealed_outside_groups, undone, redone, undo_changes, redo_changes, latest_text_step}
+use Rattle.ed_model.specs.Numbers.{growth}
+use Rattle.ed_model.specs.Session.{Session, View, Document, text_of, lines_in, with_document, watching}
+use Rattle.ed_model.specs.Notes as notes
+use Rattle.ed_model.specs.Requests.{Request, text}
+use Rattle.ed_model.specs.Edits.{steps_of}
+
+abbrev pub response : ℤ → List ℕ → List Notice → Response
+response value bytes notes = record { value = value; text = bytes; notes = notes }
+
+-- an answer without text or notes
+abbrev pub quiet : ℤ → Response
+quiet value = response value [] []
+
+-- Steps.
+
+-- the document after a step of its text
+abbrev pub document_after : Step → Document → Document
+document_after step d = record d {
+  cells = edited_cells step d.cells;
+  rows = carried_by rows_together d.line_end_types step (text_of d) d.rows;
+  indicators = indicators_after step d.indicators;
+  end_styled = min d.end_styled (place_of step);
+}
+
+-- a view of that document
+abbrev pub moved_view : Step → Document → View → View
+moved_view step d v = record v {
+  anchor = moved_position step v.anchor;
+  caret = moved_position step v.caret;
+  target_start = moved_position step v.target_start;
+  target_end = moved_position step v.target_end;
+  lines = carried_by flags_together d.line_end_types step (text_of d) v.lines;
+}
+
+abbrev pub view_after : Step → Document → View → View
+view_after step d v = if v.document == d.id then moved_view step d v else v
+
+-- A scene: a document that steps are made on, the views of the session, and what was heard so far.
+pub record Scene : Type 0 where
+  pub document : Document
+  pub views : List View
+  pub notes : List Notice
+
+-- all but the history after a step, heard before and after it with these bits, and with `between` told in between
+abbrev pub step_heard : ℕ → ℕ → List Notice → Step → Scene → Scene
+step_heard before_bits after_bits between step scene =
+    let views = watching scene.views scene.document in
+    let after = document_after step scene.document in
+    record {
+      document = after;
+      views = map (view_after step scene.document) scene.views;
+      notes = scene.notes ++ notes.heard views (notes.before_note before_bits step) ++ between
+          ++ notes.heard views (notes.after_note after_bits (growth (lines_in scene.document) (lines_in after)) step);
+    }
+
+abbrev pub with_history : History → Scene → Scene
+with_history history scene = let d = scene.document in record scene { document = record d { history = history } }
+
+-- that the save point is left, if the document is at it
+abbrev pub leaving : List View → History → List Notice
+leaving views h = if h.collecting && at_save_point h then notes.told views (notes.blank notes.save_point_left) else []
+
+-- a step of a message, appended to the history
+abbrev pub step_made : Bool → Step → Scene → Scene
+step_made later step scene =
+    let h = scene.document.history in
+    let bits = bit_or notes.performed_user (notes.bit_if (begins_transaction later (TextStep step) h) notes.start_action) in
+    with_history (appended later (TextStep step) h)
+    (step_heard notes.performed_user bits (leaving (watching scene.views scene.document) h) step scene)
+
+abbrev pub steps_made : Bool → List Step → Scene → Scene
+steps_made later [] scene = scene
+steps_made later (step ∷ steps) scene = steps_made true steps (step_made later step scene)
+
+abbrev pub sealed_scene : Scene → Scene
+sealed_scene scene = with_history (sealed_outside_groups scene.document.history) scene
+
+-- the steps of one message; of several, the transaction before and their own are sealed
+abbrev pub edit_made : List Step → Scene → Scene
+edit_made steps scene = if nat_lt 1 (length steps) then sealed_scene (steps_made false steps (sealed_scene scene)) else steps_made false steps scene
+
+-- Undo and redo.
+
+-- the bits of the last change performed: that it is the last, and whether any changed the number of lines
+abbrev pub last_bits : Bool → Bool → ℕ
+last_bits true lines_changed = bit_or notes.last_step (notes.bit_if lines_changed notes.multi_line)
+last_bits false lines_changed = 0
+
+abbrev pub is_last : List Change → Bool
+is_last [] = true
+is_last (c ∷ cs) = false
+
+abbrev pub container_note : ℕ → ℤ → Notice
+container_note bits token = let n = notes.change_note (bit_or notes.container bits) in record n { token = token }
+
+-- a change performed by undo or redo, with the bit that says which, and the bit that there are several
+abbrev pub change_performed : ℕ → ℕ → Bool → Bool → Change → Scene → Scene
+change_performed who several last lines_changed (TextStep step) scene =
+    step_heard who (bit_or (bit_or who several) (last_bits last lines_changed)) [] step scene
+change_performed who several last lines_changed (ContainerStep token coalesce) scene =
+    record scene { notes = scene.notes ++ notes.heard (watching scene.views scene.document) (container_note (bit_or (bit_or who several) (last_bits last lines_changed)) token) }
+
+-- whether the change alters how many lines the document has
+abbrev pub changes_lines : Change → Document → Bool
+changes_lines (TextStep step) d = not (lines_in d == lines_in (document_after step d))
+changes_lines (ContainerStep token coalesce) d = false
+
+abbrev pub changes_performed : ℕ → ℕ → Bool → List Change → Scene → Scene
+changes_performed who several lines_changed [] scene = scene
+changes_performed who several lines_changed (c ∷ cs) scene =
+    let changed = (if lines_changed then true else changes_lines c scene.document) in
+    changes_performed who several changed cs (change_performed who several (is_last cs) changed c scene)
+
+-- that the save point is reached or left, if that changed
+abbrev pub save_point_change : List View → Bool → Bool → List Notice
+save_point_change views true true = []
+save_point_change views true false = notes.told views (notes.blank notes.save_point_left)
+save_point_change views false true = notes.told views (notes.blank notes.save_point_reached)
+save_point_change views false false = []
+
+-- a transaction undone or redone, after which the history is `new`
+abbrev pub transaction_performed : ℕ → List Change → History → Scene → Scene
+transaction_performed who changes new scene =
+    let done = changes_performed who (notes.bit_if (nat_lt 1 (length changes)) notes.multi_step) false changes scene in
+    let told = save_point_change (watching done.views done.document) (at_save_point scene.document.history) (at_save_point new) in
+    with_history new (record done { notes = done.notes ++ told })
+
+-- The session afterwards.
+
+abbrev pub scene_of : Request → Scene
+scene_of r = record { document = r.document; views = r.session.views; notes = [] }
+
+abbrev pub session_of : Session → Scene → Session
+session_of s scene = record s { documents = with_document scene.document s.documents; views = scene.views }
+
+abbrev pub with_caret : ℕ → ℕ → List View → List View
+with_caret id place views = map (λ (v : View). if v.id == id then record v { anchor = place; caret = place } else v) views
+
+abbrev pub with_target : ℕ → ℕ → ℕ → List View → List View
+with_target id start past views = map (λ (v : View). if v.id == id then record v { target_start = start; target_end = past } else v) views
+
+-- what follows an edit; `before` is the text as it was
+abbrev pub followed : ℕ → List ℕ → Follow → Session → Session
+followed view before follow.Nothing s = s
+followed view before (follow.Caret place) s = record s { views = with_caret view place s.views }
+followed view before (follow.Target start past) s = record s { views = with_target view start past s.views }
+followed view before (follow.Clipboard start count) s = record s { clipboard = slice_range before start (start + count) }
+
+abbrev pub edit_performed : Request → Edit → ℤ → Follow → Session × Response
+edit_performed r change value after =
+    let scene = edit_made (steps_of r change) (scene_of r) in
+    (followed r.view.id (text r) after (session_of r.session scene), response value [] scene.notes)
+
+-- where anchor and caret stand after the last step that undo or redo made
+abbrev pub place_behind : Step → ℕ
+place_behind (Insert p bytes) = p + length bytes
+place_behind (Delete p bytes) = p
+
+abbrev pub caret_behind : ℕ → Option Step → List View → List View
+caret_behind view None views = views
+caret_behind view (Some step) views = with_caret view (place_behind step) views
+
+abbrev pub history_performed : Request → ℕ → List Change → History → Session × Response
+history_performed r who changes new =
+    let scene = transaction_performed who changes new (scene_of r) in
+    let s = session_of r.session scene in
+    (record s { views = caret_behind r.view.id (latest_text_step (reverse changes)) s.views }, response (pos 0) [] scene.notes)
+
+-- byte, style, byte, style and so on
+abbrev pub styled_text : List Cell → List ℕ
+styled_text cells = flat_map (λ (c : Cell). c.byte ∷ c.style ∷ []) cells

@@ -1,0 +1,20 @@
+-- What a script prints, by the definitions alone: it is read, run from a new session, and its outcomes are printed.
+use Rattle.std.specs.Prelude.{◌≡◌, ℕ, true, List, [], ◌∷◌, ◌++◌, flat_map, Result, Ok, Err}
+use Rattle.ed_types.specs.declared.script.Command.{Command}
+use Rattle.ed_types.specs.declared.script.ScriptFault.{ScriptFault}
+use Rattle.ed_model.specs.Session.{new_session, greatest_limits}
+use Rattle.ed_model.specs.Run.{outcomes, starting}
+use Rattle.ed_model.specs.Reading.{reading}
+use Rattle.ed_model.specs.Printed.{printed}
+
+-- a text of lines, each ended by an LF
+abbrev pub lines : List (List ℕ) → List ℕ
+lines texts = flat_map (λ (text : List ℕ). text ++ 10 ∷ []) texts
+
+abbrev pub printed_run : List (List ℕ) → Result (List Command) ScriptFault → List ℕ
+printed_run files (Ok commands) = printed (outcomes (λ kind. true) files commands (starting (new_session greatest_limits)))
+printed_run files (Err fault) = []
+
+-- the script, given these files, prints the output
+abbrev pub Prints : List (List ℕ) → List ℕ → List ℕ → Type 0
+Prints files script output = printed_run files (reading script) ≡ output

@@ -1,0 +1,92 @@
+-- A message on its way: the session, the sending view, its document and the message.
+use Rattle.std.specs.Prelude.{ℕ, ◌-◌, min, max, if◌then◌else◌, ℤ, pos, List, length, Result, Ok, Err, Option, Some, None}
+use Rattle.ed_types.specs.declared.message.Message.{Message}
+use Rattle.ed_types.specs.declared.refusal.Refusal.{Refusal}
+use Rattle.ed_types.specs.declared.refusal.Refusal.TheVariants.{BadArgument}
+use Rattle.ed_model.specs.declared.plan.Plan.{Plan}
+use Rattle.ed_model.specs.declared.plan.Plan.TheVariants.{Answer}
+use Rattle.ed_model.specs.Numbers.{within, line_among, is_minus_one}
+use Rattle.ed_model.specs.Lines.{line_starts, line_of}
+use Rattle.ed_model.specs.Session.{Session, View, Document, text_of, lines_in}
+
+pub record Request : Type 0 where
+  pub session : Session
+  pub view : View
+  pub document : Document
+  pub message : Message
+
+-- The plan of a message, or its refusal.
+abbrev pub Planned : Type 0
+Planned = Result Plan Refusal
+
+abbrev pub answer : ℤ → Planned
+answer value = Ok (Answer value)
+
+abbrev pub answer_number : ℕ → Planned
+answer_number n = answer (pos n)
+
+-- What requests speak of.
+
+abbrev pub text : Request → List ℕ
+text r = text_of r.document
+
+abbrev pub size : Request → ℕ
+size r = length r.document.cells
+
+abbrev pub lines : Request → ℕ
+lines r = lines_in r.document
+
+abbrev pub starts : Request → List ℕ
+starts r = line_starts r.document.line_end_types (text r)
+
+-- the line that holds the position
+abbrev pub line_at : Request → ℕ → ℕ
+line_at r p = line_of (starts r) p
+
+-- the ends of the selection, and of the target, the lesser first
+abbrev pub selection_start : Request → ℕ
+selection_start r = min r.view.anchor r.view.caret
+
+abbrev pub selection_end : Request → ℕ
+selection_end r = max r.view.anchor r.view.caret
+
+abbrev pub target_least : Request → ℕ
+target_least r = min r.view.target_start r.view.target_end
+
+abbrev pub target_greatest : Request → ℕ
+target_greatest r = max r.view.target_start r.view.target_end
+
+-- Arguments. The first that is outside its range refuses the message.
+
+abbrev pub with_argument : {A : Type 0} → Option A → (A → Planned) → Planned
+with_argument None plan = Err BadArgument
+with_argument (Some a) plan = plan a
+
+-- x, from low to high
+abbrev pub argument : ℕ → ℕ → ℤ → (ℕ → Planned) → Planned
+argument low high x plan = with_argument (within low high x) plan
+
+-- a length of the message's text, in w
+abbrev pub text_length : Request → (ℕ → Planned) → Planned
+text_length r plan = argument 0 (length r.message.text) r.message.w plan
+
+abbrev pub end_or_size : ℕ → ℤ → ℤ
+end_or_size size l = if is_minus_one l then pos size else l
+
+-- a range of the text from w to l, where an l of -1 is the text's end: its start and its end
+abbrev pub text_range : Request → (ℕ → ℕ → Planned) → Planned
+text_range r plan =
+    argument 0 (size r) r.message.w (λ start. argument start (size r) (end_or_size (size r) r.message.l) (λ past. plan start past))
+
+-- a range of l bytes from w on: its start and its length
+abbrev pub counted_range : Request → (ℕ → ℕ → Planned) → Planned
+counted_range r plan =
+    argument 0 (size r) r.message.w (λ start. argument 0 (size r - start) r.message.l (λ count. plan start count))
+
+-- a line in w; no such line is answered so, and is no refusal
+abbrev pub with_line : Option ℕ → Planned → (ℕ → Planned) → Planned
+with_line None bad plan = bad
+with_line (Some line) bad plan = plan line
+
+abbrev pub line_argument : Request → Planned → (ℕ → Planned) → Planned
+line_argument r bad plan = with_line (line_among (lines r) r.message.w) bad plan

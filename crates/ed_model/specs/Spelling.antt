@@ -1,0 +1,50 @@
+-- How scripts and printed text spell numbers and texts. No byte and no number has a second spelling. [own]
+use Rattle.std.specs.Prelude.{ℕ, ◌+◌, ◌-◌, ◌/◌, ◌%◌, ◌==◌, ◌&&◌, ◌||◌, nat_lt, nat_le, Bool, not, if◌then◌else◌, List, [], ◌∷◌, ◌++◌, ℤ, pos, negsuc, zero, suc, flat_map}
+
+abbrev pub space : ℕ
+space = 0x20
+
+abbrev pub quote : ℕ
+quote = 0x22
+
+abbrev pub backslash : ℕ
+backslash = 0x5C
+
+-- the last `most` decimal digits of a number, with no zero before them
+abbrev pub last_digits : ℕ → ℕ → List ℕ
+last_digits zero n = []
+last_digits (suc most) n =
+    let front = last_digits most (n / 10) in
+    if nat_lt n 10 then (48 + n) ∷ [] else front ++ (48 + n % 10) ∷ []
+
+-- a number: its decimal digits, with no zero before them; there are at most n + 1
+abbrev pub spelled : ℕ → List ℕ
+spelled n = last_digits (n + 1) n
+
+-- a number that may be negative: `-` before its digits where it is
+abbrev pub spelled_int : ℤ → List ℕ
+spelled_int (pos n) = spelled n
+spelled_int (negsuc n) = 0x2D ∷ spelled (suc n)
+
+-- a hexadecimal digit: `0` to `9`, `a` to `f`
+abbrev pub hex_digit : ℕ → ℕ
+hex_digit d = if nat_lt d 10 then 48 + d else 87 + d
+
+-- what a hexadecimal digit stands for
+abbrev pub hex_value : ℕ → ℕ
+hex_value c = if nat_lt c 0x61 then c - 48 else c - 87
+
+-- A byte of a text. `"` and `\` have a backslash before them; the other bytes from the space to `~` stand for themselves;
+-- each other byte is `\x` and two digits.
+abbrev pub spelled_byte : ℕ → List ℕ
+spelled_byte b =
+    if b == quote || b == backslash then backslash ∷ b ∷ [] else
+    (if nat_le 0x20 b && nat_le b 0x7E then b ∷ [] else
+    backslash ∷ 0x78 ∷ hex_digit (b / 16) ∷ hex_digit (b % 16) ∷ [])
+
+abbrev pub spelled_bytes : List ℕ → List ℕ
+spelled_bytes text = flat_map spelled_byte text
+
+-- a text: its bytes between quotes
+abbrev pub spelled_text : List ℕ → List ℕ
+spelled_text text = quote ∷ spelled_bytes text ++ quote ∷ []

@@ -1,0 +1,197 @@
+-- Worked examples, written by tools/example_theorems.py from examples/.
+use Rattle.std.specs.Prelude.{[], ◌∷◌, codes}
+use Rattle.ed_model.specs.Prints.{Prints, lines}
+
+abbrev pub Expects : Type 0
+Expects = Prints ([])
+    (lines (
+    codes "sci 2" ∷
+    codes "open" ∷
+    codes "expect 1" ∷
+    codes "expect 1" ∷
+    codes "send 1 2006 0 0 \"\"" ∷
+    codes "expect 3" ∷
+    codes "send 9 2006 0 0 \"\"" ∷
+    codes "expect 0" ∷
+    []))
+    (lines (
+    codes "= 1 \"\"" ∷
+    codes "+ 1" ∷
+    codes "+ 1" ∷
+    codes "= 0 \"\"" ∷
+    codes "- 3" ∷
+    codes "! 2" ∷
+    codes "- 0" ∷
+    []))
+
+abbrev pub Hello : Type 0
+Hello = Prints ([])
+    (lines (
+    codes "sci 1" ∷
+    codes "open" ∷
+    codes "send 1 2003 0 0 \"hello\"" ∷
+    codes "send 1 2006 0 0 \"\"" ∷
+    codes "send 1 2182 0 0 \"\"" ∷
+    []))
+    (lines (
+    codes "= 1 \"\"" ∷
+    codes "= 0 \"\"" ∷
+    codes "@ 1 2008 1040 0 5 0 0 0 0 0 0 0 0 \"hello\"" ∷
+    codes "@ 1 2003 0 0 0 0 0 0 0 0 0 0 0 \"\"" ∷
+    codes "@ 1 2008 8209 0 5 0 0 0 0 0 0 0 0 \"hello\"" ∷
+    codes "= 5 \"\"" ∷
+    codes "= 5 \"hello\"" ∷
+    []))
+
+abbrev pub Refusals : Type 0
+Refusals = Prints ([])
+    (lines (
+    codes "sci 1" ∷
+    codes "open" ∷
+    codes "send 1 2003 0 0 \"abcd\"" ∷
+    codes "send 1 2645 1 4 \"\"" ∷
+    codes "send 1 2645 1 2 \"\"" ∷
+    codes "send 1 2182 0 0 \"\"" ∷
+    codes "send 1 9999 0 0 \"\"" ∷
+    codes "send 2 2006 0 0 \"\"" ∷
+    []))
+    (lines (
+    codes "= 1 \"\"" ∷
+    codes "= 0 \"\"" ∷
+    codes "@ 1 2008 1040 0 4 0 0 0 0 0 0 0 0 \"abcd\"" ∷
+    codes "@ 1 2003 0 0 0 0 0 0 0 0 0 0 0 \"\"" ∷
+    codes "@ 1 2008 8209 0 4 0 0 0 0 0 0 0 0 \"abcd\"" ∷
+    codes "! 6" ∷
+    codes "= 0 \"\"" ∷
+    codes "@ 1 2008 2064 1 2 0 0 0 0 0 0 0 0 \"\"" ∷
+    codes "@ 1 2008 8210 1 2 0 0 0 0 0 0 0 0 \"bc\"" ∷
+    codes "= 2 \"ad\"" ∷
+    codes "! 3" ∷
+    codes "! 2" ∷
+    []))
+
+abbrev pub LineQueries : Type 0
+LineQueries = Prints ([])
+    (lines (
+    codes "sci 1" ∷
+    codes "open" ∷
+    codes "send 1 2003 0 0 \"a\\x0d\\x0ab\\x0dc\\x0ad\"" ∷
+    codes "send 1 2136 -1 0 \"\"" ∷
+    codes "send 1 2136 0 0 \"\"" ∷
+    codes "send 1 2136 1 0 \"\"" ∷
+    codes "send 1 2136 2 0 \"\"" ∷
+    codes "send 1 2136 3 0 \"\"" ∷
+    codes "send 1 2153 0 0 \"\"" ∷
+    codes "send 1 2153 9 0 \"\"" ∷
+    codes "send 1 2027 0 0 \"\"" ∷
+    codes "send 1 2350 3 0 \"\"" ∷
+    codes "send 1 2162 3 -1 \"\"" ∷
+    codes "send 1 2162 5 4 \"\"" ∷
+    codes "send 1 2167 -1 0 \"\"" ∷
+    []))
+    (lines (
+    codes "= 1 \"\"" ∷
+    codes "= 0 \"\"" ∷
+    codes "@ 1 2008 1040 0 8 0 0 0 0 0 0 0 0 \"a\\x0d\\x0ab\\x0dc\\x0ad\"" ∷
+    codes "@ 1 2003 0 0 0 0 0 0 0 0 0 0 0 \"\"" ∷
+    codes "@ 1 2008 8209 0 8 3 0 0 0 0 0 0 0 \"a\\x0d\\x0ab\\x0dc\\x0ad\"" ∷
+    codes "= -1 \"\"" ∷
+    codes "= 1 \"\"" ∷
+    codes "= 4 \"\"" ∷
+    codes "= 6 \"\"" ∷
+    codes "= 8 \"\"" ∷
+    codes "= 3 \"a\\x0d\\x0a\"" ∷
+    codes "= 0 \"\"" ∷
+    codes "= 0 \"a\\x0d\\x0a\"" ∷
+    codes "= 1 \"\"" ∷
+    codes "= 5 \"b\\x0dc\\x0ad\"" ∷
+    codes "! 6" ∷
+    codes "= 0 \"\"" ∷
+    []))
+
+abbrev pub MixedLineEnds : Type 0
+MixedLineEnds = Prints ([])
+    (lines (
+    codes "sci 1" ∷
+    codes "open" ∷
+    codes "send 1 2003 0 0 \"a\\x0d\\x0ab\\x0dc\\x0ad\"" ∷
+    codes "send 1 2167 0 0 \"\"" ∷
+    codes "send 1 2167 1 0 \"\"" ∷
+    codes "send 1 2167 2 0 \"\"" ∷
+    codes "send 1 2167 3 0 \"\"" ∷
+    codes "send 1 2166 2 0 \"\"" ∷
+    codes "send 1 2167 4 0 \"\"" ∷
+    codes "send 1 2167 5 0 \"\"" ∷
+    []))
+    (lines (
+    codes "= 1 \"\"" ∷
+    codes "= 0 \"\"" ∷
+    codes "@ 1 2008 1040 0 8 0 0 0 0 0 0 0 0 \"a\\x0d\\x0ab\\x0dc\\x0ad\"" ∷
+    codes "@ 1 2003 0 0 0 0 0 0 0 0 0 0 0 \"\"" ∷
+    codes "@ 1 2008 8209 0 8 3 0 0 0 0 0 0 0 \"a\\x0d\\x0ab\\x0dc\\x0ad\"" ∷
+    codes "= 0 \"\"" ∷
+    codes "= 3 \"\"" ∷
+    codes "= 5 \"\"" ∷
+    codes "= 7 \"\"" ∷
+    codes "= 0 \"\"" ∷
+    codes "= 8 \"\"" ∷
+    codes "= -1 \"\"" ∷
+    []))
+
+abbrev pub NewView : Type 0
+NewView = Prints ([])
+    (lines (
+    codes "sci 1" ∷
+    codes "open" ∷
+    codes "send 1 2006 0 0 \"\"" ∷
+    codes "send 1 2154 0 0 \"\"" ∷
+    codes "send 1 2182 0 0 \"\"" ∷
+    codes "send 1 2167 1 0 \"\"" ∷
+    codes "send 1 2167 2 0 \"\"" ∷
+    []))
+    (lines (
+    codes "= 1 \"\"" ∷
+    codes "= 0 \"\"" ∷
+    codes "= 1 \"\"" ∷
+    codes "= 0 \"\"" ∷
+    codes "= 0 \"\"" ∷
+    codes "= -1 \"\"" ∷
+    []))
+
+abbrev pub LoadFiles : Type 0
+LoadFiles = Prints ((codes "hi") ∷ [])
+    (lines (
+    codes "sci 1" ∷
+    codes "open" ∷
+    codes "load 1 1" ∷
+    codes "load 9 1" ∷
+    codes "load 1 2" ∷
+    codes "send 1 2182 0 0 \"\"" ∷
+    []))
+    (lines (
+    codes "= 1 \"\"" ∷
+    codes "= 0 \"\"" ∷
+    codes "@ 1 2008 1040 0 2 0 0 0 0 0 0 0 0 \"hi\"" ∷
+    codes "@ 1 2003 0 0 0 0 0 0 0 0 0 0 0 \"\"" ∷
+    codes "@ 1 2008 8209 0 2 0 0 0 0 0 0 0 0 \"hi\"" ∷
+    codes "! 2" ∷
+    codes "! 6" ∷
+    codes "= 2 \"hi\"" ∷
+    []))
+
+abbrev pub ScriptSpelling : Type 0
+ScriptSpelling = Prints ([])
+    (lines (
+    codes "sci 1" ∷
+    codes "open" ∷
+    codes "send 1 2282 4 -9223372036854775808 \"\\\"\\\\\\x00\\x80\"" ∷
+    codes "send 1 2182 0 0 \"\"" ∷
+    []))
+    (lines (
+    codes "= 1 \"\"" ∷
+    codes "= 0 \"\"" ∷
+    codes "@ 1 2008 1040 0 4 0 0 0 0 0 0 0 0 \"\\\"\\\\\\x00\\x80\"" ∷
+    codes "@ 1 2003 0 0 0 0 0 0 0 0 0 0 0 \"\"" ∷
+    codes "@ 1 2008 8209 0 4 0 0 0 0 0 0 0 0 \"\\\"\\\\\\x00\\x80\"" ∷
+    codes "= 4 \"\\\"\\\\\\x00\\x80\"" ∷
+    []))

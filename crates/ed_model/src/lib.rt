@@ -1,0 +1,19 @@
+//! The written behaviour of the editing component: definitions over plain lists in `specs/`, and here the laws about them and
+//! the worked examples, each a public function with an empty body whose contract says what holds.
+#![tactic(auto)]
+
+mod examples;
+mod plan;
+mod script_examples;
+
+pub use examples::{
+    examples_of_documents, examples_of_folding, examples_of_markers, examples_of_recording,
+    examples_of_selection, examples_of_styles, examples_of_text, examples_of_undo,
+};
+pub use plan::{
+    DocumentChange, Edit, Follow, LineEnd, LineEndTypes, Plan, Planned, SessionChange, Source,
+    ViewChange,
+};
+pub use script_examples::{
+    printed_outcomes, script_lines_at_fault, script_spelling, script_texts_at_fault,
+};

@@ -1,0 +1,11 @@
+-- Notes with their texts.
+use Rattle.std.specs.Prelude.{ℕ, List, map, slice_range}
+use Rattle.ed_types.specs.declared.reply.Note.{Note}
+use Rattle.ed_types.specs.Notices.{Notice}
+
+-- the note with its text, which stands in the pool
+abbrev pub heard : List ℕ → Note → Notice
+heard pool n = record { view = n.view; code = n.code; kind = n.kind; position = n.position; length = n.length; lines = n.lines; line = n.line; now = n.now; prev = n.prev; token = n.token; message = n.message; w = n.w; l = n.l; text = slice_range pool n.text.start n.text.end }
+
+abbrev pub heard_in : List ℕ → List Note → List Notice
+heard_in pool notes = map (heard pool) notes

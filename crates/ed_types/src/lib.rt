@@ -1,0 +1,23 @@
+//! What goes into the editing component and what comes out of it: messages, replies and their notes, refusals,
+//! limits, and the commands of scripts.
+#![tactic(auto)]
+
+mod bytes;
+mod kind;
+mod laws;
+mod limits;
+mod marks;
+mod message;
+mod refusal;
+mod reply;
+mod script;
+
+pub use bytes::Bytes;
+pub use kind::Kind;
+pub use laws::kinds_and_numbers;
+pub use limits::Limits;
+pub use marks::{Columns, columns_of};
+pub use message::Message;
+pub use refusal::Refusal;
+pub use reply::{Note, Reply};
+pub use script::{Cause, Command, Outcome, ScriptFault};

@@ -1,0 +1,95 @@
+//! Replies and the notes that come with them.
+
+ghost use Rattle.std.specs.Prelude.{◌≡◌, []};
+ghost use Rattle.ed_types.specs.Heard.{heard_in};
+
+use crate::bytes::Bytes;
+use std::alloc::Global;
+use std::marker::Model;
+use std::ops::Range;
+
+/// A note: what a view is told. Fields that its code does not name are 0, and its text is empty.
+#[derive(Debug, Drop)]
+pub struct Note {
+    /// The view that is told.
+    pub view: u32,
+    /// Which note, as 2008 for `SCN_MODIFIED`.
+    pub code: u32,
+    /// The bits of `modificationType`.
+    pub kind: u32,
+    /// A position, in bytes.
+    pub position: i64,
+    /// A length, in bytes.
+    pub length: i64,
+    /// By how many lines the text grew.
+    pub lines: i64,
+    /// A line, from 0.
+    pub line: i64,
+    /// A fold level after a change.
+    pub now: i64,
+    /// A fold level before a change.
+    pub prev: i64,
+    /// The token of a container's own undo step.
+    pub token: i64,
+    /// The number of a recorded message, and its arguments.
+    pub message: u32,
+    pub w: i64,
+    pub l: i64,
+    /// Where the note's text stands in the pool of its reply.
+    pub text: Range<usize>,
+}
+
+/// The answer to a message: a value, a text, and notes in order. Notes share one pool of texts, so that a text that
+/// several views hear is kept once. Contracts see each note with its own text.
+#[derive(Debug, Drop)]
+pub struct Reply {
+    value: i64,
+    text: Bytes,
+    notes: Vec<Note>,
+    pool: Bytes,
+}
+
+impl Model for Reply {
+    ghost use Rattle.ed_types.specs.Notices.{Response};
+
+    ghost Value = { Response };
+
+    ghost use Rattle.ed_types.specs.Heard.{heard_in};
+
+    ghost view = { λ r. record { value = r.value; text = r.text; notes = heard_in r.pool r.notes.items } };
+}
+
+impl Reply {
+    /// A value and a text with no notes. Takes no memory.
+    pub fn quiet(alloc: Global, value: i64, text: Bytes) -> Self
+        ensures { result ≡ record { value = value; text = text; notes = [] } }
+    {
+        Reply::new(value, text, Vec::new(alloc), Bytes::empty(alloc))
+    }
+
+    /// A value, a text, and notes whose texts are ranges of `pool`. Takes no memory.
+    pub fn new(value: i64, text: Bytes, notes: Vec<Note>, pool: Bytes) -> Self
+        ensures { result ≡ record { value = value; text = text; notes = heard_in pool notes.items } }
+    {
+        Reply {
+            value,
+            text,
+            notes,
+            pool,
+        }
+    }
+
+    /// The value.
+    pub fn value(&self) -> i64
+        ensures { result ≡ self.now.value }
+    {
+        self.value
+    }
+
+    /// The text that was handed out; empty where the message hands out none.
+    pub fn text(&self) -> &[u8]
+        ensures { result.now ≡ self.now.text }
+    {
+        self.text.as_slice()
+    }
+}
