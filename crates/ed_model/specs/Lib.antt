@@ -27,6 +27,7 @@ pub mod Listing
 pub mod Reading
 pub mod Printed
 pub mod ScriptExamples
+pub mod ScriptLaws
 pub mod Prints
 pub mod TextExamples
 pub mod UndoExamples
@@ -36,3 +37,6 @@ pub mod SelectionExamples
 pub mod DocumentsExamples
 pub mod FoldingExamples
 pub mod RecordingExamples
+pub mod WorkedCharacters
+pub mod WorkedLines
+pub mod WorkedLimits

@@ -1,11 +1,11 @@
 -- Scripts as text. A script is lines, each ended by LF: the first names the version, each other is one command, its fields with
 -- single spaces between. [own]
-use Rattle.std.specs.Prelude.{ℕ, ◌==◌, ◌&&◌, ◌||◌, nat_le, Bool, true, false, not, List, [], ◌∷◌, ◌++◌, length, flat_map, codes}
-use Rattle.std.specs.List.{join_with_byte, list_all}
+use Rattle.std.specs.Prelude.{⊤, IsTrue, ◌<◌, ◌^◌, ℕ, ◌==◌, ◌&&◌, ◌||◌, nat_le, Bool, true, false, not, List, [], ◌∷◌, ◌++◌, length, flat_map, codes}
+use Rattle.std.specs.List.{AllByRecursion, join_with_byte, list_all}
 use Rattle.ed_types.specs.declared.script.Command.{Command}
 use Rattle.ed_types.specs.declared.script.Command.TheVariants.{OpenView, CloseView, LoadFile, SendMessage, Expect}
 use Rattle.ed_model.specs.Text.{line_feed}
-use Rattle.ed_model.specs.Spelling.{space, spelled, spelled_int, spelled_text}
+use Rattle.ed_model.specs.Spelling.{space, spelled, spelled_int, spelled_text, is_64_bits}
 
 abbrev pub fields_of : Command → List (List ℕ)
 fields_of OpenView = codes "open" ∷ []
@@ -28,6 +28,14 @@ version_line version = codes "sci " ++ spelled version
 -- the listing of a script in a version
 abbrev pub listing : ℕ → List Command → List ℕ
 listing version commands = ended_line (version_line version) ++ flat_map (λ command. ended_line (listed_command command)) commands
+
+-- Each number of a command is one of its type, and its text is made of bytes. So is each command of a program.
+abbrev pub FitsTypes : Command → Type 0
+FitsTypes OpenView = ⊤
+FitsTypes (CloseView view) = view < 2 ^ 32
+FitsTypes (LoadFile view file) = (view < 2 ^ 32) × (file < 2 ^ 32)
+FitsTypes (SendMessage view message) = (view < 2 ^ 32) × (message.number < 2 ^ 32) × IsTrue (is_64_bits message.w) × IsTrue (is_64_bits message.l) × AllByRecursion (λ b. b < 256) message.text
+FitsTypes (Expect value) = IsTrue (is_64_bits value)
 
 -- what version 1 cannot say
 abbrev pub is_expect : Command → Bool

@@ -1,10 +1,9 @@
 -- The script that a text spells, or the first line at fault with its first cause. The text is taken by lines, and each line by
 -- its fields from left to right. [own]
-use Rattle.std.specs.Prelude.{ℕ, zero, suc, ◌+◌, ◌-◌, ◌*◌, ◌^◌, ◌==◌, ◌&&◌, nat_lt, nat_le, Bool, true, false, if◌then◌else◌, List, [], ◌∷◌, length, drop, ℤ, pos, negsuc, neg_ℤ, slice_index, bytes_eq, codes, Option, Some, None, ok_or, Result, Ok, Err}
+use Rattle.std.specs.Prelude.{ℕ, zero, suc, ◌+◌, ◌-◌, ◌*◌, ◌^◌, ◌==◌, ◌&&◌, nat_lt, Bool, if◌then◌else◌, List, [], ◌∷◌, length, drop, ℤ, pos, neg_ℤ, slice_index, bytes_eq, codes, Option, Some, None, ok_or, Result, Ok, Err}
 use Rattle.std.specs.List.{slice_split, before_first, starts_with}
 use Rattle.std.specs.Str.Parse.{digits_value}
 use Rattle.std.specs.Prelude.{nat_eq}
-use Rattle.ed_types.specs.declared.message.Message.{Message}
 use Rattle.ed_types.specs.declared.script.Command.{Command}
 use Rattle.ed_types.specs.declared.script.Command.TheVariants.{OpenView, CloseView, LoadFile, SendMessage, Expect}
 use Rattle.ed_types.specs.declared.script.Cause.{Cause}
@@ -12,7 +11,7 @@ use Rattle.ed_types.specs.declared.script.Cause.TheVariants.{LineTooLong, NoLine
 use Rattle.ed_types.specs.declared.script.ScriptFault.{ScriptFault}
 use Rattle.ed_types.specs.declared.script.ScriptFault.TheVariants.{TooLong, BadLine}
 use Rattle.ed_model.specs.Text.{line_feed}
-use Rattle.ed_model.specs.Spelling.{space, quote, backslash, spelled, spelled_int, spelled_byte, hex_value}
+use Rattle.ed_model.specs.Spelling.{space, quote, backslash, spelled, spelled_int, spelled_byte, hex_value, is_64_bits}
 use Rattle.ed_model.specs.Listing.{version_line, fits_line, fits_script}
 
 -- what follows a step that went well
@@ -26,11 +25,6 @@ Err fault >>= more = Err fault
 abbrev pub natural : List ℕ → Option ℕ
 natural word = let n = digits_value 10 word in
     if nat_lt n (2 ^ 32) && bytes_eq word (spelled n) then Some n else None
-
--- whether a number, n or -(n + 1), is one of 64 bits
-abbrev pub is_64_bits : ℤ → Bool
-is_64_bits (pos n) = nat_lt n (2 ^ 63)
-is_64_bits (negsuc n) = nat_lt n (2 ^ 63)
 
 -- the number that a word's digits give, negative behind `-`
 abbrev pub signed_value : List ℕ → ℤ

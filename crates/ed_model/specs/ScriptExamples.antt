@@ -1,5 +1,5 @@
 -- Worked examples of scripts: what texts read as, what scripts are listed as, and what outcomes print. [own]
-use Rattle.std.specs.Prelude.{◌≡◌, ℕ, ◌+◌, ◌-◌, ◌^◌, ◌==◌, Bool, not, List, [], ◌∷◌, ◌++◌, map, filter, count_by, take, codes, Result, Ok, Err, is_ok, pos, negsuc, true, false}
+use Rattle.std.specs.Prelude.{◌≡◌, ℕ, ◌+◌, ◌-◌, ◌^◌, ◌==◌, not, List, [], ◌∷◌, ◌++◌, map, filter, count_by, take, codes, Result, Ok, Err, is_ok, pos, negsuc, true, false}
 use Rattle.std.specs.List.{AllByRecursion, list_any, range_with_len}
 use Rattle.ed_types.specs.declared.refusal.Refusal.TheVariants.{NoSuchView, BadArgument}
 use Rattle.ed_types.specs.declared.script.Command.{Command}
@@ -120,7 +120,11 @@ OutcomesArePrinted =
 
 abbrev pub NotesArePrinted : Type 0
 NotesArePrinted =
-    printed (Replied (record { value = pos 0; text = []; notes =
-        record { view = 1; code = 2008; kind = 8209; position = pos 0; length = pos 3; lines = pos 1; line = pos 0; now = pos 0; prev = pos 0; token = pos 0; message = 0; w = pos 0; l = pos 0; text = codes "ab\n" } ∷
-        record { view = 2; code = 2009; kind = 0; position = pos 0; length = pos 0; lines = pos 0; line = pos 0; now = pos 0; prev = pos 0; token = pos 0; message = 2180; w = negsuc 0; l = pos 7; text = [] } ∷ [] }) ∷ []) ≡
+    printed (Replied (record {
+      value = pos 0;
+      text = [];
+      notes =
+          record { view = 1; code = 2008; kind = 8209; position = pos 0; length = pos 3; lines = pos 1; line = pos 0; now = pos 0; prev = pos 0; token = pos 0; message = 0; w = pos 0; l = pos 0; text = codes "ab\n" } ∷
+          record { view = 2; code = 2009; kind = 0; position = pos 0; length = pos 0; lines = pos 0; line = pos 0; now = pos 0; prev = pos 0; token = pos 0; message = 2180; w = negsuc 0; l = pos 7; text = [] } ∷ [];
+    }) ∷ []) ≡
     codes "= 0 \"\"\n@ 1 2008 8209 0 3 1 0 0 0 0 0 0 0 \"ab\\x0a\"\n@ 2 2009 0 0 0 0 0 0 0 0 2180 -1 7 \"\"\n"

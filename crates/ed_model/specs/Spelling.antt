@@ -1,5 +1,5 @@
 -- How scripts and printed text spell numbers and texts. No byte and no number has a second spelling. [own]
-use Rattle.std.specs.Prelude.{ℕ, ◌+◌, ◌-◌, ◌/◌, ◌%◌, ◌==◌, ◌&&◌, ◌||◌, nat_lt, nat_le, Bool, not, if◌then◌else◌, List, [], ◌∷◌, ◌++◌, ℤ, pos, negsuc, zero, suc, flat_map}
+use Rattle.std.specs.Prelude.{ℕ, ◌+◌, ◌-◌, ◌/◌, ◌%◌, ◌^◌, ◌==◌, ◌&&◌, ◌||◌, nat_lt, nat_le, Bool, if◌then◌else◌, List, [], ◌∷◌, ◌++◌, ℤ, pos, negsuc, zero, suc, flat_map}
 
 abbrev pub space : ℕ
 space = 0x20
@@ -25,6 +25,11 @@ spelled n = last_digits (n + 1) n
 abbrev pub spelled_int : ℤ → List ℕ
 spelled_int (pos n) = spelled n
 spelled_int (negsuc n) = 0x2D ∷ spelled (suc n)
+
+-- whether a number, n or -(n + 1), is one of 64 bits
+abbrev pub is_64_bits : ℤ → Bool
+is_64_bits (pos n) = nat_lt n (2 ^ 63)
+is_64_bits (negsuc n) = nat_lt n (2 ^ 63)
 
 -- a hexadecimal digit: `0` to `9`, `a` to `f`
 abbrev pub hex_digit : ℕ → ℕ

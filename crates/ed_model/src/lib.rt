@@ -5,6 +5,8 @@
 mod examples;
 mod plan;
 mod script_examples;
+mod script_laws;
+mod worked_examples;
 
 pub use examples::{
     examples_of_documents, examples_of_folding, examples_of_markers, examples_of_recording,
@@ -16,4 +18,8 @@ pub use plan::{
 };
 pub use script_examples::{
     printed_outcomes, script_lines_at_fault, script_spelling, script_texts_at_fault,
+};
+pub use script_laws::laws_of_scripts;
+pub use worked_examples::{
+    worked_characters, worked_joins, worked_limits, worked_lines, worked_matches,
 };

@@ -1,7 +1,7 @@
 //! Replies and the notes that come with them.
 
-ghost use Rattle.std.specs.Prelude.{◌≡◌, []};
-ghost use Rattle.ed_types.specs.Heard.{heard_in};
+ghost use Rattle.std.specs.Prelude.{◌≡◌, ◌<◌, [], length, slice_get, slice_range};
+ghost use Rattle.ed_types.specs.Heard.{heard_in, with_text};
 
 use crate::bytes::Bytes;
 use std::alloc::Global;
@@ -92,4 +92,31 @@ impl Reply {
     {
         self.text.as_slice()
     }
+
+    /// How many notes there are.
+    pub fn note_count(&self) -> usize
+        ensures { result ≡ length self.now.notes }
+    {
+        self.notes.len()
+    }
+
+    /// A note, counted from 0, and its text.
+    pub fn note(&self, index: usize) -> (&Note, &[u8])
+        requires { index < length self.now.notes }
+        ensures { slice_get self.now.notes index ≡ Some (with_text result.0.now result.1.now) }
+    {
+        let note = &self.notes[index];
+        (
+            note,
+            part_of(self.pool.as_slice(), note.text.start, note.text.end),
+        )
+    }
+}
+
+/// The bytes from `start` up to `end`, as far as there are any.
+fn part_of(bytes: &[u8], start: usize, end: usize) -> &[u8]
+    ensures { result.now ≡ slice_range bytes.now start end }
+{
+    let end = end.min(bytes.len());
+    if start < end { &bytes[start..end] } else { &[] }
 }

@@ -1,0 +1,77 @@
+-- Worked examples of the limits of a session: what messages answer, or why they are refused.
+use Rattle.std.specs.Prelude.{◌≡◌, ℕ, ℤ, pos, List, [], ◌∷◌, map, true, codes, Result, Ok, Err}
+use Rattle.ed_types.specs.declared.kind.Kind.{Kind}
+use Rattle.ed_types.specs.declared.kind.Kind.TheVariants.{InsertText, DeleteRange, MarkerAdd, MarkerAddSet, BeginUndoAction, CreateDocument, AddRefDocument, ConvertEols, GetLength}
+use Rattle.ed_types.specs.declared.limits.Limits.{Limits}
+use Rattle.ed_types.specs.declared.refusal.Refusal.{Refusal}
+use Rattle.ed_types.specs.declared.refusal.Refusal.TheVariants.{TooLong, BadArgument, TooMany}
+use Rattle.ed_types.specs.declared.script.Command.{Command}
+use Rattle.ed_types.specs.declared.script.Command.TheVariants.{OpenView, SendMessage}
+use Rattle.ed_types.specs.declared.script.Outcome.{Outcome}
+use Rattle.ed_types.specs.declared.script.Outcome.TheVariants.{Opened, Closed, Replied, Refused, Expected}
+use Rattle.ed_types.specs.Notices.{Response}
+use Rattle.ed_types.specs.Messages.{number_of}
+use Rattle.ed_model.specs.Session.{new_session, greatest_limits}
+use Rattle.ed_model.specs.Run.{outcomes, starting}
+
+-- the value of an outcome, or its refusal
+abbrev pub said : Outcome → Result ℤ Refusal
+said (Opened view) = Ok (pos view)
+said Closed = Ok (pos 0)
+said (Replied reply) = Ok reply.value
+said (Refused refusal) = Err refusal
+said (Expected met value) = Ok value
+
+-- what is said to each of these commands, in a new session of one view
+abbrev pub said_within : Limits → List Command → List (Result ℤ Refusal)
+said_within limits commands = map said (outcomes (λ kind. true) [] (OpenView ∷ commands) (starting (new_session limits)))
+
+-- a message to the view
+abbrev pub send : Kind → ℤ → ℤ → List ℕ → Command
+send kind w l text = SendMessage 1 (record { number = number_of kind; w = w; l = l; text = text })
+
+abbrev pub answer : ℕ → Result ℤ Refusal
+answer n = Ok (pos n)
+
+abbrev pub four_bytes : Limits
+four_bytes = record greatest_limits { doc_bytes = 4 }
+
+abbrev pub two_handles : Limits
+two_handles = record greatest_limits { handles = 2 }
+
+abbrev pub one_group : Limits
+one_group = record greatest_limits { depth = 1 }
+
+abbrev pub two_ids : Limits
+two_ids = record greatest_limits { ids = 2 }
+
+abbrev pub two_references : Limits
+two_references = record greatest_limits { refs = 2 }
+
+abbrev pub one_view : Limits
+one_view = record greatest_limits { views = 1 }
+
+-- The first answer is the view's id.
+pub record AnswersWithinLimits : Type 0 where
+  pub text_too_long :
+      said_within four_bytes (send InsertText (pos 0) (pos 0) (codes "abcd") ∷ send InsertText (pos 4) (pos 0) (codes "e") ∷ send DeleteRange (pos 1) (pos 4) [] ∷ send GetLength (pos 0) (pos 0) [] ∷ [])
+      ≡ answer 1 ∷ answer 0 ∷ Err TooLong ∷ Err BadArgument ∷ answer 4 ∷ []
+  pub line_ends_too_long :
+      said_within four_bytes (send InsertText (pos 0) (pos 0) (codes "ab\n\n") ∷ send ConvertEols (pos 0) (pos 0) [] ∷ send ConvertEols (pos 1) (pos 0) [] ∷ [])
+      ≡ answer 1 ∷ answer 0 ∷ Err TooLong ∷ Err TooLong ∷ []
+  pub handles_used_up :
+      said_within two_handles (send MarkerAdd (pos 0) (pos 1) [] ∷ send MarkerAdd (pos 0) (pos 1) [] ∷ send MarkerAdd (pos 0) (pos 1) [] ∷ [])
+      ≡ answer 1 ∷ answer 1 ∷ answer 2 ∷ Err TooMany ∷ []
+  pub too_few_handles :
+      said_within two_handles (send MarkerAddSet (pos 0) (pos 7) [] ∷ send MarkerAddSet (pos 0) (pos 6) [] ∷ [])
+      ≡ answer 1 ∷ Err TooMany ∷ answer 0 ∷ []
+  pub groups_too_deep :
+      said_within one_group (send BeginUndoAction (pos 0) (pos 0) [] ∷ send BeginUndoAction (pos 0) (pos 0) [] ∷ [])
+      ≡ answer 1 ∷ answer 0 ∷ Err TooMany ∷ []
+  pub ids_used_up :
+      said_within two_ids (send CreateDocument (pos 0) (pos 0) [] ∷ send CreateDocument (pos 0) (pos 0) [] ∷ OpenView ∷ [])
+      ≡ answer 1 ∷ answer 2 ∷ Err TooMany ∷ Err TooMany ∷ []
+  pub references_used_up :
+      said_within two_references (send AddRefDocument (pos 0) (pos 1) [] ∷ send AddRefDocument (pos 0) (pos 1) [] ∷ [])
+      ≡ answer 1 ∷ answer 0 ∷ Err TooMany ∷ []
+  pub views_used_up : said_within one_view (OpenView ∷ []) ≡ answer 1 ∷ Err TooMany ∷ []

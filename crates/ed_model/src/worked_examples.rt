@@ -1,0 +1,39 @@
+//! Worked examples of single definitions, each computed from it.
+
+ghost use Rattle.ed_model.specs.WorkedCharacters.{CutsOfAMixedText, WellFormedSequences, IllFormedSequences, MatchesInATextOfWords, MatchesBackwards, MatchesOfBothCases, LinesOfATextWithEachLineEnd, LinesOfATextWithUnicodeLineEnds};
+ghost use Rattle.ed_model.specs.WorkedLines.{MarkersUnderSteps, IndicatorUnderSteps, DisplayLinesAroundAHiddenLine, FoldsOfNestedLevels, StepsThatJoin};
+ghost use Rattle.ed_model.specs.WorkedLimits.{AnswersWithinLimits};
+
+/// Where texts are cut into characters: well-formed sequences, CRLF, and single bytes for the rest.
+pub fn worked_characters()
+    ensures cuts_of_a_mixed_text { CutsOfAMixedText }
+    ensures well_formed_sequences { WellFormedSequences }
+    ensures ill_formed_sequences { IllFormedSequences }
+{}
+
+/// Which match a search finds, forwards and backwards, by words and by case.
+pub fn worked_matches()
+    ensures matches_in_a_text_of_words { MatchesInATextOfWords }
+    ensures matches_backwards { MatchesBackwards }
+    ensures matches_of_both_cases { MatchesOfBothCases }
+{}
+
+/// Where lines start and end, which rows and values steps leave, which lines are shown, and how they fold.
+pub fn worked_lines()
+    ensures lines_of_a_text_with_each_line_end { LinesOfATextWithEachLineEnd }
+    ensures lines_of_a_text_with_unicode_line_ends { LinesOfATextWithUnicodeLineEnds }
+    ensures markers_under_steps { MarkersUnderSteps }
+    ensures indicator_under_steps { IndicatorUnderSteps }
+    ensures display_lines_around_a_hidden_line { DisplayLinesAroundAHiddenLine }
+    ensures folds_of_nested_levels { FoldsOfNestedLevels }
+{}
+
+/// Which steps join into one transaction.
+pub fn worked_joins()
+    ensures steps_that_join { StepsThatJoin }
+{}
+
+/// What messages answer at the limits of a session, and which refusal they meet past them.
+pub fn worked_limits()
+    ensures answers_within_limits { AnswersWithinLimits }
+{}
