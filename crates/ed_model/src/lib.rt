@@ -3,14 +3,19 @@
 #![tactic(auto)]
 
 mod examples;
+mod line_laws;
 mod plan;
 mod script_examples;
 mod script_laws;
+mod table_laws;
 mod worked_examples;
 
 pub use examples::{
     examples_of_documents, examples_of_folding, examples_of_markers, examples_of_recording,
     examples_of_selection, examples_of_styles, examples_of_text, examples_of_undo,
+};
+pub use line_laws::{
+    lines_of_positions, positions_after_a_step, rows_match_lines, starts_of_lines,
 };
 pub use plan::{
     DocumentChange, Edit, Follow, LineEnd, LineEndTypes, Plan, Planned, SessionChange, Source,
@@ -20,6 +25,9 @@ pub use script_examples::{
     printed_outcomes, script_lines_at_fault, script_spelling, script_texts_at_fault,
 };
 pub use script_laws::laws_of_scripts;
+pub use table_laws::{
+    free_messages_are_silent, queries_leave_the_session, refusals_leave_the_session,
+};
 pub use worked_examples::{
     worked_characters, worked_joins, worked_limits, worked_lines, worked_matches,
 };

@@ -1,0 +1,145 @@
+-- From plans to the table, and from the table to runs.
+use Rattle.std.proofs.Common.{◌≡◌, ℕ, Bool, true, false, ◌&&◌, cond, List, [], ◌∷◌, refl, ap, ◌∙◌, sym, subst, Option, Some, None, Result, Ok, Err}
+use Rattle.ed_types.specs.declared.kind.Kind.{Kind}
+use Rattle.ed_types.specs.declared.message.Message.{Message}
+use Rattle.ed_types.specs.declared.refusal.Refusal.{Refusal}
+use Rattle.ed_types.specs.declared.script.Command.{Command}
+use Rattle.ed_types.specs.declared.script.Command.TheVariants.{OpenView, CloseView, LoadFile, SendMessage, Expect}
+use Rattle.ed_types.specs.declared.script.Outcome.{Outcome}
+use Rattle.ed_types.specs.declared.script.Outcome.TheVariants.{Opened, Closed, Replied, Refused, Expected}
+use Rattle.ed_types.specs.Notices.{Notice, Response}
+use Rattle.ed_types.specs.Messages.{kind_of, marks_of}
+use Rattle.ed_model.specs.Session.{Session, View, Document, view_at, document_at}
+use Rattle.ed_model.specs.Requests.{Request, Planned}
+use Rattle.ed_model.specs.Table.{table, table_from_view, table_from_kind, table_if_known, table_from_document, answered, recorded, record_note, performed, plan_of, request, opened, closed}
+use Rattle.ed_model.specs.Run.{Running, after_command, after_opening, after_closing, after_message, run_to, loaded, file_at}
+use Rattle.ed_model.specs.TableLaws.{Answered, LeavesSession, HasNoText, HasNotes, recording, QueriesLeaveTheSession, FreeMessagesHandOutNoText, FreeMessagesHaveNoNote, RecordedFreeMessagesHaveOneNote, RefusedCommandsLeaveTheSession, is_refused, kept_unless, unrefused, RefusedCommandsCanBeLeftOut}
+use Rattle.ed_model.proofs.QuietLemmas.{IsQuiet, IsFree, query_is_quiet, quiet_plan_leaves, message_without_memory_is_free, free_plan_has_no_text, free_plan_has_no_note}
+
+-- What every refusal has, and the answer of the kind to each document, the table has.
+module _ (P : Answered → Type 0) (refused : (e : Refusal) → P (Err e)) (known : Kind → Bool) (s : Session) (m : Message) (kind : Kind) where
+  from_document : (v : View) (d : Option Document) → ((e : Document) → P (answered kind (request s v e m) (plan_of kind (request s v e m)))) → P (table_from_document s v kind m d)
+  from_document v None h = refused _
+  from_document v (Some d) h = h d
+
+  if_known : (b : Bool) (v : View) → ((e : Document) → P (answered kind (request s v e m) (plan_of kind (request s v e m)))) → P (table_if_known b s v kind m)
+  if_known true v h = from_document v (document_at s.documents v.document) h
+  if_known false v h = refused _
+
+  from_kind : (v : View) (k : Option Kind) → k ≡ Some kind → ((e : Document) → P (answered kind (request s v e m) (plan_of kind (request s v e m)))) → P (table_from_kind known s v m k)
+  from_kind v k e h = rw e (if_known (known kind) v h)
+
+  from_view : (v : Option View) → kind_of m.number ≡ Some kind → ((w : View) (d : Document) → v ≡ Some w → P (answered kind (request s w d m) (plan_of kind (request s w d m)))) → P (table_from_view known s m v)
+  from_view None e h = refused _
+  from_view (Some v) e h = from_kind v (kind_of m.number) e (λ d. h v d refl)
+
+  -- the fact of a message, over every view that may send it and its document
+  pub of_table : (view : ℕ) → kind_of m.number ≡ Some kind → ((v : View) (d : Document) → view_at s.views view ≡ Some v → P (answered kind (request s v d m) (plan_of kind (request s v d m)))) → P (table known s view m)
+  of_table view e h = from_view (view_at s.views view) e h
+
+quiet_answer : (kind : Kind) (r : Request) (p : Planned) → IsQuiet p → LeavesSession r.session (answered kind r p)
+quiet_answer kind r (Err e) h = tt
+quiet_answer kind r (Ok p) h = quiet_plan_leaves r p h
+
+pub queries_leave_the_session : QueriesLeaveTheSession
+queries_leave_the_session known s view m kind e q =
+    of_table (LeavesSession s) (λ refusal. tt) known s m kind view e
+    (λ v d seen. quiet_answer kind (request s v d m) _ (query_is_quiet kind (request s v d m) q))
+
+-- recording adds no text
+text_if_recorded : (b : Bool) (note : Notice) (reply : Response) → (cond b (record reply { notes = note ∷ reply.notes }) reply).text ≡ reply.text
+text_if_recorded true note reply = refl
+text_if_recorded false note reply = refl
+
+free_answer_has_no_text : (kind : Kind) (r : Request) (p : Planned) → IsFree p → HasNoText (answered kind r p)
+free_answer_has_no_text kind r (Err e) h = tt
+free_answer_has_no_text kind r (Ok p) h =
+    text_if_recorded (r.view.records && (marks_of kind).r) (record_note r) (performed r p).1 ∙ free_plan_has_no_text r p h
+
+pub free_messages_hand_out_no_text : FreeMessagesHandOutNoText
+free_messages_hand_out_no_text known s view m kind e n =
+    of_table HasNoText (λ refusal. tt) known s m kind view e
+    (λ v d seen. free_answer_has_no_text kind (request s v d m) _ (message_without_memory_is_free kind (request s v d m) n))
+
+notes_if_unrecorded : (b : Bool) (note : Notice) (reply : Response) → b ≡ false → (cond b (record reply { notes = note ∷ reply.notes }) reply).notes ≡ reply.notes
+notes_if_unrecorded true note reply e = cc
+notes_if_unrecorded false note reply e = refl
+
+notes_if_recorded : (b : Bool) (note : Notice) (reply : Response) → b ≡ true → (cond b (record reply { notes = note ∷ reply.notes }) reply).notes ≡ note ∷ reply.notes
+notes_if_recorded true note reply e = refl
+notes_if_recorded false note reply e = cc
+
+free_answer_has_no_note : (kind : Kind) (r : Request) (p : Planned) → IsFree p → (r.view.records && (marks_of kind).r) ≡ false → HasNotes [] (answered kind r p)
+free_answer_has_no_note kind r (Err e) h b = tt
+free_answer_has_no_note kind r (Ok p) h b =
+    notes_if_unrecorded (r.view.records && (marks_of kind).r) (record_note r) (performed r p).1 b ∙ free_plan_has_no_note r p h
+
+same_view : (v w : View) (found : Option View) → found ≡ Some v → found ≡ Some w → v ≡ w
+same_view v w found e f = cc
+
+pub free_messages_have_no_note : FreeMessagesHaveNoNote
+free_messages_have_no_note known s view m kind v e n sees b =
+    of_table (HasNotes []) (λ refusal. tt) known s m kind view e
+    (λ w d seen. free_answer_has_no_note kind (request s w d m) _ (message_without_memory_is_free kind (request s w d m) n)
+    (subst (λ (x : View). (x.records && (marks_of kind).r) ≡ false) (same_view v w _ sees seen) b))
+
+free_answer_has_one_note : (kind : Kind) (r : Request) (p : Planned) → IsFree p → (r.view.records && (marks_of kind).r) ≡ true → HasNotes (record_note r ∷ []) (answered kind r p)
+free_answer_has_one_note kind r (Err e) h b = tt
+free_answer_has_one_note kind r (Ok p) h b =
+    notes_if_recorded (r.view.records && (marks_of kind).r) (record_note r) (performed r p).1 b ∙ ap (λ notes. record_note r ∷ notes) (free_plan_has_no_note r p h)
+
+pub recorded_free_messages_have_one_note : RecordedFreeMessagesHaveOneNote
+recorded_free_messages_have_one_note known s view m kind v e n sees b =
+    of_table (HasNotes (recording v m ∷ [])) (λ refusal. tt) known s m kind view e
+    (λ w d seen. subst (λ (x : View). (x.records && (marks_of kind).r) ≡ true → HasNotes (recording x m ∷ []) (answered kind (request s w d m) (plan_of kind (request s w d m)))) (sym (same_view v w _ sees seen))
+    (λ c. free_answer_has_one_note kind (request s w d m) _ (message_without_memory_is_free kind (request s w d m) n) c) b)
+
+-- Runs.
+
+opening_refused : (s : Session) (done : Result (Session × ℕ) Refusal) → is_refused (after_opening s done).1 ≡ true → (after_opening s done).0.session ≡ s
+opening_refused s (Ok done) e = cc
+opening_refused s (Err refusal) e = refl
+
+closing_refused : (s : Session) (done : Result Session Refusal) → is_refused (after_closing s done).1 ≡ true → (after_closing s done).0.session ≡ s
+closing_refused s (Ok done) e = cc
+closing_refused s (Err refusal) e = refl
+
+message_refused : (s : Session) (done : Answered) → is_refused (after_message s done).1 ≡ true → (after_message s done).0.session ≡ s
+message_refused s (Ok done) e = cc
+message_refused s (Err refusal) e = refl
+
+-- a refused command leaves the session
+pub refused_leaves : (known : Kind → Bool) (files : List (List ℕ)) (c : Command) (s : Running) → is_refused (after_command known files c s).1 ≡ true → (after_command known files c s).0.session ≡ s.session
+refused_leaves known files OpenView s e = opening_refused s.session (opened s.session) e
+refused_leaves known files (CloseView view) s e = closing_refused s.session (closed s.session view) e
+refused_leaves known files (LoadFile view file) s e = message_refused s.session (loaded known s.session view (view_at s.session.views view) (file_at files file)) e
+refused_leaves known files (SendMessage view message) s e = message_refused s.session (table known s.session view message) e
+refused_leaves known files (Expect value) s e = refl
+
+pub refused_commands_leave_the_session : RefusedCommandsLeaveTheSession
+refused_commands_leave_the_session known files c s refusal e = refused_leaves known files c s (ap is_refused e)
+
+-- the session after a command hangs on the session before it alone
+pub same_session_after : (known : Kind → Bool) (files : List (List ℕ)) (c : Command) (s t : Running) → s.session ≡ t.session → (after_command known files c s).0.session ≡ (after_command known files c t).0.session
+same_session_after known files OpenView s t e = ap (λ (x : Session). (after_opening x (opened x)).0.session) e
+same_session_after known files (CloseView view) s t e = ap (λ (x : Session). (after_closing x (closed x view)).0.session) e
+same_session_after known files (LoadFile view file) s t e = ap (λ (x : Session). (after_message x (loaded known x view (view_at x.views view) (file_at files file))).0.session) e
+same_session_after known files (SendMessage view message) s t e = ap (λ (x : Session). (after_message x (table known x view message)).0.session) e
+same_session_after known files (Expect value) s t e = e
+
+pub same_session_after_run : (known : Kind → Bool) (files : List (List ℕ)) (cs : List Command) (s t : Running) → s.session ≡ t.session → (run_to known files cs s).session ≡ (run_to known files cs t).session
+same_session_after_run known files [] s t e = e
+same_session_after_run known files (c ∷ cs) s t e =
+    same_session_after_run known files cs (after_command known files c s).0 (after_command known files c t).0 (same_session_after known files c s t e)
+
+left_out : (known : Kind → Bool) (files : List (List ℕ)) (c : Command) (kept : List Command) (s : Running) (b : Bool) →
+    (b ≡ true → (after_command known files c s).0.session ≡ s.session) →
+    (run_to known files (kept_unless b c kept) s).session ≡ (run_to known files kept (after_command known files c s).0).session
+left_out known files c kept s true h = same_session_after_run known files kept s (after_command known files c s).0 (sym (h refl))
+left_out known files c kept s false h = refl
+
+pub refused_commands_can_be_left_out : RefusedCommandsCanBeLeftOut
+refused_commands_can_be_left_out known files [] s = refl
+refused_commands_can_be_left_out known files (c ∷ cs) s =
+    left_out known files c (unrefused known files cs (after_command known files c s).0) s (is_refused (after_command known files c s).1) (refused_leaves known files c s)
+    ∙ refused_commands_can_be_left_out known files cs (after_command known files c s).0

@@ -1,0 +1,98 @@
+-- Laws of the message table: what queries, messages that take no memory, and refusals leave as it was.
+use Rattle.std.specs.Prelude.{◌≡◌, ℕ, Bool, true, false, ◌&&◌, List, [], ◌∷◌, Result, Ok, Err, Option, Some}
+use Rattle.ed_types.specs.declared.kind.Kind.{Kind}
+use Rattle.ed_types.specs.declared.message.Message.{Message}
+use Rattle.ed_types.specs.declared.refusal.Refusal.{Refusal}
+use Rattle.ed_types.specs.declared.script.Command.{Command}
+use Rattle.ed_types.specs.declared.script.Outcome.{Outcome}
+use Rattle.ed_types.specs.declared.script.Outcome.TheVariants.{Opened, Closed, Replied, Refused, Expected}
+use Rattle.ed_types.specs.Notices.{Notice, Response}
+use Rattle.ed_types.specs.Messages.{kind_of, marks_of}
+use Rattle.ed_model.specs.Session.{Session, View, view_at}
+use Rattle.ed_model.specs.Notes as notes
+use Rattle.ed_model.specs.Table.{table}
+use Rattle.ed_model.specs.Run.{Running, after_command, run_to}
+
+-- What a message comes to.
+
+abbrev pub Answered : Type 0
+Answered = Result (Session × Response) Refusal
+
+-- a reply leaves the session; a refusal has no session of its own
+abbrev pub LeavesSession : Session → Answered → Type 0
+LeavesSession s (Err refusal) = Unit {0}
+LeavesSession s (Ok done) = done.0 ≡ s
+
+-- a reply has no text
+abbrev pub HasNoText : Answered → Type 0
+HasNoText (Err refusal) = Unit {0}
+HasNoText (Ok done) = done.1.text ≡ []
+
+-- a reply has these notes
+abbrev pub HasNotes : List Notice → Answered → Type 0
+HasNotes notes (Err refusal) = Unit {0}
+HasNotes notes (Ok done) = done.1.notes ≡ notes
+
+-- the note by which a view that records hears of a message
+abbrev pub recording : View → Message → Notice
+recording v m =
+    let n = notes.blank notes.macro_record in record n { view = v.id; message = m.number; w = m.w; l = m.l; text = m.text }
+
+-- The laws, for every message, session and view, and whichever messages are known.
+
+-- a message marked as a query leaves the session
+abbrev pub QueriesLeaveTheSession : Type 0
+QueriesLeaveTheSession =
+    (known : Kind → Bool) (s : Session) (view : ℕ) (m : Message) (kind : Kind) →
+    kind_of m.number ≡ Some kind → (marks_of kind).q ≡ true → LeavesSession s (table known s view m)
+
+-- a message that takes no memory hands out no text
+abbrev pub FreeMessagesHandOutNoText : Type 0
+FreeMessagesHandOutNoText =
+    (known : Kind → Bool) (s : Session) (view : ℕ) (m : Message) (kind : Kind) →
+    kind_of m.number ≡ Some kind → (marks_of kind).n ≡ true → HasNoText (table known s view m)
+
+-- unless it is recorded, a message that takes no memory has no note
+abbrev pub FreeMessagesHaveNoNote : Type 0
+FreeMessagesHaveNoNote =
+    (known : Kind → Bool) (s : Session) (view : ℕ) (m : Message) (kind : Kind) (v : View) →
+    kind_of m.number ≡ Some kind → (marks_of kind).n ≡ true → view_at s.views view ≡ Some v →
+    (v.records && (marks_of kind).r) ≡ false → HasNotes [] (table known s view m)
+
+-- and if it is recorded, it has that note alone
+abbrev pub RecordedFreeMessagesHaveOneNote : Type 0
+RecordedFreeMessagesHaveOneNote =
+    (known : Kind → Bool) (s : Session) (view : ℕ) (m : Message) (kind : Kind) (v : View) →
+    kind_of m.number ≡ Some kind → (marks_of kind).n ≡ true → view_at s.views view ≡ Some v →
+    (v.records && (marks_of kind).r) ≡ true → HasNotes (recording v m ∷ []) (table known s view m)
+
+-- Runs.
+
+-- a command that is refused leaves the session
+abbrev pub RefusedCommandsLeaveTheSession : Type 0
+RefusedCommandsLeaveTheSession =
+    (known : Kind → Bool) (files : List (List ℕ)) (c : Command) (s : Running) (refusal : Refusal) →
+    (after_command known files c s).1 ≡ Refused refusal → (after_command known files c s).0.session ≡ s.session
+
+abbrev pub is_refused : Outcome → Bool
+is_refused (Opened view) = false
+is_refused Closed = false
+is_refused (Replied reply) = false
+is_refused (Refused refusal) = true
+is_refused (Expected met value) = false
+
+abbrev pub kept_unless : Bool → Command → List Command → List Command
+kept_unless true c cs = cs
+kept_unless false c cs = c ∷ cs
+
+-- the commands of a run that are not refused
+abbrev pub unrefused : (Kind → Bool) → List (List ℕ) → List Command → Running → List Command
+unrefused known files [] s = []
+unrefused known files (c ∷ cs) s =
+    let done = after_command known files c s in kept_unless (is_refused done.1) c (unrefused known files cs done.0)
+
+-- a run without its refused commands ends in the same session
+abbrev pub RefusedCommandsCanBeLeftOut : Type 0
+RefusedCommandsCanBeLeftOut =
+    (known : Kind → Bool) (files : List (List ℕ)) (cs : List Command) (s : Running) →
+    (run_to known files (unrefused known files cs s) s).session ≡ (run_to known files cs s).session
