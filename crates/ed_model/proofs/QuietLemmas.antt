@@ -1,8 +1,7 @@
 -- Plans of queries, and of messages that take no memory: what they come to. A fact on the plan, shown for each kind.
-use Rattle.std.proofs.Common.{◌≡◌, ℕ, ◌-◌, nat_lt, ℤ, Bool, true, false, cond, List, [], ◌∷◌, refl, Option, Some, None, Result, Ok, Err}
-use Rattle.std.proofs.lemmas.Bool.{cond_both}
+use Rattle.std.proofs.Common.{◌≡◌, ℕ, ◌-◌, nat_lt, ℤ, Bool, true, false, cond, List, [], refl, Option, Some, None, Ok, Err}
 use Rattle.ed_types.specs.declared.kind.Kind.{Kind}
-use Rattle.ed_types.specs.declared.kind.Kind.TheVariants.{AddText, InsertText, ClearAll, GetLength, GetCharAt, GetCurrentPos, GetAnchor, GetStyleAt, Redo, SetUndoCollection, SelectAll, SetSavePoint, GetStyledText, CanRedo, MarkerLineFromHandle, MarkerDeleteHandle, GetUndoCollection, GotoLine, GotoPos, SetAnchor, GetCurLine, GetEndStyled, ConvertEols, GetEolMode, SetEolMode, StartStyling, SetStyling, MarkerAdd, MarkerDelete, MarkerDeleteAll, MarkerGet, MarkerNext, MarkerPrevious, SetStylingEx, BeginUndoAction, EndUndoAction, SetLineState, GetLineState, GetLineEndPosition, GetReadOnly, SetCurrentPos, SetSelectionStart, GetSelectionStart, SetSelectionEnd, GetSelectionEnd, GetLine, GetLineCount, GetModify, SetSel, GetSelText, GetTextRange, LineFromPosition, PositionFromLine, ReplaceSel, SetReadOnly, CanPaste, CanUndo, EmptyUndoBuffer, Undo, Cut, Copy, Paste, Clear, SetText, GetText, GetTextLength, SetTargetStart, GetTargetStart, SetTargetEnd, GetTargetEnd, ReplaceTarget, SearchInTarget, SetSearchFlags, GetSearchFlags, VisibleFromDocLine, DocLineFromVisible, SetFoldLevel, GetFoldLevel, GetLastChild, GetFoldParent, ShowLines, HideLines, GetLineVisible, SetFoldExpanded, GetFoldExpanded, ToggleFold, EnsureVisible, GetAllLinesVisible, FoldLine, AppendText, TargetFromSelection, CharLeft, CharLeftExtend, CharRight, CharRightExtend, Home, HomeExtend, LineEnd, LineEndExtend, DocumentStart, DocumentStartExtend, DocumentEnd, DocumentEndExtend, DeleteBack, NewLine, LineLength, GetDocPointer, SetDocPointer, SetModEventMask, CreateDocument, AddRefDocument, ReleaseDocument, GetModEventMask, GetDocumentOptions, PositionBefore, PositionAfter, CopyRange, CopyText, MarkerAddSet, SetPasteConvertEndings, GetPasteConvertEndings, SetIndicatorCurrent, GetIndicatorCurrent, SetIndicatorValue, GetIndicatorValue, IndicatorFillRange, IndicatorClearRange, IndicatorAllOnFor, IndicatorValueAt, IndicatorStart, IndicatorEnd, SetEmptySelection, AddUndoAction, DeleteRange, GetSelectionEmpty, SetLineEndTypesAllowed, GetLineEndTypesAllowed, GetLineEndTypesActive, SetTargetRange, GetTargetText, TargetWholeDocument, StartRecord, StopRecord, Colourise}
+use Rattle.ed_types.specs.declared.kind.Kind.TheVariants.{GetLength, GetCharAt, GetCurrentPos, GetAnchor, GetStyleAt, SetUndoCollection, SelectAll, GetStyledText, CanRedo, MarkerLineFromHandle, GetUndoCollection, GotoLine, GotoPos, SetAnchor, GetCurLine, GetEndStyled, GetEolMode, SetEolMode, StartStyling, MarkerGet, MarkerNext, MarkerPrevious, BeginUndoAction, EndUndoAction, GetLineState, GetLineEndPosition, GetReadOnly, SetCurrentPos, SetSelectionStart, GetSelectionStart, SetSelectionEnd, GetSelectionEnd, GetLine, GetLineCount, GetModify, SetSel, GetSelText, GetTextRange, LineFromPosition, PositionFromLine, SetReadOnly, CanPaste, CanUndo, EmptyUndoBuffer, GetText, GetTextLength, SetTargetStart, GetTargetStart, SetTargetEnd, GetTargetEnd, SearchInTarget, SetSearchFlags, GetSearchFlags, VisibleFromDocLine, DocLineFromVisible, GetFoldLevel, GetLastChild, GetFoldParent, GetLineVisible, GetFoldExpanded, GetAllLinesVisible, TargetFromSelection, CharLeft, CharLeftExtend, CharRight, CharRightExtend, Home, HomeExtend, LineEnd, LineEndExtend, DocumentStart, DocumentStartExtend, DocumentEnd, DocumentEndExtend, LineLength, GetDocPointer, SetModEventMask, AddRefDocument, ReleaseDocument, GetModEventMask, GetDocumentOptions, PositionBefore, PositionAfter, SetPasteConvertEndings, GetPasteConvertEndings, SetIndicatorCurrent, GetIndicatorCurrent, SetIndicatorValue, GetIndicatorValue, IndicatorAllOnFor, IndicatorValueAt, IndicatorStart, IndicatorEnd, SetEmptySelection, GetSelectionEmpty, GetLineEndTypesAllowed, GetLineEndTypesActive, SetTargetRange, GetTargetText, TargetWholeDocument, StartRecord, StopRecord}
 use Rattle.ed_types.specs.declared.refusal.Refusal.{Refusal}
 use Rattle.ed_types.specs.declared.refusal.Refusal.TheVariants.{TooMany, NoSuchDocument}
 use Rattle.ed_types.specs.Messages.{marks_of}
@@ -13,7 +12,7 @@ use Rattle.ed_model.specs.declared.plan.SessionChange.TheVariants as session_cha
 use Rattle.ed_model.specs.declared.plan.Plan.{Plan}
 use Rattle.ed_model.specs.declared.plan.Plan.TheVariants as plan
 use Rattle.ed_model.specs.Numbers.{within}
-use Rattle.ed_model.specs.Session.{Session, Document, View, watching, references}
+use Rattle.ed_model.specs.Session.{Document, View, watching, references}
 use Rattle.ed_model.specs.Requests.{Request, Planned, size, end_or_size, with_argument, argument, text_length, text_range, counted_range, with_line, line_argument}
 use Rattle.ed_model.specs.DocumentPlans.{found_target, with_reference, release_of, change_session, document_named}
 use Rattle.ed_model.specs.Changes.{change_told, changed_document}

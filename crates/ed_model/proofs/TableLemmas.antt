@@ -5,13 +5,11 @@ use Rattle.ed_types.specs.declared.message.Message.{Message}
 use Rattle.ed_types.specs.declared.refusal.Refusal.{Refusal}
 use Rattle.ed_types.specs.declared.script.Command.{Command}
 use Rattle.ed_types.specs.declared.script.Command.TheVariants.{OpenView, CloseView, LoadFile, SendMessage, Expect}
-use Rattle.ed_types.specs.declared.script.Outcome.{Outcome}
-use Rattle.ed_types.specs.declared.script.Outcome.TheVariants.{Opened, Closed, Replied, Refused, Expected}
 use Rattle.ed_types.specs.Notices.{Notice, Response}
 use Rattle.ed_types.specs.Messages.{kind_of, marks_of}
 use Rattle.ed_model.specs.Session.{Session, View, Document, view_at, document_at}
 use Rattle.ed_model.specs.Requests.{Request, Planned}
-use Rattle.ed_model.specs.Table.{table, table_from_view, table_from_kind, table_if_known, table_from_document, answered, recorded, record_note, performed, plan_of, request, opened, closed}
+use Rattle.ed_model.specs.Table.{table, table_from_view, table_from_kind, table_if_known, table_from_document, answered, record_note, performed, plan_of, request, opened, closed}
 use Rattle.ed_model.specs.Run.{Running, after_command, after_opening, after_closing, after_message, run_to, loaded, file_at}
 use Rattle.ed_model.specs.TableLaws.{Answered, LeavesSession, HasNoText, HasNotes, recording, QueriesLeaveTheSession, FreeMessagesHandOutNoText, FreeMessagesHaveNoNote, RecordedFreeMessagesHaveOneNote, RefusedCommandsLeaveTheSession, is_refused, kept_unless, unrefused, RefusedCommandsCanBeLeftOut}
 use Rattle.ed_model.proofs.QuietLemmas.{IsQuiet, IsFree, query_is_quiet, quiet_plan_leaves, message_without_memory_is_free, free_plan_has_no_text, free_plan_has_no_note}

@@ -44,3 +44,7 @@ pub mod LineLaws
 pub mod StepLaws
 pub mod CarryLaws
 pub mod TableLaws
+pub mod NeighbourLaws
+pub mod InverseLaws
+pub mod HistoryLaws
+pub mod UndoLaws

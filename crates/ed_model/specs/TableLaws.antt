@@ -1,5 +1,5 @@
 -- Laws of the message table: what queries, messages that take no memory, and refusals leave as it was.
-use Rattle.std.specs.Prelude.{◌≡◌, ℕ, Bool, true, false, ◌&&◌, List, [], ◌∷◌, Result, Ok, Err, Option, Some}
+use Rattle.std.specs.Prelude.{◌≡◌, ℕ, Bool, true, false, ◌&&◌, List, [], ◌∷◌, Result, Ok, Err, Some}
 use Rattle.ed_types.specs.declared.kind.Kind.{Kind}
 use Rattle.ed_types.specs.declared.message.Message.{Message}
 use Rattle.ed_types.specs.declared.refusal.Refusal.{Refusal}

@@ -9,7 +9,6 @@ use Rattle.ed_types.specs.declared.script.Command.{Command}
 use Rattle.ed_types.specs.declared.script.Command.TheVariants.{OpenView, SendMessage}
 use Rattle.ed_types.specs.declared.script.Outcome.{Outcome}
 use Rattle.ed_types.specs.declared.script.Outcome.TheVariants.{Opened, Closed, Replied, Refused, Expected}
-use Rattle.ed_types.specs.Notices.{Response}
 use Rattle.ed_types.specs.Messages.{number_of}
 use Rattle.ed_model.specs.Session.{new_session, greatest_limits}
 use Rattle.ed_model.specs.Run.{outcomes, starting}

@@ -1,5 +1,5 @@
 -- Worked examples of single definitions: rows and indicators under steps, display lines, folding, and joins.
-use Rattle.std.specs.Prelude.{◌≡◌, ℕ, ◌+◌, pos, List, [], ◌∷◌, map, length, fold, true, false, codes, Bool, Some, None}
+use Rattle.std.specs.Prelude.{◌≡◌, ℕ, pos, List, [], ◌∷◌, map, length, fold, true, false, codes, Bool, Some, None}
 use Rattle.ed_model.specs.declared.plan.LineEndTypes.TheVariants.{Default}
 use Rattle.ed_model.specs.Steps.{Step, Insert, Delete}
 use Rattle.ed_model.specs.Carry.{carried_by}

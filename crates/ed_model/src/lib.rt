@@ -3,20 +3,31 @@
 #![tactic(auto)]
 
 mod examples;
+mod history_laws;
+mod inverse_laws;
 mod line_laws;
+mod neighbour_laws;
 mod plan;
 mod script_examples;
 mod script_laws;
 mod table_laws;
+mod undo_laws;
 mod worked_examples;
 
 pub use examples::{
     examples_of_documents, examples_of_folding, examples_of_markers, examples_of_recording,
     examples_of_selection, examples_of_styles, examples_of_text, examples_of_undo,
 };
+pub use history_laws::{
+    a_change_is_appended, modified_or_saved, seals_and_groups, transactions_move,
+};
+pub use inverse_laws::{
+    a_step_can_be_taken_back, steps_can_be_taken_back, undo_and_redo_give_back_the_text,
+};
 pub use line_laws::{
     lines_of_positions, positions_after_a_step, rows_match_lines, starts_of_lines,
 };
+pub use neighbour_laws::{starts_after_a_step, starts_on_either_side};
 pub use plan::{
     DocumentChange, Edit, Follow, LineEnd, LineEndTypes, Plan, Planned, SessionChange, Source,
     ViewChange,
@@ -28,6 +39,7 @@ pub use script_laws::laws_of_scripts;
 pub use table_laws::{
     free_messages_are_silent, queries_leave_the_session, refusals_leave_the_session,
 };
+pub use undo_laws::{earlier_texts_are_kept, undos_and_redos};
 pub use worked_examples::{
     worked_characters, worked_joins, worked_limits, worked_lines, worked_matches,
 };

@@ -1,0 +1,339 @@
+-- The undo history. Facts on lists of transactions and on save points first, then those on histories by cases of their tests.
+use Rattle.std.proofs.Common.{◌≡◌, ℕ, suc, ◌+◌, ◌-◌, ◌<◌, ◌≤◌, ◌==◌, nat_le, not, ◌&&◌, ◌||◌, cond, if◌then◌else◌, Bool, true, false, ℤ, List, [], ◌∷◌, length, map, refl, ap, ◌∙◌, sym, subst, arith, Option, Some, None}
+use Rattle.std.proofs.lemmas.Bool.{eqb-true, eq-eqb, leb-true}
+use Rattle.std.proofs.lemmas.List.{length-map}
+use Rattle.ed_model.specs.Numbers.{is_number}
+use Rattle.ed_model.specs.History.{History, Transaction, Change, at_save_point, joins, joins_last, appended, reachable, with_change, first_changes, seal_first, sealed_outside_groups, with_last_sealed, group_ended, with_container_step, ContainerStep, undone, undone_to, redone, redone_from}
+use Rattle.ed_model.specs.HistoryLaws.{NotCollectingAppendsNothing, KeepsAllButThePast, AppendKeepsAllButThePast, AppendJoins, NothingJoinsNone, AppendBegins, AppendCounts, AppendLeavesTheSavePoint, SavedIsAtTheSavePoint, EmptiedIsAtTheSavePoint, CollectingKeepsModified, SealsKeepModified, GroupBegunKeepsModified, GroupEndedKeepsModified, SealsOnce, NothingJoinsASealedOne, SameButForSeals, SealsChangeNoChange, GroupBegunChangesNoChange, GroupEndedChangesNoChange, GroupBegunIsDeeper, GroupEndedIsLessDeep, OthersKeepTheDepth, MovesToTheFuture, UndoMovesToTheFuture, MovesToThePast, RedoMovesToThePast, UndoThenRedoGivesBackTheHistory, UndoThenRedoKeepsModified}
+
+-- Tests.
+
+-- both sides of a test hold
+pub both_hold : {A : Type 0} (P : A → Type 0) (b : Bool) (x y : A) → (b ≡ true → P x) → (b ≡ false → P y) → P (cond b x y)
+both_hold P true x y h k = h refl
+both_hold P false x y h k = k refl
+
+pub where_true : {A : Type 0} (b : Bool) (x y : A) → b ≡ true → cond b x y ≡ x
+where_true true x y e = refl
+where_true false x y e = cc
+
+pub where_false : {A : Type 0} (b : Bool) (x y : A) → b ≡ false → cond b x y ≡ y
+where_false true x y e = cc
+where_false false x y e = refl
+
+pub itself : (n : ℕ) → (n == n) ≡ true
+itself n = eq-eqb n n refl
+
+unequal : (a b : ℕ) (same : Bool) → (a == b) ≡ same → (a ≡ b → ⊥) → (a == b) ≡ false
+unequal a b true e h = absurd (h (eqb-true a b e))
+unequal a b false e h = e
+
+-- two numbers that are not equal do not pass the test
+pub apart : (a b : ℕ) → (a ≡ b → ⊥) → (a == b) ≡ false
+apart a b h = unequal a b (a == b) refl h
+
+-- Seals.
+
+pub sealed_length : (ts : List Transaction) → length (seal_first ts) ≡ length ts
+sealed_length [] = refl
+sealed_length (t ∷ ts) = refl
+
+pub sealed_changes : (ts : List Transaction) → map (λ (t : Transaction). t.changes) (seal_first ts) ≡ map (λ (t : Transaction). t.changes) ts
+sealed_changes [] = refl
+sealed_changes (t ∷ ts) = refl
+
+pub sealed_first_changes : (ts : List Transaction) → first_changes (seal_first ts) ≡ first_changes ts
+sealed_first_changes [] = refl
+sealed_first_changes (t ∷ ts) = refl
+
+pub sealed_twice : (ts : List Transaction) → seal_first (seal_first ts) ≡ seal_first ts
+sealed_twice [] = refl
+sealed_twice (t ∷ ts) = refl
+
+-- outside groups a history has its last transaction sealed, and in a group it is as it was
+pub outside_groups : (P : History → Type 0) (h : History) → (h.depth ≡ 0 → P (with_last_sealed h)) → P h → P (sealed_outside_groups h)
+outside_groups P h outside inside = both_hold P (h.depth == 0) (with_last_sealed h) h (λ e. outside (eqb-true h.depth 0 e)) (λ e. inside)
+
+sealed_keeps_modified : (h : History) → at_save_point (with_last_sealed h) ≡ at_save_point h
+sealed_keeps_modified h = ap (λ n. is_number n h.save_point) (sealed_length h.past)
+
+pub seals_keep_modified : SealsKeepModified
+seals_keep_modified h = outside_groups (λ g. at_save_point g ≡ at_save_point h) h (λ e. sealed_keeps_modified h) refl
+
+pub sealing_keeps_depth : (h : History) → (sealed_outside_groups h).depth ≡ h.depth
+sealing_keeps_depth h = outside_groups (λ g. g.depth ≡ h.depth) h (λ e. refl) refl
+
+pub same_as_itself : (h : History) → SameButForSeals h h
+same_as_itself h = record { past = refl; future = refl; save_point = refl; collecting = refl }
+
+sealed_changes_no_change : (h : History) → SameButForSeals h (with_last_sealed h)
+sealed_changes_no_change h = record { past = sealed_changes h.past; future = refl; save_point = refl; collecting = refl }
+
+pub seals_change_no_change : SealsChangeNoChange
+seals_change_no_change h = outside_groups (SameButForSeals h) h (λ e. sealed_changes_no_change h) (same_as_itself h)
+
+pub seals_once : SealsOnce
+seals_once h =
+    both_hold (λ g. sealed_outside_groups g ≡ g) (h.depth == 0) (with_last_sealed h) h
+    (λ e. where_true (h.depth == 0) _ _ e ∙ ap (λ ts. record h { past = ts }) (sealed_twice h.past))
+    (λ e. where_false (h.depth == 0) _ _ e)
+
+nothing_joins_sealed : (later : Bool) (c : Change) (h : History) (ts : List Transaction) → joins_last later c h (seal_first ts) ≡ false
+nothing_joins_sealed later c h [] = refl
+nothing_joins_sealed later c h (t ∷ ts) = refl
+
+pub nothing_joins_a_sealed_one : NothingJoinsASealedOne
+nothing_joins_a_sealed_one later c h e =
+    subst (λ g. joins later c g ≡ false) (sym (where_true (h.depth == 0) (with_last_sealed h) h (eq-eqb h.depth 0 e)))
+    (nothing_joins_sealed later c (with_last_sealed h) h.past)
+
+-- Groups.
+
+pub group_begun_keeps_modified : GroupBegunKeepsModified
+group_begun_keeps_modified h = seals_keep_modified h
+
+pub group_begun_changes_no_change : GroupBegunChangesNoChange
+group_begun_changes_no_change h =
+    let s = seals_change_no_change h in
+    record { past = s.past; future = s.future; save_point = s.save_point; collecting = s.collecting }
+
+pub group_begun_is_deeper : GroupBegunIsDeeper
+group_begun_is_deeper h = refl
+
+-- ending a group: nothing without one, else one group less, and a seal at the outermost
+pub group_end : (P : History → Type 0) (h : History) → P h → P (sealed_outside_groups (record h { depth = h.depth - 1 })) → P (group_ended h)
+group_end P h none some = both_hold P (h.depth == 0) h (sealed_outside_groups (record h { depth = h.depth - 1 })) (λ e. none) (λ e. some)
+
+pub group_ended_keeps_modified : GroupEndedKeepsModified
+group_ended_keeps_modified h =
+    group_end (λ g. at_save_point g ≡ at_save_point h) h refl (seals_keep_modified (record h { depth = h.depth - 1 }))
+
+pub group_ended_changes_no_change : GroupEndedChangesNoChange
+group_ended_changes_no_change h =
+    let s = seals_change_no_change (record h { depth = h.depth - 1 }) in
+    group_end (SameButForSeals h) h (same_as_itself h) (record { past = s.past; future = s.future; save_point = s.save_point; collecting = s.collecting })
+
+none_less : (n : ℕ) → (n == 0) ≡ true → n ≡ n - 1
+none_less n e = let z = eqb-true n 0 e in omega arith
+
+pub group_ended_is_less_deep : GroupEndedIsLessDeep
+group_ended_is_less_deep h =
+    both_hold (λ g. g.depth ≡ h.depth - 1) (h.depth == 0) h (sealed_outside_groups (record h { depth = h.depth - 1 }))
+    (λ e. none_less h.depth e) (λ e. sealing_keeps_depth (record h { depth = h.depth - 1 }))
+
+-- Append.
+
+-- the history with a change appended, joined or not
+abbrev pub collected : Bool → Change → History → History
+collected joined c h = record h { past = with_change joined c h.past; future = []; save_point = reachable (length h.past) h.save_point }
+
+pub where_collecting : (later : Bool) (c : Change) (h : History) → h.collecting ≡ true → appended later c h ≡ collected (joins later c h) c h
+where_collecting later c h e = where_true h.collecting (collected (joins later c h) c h) h e
+
+pub not_collecting_appends_nothing : NotCollectingAppendsNothing
+not_collecting_appends_nothing later c h e = where_false h.collecting (collected (joins later c h) c h) h e
+
+pub append_keeps_all_but_the_past : AppendKeepsAllButThePast
+append_keeps_all_but_the_past later c h e =
+    subst (KeepsAllButThePast h) (sym (where_collecting later c h e))
+    (record { future = refl; save_point = refl; depth = refl; collecting = e })
+
+-- what a change that joins tells of the history
+pub joined_last : (later : Bool) (c : Change) (h : History) (ts : List Transaction) → joins_last later c h ts ≡ true →
+    (length (with_change true c ts) ≡ length ts) × (first_changes (with_change true c ts) ≡ c ∷ first_changes ts) × (at_save_point h ≡ false)
+joined_last later c h [] e = cc
+joined_last later c h (t ∷ ts) e = (refl, refl, not_saved t.is_sealed (at_save_point h) _ e)
+  where
+    not_saved : (a b d : Bool) → (not a && not b && d) ≡ true → b ≡ false
+    not_saved true true d e = cc
+    not_saved true false d e = refl
+    not_saved false true d e = cc
+    not_saved false false d e = refl
+
+-- the first of these transactions with the change in it
+joined : (later : Bool) (c : Change) (h : History) (t : Transaction) (ts : List Transaction) (b : Bool) → b ≡ true → h.past ≡ t ∷ ts →
+    with_change b c h.past ≡ record t { changes = c ∷ t.changes } ∷ ts
+joined later c h t ts b e p = ap (λ (x : Bool). with_change x c h.past) e ∙ ap (with_change true c) p
+
+joined_open : (later : Bool) (c : Change) (h : History) (t : Transaction) (ts : List Transaction) → joins_last later c h (t ∷ ts) ≡ true → t.is_sealed ≡ false
+joined_open later c h t ts e = first_false t.is_sealed (at_save_point h) _ e
+  where
+    first_false : (a b d : Bool) → (not a && not b && d) ≡ true → a ≡ false
+    first_false true b d e = cc
+    first_false false b d e = refl
+
+pub append_joins : AppendJoins
+append_joins later c h t ts e p j =
+    let among : joins_last later c h (t ∷ ts) ≡ true = subst (λ (past : List Transaction). joins_last later c h past ≡ true) p j in
+    let told = joined_last later c h (t ∷ ts) among in
+    record {
+      past = ap (λ (g : History). g.past) (where_collecting later c h e) ∙ joined later c h t ts (joins later c h) j p;
+      is_open = joined_open later c h t ts among;
+      modified = told.2;
+    }
+
+pub nothing_joins_none : NothingJoinsNone
+nothing_joins_none later c h e = ap (joins_last later c h) e
+
+-- a change that does not join is alone in a new transaction
+pub begun : (c : Change) (ts : List Transaction) → with_change false c ts ≡ record { changes = c ∷ []; is_sealed = false } ∷ ts
+begun c [] = refl
+begun c (t ∷ ts) = refl
+
+both_true : (a b : Bool) → (a && not b) ≡ true → (a ≡ true) × (b ≡ false)
+both_true true true e = cc
+both_true true false e = (refl, refl)
+both_true false b e = cc
+
+pub append_begins : AppendBegins
+append_begins later c h e =
+    let tests = both_true h.collecting (joins later c h) e in
+    ap (λ (g : History). g.past) (where_collecting later c h tests.0)
+    ∙ ap (λ b. with_change b c h.past) tests.1
+    ∙ begun c h.past
+
+count_of : (later : Bool) (c : Change) (h : History) (b j : Bool) → joins later c h ≡ j →
+    length (cond b (collected j c h) h).past ≡ (if b && not j then length h.past + 1 else length h.past)
+count_of later c h true true e = let told = joined_last later c h h.past e in told.0
+count_of later c h true false e = ap length (begun c h.past) ∙ one_more (length h.past)
+  where
+    one_more : (n : ℕ) → suc n ≡ n + 1
+    one_more n = omega arith
+count_of later c h false j e = refl
+
+pub append_counts : AppendCounts
+append_counts later c h = count_of later c h h.collecting (joins later c h) refl
+
+-- a save point that can be reached from a past of n is at most n
+reached_is_lower : (n k m : ℕ) (b : Bool) → (b ≡ true → k ≤ n) → n < m → is_number m (cond b (Some k) None) ≡ false
+reached_is_lower n k m true within lower = apart k m (λ e. omega (arith, within refl))
+reached_is_lower n k m false within lower = refl
+
+pub lower_save_point : (n m : ℕ) (save_point : Option ℕ) → n < m → is_number m (reachable n save_point) ≡ false
+lower_save_point n m None lower = refl
+lower_save_point n m (Some k) lower = reached_is_lower n k m (nat_le k n) (λ e. leb-true k n e) lower
+
+still_elsewhere : (n k : ℕ) (b : Bool) → (k == n) ≡ false → is_number n (cond b (Some k) None) ≡ false
+still_elsewhere n k true e = e
+still_elsewhere n k false e = refl
+
+pub other_save_point : (n : ℕ) (save_point : Option ℕ) → is_number n save_point ≡ false → is_number n (reachable n save_point) ≡ false
+other_save_point n None e = refl
+other_save_point n (Some k) e = still_elsewhere n k (nat_le k n) e
+
+modified_by : (later : Bool) (c : Change) (h : History) (b : Bool) → joins later c h ≡ b → at_save_point (collected b c h) ≡ false
+modified_by later c h true j =
+    let told = joined_last later c h h.past j in
+    ap (λ n. is_number n (reachable (length h.past) h.save_point)) told.0 ∙ other_save_point (length h.past) h.save_point told.2
+modified_by later c h false j =
+    ap (λ (ts : List Transaction). is_number (length ts) (reachable (length h.past) h.save_point)) (begun c h.past)
+    ∙ lower_save_point (length h.past) (suc (length h.past)) h.save_point (omega arith)
+
+pub append_leaves_the_save_point : AppendLeavesTheSavePoint
+append_leaves_the_save_point later c h e =
+    subst (λ g. at_save_point g ≡ false) (sym (where_collecting later c h e)) (modified_by later c h (joins later c h) refl)
+
+-- The save point.
+
+pub saved_is_at_the_save_point : SavedIsAtTheSavePoint
+saved_is_at_the_save_point h = itself (length h.past)
+
+pub emptied_is_at_the_save_point : EmptiedIsAtTheSavePoint
+emptied_is_at_the_save_point h = refl
+
+kept_modified : (b : Bool) → is_number 0 (cond b (Some 0) None) ≡ b
+kept_modified true = refl
+kept_modified false = refl
+
+pub collecting_keeps_modified : CollectingKeepsModified
+collecting_keeps_modified true h = refl
+collecting_keeps_modified false h = kept_modified (at_save_point h)
+
+-- Depth.
+
+append_keeps_depth : (later : Bool) (c : Change) (h : History) → (appended later c h).depth ≡ h.depth
+append_keeps_depth later c h = both_hold (λ (g : History). g.depth ≡ h.depth) h.collecting (collected (joins later c h) c h) h (λ e. refl) (λ e. refl)
+
+container_keeps_depth : (token : ℤ) (coalesce : Bool) (h : History) → (with_container_step token coalesce h).depth ≡ h.depth
+container_keeps_depth token coalesce h =
+    let a = appended false (ContainerStep token coalesce) h in
+    both_hold (λ (g : History). g.depth ≡ h.depth) (coalesce || not h.collecting) a (sealed_outside_groups a)
+    (λ e. append_keeps_depth false (ContainerStep token coalesce) h)
+    (λ e. sealing_keeps_depth a ∙ append_keeps_depth false (ContainerStep token coalesce) h)
+
+undo_keeps_depth : (h : History) (ts : List Transaction) → (undone_to h ts).depth ≡ h.depth
+undo_keeps_depth h [] = refl
+undo_keeps_depth h (t ∷ ts) = refl
+
+redo_keeps_depth : (h : History) (ts : List Transaction) → (redone_from h ts).depth ≡ h.depth
+redo_keeps_depth h [] = refl
+redo_keeps_depth h (t ∷ ts) = refl
+
+pub others_keep_the_depth : OthersKeepTheDepth
+others_keep_the_depth h = record {
+  append = λ later c. append_keeps_depth later c h;
+  container = λ token coalesce. container_keeps_depth token coalesce h;
+  seal = sealing_keeps_depth h;
+  undo = undo_keeps_depth h h.past;
+  redo = redo_keeps_depth h h.future;
+  save = refl;
+}
+
+-- Undo and redo.
+
+undo_moves : (h : History) (ts : List Transaction) → h.past ≡ ts → 0 < length ts → MovesToTheFuture h (undone_to h ts)
+undo_moves h [] e some = absurd (omega arith)
+undo_moves h (t ∷ ts) e some = record {
+  past = sealed_length ts ∙ sym (ap (λ (past : List Transaction). length past - 1) e ∙ one_less (length ts));
+  future = suc_is_more (length h.future);
+  changes = sym (ap first_changes e);
+  save_point = refl;
+}
+  where
+    one_less : (n : ℕ) → suc n - 1 ≡ n
+    one_less n = omega arith
+
+    suc_is_more : (n : ℕ) → suc n ≡ n + 1
+    suc_is_more n = omega arith
+
+pub undo_moves_to_the_future : UndoMovesToTheFuture
+undo_moves_to_the_future h some = undo_moves h h.past refl some
+
+redo_moves : (h : History) (ts : List Transaction) → h.future ≡ ts → 0 < length ts → MovesToThePast h (redone_from h ts)
+redo_moves h [] e some = absurd (omega arith)
+redo_moves h (t ∷ ts) e some = record {
+  past = suc_is_more (length h.past);
+  future = sym (ap (λ (future : List Transaction). length future - 1) e ∙ one_less (length ts));
+  changes = sym (ap first_changes e);
+  save_point = refl;
+}
+  where
+    one_less : (n : ℕ) → suc n - 1 ≡ n
+    one_less n = omega arith
+
+    suc_is_more : (n : ℕ) → suc n ≡ n + 1
+    suc_is_more n = omega arith
+
+pub redo_moves_to_the_past : RedoMovesToThePast
+redo_moves_to_the_past h some = redo_moves h h.future refl some
+
+back_again : (h : History) (ts : List Transaction) → h.past ≡ ts → 0 < length ts → SameButForSeals h (redone (undone_to h ts))
+back_again h [] e some = absurd (omega arith)
+back_again h (t ∷ ts) e some = record {
+  past = ap (λ (rest : List (List Change)). t.changes ∷ rest) (sealed_changes ts) ∙ sym (ap (map (λ (u : Transaction). u.changes)) e);
+  future = refl;
+  save_point = refl;
+  collecting = refl;
+}
+
+pub undo_then_redo_gives_back_the_history : UndoThenRedoGivesBackTheHistory
+undo_then_redo_gives_back_the_history h some = back_again h h.past refl some
+
+-- histories that are the same but for seals count as modified alike
+pub same_modified : (h g : History) → SameButForSeals h g → at_save_point g ≡ at_save_point h
+same_modified h g s =
+    ap (λ (p : Option ℕ). is_number (length g.past) p) s.save_point
+    ∙ ap (λ n. is_number n h.save_point) (sym (length-map g.past (λ (t : Transaction). t.changes)) ∙ ap length s.past ∙ length-map h.past (λ (t : Transaction). t.changes))
+
+pub undo_then_redo_keeps_modified : UndoThenRedoKeepsModified
+undo_then_redo_keeps_modified h some = same_modified h (redone (undone h)) (undo_then_redo_gives_back_the_history h some)

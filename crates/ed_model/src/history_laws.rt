@@ -1,0 +1,45 @@
+//! Laws of the undo history: what each of its operations changes and keeps.
+
+ghost use Rattle.ed_model.specs.HistoryLaws.{AppendBegins, AppendCounts, AppendJoins, AppendKeepsAllButThePast, AppendLeavesTheSavePoint, CollectingKeepsModified, EmptiedIsAtTheSavePoint, GroupBegunChangesNoChange, GroupBegunIsDeeper, GroupBegunKeepsModified, GroupEndedChangesNoChange, GroupEndedIsLessDeep, GroupEndedKeepsModified, NotCollectingAppendsNothing, NothingJoinsASealedOne, NothingJoinsNone, OthersKeepTheDepth, RedoMovesToThePast, SavedIsAtTheSavePoint, SealsChangeNoChange, SealsKeepModified, SealsOnce, UndoMovesToTheFuture, UndoThenRedoGivesBackTheHistory, UndoThenRedoKeepsModified};
+
+/// What a change that is appended does: it joins the last transaction or begins one, drops the future, and keeps the rest.
+pub fn a_change_is_appended()
+    ensures not_collecting { NotCollectingAppendsNothing }
+    ensures others { AppendKeepsAllButThePast }
+    ensures joins { AppendJoins }
+    ensures begins { AppendBegins }
+    ensures joins_none { NothingJoinsNone }
+    ensures count { AppendCounts }
+{}
+
+/// When a document counts as modified: after each change that is collected, and neither once saved nor once its history is
+/// forgotten; groups, seals and collecting keep it.
+pub fn modified_or_saved()
+    ensures append { AppendLeavesTheSavePoint }
+    ensures saved { SavedIsAtTheSavePoint }
+    ensures emptied { EmptiedIsAtTheSavePoint }
+    ensures collecting { CollectingKeepsModified }
+    ensures seals { SealsKeepModified }
+    ensures group_begun { GroupBegunKeepsModified }
+    ensures group_ended { GroupEndedKeepsModified }
+    ensures undo_then_redo { UndoThenRedoKeepsModified }
+{}
+
+/// Seals end joins and change nothing else; groups are counted.
+pub fn seals_and_groups()
+    ensures once { SealsOnce }
+    ensures end_joins { NothingJoinsASealedOne }
+    ensures seals { SealsChangeNoChange }
+    ensures group_begun { GroupBegunChangesNoChange }
+    ensures group_ended { GroupEndedChangesNoChange }
+    ensures deeper { GroupBegunIsDeeper }
+    ensures less_deep { GroupEndedIsLessDeep }
+    ensures others { OthersKeepTheDepth }
+{}
+
+/// Undo moves a transaction from the past to the future, and redo back.
+pub fn transactions_move()
+    ensures undo { UndoMovesToTheFuture }
+    ensures redo { RedoMovesToThePast }
+    ensures undo_then_redo { UndoThenRedoGivesBackTheHistory }
+{}
