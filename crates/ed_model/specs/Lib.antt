@@ -48,3 +48,4 @@ pub mod NeighbourLaws
 pub mod InverseLaws
 pub mod HistoryLaws
 pub mod UndoLaws
+pub mod MergeLaws

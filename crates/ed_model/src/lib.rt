@@ -2,6 +2,7 @@
 //! the worked examples, each a public function with an empty body whose contract says what holds.
 #![tactic(auto)]
 
+mod carry_laws;
 mod examples;
 mod history_laws;
 mod inverse_laws;
@@ -14,6 +15,10 @@ mod table_laws;
 mod undo_laws;
 mod worked_examples;
 
+pub use carry_laws::{
+    rows_after_a_step, rows_after_regrouping, rows_come_in_blocks, rows_that_meet, single_rows,
+    starts_near_a_step,
+};
 pub use examples::{
     examples_of_documents, examples_of_folding, examples_of_markers, examples_of_recording,
     examples_of_selection, examples_of_styles, examples_of_text, examples_of_undo,

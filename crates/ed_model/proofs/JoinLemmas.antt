@@ -1,0 +1,174 @@
+-- The walk over old lines and new ones goes part by part: rows of lines that stay are as they were, a line that comes has a
+-- fresh row, and where a line goes two rows are joined.
+use Rattle.std.proofs.Common.{ℕ, zero, suc, ◌≡◌, ◌+◌, ◌-◌, ◌<◌, ◌≤◌, Bool, true, false, cond, List, [], ◌∷◌, ◌++◌, map, length, take, drop, filter, zip, count_by, get_or, slice_range, eqb, leb, ltb, sym, refl, ap, ap₂, ◌∙◌, inl, inr, arith, ◌≢◌, add-one, one-add, le_refl}
+use Rattle.std.specs.List.{prefix_len, AllByRecursion}
+use Rattle.std.specs.List.Sorted.{IsNonDecreasing, IsStrictlyIncreasing}
+use Rattle.std.proofs.lemmas.Bool.{cases_order, eq-eqb, ne_eqb, lt-ltb, le-ltb, le-leb, lt-leb}
+use Rattle.std.proofs.lemmas.List.{length-drop, take_at, drop_at, take-append-le, drop-append-le}
+use Rattle.std.proofs.lemmas.List.Sums.{prefix_len-le-length}
+use Rattle.ed_model.specs.MergeLaws.{lines_before, merged}
+use Rattle.ed_model.proofs.RisingLemmas.{Rises, Climbs, Climbs_weaker, Rises_weaker, count-cons}
+
+-- what holds of each element
+
+-- what holds of each element holds of each that is left
+pub each_drop : {X : Type 0} (P : X → Type 0) (k : ℕ) (xs : List X) → AllByRecursion P xs → AllByRecursion P (drop k xs)
+each_drop P zero xs h = h
+each_drop P (suc k) [] h = h
+each_drop P (suc k) (x ∷ xs) h = each_drop P k xs h.1
+
+-- .. and so does what follows from it
+pub each_weaker : {X : Type 0} (P Q : X → Type 0) (xs : List X) → ((x : X) → P x → Q x) → AllByRecursion P xs → AllByRecursion Q xs
+each_weaker P Q [] f h = h
+each_weaker P Q (x ∷ xs) f h = (f x h.0, each_weaker P Q xs f h.1)
+
+-- what rises before a number is below it
+pub rises_before : (low t : ℕ) (xs ys : List ℕ) → Rises low (xs ++ t ∷ ys) → AllByRecursion (λ x. x < t) xs × (low ≤ t)
+rises_before low t [] ys r = (tt, r.0)
+rises_before low t (x ∷ xs) ys r =
+    let rest : AllByRecursion (λ y. y < t) xs × (x + 1 ≤ t) = rises_before (x + 1) t xs ys r.1 in
+    ((omega arith, rest.0), omega (arith, r.0, rest.1))
+
+-- what is left of a rising list rises
+pub rises_rest : (low : ℕ) (xs ys : List ℕ) → Rises low (xs ++ ys) → Rises low ys
+rises_rest low [] ys r = r
+rises_rest low (x ∷ xs) ys r = Rises_weaker (x + 1) low ys (omega (arith, r.0)) (rises_rest (x + 1) xs ys r.1)
+
+-- .. and so does its front
+pub rises_front : (low : ℕ) (xs ys : List ℕ) → Rises low (xs ++ ys) → Rises low xs
+rises_front low [] ys r = tt
+rises_front low (x ∷ xs) ys r = (r.0, rises_front (x + 1) xs ys r.1)
+
+-- no element is below the bound
+pub climbs_each : (low : ℕ) (moved : ℕ → ℕ) (xs : List ℕ) → Climbs low (map moved xs) → AllByRecursion (λ x. low ≤ moved x) xs
+climbs_each low moved [] c = tt
+climbs_each low moved (x ∷ xs) c = (c.0, climbs_each low moved xs (Climbs_weaker (moved x) low (map moved xs) c.0 c.1))
+
+-- the length of a front
+
+prefix_append : (p : ℕ → Bool) (xs ys : List ℕ) → AllByRecursion (λ y. p y ≡ false) ys → prefix_len p (xs ++ ys) ≡ prefix_len p xs
+prefix_append p [] [] h = refl
+prefix_append p [] (y ∷ ys) h = rw h.0 refl
+prefix_append p (x ∷ xs) ys h = ap (λ n. cond (p x) (1 + n) 0) (prefix_append p xs ys h)
+
+prefix_all : (p : ℕ → Bool) (xs : List ℕ) → AllByRecursion (λ y. p y ≡ true) xs → prefix_len p xs ≡ length xs
+prefix_all p [] h = refl
+prefix_all p (x ∷ xs) h = rw (h.0, prefix_all p xs h.1) (one-add (length xs))
+
+-- the walk over two parts, where the lines of the first come before the start of the second
+pub merged-append : {R : Type 0} (together : List R → R) (moved : ℕ → ℕ) (old other : List ℕ) (s : ℕ) (new : List ℕ) (t : ℕ) (news : List ℕ) (rows others : List R) → length old ≡ length rows → AllByRecursion (λ u. u < t) new → AllByRecursion (λ o. moved o < t) old → AllByRecursion (λ o. t ≤ moved o) other → merged together moved (old ++ other) (s ∷ new ++ (t ∷ news)) (rows ++ others) ≡ merged together moved old (s ∷ new) rows ++ merged together moved other (t ∷ news) others
+merged-append together moved old other s [] t news rows others h b f l =
+    let k : lines_before moved t (old ++ other) ≡ length old =
+    prefix_append (λ o. ltb (moved o) t) old other (each_weaker (λ o. t ≤ moved o) (λ o. ltb (moved o) t ≡ false) other (λ o m. le-ltb (moved o) t m) l)
+    ∙ prefix_all (λ o. ltb (moved o) t) old (each_weaker (λ o. moved o < t) (λ o. ltb (moved o) t ≡ true) old (λ o m. lt-ltb (moved o) t m) f) in
+    rw (k, take_at rows others (length old) (sym h), drop_at old other (length old) refl, drop_at rows others (length old) (sym h)) refl
+merged-append {R} together moved old other s (u ∷ new) t news rows others h b f l =
+    let count : ℕ = lines_before moved u old in
+    let k : lines_before moved u (old ++ other) ≡ count =
+    prefix_append (λ o. ltb (moved o) u) old other (each_weaker (λ o. t ≤ moved o) (λ o. ltb (moved o) u ≡ false) other (λ o m. le-ltb (moved o) u (omega (arith, b.0))) l) in
+    let within : count ≤ length old = prefix_len-le-length (λ o. ltb (moved o) u) old in
+    let within_rows : count ≤ length rows = omega arith in
+    rw (k, take-append-le count rows others within_rows, drop-append-le count old other within, drop-append-le count rows others within_rows)
+    (ap (λ (rest : List R). together (take count rows) ∷ rest)
+    (merged-append together moved (drop count old) other u new t news (drop count rows) others (omega (arith, length-drop count old, length-drop count rows)) b.1 (each_drop (λ o. moved o < t) count old f) l))
+
+-- where each line's start stays, the rows are as they were
+pub merged_same : {R : Type 0} (together : List R → R) → ((row : R) → together (row ∷ []) ≡ row) → (moved : ℕ → ℕ) (low : ℕ) (old : List ℕ) (rows : List R) → Rises low (map moved old) → length old ≡ length rows → merged together moved old (map moved old) rows ≡ rows
+merged_same together alone moved low [] [] r h = refl
+merged_same together alone moved low [] (x ∷ rows) r h = absurd (omega arith)
+merged_same together alone moved low (o ∷ old) [] r h = absurd (omega arith)
+merged_same together alone moved low (o ∷ []) (x ∷ []) r h = ap (λ y. y ∷ []) (alone x)
+merged_same together alone moved low (o ∷ []) (x ∷ y ∷ rows) r h = absurd (omega arith)
+merged_same together alone moved low (o ∷ p ∷ old) (x ∷ []) r h = absurd (omega arith)
+merged_same together alone moved low (o ∷ p ∷ old) (x ∷ y ∷ rows) r h =
+    rw (lt-ltb (moved o) (moved p) (omega (arith, r.1.0)), le-ltb (moved p) (moved p) (le_refl (moved p)))
+    (ap₂ (λ a l. a ∷ l) (alone x) (merged_same together alone moved (moved o + 1) (p ∷ old) (y ∷ rows) r.1 (omega arith)))
+
+-- a line that comes before the others has a fresh row
+pub merged_fresh : {R : Type 0} (together : List R → R) → ((row : R) → together (row ∷ []) ≡ row) → (moved : ℕ → ℕ) (low s : ℕ) (old : List ℕ) (rows : List R) → Rises low (map moved old) → length old ≡ length rows → merged together moved old (s ∷ map moved old) rows ≡ together [] ∷ rows
+merged_fresh together alone moved low s [] [] r h = refl
+merged_fresh together alone moved low s [] (x ∷ rows) r h = absurd (omega arith)
+merged_fresh together alone moved low s (o ∷ old) rows r h =
+    rw (le-ltb (moved o) (moved o) (le_refl (moved o))) (ap (λ l. together [] ∷ l) (merged_same together alone moved low (o ∷ old) rows r h))
+
+-- two old lines on one new line join their rows
+pub merged_joined : {R : Type 0} (together : List R → R) → ((row : R) → together (row ∷ []) ≡ row) → (moved : ℕ → ℕ) (low s a b : ℕ) (old : List ℕ) (x y : R) (rows : List R) → Rises low (map moved old) → moved a < low → moved b < low → length old ≡ length rows → merged together moved (a ∷ b ∷ old) (s ∷ map moved old) (x ∷ y ∷ rows) ≡ together (x ∷ y ∷ []) ∷ rows
+merged_joined together alone moved low s a b [] x y [] r f g h = refl
+merged_joined together alone moved low s a b [] x y (z ∷ rows) r f g h = absurd (omega arith)
+merged_joined together alone moved low s a b (o ∷ old) x y rows r f g h =
+    rw (lt-ltb (moved a) (moved o) (omega (arith, r.0)), lt-ltb (moved b) (moved o) (omega (arith, r.0)), le-ltb (moved o) (moved o) (le_refl (moved o)))
+    (ap (λ l. together (x ∷ y ∷ []) ∷ l) (merged_same together alone moved low (o ∷ old) rows r h))
+
+-- std's words for lists in order
+
+-- a rising list, from std's words
+pub rises_from_increasing : (low : ℕ) (xs : List ℕ) → (0 < length xs → low ≤ get_or xs 0 0) → IsStrictlyIncreasing xs → Rises low xs
+rises_from_increasing low [] h r = tt
+rises_from_increasing low (x ∷ []) h r = (h (omega arith), tt)
+rises_from_increasing low (x ∷ y ∷ xs) h r = (
+  h (omega arith),
+  rises_from_increasing (x + 1) (y ∷ xs) (λ _. omega (arith, r 0 (omega arith))) (λ k l. rw (add-one k) (rw (add-one (k + 1), add-one k) at (r (k + 1) (omega arith)))),
+)
+
+-- a list that does not fall, from std's words
+pub climbs_from_non_decreasing : (low : ℕ) (xs : List ℕ) → (0 < length xs → low ≤ get_or xs 0 0) → IsNonDecreasing xs → Climbs low xs
+climbs_from_non_decreasing low [] h r = tt
+climbs_from_non_decreasing low (x ∷ []) h r = (h (omega arith), tt)
+climbs_from_non_decreasing low (x ∷ y ∷ xs) h r = (
+  h (omega arith),
+  climbs_from_non_decreasing x (y ∷ xs) (λ _. r 0 1 0 (omega arith) (omega arith)) (λ i j d m l. r (suc i) (suc j) d (omega arith) (omega arith)),
+)
+
+-- a monotone function of a list that does not fall
+pub climbs_of_keys : (key : ℕ → ℕ) → ((x y : ℕ) → x ≤ y → key x ≤ key y) → (low : ℕ) (xs : List ℕ) → Climbs low xs → Climbs (key low) (map key xs)
+climbs_of_keys key m low [] c = tt
+climbs_of_keys key m low (x ∷ xs) c = (m low x c.0, climbs_of_keys key m x xs c.1)
+
+-- blocks of rows
+
+none_under : (key : ℕ → ℕ) (low line : ℕ) (old : List ℕ) → Climbs low (map key old) → line ≤ low → count_by (λ o. ltb (key o) line) old ≡ 0
+none_under key low line [] c h = refl
+none_under key low line (o ∷ old) c h = rw (count-cons (λ x. ltb (key x) line) o old, le-ltb (key o) line (omega (arith, c.0)), none_under key (key o) line old c.1 (omega (arith, c.0))) refl
+
+none_upto : (key : ℕ → ℕ) (low line : ℕ) (old : List ℕ) → Climbs low (map key old) → line < low → count_by (λ o. leb (key o) line) old ≡ 0
+none_upto key low line [] c h = refl
+none_upto key low line (o ∷ old) c h = rw (count-cons (λ x. leb (key x) line) o old, lt-leb (key o) line (omega (arith, c.0)), none_upto key (key o) line old c.1 (omega (arith, c.0))) refl
+
+-- no row stands on a line where no old start lies
+pub none_on : {R : Type 0} (key : ℕ → ℕ) (line : ℕ) (old : List ℕ) (rows : List R) → AllByRecursion (λ o. key o ≢ line) old → filter (λ (e : ℕ × R). eqb (key e.0) line) (zip old rows) ≡ []
+none_on key line [] rows h = refl
+none_on key line (o ∷ old) [] h = refl
+none_on key line (o ∷ old) (r ∷ rows) h = rw (ne_eqb (key o) line h.0) (none_on key line old rows h.1)
+
+-- rows on one line are a block, where the lines do not fall
+pub block_of_rows : {R : Type 0} (key : ℕ → ℕ) (low line : ℕ) (old : List ℕ) (rows : List R) → Climbs low (map key old) → length old ≡ length rows → map (λ (e : ℕ × R). e.1) (filter (λ (e : ℕ × R). eqb (key e.0) line) (zip old rows)) ≡ slice_range rows (count_by (λ o. ltb (key o) line) old) (count_by (λ o. leb (key o) line) old)
+block_of_rows key low line [] [] c h = refl
+block_of_rows key low line [] (r ∷ rows) c h = absurd (omega arith)
+block_of_rows key low line (o ∷ old) [] c h = absurd (omega arith)
+block_of_rows {R} key low line (o ∷ old) (r ∷ rows) c h =
+    let under : ℕ = count_by (λ x. ltb (key x) line) old in
+    let upto : ℕ = count_by (λ x. leb (key x) line) old in
+    let rest : map (λ (e : ℕ × R). e.1) (filter (λ (e : ℕ × R). eqb (key e.0) line) (zip old rows)) ≡ take (upto - under) (drop under rows) = block_of_rows key (key o) line old rows c.1 (omega arith) in
+    elim (cases_order (key o) line) [
+      | inl same ↦
+          let none : under ≡ 0 = none_under key (key o) line old c.1 (omega arith) in
+          let cut : (1 + upto) - 0 ≡ suc upto = omega arith in
+          let whole : upto - 0 ≡ upto = omega arith in
+          rw (count-cons (λ x. ltb (key x) line) o old, count-cons (λ x. leb (key x) line) o old, eq-eqb (key o) line same, le-ltb (key o) line (omega arith), le-leb (key o) line (omega arith), none, cut)
+          (ap (λ l. r ∷ l) (rw (none, whole) at rest))
+      | inr (inl before) ↦
+          let cut : (1 + upto) - (1 + under) ≡ upto - under = omega arith in
+          rw (count-cons (λ x. ltb (key x) line) o old, count-cons (λ x. leb (key x) line) o old, ne_eqb (key o) line (λ e. omega arith), lt-ltb (key o) line before, le-leb (key o) line (omega arith), cut, one-add under)
+          rest
+      | inr (inr behind) ↦
+          rw (
+            count-cons (λ x. ltb (key x) line) o old,
+            count-cons (λ x. leb (key x) line) o old,
+            ne_eqb (key o) line (λ e. omega arith),
+            le-ltb (key o) line (omega arith),
+            lt-leb (key o) line behind,
+            none_under key (key o) line old c.1 (omega arith),
+            none_upto key (key o) line old c.1 behind,
+          )
+          (ap (map (λ (e : ℕ × R). e.1)) (none_on key line old rows (each_weaker (λ x. key o ≤ key x) (λ x. key x ≢ line) old (λ x m. λ e. omega arith) (climbs_each (key o) key old c.1))))
+    ]

@@ -1,0 +1,163 @@
+-- Rows where lines stay, come and go, in the words of the laws.
+use Rattle.std.proofs.Common.{ℕ, ◌≡◌, ◌≢◌, ◌↔◌, ◌+◌, ◌<◌, ◌≤◌, List, [], ◌∷◌, ◌++◌, map, length, count_by, fold, get_or, slice_range, All, Contains, leb, ltb, refl, ap, ap₂, ◌∙◌, inl, inr, arith, le_refl, append-nil, append_assoc}
+use Rattle.std.specs.List.{AllByRecursion}
+use Rattle.std.specs.List.Sorted.{IsNonDecreasing, IsStrictlyIncreasing}
+use Rattle.std.proofs.lemmas.Bool.{cases_lt}
+use Rattle.std.proofs.lemmas.List.{map-append, length-append, get_or_default}
+use Rattle.std.proofs.lemmas.List.Elements.{recursion_from_All, Contains-get_or}
+use Rattle.ed_model.specs.declared.plan.LineEndTypes.{LineEndTypes}
+use Rattle.ed_model.specs.Lines.{line_starts, line_of}
+use Rattle.ed_model.specs.Rows.{rows_together, flags_together}
+use Rattle.ed_model.specs.Carry.{rows_on, carried}
+use Rattle.ed_model.specs.MergeLaws.{merged, JoinsRows}
+use Rattle.ed_model.proofs.RisingLemmas.{Rises, Climbs, Climbs_weaker, Climbs_from_rises, Rises_weaker}
+use Rattle.ed_model.proofs.LineLemmas.{line_starts_rise, first_line_start, some_line, line_of_monotone, line_of_lt, start_from_line, line_from_start}
+use Rattle.ed_model.proofs.MergeLemmas.{carried_is_merged}
+use Rattle.ed_model.proofs.JoinLemmas.{rises_front, rises_before, rises_rest, climbs_each, merged-append, merged_same, merged_fresh, merged_joined, rises_from_increasing, climbs_from_non_decreasing, climbs_of_keys, none_on, block_of_rows}
+
+-- rows that meet
+
+-- a document's rows are joined in order
+pub rows_join : JoinsRows rows_together
+rows_join = record {
+  alone = λ row. ap (λ markers. record row { markers = markers }) (append-nil row.markers);
+  one_by_one = λ first second rows. ap (λ markers. record first { markers = markers }) (simp (append-nil, append_assoc));
+}
+
+-- a view's flags are those of the first
+pub flags_join : JoinsRows flags_together
+flags_join = record { alone = λ flags. refl; one_by_one = λ first second rows. refl }
+
+-- joining in order is joining two at a time
+pub joined_pairwise : {R : Type 0} (together : List R → R) → JoinsRows together → (row : R) (rows : List R) → together (row ∷ rows) ≡ fold (λ first second. together (first ∷ second ∷ [])) row rows
+joined_pairwise together j row [] = j.alone row
+joined_pairwise together j row (second ∷ rows) = j.one_by_one row second rows ∙ joined_pairwise together j (together (row ∷ second ∷ [])) rows
+
+-- places on one line
+
+apart : (types : LineEndTypes) (text : List ℕ) (p q k start : ℕ) → k < length (line_starts types text) → get_or (line_starts types text) k start ≡ start → p < start → start ≤ q → line_of (line_starts types text) p ≡ line_of (line_starts types text) q → ⊥
+apart types text p q k start h e low high same =
+    let climbs : Climbs 0 (line_starts types text) = Climbs_from_rises 0 (line_starts types text) (line_starts_rise types text) in
+    let at : get_or (line_starts types text) k 0 ≡ start = get_or_default (line_starts types text) k 0 start h ∙ e in
+    let below : k ≤ line_of (line_starts types text) q = line_from_start 0 (line_starts types text) q k climbs h (omega arith) in
+    let before : get_or (line_starts types text) k 0 ≤ p = start_from_line 0 (line_starts types text) p k climbs (omega (arith, first_line_start types text)) h (omega arith) in
+    omega arith
+
+together_where_none : (types : LineEndTypes) (text : List ℕ) (p q : ℕ) → p ≤ q → ((start : ℕ) → Contains (line_starts types text) start → p < start → start ≤ q → ⊥) → line_of (line_starts types text) p ≡ line_of (line_starts types text) q
+together_where_none types text p q h none =
+    let starts : List ℕ = line_starts types text in
+    let climbs : Climbs 0 starts = Climbs_from_rises 0 starts (line_starts_rise types text) in
+    let k : ℕ = line_of starts q in
+    let there : k < length starts = line_of_lt starts q (some_line types text) in
+    let at_q : get_or starts k 0 ≤ q = start_from_line 0 starts q k climbs (omega (arith, first_line_start types text)) there (le_refl k) in
+    let order : line_of starts p ≤ k = line_of_monotone starts p q h in
+    elim (cases_lt (line_of starts p) k) [
+      | inl less ↦ elim (cases_lt p (get_or starts k 0)) [
+        | inl behind ↦ absurd (none (get_or starts k 0) (Contains-get_or starts k 0 there) behind at_q)
+        | inr upto ↦ absurd (omega (arith, line_from_start 0 starts p k climbs there upto))
+      ]
+      | inr same ↦ omega arith
+    ]
+
+-- two places are on one line just where no line starts between them
+pub places_on_one_line : (types : LineEndTypes) (text : List ℕ) (p q : ℕ) → p ≤ q → (line_of (line_starts types text) p ≡ line_of (line_starts types text) q) ↔ ((start : ℕ) → Contains (line_starts types text) start → p < start → start ≤ q → ⊥)
+places_on_one_line types text p q h = (
+  λ same start c low high. apart types text p q c.0 start c.1 c.2 low high same,
+  together_where_none types text p q h,
+)
+
+-- blocks
+
+map_twice : (f g : ℕ → ℕ) (xs : List ℕ) → map g (map f xs) ≡ map (λ x. g (f x)) xs
+map_twice f g [] = refl
+map_twice f g (x ∷ xs) = ap (λ l. g (f x) ∷ l) (map_twice f g xs)
+
+-- the rows that come to a line are a block of the old rows
+pub rows_come_in_blocks : {R : Type 0} (moved : ℕ → ℕ) (old new : List ℕ) (rows : List R) (line : ℕ) → IsNonDecreasing (map moved old) → length old ≡ length rows → rows_on moved old new rows line ≡ slice_range rows (count_by (λ start. ltb (line_of new (moved start)) line) old) (count_by (λ start. leb (line_of new (moved start)) line) old)
+rows_come_in_blocks moved old new rows line c h =
+    let climbs : Climbs 0 (map moved old) = climbs_from_non_decreasing 0 (map moved old) (λ _. omega arith) c in
+    block_of_rows (λ start. line_of new (moved start)) (line_of new 0) line old rows
+    (rw (map_twice moved (line_of new) old) at (climbs_of_keys (line_of new) (line_of_monotone new) 0 (map moved old) climbs))
+    h
+
+-- no row comes to a line where no old start lies
+pub lines_without_old_row : {R : Type 0} (moved : ℕ → ℕ) (old new : List ℕ) (rows : List R) (line : ℕ) → All (λ start. line_of new (moved start) ≢ line) old → rows_on moved old new rows line ≡ []
+lines_without_old_row {R} moved old new rows line h =
+    ap (map (λ (e : ℕ × R). e.1)) (none_on (λ start. line_of new (moved start)) line old rows (recursion_from_All (λ start. line_of new (moved start) ≢ line) old h))
+
+-- carry is the walk, in std's words
+pub carries_by_walking : {R : Type 0} (together : List R → R) (moved : ℕ → ℕ) (old new : List ℕ) (rows : List R) → IsNonDecreasing (map moved old) → IsStrictlyIncreasing new → length old ≡ length rows → carried together moved old new rows ≡ merged together moved old new rows
+carries_by_walking together moved old new rows c r h =
+    carried_is_merged together moved 0 old new rows (climbs_from_non_decreasing 0 (map moved old) (λ _. omega arith) c) (rises_from_increasing 0 new (λ _. omega arith) r) h
+
+-- single rows
+
+each_of_map : {X : Type 0} (f : ℕ → X) (P : X → Type 0) (xs : List ℕ) → AllByRecursion P (map f xs) → AllByRecursion (λ x. P (f x)) xs
+each_of_map f P [] h = h
+each_of_map f P (x ∷ xs) h = (h.0, each_of_map f P xs h.1)
+
+each_map : {X : Type 0} (f : ℕ → X) (P : X → Type 0) (xs : List ℕ) → AllByRecursion (λ x. P (f x)) xs → AllByRecursion P (map f xs)
+each_map f P [] h = h
+each_map f P (x ∷ xs) h = (h.0, each_map f P xs h.1)
+
+rises_without : (low t : ℕ) (xs ys : List ℕ) → Rises low (xs ++ (t ∷ ys)) → Rises low (xs ++ ys)
+rises_without low t [] ys r = Rises_weaker (t + 1) low ys (omega (arith, r.0)) r.1
+rises_without low t (x ∷ xs) ys r = (r.0, rises_without (x + 1) t xs ys r.1)
+
+climbs_rest : (low : ℕ) (xs ys : List ℕ) → Climbs low (xs ++ ys) → Climbs low ys
+climbs_rest low [] ys c = c
+climbs_rest low (x ∷ xs) ys c = climbs_rest low xs ys (Climbs_weaker x low (xs ++ ys) c.0 c.1)
+
+rises_from_each : (low m : ℕ) (xs : List ℕ) → Rises low xs → AllByRecursion (λ x. m < x) xs → Rises (m + 1) xs
+rises_from_each low m [] r h = tt
+rises_from_each low m (x ∷ xs) r h = (omega (arith, h.0), r.1)
+
+-- where each start stays, so do the rows
+pub rows_of_lines_that_stay : {R : Type 0} (together : List R → R) → JoinsRows together → (moved : ℕ → ℕ) (old : List ℕ) (rows : List R) → IsStrictlyIncreasing (map moved old) → length old ≡ length rows → carried together moved old (map moved old) rows ≡ rows
+rows_of_lines_that_stay together j moved old rows i h =
+    let rises : Rises 0 (map moved old) = rises_from_increasing 0 (map moved old) (λ _. omega arith) i in
+    carried_is_merged together moved 0 old (map moved old) rows (Climbs_from_rises 0 (map moved old) rises) rises h
+    ∙ merged_same together j.alone moved 0 old rows rises h
+
+walk_to_one_more : {R : Type 0} (together : List R → R) → JoinsRows together → (moved : ℕ → ℕ) (old : List ℕ) (start : ℕ) (later : List ℕ) (rows rest : List R) → Rises 0 (map moved old ++ (start ∷ map moved later)) → length old ≡ length rows → length later ≡ length rest → merged together moved (old ++ later) (map moved old ++ (start ∷ map moved later)) (rows ++ rest) ≡ rows ++ (together [] ∷ rest)
+walk_to_one_more together j moved [] start later [] rest r h l = merged_fresh together j.alone moved (start + 1) start later rest r.1 l
+walk_to_one_more together j moved [] start later (x ∷ rows) rest r h l = absurd (omega arith)
+walk_to_one_more {R} together j moved (o ∷ old) start later rows rest r h l =
+    let before : AllByRecursion (λ x. x < start) (map moved (o ∷ old)) = (rises_before 0 start (map moved (o ∷ old)) (map moved later) r).0 in
+    let after : Rises 0 (start ∷ map moved later) = rises_rest 0 (map moved (o ∷ old)) (start ∷ map moved later) r in
+    let stay : Rises 0 (map moved (o ∷ old)) = rises_front 0 (map moved (o ∷ old)) (start ∷ map moved later) r in
+    merged-append together moved (o ∷ old) later (moved o) (map moved old) start (map moved later) rows rest h before.1 (each_of_map moved (λ x. x < start) (o ∷ old) before)
+    (climbs_each start moved later (Climbs_weaker (start + 1) start (map moved later) (omega arith) (Climbs_from_rises (start + 1) (map moved later) after.1)))
+    ∙ ap₂ (λ (a b : List R). a ++ b) (merged_same together j.alone moved 0 (o ∷ old) rows stay h) (merged_fresh together j.alone moved (start + 1) start later rest after.1 l)
+
+-- a line that comes has a fresh row
+pub one_line_comes : {R : Type 0} (together : List R → R) → JoinsRows together → (moved : ℕ → ℕ) (old : List ℕ) (start : ℕ) (later : List ℕ) (rows rest : List R) → IsStrictlyIncreasing (map moved old ++ (start ∷ map moved later)) → length old ≡ length rows → length later ≡ length rest → carried together moved (old ++ later) (map moved old ++ (start ∷ map moved later)) (rows ++ rest) ≡ rows ++ (together [] ∷ rest)
+one_line_comes together j moved old start later rows rest i h l =
+    let rises : Rises 0 (map moved old ++ (start ∷ map moved later)) = rises_from_increasing 0 (map moved old ++ (start ∷ map moved later)) (λ _. omega arith) i in
+    let climbs : Climbs 0 (map moved (old ++ later)) = rw (map-append moved old later) (Climbs_from_rises 0 (map moved old ++ map moved later) (rises_without 0 start (map moved old) (map moved later) rises)) in
+    carried_is_merged together moved 0 (old ++ later) (map moved old ++ (start ∷ map moved later)) (rows ++ rest) climbs rises (omega (arith, length-append old later, length-append rows rest))
+    ∙ walk_to_one_more together j moved old start later rows rest rises h l
+
+walk_to_one_less : {R : Type 0} (together : List R → R) → JoinsRows together → (moved : ℕ → ℕ) (old : List ℕ) (kept gone : ℕ) (later : List ℕ) (rows : List R) (first second : R) (rest : List R) → Rises 0 (map moved old ++ (moved kept ∷ map moved later)) → Climbs (moved kept) (map moved (kept ∷ gone ∷ later)) → Rises (moved gone + 1) (map moved later) → length old ≡ length rows → length later ≡ length rest → merged together moved (old ++ (kept ∷ gone ∷ later)) (map moved old ++ (moved kept ∷ map moved later)) (rows ++ (first ∷ second ∷ rest)) ≡ rows ++ (together (first ∷ second ∷ []) ∷ rest)
+walk_to_one_less together j moved [] kept gone later [] first second rest r c g h l =
+    merged_joined together j.alone moved (moved gone + 1) (moved kept) kept gone later first second rest g (omega (arith, c.1.0)) (omega arith) l
+walk_to_one_less together j moved [] kept gone later (x ∷ rows) first second rest r c g h l = absurd (omega arith)
+walk_to_one_less {R} together j moved (o ∷ old) kept gone later rows first second rest r c g h l =
+    let before : AllByRecursion (λ x. x < moved kept) (map moved (o ∷ old)) = (rises_before 0 (moved kept) (map moved (o ∷ old)) (map moved later) r).0 in
+    let stay : Rises 0 (map moved (o ∷ old)) = rises_front 0 (map moved (o ∷ old)) (moved kept ∷ map moved later) r in
+    merged-append together moved (o ∷ old) (kept ∷ gone ∷ later) (moved o) (map moved old) (moved kept) (map moved later) rows (first ∷ second ∷ rest) h before.1 (each_of_map moved (λ x. x < moved kept) (o ∷ old) before)
+    (climbs_each (moved kept) moved (kept ∷ gone ∷ later) c)
+    ∙ ap₂ (λ (a b : List R). a ++ b) (merged_same together j.alone moved 0 (o ∷ old) rows stay h)
+    (merged_joined together j.alone moved (moved gone + 1) (moved kept) kept gone later first second rest g (omega (arith, c.1.0)) (omega arith) l)
+
+-- the row of a line that goes is joined to the one before it
+pub one_line_goes : {R : Type 0} (together : List R → R) → JoinsRows together → (moved : ℕ → ℕ) (old : List ℕ) (kept gone : ℕ) (later : List ℕ) (rows : List R) (first second : R) (rest : List R) → IsStrictlyIncreasing (map moved old ++ (moved kept ∷ map moved later)) → IsNonDecreasing (map moved (old ++ (kept ∷ gone ∷ later))) → All (λ start. moved gone < moved start) later → length old ≡ length rows → length later ≡ length rest → carried together moved (old ++ (kept ∷ gone ∷ later)) (map moved old ++ (moved kept ∷ map moved later)) (rows ++ (first ∷ second ∷ rest)) ≡ rows ++ (together (first ∷ second ∷ []) ∷ rest)
+one_line_goes together j moved old kept gone later rows first second rest i n behind h l =
+    let new : List ℕ = map moved old ++ (moved kept ∷ map moved later) in
+    let rises : Rises 0 new = rises_from_increasing 0 new (λ _. omega arith) i in
+    let climbs : Climbs 0 (map moved (old ++ (kept ∷ gone ∷ later))) = climbs_from_non_decreasing 0 (map moved (old ++ (kept ∷ gone ∷ later))) (λ _. omega arith) n in
+    let from_kept : Climbs 0 (moved kept ∷ moved gone ∷ map moved later) = climbs_rest 0 (map moved old) (moved kept ∷ moved gone ∷ map moved later) (rw (map-append moved old (kept ∷ gone ∷ later)) at climbs) in
+    let after : Rises 0 (moved kept ∷ map moved later) = rises_rest 0 (map moved old) (moved kept ∷ map moved later) rises in
+    let from_gone : Rises (moved gone + 1) (map moved later) = rises_from_each (moved kept + 1) (moved gone) (map moved later) after.1 (each_map moved (λ x. moved gone < x) later (recursion_from_All (λ start. moved gone < moved start) later behind)) in
+    carried_is_merged together moved 0 (old ++ (kept ∷ gone ∷ later)) new (rows ++ (first ∷ second ∷ rest)) climbs rises (omega (arith, length-append old (kept ∷ gone ∷ later), length-append rows (first ∷ second ∷ rest)))
+    ∙ walk_to_one_less together j moved old kept gone later rows first second rest rises (le_refl (moved kept), from_kept.1) from_gone h l
