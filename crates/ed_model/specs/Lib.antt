@@ -49,3 +49,5 @@ pub mod InverseLaws
 pub mod HistoryLaws
 pub mod UndoLaws
 pub mod MergeLaws
+pub mod SoundLaws
+pub mod PlansFit

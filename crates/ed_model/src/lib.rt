@@ -11,6 +11,7 @@ mod neighbour_laws;
 mod plan;
 mod script_examples;
 mod script_laws;
+mod sound_laws;
 mod table_laws;
 mod undo_laws;
 mod worked_examples;
@@ -41,6 +42,7 @@ pub use script_examples::{
     printed_outcomes, script_lines_at_fault, script_spelling, script_texts_at_fault,
 };
 pub use script_laws::laws_of_scripts;
+pub use sound_laws::{plans_are_fit, session_is_sound, soundness_is_kept};
 pub use table_laws::{
     free_messages_are_silent, queries_leave_the_session, refusals_leave_the_session,
 };

@@ -1,0 +1,91 @@
+-- Sound documents, and views that stand well on them, after a step of the text.
+use Rattle.std.proofs.Common.{◌≡◌, ℕ, ◌≤◌, List, [], ◌∷◌, length, replicate, ap, sym, ◌∙◌, subst, arith}
+use Rattle.std.specs.List.{AllByRecursion}
+use Rattle.std.proofs.lemmas.List.{length-map, length-replicate}
+use Rattle.ed_types.specs.declared.limits.Limits.{Limits}
+use Rattle.ed_model.specs.Text.{Cell, plain_cells, plain_cell}
+use Rattle.ed_model.specs.Lines.{line_count}
+use Rattle.ed_model.specs.Steps.{Step, Insert, Delete, edited, edited_cells, place_of}
+use Rattle.ed_model.specs.Rows.{rows_together, flags_together}
+use Rattle.ed_model.specs.Indicators.{indicator_after, indicators_after, inserted_value}
+use Rattle.ed_model.specs.History.{History}
+use Rattle.ed_model.specs.Edits.{size_after}
+use Rattle.ed_model.specs.Session.{Document, View, text_of, limit_of}
+use Rattle.ed_model.specs.Performing.{document_after, moved_view}
+use Rattle.ed_model.specs.SoundLaws.{Fits, FitsText, IsSoundDocument, StandsOn}
+use Rattle.ed_model.proofs.SoundLists.{line_starts_rise}
+use Rattle.ed_model.proofs.SoundSteps.{InRange, fits_range, bytes_after, length_edited, length_deleted}
+use Rattle.ed_model.proofs.SoundCarry.{length_carried_by, first_carried_by, handles_carried_by, moved_within}
+
+pub length_text : (d : Document) → length (text_of d) ≡ length d.cells
+length_text d = length-map d.cells (λ (c : Cell). c.byte)
+
+pub length_cells_after : (step : Step) (cells : List Cell) → InRange (length cells) step → length (edited_cells step cells) ≡ size_after (length cells) step
+length_cells_after (Insert p bytes) cells h = length_edited (length bytes) p cells (plain_cells bytes) (length-map bytes plain_cell) h
+length_cells_after (Delete p bytes) cells h = length_deleted (length bytes) p cells h
+
+length_indicator_after : (step : Step) (values : List ℕ) → InRange (length values) step → length (indicator_after step values) ≡ size_after (length values) step
+length_indicator_after (Insert p bytes) values h =
+    length_edited (length bytes) p values (replicate (length bytes) (inserted_value values p)) (length-replicate (length bytes) (inserted_value values p)) h
+length_indicator_after (Delete p bytes) values h = length_deleted (length bytes) p values h
+
+indicators_fit : (step : Step) (n : ℕ) (lists : List (List ℕ)) → InRange n step → AllByRecursion (λ (values : List ℕ). length values ≡ n) lists
+    → AllByRecursion (λ (values : List ℕ). length values ≡ size_after n step) (indicators_after step lists)
+indicators_fit step n [] h all = tt
+indicators_fit step n (values ∷ lists) h all =
+    (length_indicator_after step values (subst (λ k. InRange k step) (sym all.0) h) ∙ ap (λ k. size_after k step) all.0, indicators_fit step n lists h all.1)
+
+place_within : (step : Step) (n : ℕ) → InRange n step → place_of step ≤ size_after n step
+place_within (Insert p bytes) n h = omega arith
+place_within (Delete p bytes) n h = omega arith
+
+-- the range of a step that fits the document's text, in cells
+pub cells_range : (d : Document) (step : Step) → Fits (text_of d) step → InRange (length d.cells) step
+cells_range d step f = subst (λ k. InRange k step) (length_text d) (fits_range (text_of d) step f)
+
+-- the text after a step
+pub text_after : (d : Document) (step : Step) → text_of (document_after step d) ≡ edited step (text_of d)
+text_after d step = bytes_after step d.cells
+
+-- a sound document is sound after a step that fits, with any history that fits the new text
+pub document_made : (limits : Limits) (d : Document) (step : Step) (h : History) → IsSoundDocument limits d → Fits (text_of d) step
+    → size_after (length d.cells) step ≤ limit_of limits d → FitsText (edited step (text_of d)) h
+    → IsSoundDocument limits (record (document_after step d) { history = h })
+document_made limits d step h sound fits room history =
+    let range = cells_range d step fits in
+    let n : length (edited_cells step d.cells) ≡ size_after (length d.cells) step = length_cells_after step d.cells range in
+    let place = place_within step (length d.cells) range in
+    record {
+      line_starts = line_starts_rise d.line_end_types (text_of (document_after step d));
+      rows = length_carried_by rows_together d.line_end_types step (text_of d) d.rows ∙ ap (line_count d.line_end_types) (sym (text_after d step));
+      indicator_count = length-map d.indicators (indicator_after step) ∙ sound.indicator_count;
+      indicators = subst (λ k. AllByRecursion (λ (values : List ℕ). length values ≡ k) (indicators_after step d.indicators)) (sym n)
+          (indicators_fit step (length d.cells) d.indicators range sound.indicators);
+      styled = omega arith;
+      bounded = subst (λ k. k ≤ limit_of limits d) (sym n) room;
+      handles_differ = λ handle. let a = handles_carried_by handle d.line_end_types step (text_of d) d.rows in let b = sound.handles_differ handle in omega arith;
+      handles_below = λ handle le. let a = handles_carried_by handle d.line_end_types step (text_of d) d.rows in let b = sound.handles_below handle le in omega arith;
+      referenced = sound.referenced;
+      history = subst (λ t. FitsText t h) (sym (text_after d step)) history;
+    }
+
+-- a view stands well on the document after a step
+pub view_made : (d : Document) (step : Step) (h : History) (v : View) → Fits (text_of d) step → StandsOn d v
+    → StandsOn (record (document_after step d) { history = h }) (moved_view step d v)
+view_made d step h v fits stands =
+    let range = cells_range d step fits in
+    let n : length (edited_cells step d.cells) ≡ size_after (length d.cells) step = length_cells_after step d.cells range in
+    let a = moved_within (length d.cells) step v.anchor range stands.anchor in
+    let b = moved_within (length d.cells) step v.caret range stands.caret in
+    let c = moved_within (length d.cells) step v.target_start range stands.target_start in
+    let e = moved_within (length d.cells) step v.target_end range stands.target_end in
+    record {
+      anchor = omega arith;
+      caret = omega arith;
+      target_start = omega arith;
+      target_end = omega arith;
+      lines = length_carried_by flags_together d.line_end_types step (text_of d) v.lines ∙ ap (line_count d.line_end_types) (sym (text_after d step));
+      first_line = first_carried_by d.line_end_types step (text_of d) v.lines stands.first_line;
+      indicator = stands.indicator;
+      listed = stands.listed;
+    }

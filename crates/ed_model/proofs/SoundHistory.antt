@@ -1,0 +1,254 @@
+-- The history fits the text: after steps, undo and redo, and after what changes the history alone.
+use Rattle.std.proofs.Common.{◌≡◌, ℕ, ◌+◌, ◌-◌, ◌≤◌, Bool, true, false, cond, List, [], ◌∷◌, ◌++◌, length, map, reverse, refl, ap, sym, ◌∙◌, subst, arith, append_assoc}
+use Rattle.std.specs.Prelude.{ℤ, flat_map, Option, Some, None, ◌==◌, ◌||◌, not}
+use Rattle.std.specs.List.{last_or}
+use Rattle.std.proofs.lemmas.List.{map-append, reverse-append, reverse-reverse}
+use Rattle.std.proofs.lemmas.Bool.{cond_both}
+use Rattle.ed_model.specs.Steps.{Step, Insert, Delete, edited, inverse_of}
+use Rattle.ed_model.specs.History
+use Rattle.ed_model.specs.History.{Change, TextStep, ContainerStep, Transaction, History, appended, with_change, joins, seal_first, with_last_sealed, sealed_outside_groups, group_begun, group_ended, with_container_step, inverse_change, first_changes, undo_changes, redo_changes, undone_to, undone, redone_from, redone, emptied, not_collecting, collecting_set, saved, fresh_history, latest_text_step}
+use Rattle.ed_model.specs.LineEnds.{after_steps}
+use Rattle.ed_model.specs.DocumentPlans.{text_steps}
+use Rattle.ed_model.specs.Performing.{place_behind}
+use Rattle.ed_model.specs.SoundLaws.{Fits, FitInTurn, undo_path, redo_path, FitsText}
+use Rattle.ed_model.proofs.SoundSteps.{inverse_fits, inverse_returns, fit_append, fit_front, fit_back, reversed, reversed_is, reversed_fits, reversed_returns, fits_range, length_after}
+
+-- Paths.
+
+pub text_steps_append : (xs ys : List Change) → text_steps (xs ++ ys) ≡ text_steps xs ++ text_steps ys
+text_steps_append [] ys = refl
+text_steps_append (TextStep step ∷ xs) ys = ap (λ t. step ∷ t) (text_steps_append xs ys)
+text_steps_append (ContainerStep token coalesce ∷ xs) ys = text_steps_append xs ys
+
+pub text_steps_inverse : (cs : List Change) → text_steps (map inverse_change cs) ≡ map inverse_of (text_steps cs)
+text_steps_inverse [] = refl
+text_steps_inverse (TextStep step ∷ cs) = ap (λ t. inverse_of step ∷ t) (text_steps_inverse cs)
+text_steps_inverse (ContainerStep token coalesce ∷ cs) = text_steps_inverse cs
+
+text_steps_one : (c : Change) → text_steps (c ∷ []) ≡ reverse (text_steps (c ∷ []))
+text_steps_one (TextStep step) = refl
+text_steps_one (ContainerStep token coalesce) = refl
+
+pub text_steps_reverse : (cs : List Change) → text_steps (reverse cs) ≡ reverse (text_steps cs)
+text_steps_reverse [] = refl
+text_steps_reverse (c ∷ cs) =
+    ap text_steps (reverse-append (c ∷ []) cs)
+    ∙ text_steps_append (reverse cs) (c ∷ [])
+    ∙ ap (λ t. t ++ text_steps (c ∷ [])) (text_steps_reverse cs)
+    ∙ ap (λ t. reverse (text_steps cs) ++ t) (text_steps_one c)
+    ∙ sym (reverse-append (text_steps (c ∷ [])) (text_steps cs))
+    ∙ ap reverse (sym (text_steps_append (c ∷ []) cs))
+
+inverses_twice : (xs : List Step) → map inverse_of (map inverse_of xs) ≡ xs
+inverses_twice [] = refl
+inverses_twice (Insert p bytes ∷ xs) = ap (λ t. Insert p bytes ∷ t) (inverses_twice xs)
+inverses_twice (Delete p bytes ∷ xs) = ap (λ t. Delete p bytes ∷ t) (inverses_twice xs)
+
+map_reverse : (xs : List Step) → map inverse_of (reverse xs) ≡ reverse (map inverse_of xs)
+map_reverse [] = refl
+map_reverse (x ∷ xs) =
+    ap (map inverse_of) (reverse-append (x ∷ []) xs)
+    ∙ map-append inverse_of (reverse xs) (x ∷ [])
+    ∙ ap (λ t. t ++ inverse_of x ∷ []) (map_reverse xs)
+    ∙ sym (reverse-append (inverse_of x ∷ []) (map inverse_of xs))
+
+-- the undo path of one more transaction
+pub undo_path_cons : (t : Transaction) (ts : List Transaction) → undo_path (t ∷ ts) ≡ map inverse_of (text_steps t.changes) ++ undo_path ts
+undo_path_cons t ts =
+    ap (map inverse_of) (text_steps_append t.changes (flat_map (λ (t : Transaction). t.changes) ts))
+    ∙ map-append inverse_of (text_steps t.changes) (text_steps (flat_map (λ (t : Transaction). t.changes) ts))
+
+pub redo_path_cons : (t : Transaction) (ts : List Transaction) → redo_path (t ∷ ts) ≡ text_steps (reverse t.changes) ++ redo_path ts
+redo_path_cons t ts = text_steps_append (reverse t.changes) (flat_map (λ (t : Transaction). reverse t.changes) ts)
+
+pub undo_path_sealed : (ts : List Transaction) → undo_path (seal_first ts) ≡ undo_path ts
+undo_path_sealed [] = refl
+undo_path_sealed (t ∷ ts) = refl
+
+changes_with : (joined : Bool) (c : Change) (ts : List Transaction)
+    → flat_map (λ (t : Transaction). t.changes) (with_change joined c ts) ≡ c ∷ flat_map (λ (t : Transaction). t.changes) ts
+changes_with joined c [] = refl
+changes_with true c (t ∷ ts) = refl
+changes_with false c (t ∷ ts) = refl
+
+-- What changes the history alone.
+
+pub fresh_fits : (text : List ℕ) → FitsText text fresh_history
+fresh_fits text = record { past = tt; future = tt; kept = λ e. (refl, refl) }
+
+pub emptied_fits : (text : List ℕ) (h : History) → FitsText text (emptied h)
+emptied_fits text h = record { past = tt; future = tt; kept = λ e. (refl, refl) }
+
+pub collecting_set_fits : (on : Bool) (text : List ℕ) (h : History) → FitsText text h → FitsText text (collecting_set on h)
+collecting_set_fits true text h f = record { past = f.past; future = f.future; kept = λ e. absurd (cc) }
+collecting_set_fits false text h f = record { past = tt; future = tt; kept = λ e. (refl, refl) }
+
+pub saved_fits : (text : List ℕ) (h : History) → FitsText text h → FitsText text (saved h)
+saved_fits text h f = record { past = f.past; future = f.future; kept = f.kept }
+
+pub with_depth_fits : (text : List ℕ) (h : History) (n : ℕ) → FitsText text h → FitsText text (record h { depth = n })
+with_depth_fits text h n f = record { past = f.past; future = f.future; kept = f.kept }
+
+pub last_sealed_fits : (text : List ℕ) (h : History) → FitsText text h → FitsText text (with_last_sealed h)
+last_sealed_fits text h f = record {
+  past = subst (λ p. FitInTurn text p) (sym (undo_path_sealed h.past)) f.past;
+  future = f.future;
+  kept = λ e. (ap seal_first (f.kept e).0, (f.kept e).1);
+}
+
+pub sealed_fits : (text : List ℕ) (h : History) → FitsText text h → FitsText text (sealed_outside_groups h)
+sealed_fits text h f = cond_both (h.depth == 0) (with_last_sealed h) h (λ g. FitsText text g) (λ _. last_sealed_fits text h f) (λ _. f)
+
+pub group_begun_fits : (text : List ℕ) (h : History) → FitsText text h → FitsText text (group_begun h)
+group_begun_fits text h f = with_depth_fits text (sealed_outside_groups h) (h.depth + 1) (sealed_fits text h f)
+
+pub group_ended_fits : (text : List ℕ) (h : History) → FitsText text h → FitsText text (group_ended h)
+group_ended_fits text h f =
+    cond_both (h.depth == 0) h (sealed_outside_groups (record h { depth = h.depth - 1 })) (λ g. FitsText text g)
+    (λ _. f) (λ _. sealed_fits text (record h { depth = h.depth - 1 }) (with_depth_fits text h (h.depth - 1) f))
+
+-- A change appended.
+
+-- a step of the text appended, on the text after it
+pub appended_fits : (later : Bool) (step : Step) (text : List ℕ) (h : History) → FitsText text h → Fits text step
+    → FitsText (edited step text) (appended later (TextStep step) h)
+appended_fits later step text h f fits = go h.collecting refl
+  where
+    go : (b : Bool) → h.collecting ≡ b → FitsText (edited step text) (cond b
+        (record h { past = with_change (joins later (TextStep step) h) (TextStep step) h.past; future = []; save_point = History.reachable (length h.past) h.save_point }) h)
+    go true e = record {
+      past = subst (λ cs. FitInTurn (edited step text) (map inverse_of (text_steps cs))) (sym (changes_with (joins later (TextStep step) h) (TextStep step) h.past))
+          (inverse_fits step text fits, subst (λ t. FitInTurn t (undo_path h.past)) (sym (inverse_returns step text fits)) f.past);
+      future = tt;
+      kept = λ no. let bad : true ≡ false = sym e ∙ no in absurd (cc);
+    }
+    go false e = let k = f.kept e in record {
+      past = subst (λ ts. FitInTurn (edited step text) (undo_path ts)) (sym k.0) tt;
+      future = subst (λ ts. FitInTurn (edited step text) (redo_path ts)) (sym k.1) tt;
+      kept = f.kept;
+    }
+
+-- a container's step appended
+pub container_fits : (later : Bool) (token : ℤ) (coalesce : Bool) (text : List ℕ) (h : History) → FitsText text h
+    → FitsText text (appended later (ContainerStep token coalesce) h)
+container_fits later token coalesce text h f = go h.collecting refl
+  where
+    go : (b : Bool) → h.collecting ≡ b → FitsText text (cond b
+        (record h { past = with_change (joins later (ContainerStep token coalesce) h) (ContainerStep token coalesce) h.past; future = []; save_point = History.reachable (length h.past) h.save_point }) h)
+    go true e = record {
+      past = subst (λ cs. FitInTurn text (map inverse_of (text_steps cs))) (sym (changes_with (joins later (ContainerStep token coalesce) h) (ContainerStep token coalesce) h.past)) f.past;
+      future = tt;
+      kept = λ no. let bad : true ≡ false = sym e ∙ no in absurd (cc);
+    }
+    go false e = f
+
+pub container_step_fits : (token : ℤ) (coalesce : Bool) (text : List ℕ) (h : History) → FitsText text h → FitsText text (with_container_step token coalesce h)
+container_step_fits token coalesce text h f =
+    let a = container_fits false token coalesce text h f in
+    cond_both (coalesce || not h.collecting) (appended false (ContainerStep token coalesce) h) (sealed_outside_groups (appended false (ContainerStep token coalesce) h))
+    (λ g. FitsText text g) (λ _. a) (λ _. sealed_fits text (appended false (ContainerStep token coalesce) h) a)
+
+-- Undo and redo.
+
+undo_fits_from : (text : List ℕ) (h : History) (ts : List Transaction) → h.past ≡ ts → FitsText text h
+    → FitInTurn text (text_steps (map inverse_change (first_changes ts)))
+undo_fits_from text h [] e f = tt
+undo_fits_from text h (t ∷ ts) e f =
+    subst (λ ss. FitInTurn text ss) (sym (text_steps_inverse t.changes))
+    (fit_front (map inverse_of (text_steps t.changes)) (undo_path ts) text
+    (subst (λ ss. FitInTurn text ss) (undo_path_cons t ts) (subst (λ p. FitInTurn text (undo_path p)) e f.past)))
+
+-- what UNDO performs fits the text
+pub undo_fits : (text : List ℕ) (h : History) → FitsText text h → FitInTurn text (text_steps (undo_changes h))
+undo_fits text h f = undo_fits_from text h h.past refl f
+
+undone_fits_from : (text : List ℕ) (h : History) (ts : List Transaction) → h.past ≡ ts → FitsText text h
+    → FitsText (after_steps (text_steps (map inverse_change (first_changes ts))) text) (undone_to h ts)
+undone_fits_from text h [] e f = f
+undone_fits_from text h (t ∷ ts) e f =
+    let us = map inverse_of (text_steps t.changes) in
+    let path : FitInTurn text (us ++ undo_path ts) = subst (λ ss. FitInTurn text ss) (undo_path_cons t ts) (subst (λ p. FitInTurn text (undo_path p)) e f.past) in
+    let front = fit_front us (undo_path ts) text path in
+    let back = fit_back us (undo_path ts) text path in
+    let again : reversed us ≡ text_steps (reverse t.changes) = reversed_is us ∙ ap reverse (inverses_twice (text_steps t.changes)) ∙ sym (text_steps_reverse t.changes) in
+    let redone : FitInTurn (after_steps us text) (reversed us ++ redo_path h.future) =
+    fit_append (reversed us) (redo_path h.future) (after_steps us text) (reversed_fits us text front)
+    (subst (λ x. FitInTurn x (redo_path h.future)) (sym (reversed_returns us text front)) f.future) in
+    subst (λ ss. FitsText (after_steps ss text) (undone_to h (t ∷ ts))) (sym (text_steps_inverse t.changes)) (record {
+      past = subst (λ p. FitInTurn (after_steps us text) p) (sym (undo_path_sealed ts)) back;
+      future = subst (λ p. FitInTurn (after_steps us text) p) (ap (λ p. p ++ redo_path h.future) again ∙ sym (redo_path_cons t h.future)) redone;
+      kept = λ no. let bad : t ∷ ts ≡ [] = sym e ∙ (f.kept no).0 in absurd (cc);
+    })
+
+-- the history after UNDO fits the text after it
+pub undone_fits : (text : List ℕ) (h : History) → FitsText text h → FitsText (after_steps (text_steps (undo_changes h)) text) (undone h)
+undone_fits text h f = undone_fits_from text h h.past refl f
+
+redo_fits_from : (text : List ℕ) (h : History) (ts : List Transaction) → h.future ≡ ts → FitsText text h
+    → FitInTurn text (text_steps (reverse (first_changes ts)))
+redo_fits_from text h [] e f = tt
+redo_fits_from text h (t ∷ ts) e f =
+    fit_front (text_steps (reverse t.changes)) (redo_path ts) text
+    (subst (λ ss. FitInTurn text ss) (redo_path_cons t ts) (subst (λ p. FitInTurn text (redo_path p)) e f.future))
+
+-- what REDO performs fits the text
+pub redo_fits : (text : List ℕ) (h : History) → FitsText text h → FitInTurn text (text_steps (redo_changes h))
+redo_fits text h f = redo_fits_from text h h.future refl f
+
+redone_fits_from : (text : List ℕ) (h : History) (ts : List Transaction) → h.future ≡ ts → FitsText text h
+    → FitsText (after_steps (text_steps (reverse (first_changes ts))) text) (redone_from h ts)
+redone_fits_from text h [] e f = f
+redone_fits_from text h (t ∷ ts) e f =
+    let rs = text_steps (reverse t.changes) in
+    let path : FitInTurn text (rs ++ redo_path ts) = subst (λ ss. FitInTurn text ss) (redo_path_cons t ts) (subst (λ p. FitInTurn text (redo_path p)) e f.future) in
+    let front = fit_front rs (redo_path ts) text path in
+    let back = fit_back rs (redo_path ts) text path in
+    let again : reversed rs ≡ map inverse_of (text_steps t.changes) =
+    reversed_is rs ∙ ap (λ ss. reverse (map inverse_of ss)) (text_steps_reverse t.changes)
+    ∙ ap reverse (map_reverse (text_steps t.changes)) ∙ reverse-reverse (map inverse_of (text_steps t.changes)) in
+    let undone : FitInTurn (after_steps rs text) (reversed rs ++ undo_path h.past) =
+    fit_append (reversed rs) (undo_path h.past) (after_steps rs text) (reversed_fits rs text front)
+    (subst (λ x. FitInTurn x (undo_path h.past)) (sym (reversed_returns rs text front)) f.past) in
+    record {
+      past = subst (λ p. FitInTurn (after_steps rs text) p) (ap (λ p. p ++ undo_path h.past) again ∙ sym (undo_path_cons t h.past)) undone;
+      future = back;
+      kept = λ no. let bad : t ∷ ts ≡ [] = sym e ∙ (f.kept no).1 in absurd (cc);
+    }
+
+-- the history after REDO fits the text after it
+pub redone_fits : (text : List ℕ) (h : History) → FitsText text h → FitsText (after_steps (text_steps (redo_changes h)) text) (redone h)
+redone_fits text h f = redone_fits_from text h h.future refl f
+
+-- Where the last step leaves the caret.
+
+-- a place behind the step, if there is one, within n bytes
+abbrev pub BehindWithin : Option Step → ℕ → Type 0
+BehindWithin None n = Unit {0}
+BehindWithin (Some step) n = place_behind step ≤ n
+
+behind_within : (step : Step) (text : List ℕ) → Fits text step → place_behind step ≤ length (edited step text)
+behind_within (Insert p bytes) text f = let e = length_after (Insert p bytes) text f.0 in let h : p ≤ length text = f.0 in omega arith
+behind_within (Delete p bytes) text f =
+    let r : p + length bytes ≤ length text = fits_range text (Delete p bytes) f in
+    let e = length_after (Delete p bytes) text r in omega arith
+
+pub last_behind : (steps : List Step) (text : List ℕ) (o : Option Step) → FitInTurn text steps → BehindWithin o (length text)
+    → BehindWithin (last_or o steps) (length (after_steps steps text))
+last_behind [] text o f b = b
+last_behind (x ∷ xs) text o f b = last_behind xs (edited x text) (Some x) f.1 (behind_within x text f.0)
+
+latest_of_reversed : (cs ds : List Change) → latest_text_step (reverse cs ++ ds) ≡ last_or (latest_text_step ds) (text_steps cs)
+latest_of_reversed [] ds = refl
+latest_of_reversed (TextStep step ∷ cs) ds =
+    ap (λ t. latest_text_step (t ++ ds)) (reverse-append (TextStep step ∷ []) cs)
+    ∙ ap latest_text_step (append_assoc (reverse cs) (TextStep step ∷ []) ds) ∙ latest_of_reversed cs (TextStep step ∷ ds)
+latest_of_reversed (ContainerStep token coalesce ∷ cs) ds =
+    ap (λ t. latest_text_step (t ++ ds)) (reverse-append (ContainerStep token coalesce ∷ []) cs)
+    ∙ ap latest_text_step (append_assoc (reverse cs) (ContainerStep token coalesce ∷ []) ds) ∙ latest_of_reversed cs (ContainerStep token coalesce ∷ ds)
+
+append_nothing : (cs : List Change) → cs ++ [] ≡ cs
+append_nothing [] = refl
+append_nothing (c ∷ cs) = ap (λ t. c ∷ t) (append_nothing cs)
+
+pub latest_is_last : (cs : List Change) → latest_text_step (reverse cs) ≡ last_or None (text_steps cs)
+latest_is_last cs = ap latest_text_step (sym (append_nothing (reverse cs))) ∙ latest_of_reversed cs []

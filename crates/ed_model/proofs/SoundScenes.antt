@@ -1,0 +1,200 @@
+-- Scenes: soundness over the steps of an edit, of undo and of redo.
+use Rattle.std.proofs.Common.{◌≡◌, ℕ, ◌≤◌, Bool, true, false, cond, List, [], ◌∷◌, length, map, refl, ap, sym, ◌∙◌, subst}
+use Rattle.std.specs.Prelude.{Some, ◌==◌, nat_lt, nat_le, if◌then◌else◌}
+use Rattle.std.proofs.lemmas.List.{map-id}
+use Rattle.std.proofs.lemmas.Bool.{cond_both, eq-eqb, ne_eqb, and_parts, leb-true}
+use Rattle.ed_types.specs.Notices.{Notice}
+use Rattle.ed_model.specs.Numbers.{meets}
+use Rattle.ed_model.specs.Text.{bytes_of}
+use Rattle.ed_model.specs.Steps.{Step, edited}
+use Rattle.ed_model.specs.LineEnds.{after_steps}
+use Rattle.ed_model.specs.History.{History, Change, TextStep, ContainerStep, appended, sealed_outside_groups, fresh_history}
+use Rattle.ed_model.specs.Edits.{size_after, stays_within}
+use Rattle.ed_model.specs.DocumentPlans.{text_steps}
+use Rattle.ed_model.specs.Session.{Session, Document, View, document_at, with_document, text_of, limit_of}
+use Rattle.ed_model.specs.Performing.{Scene, document_after, moved_view, view_after, with_history, step_made, steps_made, sealed_scene, edit_made, change_performed, changes_performed, session_of, changes_lines, is_last}
+use Rattle.ed_model.specs.SoundLaws.{Fits, FitInTurn, FitsText, IsSound, IsSoundDocument, StandsOn}
+use Rattle.ed_model.proofs.SoundHistory.{appended_fits, sealed_fits, fresh_fits}
+use Rattle.ed_model.proofs.SoundDocuments.{document_made, view_made, text_after, length_cells_after, cells_range}
+use Rattle.ed_model.proofs.SoundSessions.{document_sound, replaced_found, replaced_twice, document_replaced, IsOwner, all_map}
+
+-- the session that the scene makes is sound, and the sender is a view on its document
+pub record IsSoundScene (sender : ℕ) (s : Session) (scene : Scene) : Type 0 where
+  pub sound : IsSound (session_of s scene)
+  pub found : document_at (with_document scene.document s.documents) scene.document.id ≡ Some scene.document
+  pub owner : IsOwner sender scene.document.id scene.views
+
+pub scene_document_sound : (sender : ℕ) (s : Session) (scene : Scene) → IsSoundScene sender s scene → IsSoundDocument s.limits scene.document
+scene_document_sound sender s scene h = document_sound s.limits (with_document scene.document s.documents) scene.document.id scene.document h.sound.documents h.found
+
+-- the document of a scene changes, and the views on it with it
+pub scene_changed : (sender : ℕ) (s : Session) (scene : Scene) (d' : Document) (f : View → View) (notes : List Notice) → IsSoundScene sender s scene
+    → d'.id ≡ scene.document.id → IsSoundDocument s.limits d' → ((v : View) → (f v).id ≡ v.id) → ((v : View) → (f v).document ≡ v.document)
+    → ((v : View) → v.document ≡ scene.document.id → StandsOn scene.document v → StandsOn d' (f v))
+    → ((v : View) → (v.document ≡ scene.document.id → ⊥) → f v ≡ v)
+    → IsSoundScene sender s (record { document = d'; views = map f scene.views; notes = notes })
+scene_changed sender s scene d' f notes h same made keeps_id keeps_document moves others = record {
+  sound = subst (λ ds. IsSound (record s { documents = ds; views = map f scene.views })) (replaced_twice scene.document d' s.documents (sym same))
+      (document_replaced (session_of s scene) scene.document d' f h.sound h.found same made keeps_id keeps_document moves others);
+  found = subst (λ ds. document_at ds d'.id ≡ Some d') (replaced_twice scene.document d' s.documents (sym same))
+      (replaced_found (with_document scene.document s.documents) scene.document d' (ap (document_at (with_document scene.document s.documents)) same ∙ h.found));
+  owner = all_map (λ (v : View). v.id ≡ sender → v.document ≡ scene.document.id) (λ (v : View). v.id ≡ sender → v.document ≡ d'.id) f
+      (λ v o e. keeps_document v ∙ o (sym (keeps_id v) ∙ e) ∙ sym same) scene.views h.owner;
+}
+
+-- the document alone changes
+pub scene_document : (sender : ℕ) (s : Session) (scene : Scene) (d' : Document) (notes : List Notice) → IsSoundScene sender s scene
+    → d'.id ≡ scene.document.id → IsSoundDocument s.limits d' → ((v : View) → v.document ≡ scene.document.id → StandsOn scene.document v → StandsOn d' v)
+    → IsSoundScene sender s (record { document = d'; views = scene.views; notes = notes })
+scene_document sender s scene d' notes h same made moves =
+    subst (λ vs. IsSoundScene sender s (record { document = d'; views = vs; notes = notes })) (map-id scene.views)
+    (scene_changed sender s scene d' (λ (v : View). v) notes h same made (λ v. refl) (λ v. refl) moves (λ v ne. refl))
+
+-- the notes change
+pub scene_told : (sender : ℕ) (s : Session) (scene : Scene) (notes : List Notice) → IsSoundScene sender s scene → IsSoundScene sender s (record scene { notes = notes })
+scene_told sender s scene notes h = record { sound = h.sound; found = h.found; owner = h.owner }
+
+-- the history changes
+pub scene_history : (sender : ℕ) (s : Session) (scene : Scene) (h : History) → IsSoundScene sender s scene → FitsText (text_of scene.document) h
+    → IsSoundScene sender s (with_history h scene)
+scene_history sender s scene h sound fits =
+    let d = scene.document in
+    let was = scene_document_sound sender s scene sound in
+    scene_document sender s scene (record d { history = h }) scene.notes sound refl
+    (record {
+      line_starts = was.line_starts;
+      rows = was.rows;
+      indicator_count = was.indicator_count;
+      indicators = was.indicators;
+      styled = was.styled;
+      bounded = was.bounded;
+      handles_differ = was.handles_differ;
+      handles_below = was.handles_below;
+      referenced = was.referenced;
+      history = fits;
+    })
+    (λ v e on. record { anchor = on.anchor; caret = on.caret; target_start = on.target_start; target_end = on.target_end; lines = on.lines; first_line = on.first_line; indicator = on.indicator; listed = on.listed })
+
+-- A step.
+
+after_id : (step : Step) (d : Document) (v : View) (b : Bool) → (cond b (moved_view step d v) v).id ≡ v.id
+after_id step d v true = refl
+after_id step d v false = refl
+
+after_document : (step : Step) (d : Document) (v : View) (b : Bool) → (cond b (moved_view step d v) v).document ≡ v.document
+after_document step d v true = refl
+after_document step d v false = refl
+
+-- a step that fits, with a history that fits the new text
+pub scene_step : (sender : ℕ) (s : Session) (scene : Scene) (step : Step) (h : History) (notes : List Notice) → IsSoundScene sender s scene
+    → Fits (text_of scene.document) step → size_after (length scene.document.cells) step ≤ limit_of s.limits scene.document
+    → FitsText (edited step (text_of scene.document)) h
+    → IsSoundScene sender s (record {
+      document = record (document_after step scene.document) { history = h };
+      views = map (view_after step scene.document) scene.views;
+      notes = notes;
+    })
+scene_step sender s scene step h notes sound fits room history =
+    scene_changed sender s scene (record (document_after step scene.document) { history = h }) (view_after step scene.document) notes sound refl
+    (document_made s.limits scene.document step h (scene_document_sound sender s scene sound) fits room history)
+    (λ v. after_id step scene.document v (v.document == scene.document.id))
+    (λ v. after_document step scene.document v (v.document == scene.document.id))
+    (λ v e on. let t : (v.document == scene.document.id) ≡ true = eq-eqb v.document scene.document.id e in rw t (view_made scene.document step h v fits on))
+    (λ v ne. let t : (v.document == scene.document.id) ≡ false = ne_eqb v.document scene.document.id ne in rw t refl)
+
+-- The steps of an edit.
+
+-- a text of these steps: they fit in turn, and none passes the limit
+pub record IsRoom (s : Session) (scene : Scene) (steps : List Step) : Type 0 where
+  pub fits : FitInTurn (text_of scene.document) steps
+  pub within : stays_within (limit_of s.limits scene.document) (length scene.document.cells) steps ≡ true
+
+room_first : (s : Session) (scene : Scene) (step : Step) (steps : List Step) → IsRoom s scene (step ∷ steps) → size_after (length scene.document.cells) step ≤ limit_of s.limits scene.document
+room_first s scene step steps room =
+    leb-true (size_after (length scene.document.cells) step) (limit_of s.limits scene.document)
+    (and_parts (nat_le (size_after (length scene.document.cells) step) (limit_of s.limits scene.document)) (stays_within (limit_of s.limits scene.document) (size_after (length scene.document.cells) step) steps) room.within).0
+
+room_rest : (s : Session) (scene next : Scene) (step : Step) (steps : List Step) → IsRoom s scene (step ∷ steps)
+    → next.document.cells ≡ (document_after step scene.document).cells → next.document.options ≡ scene.document.options → IsRoom s next steps
+room_rest s scene next step steps room cells options = record {
+  fits = subst (λ t. FitInTurn t steps) (sym (text_after scene.document step) ∙ ap bytes_of (sym cells)) room.fits.1;
+  within =
+      let n : length next.document.cells ≡ size_after (length scene.document.cells) step = ap length cells ∙ length_cells_after step scene.document.cells (cells_range scene.document step room.fits.0) in
+      let l : limit_of s.limits next.document ≡ limit_of s.limits scene.document = ap (λ o. if meets o 0x100 then s.limits.large_bytes else s.limits.doc_bytes) options in
+      let rest = (and_parts (nat_le (size_after (length scene.document.cells) step) (limit_of s.limits scene.document)) (stays_within (limit_of s.limits scene.document) (size_after (length scene.document.cells) step) steps) room.within).1 in
+      ap (λ n. stays_within (limit_of s.limits next.document) n steps) n ∙ ap (λ l. stays_within l (size_after (length scene.document.cells) step) steps) l ∙ rest;
+}
+
+pub step_made_sound : (sender : ℕ) (s : Session) (scene : Scene) (later : Bool) (step : Step) (steps : List Step) → IsSoundScene sender s scene → IsRoom s scene (step ∷ steps)
+    → IsSoundScene sender s (step_made later step scene)
+step_made_sound sender s scene later step steps sound room =
+    scene_step sender s scene step (appended later (TextStep step) scene.document.history) (step_made later step scene).notes sound room.fits.0
+    (room_first s scene step steps room)
+    (appended_fits later step (text_of scene.document) scene.document.history (scene_document_sound sender s scene sound).history room.fits.0)
+
+pub steps_made_sound : (sender : ℕ) (s : Session) (later : Bool) (steps : List Step) (scene : Scene) → IsSoundScene sender s scene → IsRoom s scene steps
+    → IsSoundScene sender s (steps_made later steps scene)
+steps_made_sound sender s later [] scene sound room = sound
+steps_made_sound sender s later (step ∷ steps) scene sound room =
+    steps_made_sound sender s true steps (step_made later step scene) (step_made_sound sender s scene later step steps sound room)
+    (room_rest s scene (step_made later step scene) step steps room refl refl)
+
+pub sealed_scene_sound : (sender : ℕ) (s : Session) (scene : Scene) → IsSoundScene sender s scene → IsSoundScene sender s (sealed_scene scene)
+sealed_scene_sound sender s scene sound =
+    scene_history sender s scene (sealed_outside_groups scene.document.history) sound
+    (sealed_fits (text_of scene.document) scene.document.history (scene_document_sound sender s scene sound).history)
+
+-- an edit keeps the scene sound
+pub edit_made_sound : (sender : ℕ) (s : Session) (steps : List Step) (scene : Scene) → IsSoundScene sender s scene → IsRoom s scene steps
+    → IsSoundScene sender s (edit_made steps scene)
+edit_made_sound sender s steps scene sound room =
+    cond_both (nat_lt 1 (length steps)) (sealed_scene (steps_made false steps (sealed_scene scene))) (steps_made false steps scene)
+    (λ x. IsSoundScene sender s x)
+    (λ _. sealed_scene_sound sender s (steps_made false steps (sealed_scene scene))
+    (steps_made_sound sender s false steps (sealed_scene scene) (sealed_scene_sound sender s scene sound) (record { fits = room.fits; within = room.within })))
+    (λ _. steps_made_sound sender s false steps scene sound room)
+
+pub text_made : (later : Bool) (steps : List Step) (scene : Scene) → text_of (steps_made later steps scene).document ≡ after_steps steps (text_of scene.document)
+text_made later [] scene = refl
+text_made later (step ∷ steps) scene = text_made true steps (step_made later step scene) ∙ ap (after_steps steps) (text_after scene.document step)
+
+-- the text that an edit makes
+pub text_edited : (steps : List Step) (scene : Scene) → text_of (edit_made steps scene).document ≡ after_steps steps (text_of scene.document)
+text_edited steps scene =
+    cond_both (nat_lt 1 (length steps)) (sealed_scene (steps_made false steps (sealed_scene scene))) (steps_made false steps scene)
+    (λ x. text_of x.document ≡ after_steps steps (text_of scene.document))
+    (λ _. text_made false steps (sealed_scene scene)) (λ _. text_made false steps scene)
+
+-- Undo and redo: while they go on, the history is left out.
+
+abbrev pub without_history : Scene → Scene
+without_history scene = with_history fresh_history scene
+
+pub changes_performed_sound : (sender : ℕ) (s : Session) (who several : ℕ) (lines_changed : Bool) (cs : List Change) (scene : Scene)
+    → IsSoundScene sender s (without_history scene) → IsRoom s scene (text_steps cs)
+    → IsSoundScene sender s (without_history (changes_performed who several lines_changed cs scene))
+changes_performed_sound sender s who several lines_changed [] scene sound room = sound
+changes_performed_sound sender s who several lines_changed (TextStep step ∷ cs) scene sound room =
+    let changed = (if lines_changed then true else changes_lines (TextStep step) scene.document) in
+    let next = change_performed who several (is_last cs) changed (TextStep step) scene in
+    changes_performed_sound sender s who several changed cs next
+    (scene_step sender s (without_history scene) step fresh_history next.notes sound room.fits.0
+    (room_first s scene step (text_steps cs) room) (fresh_fits (edited step (text_of scene.document))))
+    (room_rest s scene next step (text_steps cs) room refl refl)
+changes_performed_sound sender s who several lines_changed (ContainerStep token coalesce ∷ cs) scene sound room =
+    let changed = (if lines_changed then true else changes_lines (ContainerStep token coalesce) scene.document) in
+    let next = change_performed who several (is_last cs) changed (ContainerStep token coalesce) scene in
+    changes_performed_sound sender s who several changed cs next
+    (record { sound = sound.sound; found = sound.found; owner = sound.owner })
+    (record { fits = room.fits; within = room.within })
+
+pub text_performed : (who several : ℕ) (lines_changed : Bool) (cs : List Change) (scene : Scene)
+    → text_of (changes_performed who several lines_changed cs scene).document ≡ after_steps (text_steps cs) (text_of scene.document)
+text_performed who several lines_changed [] scene = refl
+text_performed who several lines_changed (TextStep step ∷ cs) scene =
+    let changed = (if lines_changed then true else changes_lines (TextStep step) scene.document) in
+    text_performed who several changed cs (change_performed who several (is_last cs) changed (TextStep step) scene)
+    ∙ ap (after_steps (text_steps cs)) (text_after scene.document step)
+text_performed who several lines_changed (ContainerStep token coalesce ∷ cs) scene =
+    let changed = (if lines_changed then true else changes_lines (ContainerStep token coalesce) scene.document) in
+    text_performed who several changed cs (change_performed who several (is_last cs) changed (ContainerStep token coalesce) scene)

@@ -1,0 +1,121 @@
+-- Fit plans: the numbers of a plan are in range for its request.
+use Rattle.std.specs.Prelude.{ℕ, ◌+◌, ◌^◌, ◌≡◌, ◌≤◌, ◌<◌, true, List, length, Some, Ok, Err}
+use Rattle.ed_types.specs.declared.kind.Kind.{Kind}
+use Rattle.ed_model.specs.declared.plan.Source.{Source}
+use Rattle.ed_model.specs.declared.plan.Source.TheVariants as source
+use Rattle.ed_model.specs.declared.plan.Edit.{Edit}
+use Rattle.ed_model.specs.declared.plan.Edit.TheVariants as edit
+use Rattle.ed_model.specs.declared.plan.Follow.{Follow}
+use Rattle.ed_model.specs.declared.plan.Follow.TheVariants as follow
+use Rattle.ed_model.specs.declared.plan.DocumentChange.{DocumentChange}
+use Rattle.ed_model.specs.declared.plan.DocumentChange.TheVariants as document_change
+use Rattle.ed_model.specs.declared.plan.ViewChange.{ViewChange}
+use Rattle.ed_model.specs.declared.plan.ViewChange.TheVariants as view_change
+use Rattle.ed_model.specs.declared.plan.SessionChange.{SessionChange}
+use Rattle.ed_model.specs.declared.plan.SessionChange.TheVariants as session_change
+use Rattle.ed_model.specs.declared.plan.Plan.{Plan}
+use Rattle.ed_model.specs.declared.plan.Plan.TheVariants as plan
+use Rattle.ed_model.specs.Steps.{Step}
+use Rattle.ed_model.specs.LineEnds.{after_steps}
+use Rattle.ed_model.specs.History.{undo_changes, redo_changes, can_undo, can_redo}
+use Rattle.ed_model.specs.Session.{Document, view_at, document_at, references, limit_of}
+use Rattle.ed_model.specs.Requests.{Request, Planned, text, size, lines}
+use Rattle.ed_model.specs.Edits.{steps_of, stays_within}
+use Rattle.ed_model.specs.DocumentPlans.{text_steps, numbers_in}
+use Rattle.ed_model.specs.Table.{plan_of, performed}
+use Rattle.ed_model.specs.SoundLaws.{IsSound, FitInTurn}
+
+-- a request of a sound session: its view is found by its id, and its document by the view's
+pub record IsSoundRequest (r : Request) : Type 0 where
+  pub sound : IsSound r.session
+  pub view : view_at r.session.views r.view.id ≡ Some r.view
+  pub document : document_at r.session.documents r.view.document ≡ Some r.document
+
+abbrev pub IsFitSource : Request → Source → Type 0
+IsFitSource r (source.MessageText count) = count ≤ length r.message.text
+IsFitSource r other = Unit {0}
+
+abbrev pub IsFitEdit : Request → Edit → Type 0
+IsFitEdit r (edit.Replace start count from) = (start + count ≤ size r) × IsFitSource r from
+IsFitEdit r (edit.ConvertLineEnds to) = Unit {0}
+
+-- what follows lies in the text that the edit makes; what is taken to the clipboard, in the text before
+abbrev pub IsFitFollow : Request → ℕ → Follow → Type 0
+IsFitFollow r after follow.Nothing = Unit {0}
+IsFitFollow r after (follow.Caret place) = place ≤ after
+IsFitFollow r after (follow.Target start past) = (start ≤ after) × (past ≤ after)
+IsFitFollow r after (follow.Clipboard start count) = start + count ≤ size r
+
+abbrev pub IsFitDocumentChange : Request → DocumentChange → Type 0
+IsFitDocumentChange r (document_change.AddMarker line number) = (line < lines r) × (number ≤ 31) × (r.document.next_handle + 1 ≤ r.session.limits.handles + 1)
+IsFitDocumentChange r (document_change.AddMarkers line mask) = (line < lines r) × (mask < 2 ^ 32) × (r.document.next_handle + length (numbers_in mask) ≤ r.session.limits.handles + 1)
+IsFitDocumentChange r (document_change.DeleteMarker line number) = line < lines r
+IsFitDocumentChange r (document_change.SetLevel line level) = (line < lines r) × (level < 2 ^ 31)
+IsFitDocumentChange r (document_change.SetState line state) = line < lines r
+IsFitDocumentChange r (document_change.SetEndStyled place) = place ≤ size r
+IsFitDocumentChange r (document_change.StyleRun count style) = (r.document.end_styled + count ≤ size r) × (style ≤ 255)
+IsFitDocumentChange r (document_change.StyleBytes count) = (r.document.end_styled + count ≤ size r) × (count ≤ length r.message.text)
+IsFitDocumentChange r (document_change.NeedStyle start past) = (start ≤ past) × (past ≤ size r)
+IsFitDocumentChange r (document_change.FillIndicator indicator start count value) = (indicator < 32) × (start + count ≤ size r)
+IsFitDocumentChange r other = Unit {0}
+
+abbrev pub IsFitViewChange : Request → ViewChange → Type 0
+IsFitViewChange r (view_change.Select anchor caret) = (anchor ≤ size r) × (caret ≤ size r)
+IsFitViewChange r (view_change.SetTarget start past) = (start ≤ size r) × (past ≤ size r)
+IsFitViewChange r (view_change.SetIndicator indicator) = indicator < 32
+IsFitViewChange r (view_change.ShowLines first past) = (first ≤ lines r) × (past ≤ lines r)
+IsFitViewChange r (view_change.HideLines first past) = (first ≤ lines r) × (past ≤ lines r)
+IsFitViewChange r (view_change.SetExpanded line on) = line < lines r
+IsFitViewChange r (view_change.Contract line) = line < lines r
+IsFitViewChange r (view_change.Expand line) = line < lines r
+IsFitViewChange r (view_change.EnsureVisible line) = line < lines r
+IsFitViewChange r other = Unit {0}
+
+abbrev pub IsFitSessionChange : Request → SessionChange → Type 0
+IsFitSessionChange r (session_change.Copy start count) = start + count ≤ size r
+IsFitSessionChange r (session_change.CopyText count) = count ≤ length r.message.text
+IsFitSessionChange r (session_change.Attach id) = (d : Document) × (document_at r.session.documents id ≡ Some d) × (references d < r.session.limits.refs)
+IsFitSessionChange r session_change.AttachNew = r.session.next_document ≤ r.session.limits.ids
+IsFitSessionChange r (session_change.Create options) = r.session.next_document ≤ r.session.limits.ids
+IsFitSessionChange r (session_change.AddReference id) = (d : Document) × (document_at r.session.documents id ≡ Some d) × (references d < r.session.limits.refs)
+IsFitSessionChange r (session_change.Release id) = (d : Document) × (document_at r.session.documents id ≡ Some d) × (0 < d.held)
+
+-- no step takes the text past its limit
+abbrev pub IsRoomFor : Request → List Step → Type 0
+IsRoomFor r steps = stays_within (limit_of r.session.limits r.document) (size r) steps ≡ true
+
+abbrev pub IsFitPlan : Request → Plan → Type 0
+IsFitPlan r (plan.HandOut value start count) = start + count ≤ size r
+IsFitPlan r (plan.HandOutStyled start count) = start + count ≤ size r
+IsFitPlan r (plan.Edit change value after) =
+    IsFitEdit r change × IsFitFollow r (length (after_steps (steps_of r change) (text r))) after × IsRoomFor r (steps_of r change)
+IsFitPlan r plan.Undo = (can_undo r.document.history ≡ true) × IsRoomFor r (text_steps (undo_changes r.document.history))
+IsFitPlan r plan.Redo = (can_redo r.document.history ≡ true) × IsRoomFor r (text_steps (redo_changes r.document.history))
+IsFitPlan r (plan.ChangeDocument change value) = IsFitDocumentChange r change
+IsFitPlan r (plan.ChangeView change value) = IsFitViewChange r change
+IsFitPlan r (plan.ChangeSession change value) = IsFitSessionChange r change
+IsFitPlan r other = Unit {0}
+
+-- a plan that is no refusal is fit
+abbrev pub IsFitPlanned : Request → Planned → Type 0
+IsFitPlanned r (Ok what) = IsFitPlan r what
+IsFitPlanned r (Err refusal) = Unit {0}
+
+-- the plan of each message to a sound session is fit
+abbrev pub PlansFit : Type 0
+PlansFit = (kind : Kind) (r : Request) → IsSoundRequest r → IsFitPlanned r (plan_of kind r)
+
+-- The steps that a fit plan makes fit the text one after another.
+
+abbrev pub EditStepsFit : Type 0
+EditStepsFit = (r : Request) (change : Edit) → IsFitEdit r change → FitInTurn (text r) (steps_of r change)
+
+abbrev pub UndoStepsFit : Type 0
+UndoStepsFit = (r : Request) → IsSoundRequest r → FitInTurn (text r) (text_steps (undo_changes r.document.history))
+
+abbrev pub RedoStepsFit : Type 0
+RedoStepsFit = (r : Request) → IsSoundRequest r → FitInTurn (text r) (text_steps (redo_changes r.document.history))
+
+-- what a fit plan does keeps a session sound
+abbrev pub PlansKeepSound : Type 0
+PlansKeepSound = (r : Request) (what : Plan) → IsSoundRequest r → IsFitPlan r what → IsSound (performed r what).0

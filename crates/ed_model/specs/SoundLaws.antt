@@ -1,0 +1,132 @@
+-- Sound sessions: what holds of every session that a run reaches.
+use Rattle.std.specs.Prelude.{ℕ, ◌+◌, ◌==◌, ◌≡◌, ◌≤◌, ◌<◌, Bool, true, false, List, [], ◌∷◌, length, map, filter, flat_map, reverse, slice_range, Some, IfOk}
+use Rattle.std.specs.List.{AllByRecursion}
+use Rattle.ed_types.specs.declared.limits.Limits.{Limits}
+use Rattle.ed_types.specs.declared.kind.Kind.{Kind}
+use Rattle.ed_types.specs.declared.message.Message.{Message}
+use Rattle.ed_types.specs.declared.script.Command.{Command}
+use Rattle.ed_types.specs.Notices.{Response}
+use Rattle.ed_model.specs.Lines.{line_starts}
+use Rattle.ed_model.specs.Steps.{Step, Insert, Delete, edited, inverse_of}
+use Rattle.ed_model.specs.Rows.{Row, Marker}
+use Rattle.ed_model.specs.History.{History, Transaction}
+use Rattle.ed_model.specs.Folding.{is_visible}
+use Rattle.ed_model.specs.Session.{Session, View, Document, new_session, document_at, text_of, lines_in, references, limit_of}
+use Rattle.ed_model.specs.DocumentPlans.{text_steps}
+use Rattle.ed_model.specs.Table.{table, opened, closed}
+use Rattle.ed_model.specs.Run.{Running, starting, after_command, run_to}
+
+-- numbers that rise strictly, from at least `low` on and below `high`
+abbrev pub Rise : ℕ → ℕ → List ℕ → Type 0
+Rise low high [] = Unit {0}
+Rise low high (x ∷ xs) = (low ≤ x) × (x < high) × Rise (x + 1) high xs
+
+abbrev pub BeginAtZero : List ℕ → Type 0
+BeginAtZero [] = ⊥
+BeginAtZero (x ∷ xs) = x ≡ 0
+
+-- numbers that rise strictly from 0, none past n
+abbrev pub RiseFromZero : ℕ → List ℕ → Type 0
+RiseFromZero n xs = BeginAtZero xs × Rise 0 (n + 1) xs
+
+-- how often the number stands in the list
+abbrev pub occurrences : ℕ → List ℕ → ℕ
+occurrences n ns = length (filter (λ m. m == n) ns)
+
+-- the handles of all markers
+abbrev pub handles_in : List Row → List ℕ
+handles_in rows = flat_map (λ (row : Row). map (λ (m : Marker). m.handle) row.markers) rows
+
+-- The history.
+
+-- a step fits a text if its place lies inside and what it deletes stands there
+abbrev pub Fits : List ℕ → Step → Type 0
+Fits text (Insert p bytes) = (p ≤ length text) × (0 < length bytes)
+Fits text (Delete p bytes) = (slice_range text p (p + length bytes) ≡ bytes) × (0 < length bytes)
+
+-- steps fit one after another, each the text that the ones before it made
+abbrev pub FitInTurn : List ℕ → List Step → Type 0
+FitInTurn text [] = Unit {0}
+FitInTurn text (step ∷ steps) = Fits text step × FitInTurn (edited step text) steps
+
+-- the steps that take back all the past, the latest first
+abbrev pub undo_path : List Transaction → List Step
+undo_path past = map inverse_of (text_steps (flat_map (λ (t : Transaction). t.changes) past))
+
+-- the steps of all the future, the next first
+abbrev pub redo_path : List Transaction → List Step
+redo_path future = text_steps (flat_map (λ (t : Transaction). reverse t.changes) future)
+
+-- all the past can be taken back from this text, and all the future made again; where nothing is collected there is neither
+pub record FitsText (text : List ℕ) (h : History) : Type 0 where
+  pub past : FitInTurn text (undo_path h.past)
+  pub future : FitInTurn text (redo_path h.future)
+  pub kept : h.collecting ≡ false → (h.past ≡ []) × (h.future ≡ [])
+
+-- Documents, views and sessions.
+
+-- a document: its line starts rise from 0, and none passes the length; it has as many rows as lines; its indicator lists are as long
+-- as the text, and end styled lies in it; it is within its limit; handles are distinct and below the next one; something refers to it;
+-- and its history fits its text
+pub record IsSoundDocument (limits : Limits) (d : Document) : Type 0 where
+  pub line_starts : RiseFromZero (length (text_of d)) (line_starts d.line_end_types (text_of d))
+  pub rows : length d.rows ≡ lines_in d
+  pub indicator_count : length d.indicators ≡ 32
+  pub indicators : AllByRecursion (λ (values : List ℕ). length values ≡ length d.cells) d.indicators
+  pub styled : d.end_styled ≤ length d.cells
+  pub bounded : length d.cells ≤ limit_of limits d
+  pub handles_differ : (handle : ℕ) → occurrences handle (handles_in d.rows) ≤ 1
+  pub handles_below : (handle : ℕ) → d.next_handle ≤ handle → occurrences handle (handles_in d.rows) ≡ 0
+  pub referenced : 0 < references d
+  pub history : FitsText (text_of d) d.history
+
+-- a view of the document: its places lie in the text; it has as many flags as there are lines, and line 0 is visible; its indicator is
+-- one of 32; and the document lists it once
+pub record StandsOn (d : Document) (v : View) : Type 0 where
+  pub anchor : v.anchor ≤ length d.cells
+  pub caret : v.caret ≤ length d.cells
+  pub target_start : v.target_start ≤ length d.cells
+  pub target_end : v.target_end ≤ length d.cells
+  pub lines : length v.lines ≡ lines_in d
+  pub first_line : is_visible v.lines 0 ≡ true
+  pub indicator : v.indicator < 32
+  pub listed : occurrences v.id d.views ≡ 1
+
+-- a view whose document is there
+pub record IsSoundView (documents : List Document) (v : View) : Type 0 where
+  pub document : Document
+  pub found : document_at documents v.document ≡ Some document
+  pub stands : StandsOn document v
+
+-- a session: ids rise, below the next ones
+pub record IsSound (s : Session) : Type 0 where
+  pub document_ids : Rise 0 s.next_document (map (λ (d : Document). d.id) s.documents)
+  pub view_ids : Rise 0 s.next_view (map (λ (v : View). v.id) s.views)
+  pub documents : AllByRecursion (IsSoundDocument s.limits) s.documents
+  pub views : AllByRecursion (IsSoundView s.documents) s.views
+
+-- Laws.
+
+abbrev pub NewSessionIsSound : Type 0
+NewSessionIsSound = (limits : Limits) → IsSound (new_session limits)
+
+-- a message that is no refusal leaves a sound session sound
+abbrev pub MessageKeepsSound : Type 0
+MessageKeepsSound = (known : Kind → Bool) (s : Session) (view : ℕ) (m : Message) → IsSound s → IfOk (table known s view m) (λ (done : Session × Response). IsSound done.0)
+
+abbrev pub OpeningKeepsSound : Type 0
+OpeningKeepsSound = (s : Session) → IsSound s → IfOk (opened s) (λ (done : Session × ℕ). IsSound done.0)
+
+abbrev pub ClosingKeepsSound : Type 0
+ClosingKeepsSound = (s : Session) (view : ℕ) → IsSound s → IfOk (closed s view) IsSound
+
+abbrev pub CommandKeepsSound : Type 0
+CommandKeepsSound = (known : Kind → Bool) (files : List (List ℕ)) (c : Command) (s : Running) → IsSound s.session → IsSound (after_command known files c s).0.session
+
+-- the session is sound in every state that a run reaches from a sound one
+abbrev pub IsSoundInEveryStateFrom : Type 0
+IsSoundInEveryStateFrom = (known : Kind → Bool) (files : List (List ℕ)) (commands : List Command) (s : Running) → IsSound s.session → IsSound (run_to known files commands s).session
+
+-- the session is sound in every state that a run reaches, from a new session with any limits
+abbrev pub IsSoundInEveryState : Type 0
+IsSoundInEveryState = (known : Kind → Bool) (files : List (List ℕ)) (commands : List Command) (limits : Limits) → IsSound (run_to known files commands (starting (new_session limits))).session

@@ -1,0 +1,29 @@
+//! Laws of sound sessions and fit plans. Each is the contract of a function that does nothing.
+
+ghost use Rattle.ed_model.specs.SoundLaws.{NewSessionIsSound, MessageKeepsSound, OpeningKeepsSound, ClosingKeepsSound, CommandKeepsSound, IsSoundInEveryStateFrom, IsSoundInEveryState};
+ghost use Rattle.ed_model.specs.PlansFit.{PlansFit, EditStepsFit, UndoStepsFit, RedoStepsFit, PlansKeepSound};
+
+/// The session is sound in every state that a run reaches: from a new session, whatever its limits, and from any sound one.
+pub fn session_is_sound()
+    ensures in_every_state { IsSoundInEveryState }
+    ensures in_every_state_from { IsSoundInEveryStateFrom }
+    ensures new_session { NewSessionIsSound }
+{}
+
+/// A message, opening a view, closing one, and any command keep a sound session sound.
+pub fn soundness_is_kept()
+    ensures by_messages { MessageKeepsSound }
+    ensures by_opening { OpeningKeepsSound }
+    ensures by_closing { ClosingKeepsSound }
+    ensures by_commands { CommandKeepsSound }
+{}
+
+/// The numbers of a plan are in range for its request; the steps that it makes fit the text one after another; and what it does
+/// keeps the session sound.
+pub fn plans_are_fit()
+    ensures in_range { PlansFit }
+    ensures edit_steps { EditStepsFit }
+    ensures undo_steps { UndoStepsFit }
+    ensures redo_steps { RedoStepsFit }
+    ensures keep_sound { PlansKeepSound }
+{}
