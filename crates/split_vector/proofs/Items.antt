@@ -1,0 +1,125 @@
+-- The cells of a block as a list.
+use Rattle.std.proofs.Common.{◌≡◌, ℕ, zero, suc, ◌+◌, ◌-◌, ◌<◌, ◌≤◌, List, [], ◌∷◌, ◌++◌, map, length, take, drop, set, replicate, Option, Some, None, refl, sym, ap, ◌∙◌, arith, length-append, length-take, length-drop, take-append-drop, append_assoc}
+use Rattle.std.proofs.lemmas.List.{length-map, length-replicate, map-append}
+use Rattle.split_vector.specs.Ownership.{cells_of}
+
+module _ {X : Type 0} where
+  abbrev pub empty : Option X
+  empty = None
+
+  -- n empty cells
+  abbrev pub none : ℕ → List (Option X)
+  none n = replicate n None
+
+  pub cells_long : (xs : List X) (n : ℕ) (ys : List X) → length (cells_of xs n ys) ≡ length xs + n + length ys
+  cells_long xs n ys =
+      omega (arith, length-append (map Some xs) (none n ++ map Some ys), length-append (none n) (map Some ys), length-map xs Some, length-map ys Some, length-replicate n empty)
+
+  pub cells_set_push : (xs : List X) (n : ℕ) (ys : List X) (i : ℕ) (x : X) → i ≡ length xs → 0 < n → set (cells_of xs n ys) i (Some x) ≡ cells_of (xs ++ x ∷ []) (n - 1) ys
+  cells_set_push [] zero ys i x e some = absurd (omega arith)
+  cells_set_push [] (suc n) ys zero x e some = let less : n ≡ suc n - 1 = omega arith in ap (λ m. Some x ∷ (none m ++ map Some ys)) less
+  cells_set_push [] (suc n) ys (suc i) x e some = absurd (omega (arith, e))
+  cells_set_push (a ∷ xs) n ys zero x e some = absurd (omega (arith, e))
+  cells_set_push (a ∷ xs) n ys (suc i) x e some = ap (λ l. Some a ∷ l) (cells_set_push xs n ys i x (omega (arith, e)) some)
+
+  pub cells_set_left : (xs : List X) (n : ℕ) (ys : List X) (i : ℕ) (x : X) → i < length xs → set (cells_of xs n ys) i (Some x) ≡ cells_of (set xs i x) n ys
+  cells_set_left [] n ys i x lt = absurd (omega arith)
+  cells_set_left (a ∷ xs) n ys zero x lt = refl
+  cells_set_left (a ∷ xs) n ys (suc i) x lt = ap (λ l. Some a ∷ l) (cells_set_left xs n ys i x (omega arith))
+
+  set_past : (zs bs : List (Option X)) (i k : ℕ) (v : Option X) → i ≡ length zs + k → set (zs ++ bs) i v ≡ zs ++ set bs k v
+  set_past [] bs i k v e = ap (λ j. set bs j v) (omega (arith, e))
+  set_past (a ∷ zs) bs zero k v e = absurd (omega (arith, e))
+  set_past (a ∷ zs) bs (suc i) k v e = ap (λ l. a ∷ l) (set_past zs bs i k v (omega (arith, e)))
+
+  set_map : (ys : List X) (i : ℕ) (x : X) → set (map Some ys) i (Some x) ≡ map Some (set ys i x)
+  set_map [] i x = refl
+  set_map (y ∷ ys) zero x = refl
+  set_map (y ∷ ys) (suc i) x = ap (λ l. Some y ∷ l) (set_map ys i x)
+
+  pub cells_set_right : (xs : List X) (n : ℕ) (ys : List X) (i : ℕ) (x : X) → length xs + n ≤ i → set (cells_of xs n ys) i (Some x) ≡ cells_of xs n (set ys (i - (length xs + n)) x)
+  cells_set_right xs n ys i x le =
+      let k = i - (length xs + n) in
+      set_past (map Some xs) (none n ++ map Some ys) i (n + k) (Some x) (omega (arith, length-map xs Some))
+      ∙ ap (λ l. map Some xs ++ l) (set_past (none n) (map Some ys) (n + k) k (Some x) (omega (arith, length-replicate n empty)) ∙ ap (λ l. none n ++ l) (set_map ys k x))
+
+  -- the items left of the place and from it on, as cells
+  parted : (xs : List X) (i : ℕ) → map Some xs ≡ map Some (take i xs) ++ map Some (drop i xs)
+  parted xs i = ap (map Some) (sym (take-append-drop i xs)) ∙ map-append Some (take i xs) (drop i xs)
+
+  -- the cells around the gap, with the items that lie in reach of it
+  abbrev pub around : List X → ℕ → List X → ℕ → ℕ → List (Option X)
+  around xs n ys i j = map Some (drop i xs) ++ (none n ++ map Some (take j ys))
+
+  pub cells_around : (xs : List X) (n : ℕ) (ys : List X) (i j : ℕ) → cells_of xs n ys ≡ map Some (take i xs) ++ (around xs n ys i j ++ map Some (drop j ys))
+  cells_around xs n ys i j =
+      let a = map Some (take i xs) in let b = map Some (drop i xs) in let c = map Some (take j ys) in let d = map Some (drop j ys) in
+      ap (λ l. l ++ (none n ++ map Some ys)) (parted xs i) ∙ ap (λ l. a ++ b ++ (none n ++ l)) (parted ys j) ∙ append_assoc a b (none n ++ (c ++ d))
+      ∙ ap (λ l. a ++ l) (ap (λ l. b ++ l) (sym (append_assoc (none n) c d)) ∙ sym (append_assoc b (none n ++ c) d))
+
+  pub around_long : (xs : List X) (n : ℕ) (ys : List X) (i j : ℕ) → i ≤ length xs → j ≤ length ys → length (around xs n ys i j) ≡ n + (length xs - i) + j
+  around_long xs n ys i j p q =
+      let b = map Some (drop i xs) in let c = map Some (take j ys) in
+      omega (arith, length-append b (none n ++ c), length-append (none n) c, length-map (drop i xs) Some, length-map (take j ys) Some, length-replicate n empty, length-drop i xs, length-take j ys)
+
+  -- the cells with the items from the place on up to the gap apart, before and after they move over it
+  pub cells_raised : (xs : List X) (n : ℕ) (ys : List X) (i : ℕ) → cells_of xs n ys ≡ map Some (take i xs) ++ (map Some (drop i xs) ++ (none n ++ map Some ys))
+  cells_raised xs n ys i = ap (λ l. l ++ (none n ++ map Some ys)) (parted xs i) ∙ append_assoc (map Some (take i xs)) (map Some (drop i xs)) (none n ++ map Some ys)
+
+  pub raised_cells : (xs : List X) (n : ℕ) (ys : List X) (i : ℕ) → map Some (take i xs) ++ (none n ++ (map Some (drop i xs) ++ map Some ys)) ≡ cells_of (take i xs) n (drop i xs ++ ys)
+  raised_cells xs n ys i = ap (λ l. map Some (take i xs) ++ (none n ++ l)) (sym (map-append Some (drop i xs) ys))
+
+  -- the cells with the first j items after the gap apart, before and after they move back over it
+  pub cells_lowered : (xs : List X) (n : ℕ) (ys : List X) (j : ℕ) → cells_of xs n ys ≡ map Some xs ++ (none n ++ (map Some (take j ys) ++ map Some (drop j ys)))
+  cells_lowered xs n ys j = ap (λ l. map Some xs ++ (none n ++ l)) (parted ys j)
+
+  pub lowered_cells : (xs : List X) (n : ℕ) (ys : List X) (j : ℕ) → map Some xs ++ (map Some (take j ys) ++ (none n ++ map Some (drop j ys))) ≡ cells_of (xs ++ take j ys) n (drop j ys)
+  lowered_cells xs n ys j =
+      let c = map Some (take j ys) in let r = none n ++ map Some (drop j ys) in
+      sym (append_assoc (map Some xs) c r) ∙ ap (λ l. l ++ r) (sym (map-append Some xs (take j ys)))
+
+  set_end : (n : ℕ) (ys : List X) (i : ℕ) (x : X) → i + 1 ≡ n → set (none n ++ map Some ys) i (Some x) ≡ none (n - 1) ++ map Some (x ∷ ys)
+  set_end zero ys i x e = absurd (omega (arith, e))
+  set_end (suc zero) ys zero x e = refl
+  set_end (suc (suc n)) ys zero x e = absurd (omega (arith, e))
+  set_end (suc zero) ys (suc i) x e = absurd (omega (arith, e))
+  set_end (suc (suc n)) ys (suc i) x e =
+      let less : suc (suc n - 1) ≡ suc (suc n) - 1 = omega arith in
+      ap (λ l. empty ∷ l) (set_end (suc n) ys i x (omega (arith, e))) ∙ ap (λ k. none k ++ map Some (x ∷ ys)) less
+
+  pub cells_set_last : (xs : List X) (n : ℕ) (ys : List X) (i : ℕ) (x : X) → i + 1 ≡ length xs + n → 0 < n → set (cells_of xs n ys) i (Some x) ≡ cells_of xs (n - 1) (x ∷ ys)
+  cells_set_last xs n ys i x e some =
+      set_past (map Some xs) (none n ++ map Some ys) i (n - 1) (Some x) (omega (arith, e, some, length-map xs Some)) ∙ ap (λ l. map Some xs ++ l) (set_end n ys (n - 1) x (omega arith))
+
+  pub left_run : (xs : List X) (n : ℕ) (ys : List X) → take (length xs) (cells_of xs n ys) ≡ map Some xs
+  left_run [] n ys = refl
+  left_run (x ∷ xs) n ys = ap (λ l. Some x ∷ l) (left_run xs n ys)
+
+  past_none : (n : ℕ) (ys : List X) → drop n (none n ++ map Some ys) ≡ map Some ys
+  past_none zero ys = refl
+  past_none (suc n) ys = past_none n ys
+
+  past_left : (xs : List X) (n i : ℕ) (ys : List X) → i ≡ length xs + n → drop i (cells_of xs n ys) ≡ map Some ys
+  past_left [] n i ys e = ap (λ k. drop k (none n ++ map Some ys)) (omega (arith, e)) ∙ past_none n ys
+  past_left (x ∷ xs) n zero ys e = absurd (omega (arith, e))
+  past_left (x ∷ xs) n (suc i) ys e = past_left xs n i ys (omega (arith, e))
+
+  take_all : (ys : List X) → take (length ys) (map Some ys) ≡ map Some ys
+  take_all [] = refl
+  take_all (y ∷ ys) = ap (λ l. Some y ∷ l) (take_all ys)
+
+  pub right_run : (xs : List X) (n : ℕ) (ys : List X) → take (length ys) (drop (length xs + n) (cells_of xs n ys)) ≡ map Some ys
+  right_run xs n ys = ap (take (length ys)) (past_left xs n (length xs + n) ys refl) ∙ take_all ys
+
+  somes : List (Option X) → List X
+  somes [] = []
+  somes (None ∷ cs) = somes cs
+  somes (Some x ∷ cs) = x ∷ somes cs
+
+  somes_map : (xs : List X) → somes (map Some xs) ≡ xs
+  unfolding somes
+  somes_map [] = refl
+  somes_map (x ∷ xs) = ap (λ l. x ∷ l) (somes_map xs)
+
+  pub somes_inj : (xs ys : List X) → map Some xs ≡ map Some ys → xs ≡ ys
+  somes_inj xs ys e = sym (somes_map xs) ∙ ap somes e ∙ somes_map ys

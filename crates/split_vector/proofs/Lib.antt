@@ -1,0 +1,4 @@
+pub mod Items
+pub mod Memory
+pub mod Sharing
+pub mod Splits

@@ -1,0 +1,386 @@
+-- What the walks of the unsafe functions share. Assumes `Logic`.
+--     word_had, word_made, mark_had, mark_made      a value of one pointer, and one of no bytes
+--     slot_out, slot_in, run_out, run_in, slot_seen, run_seen      one place or a run of places is taken out of the row, put back, or seen
+--     of_room, to_room      room for an array is a row of empty places
+use mathlib.Core.Path.{◌≡◌, refl, sym, ap, subst, ◌∙◌}
+use Prim.Native.Nat.{ℕ, zero, suc, ◌+◌, ◌-◌, ◌*◌, ◌<◌, ◌≤◌}
+use native.Mathlib.Omega.{arith}
+use native.Mathlib.Nat.{zero-mul, suc-mul}
+use mathlib.Core.List.{List, [], ◌∷◌, ◌++◌, map}
+use lib.ListN.{length, take, drop, set, get_or, replicate, take-append-drop, length-take, length-drop}
+use lib.Seq.{drop-cons, drop-drop, set_split}
+use seplogic.Ra.Ura.{Ura}
+use base.Fraction.{full_share}
+use mir.Syntax.{Ty, ty_array}
+use mir.Val.{Val, vstruct, vcons, vnil, of_list}
+use base.Logic.{SProp, ent, sep, emp, ex, guard, via, snd∗, id⊢, mono_r}
+use base.Fml.{Fml, Lft, ftrue, fsep, fat, froom}
+use types.Logic.{Logic, sem}
+use types.SemTy.{cells}
+use mir.Raw.{raw as raw_ty}
+use denote.Array.{Array}
+use denote.Index.{row, whole_out, whole_in}
+use Rattle.core.proofs.ptr.Rows as arrays
+use Rattle.std.proofs.lemmas.List.{length-map, length-replicate}
+use Rattle.split_vector.proofs.Items.{none, cells_long, around, cells_around, around_long, cells_raised, raised_cells, cells_lowered, lowered_cells}
+use types.Kit.{given, learn}
+use contract.Monad.{fact, fact_i}
+use types.Kit.{Item, Goal, Seq, Step, step, prop, ‵, raw, some, ◌⊛◌, ◌$◌, ◌∵◌, !, qed, by, move, keep, drop as skip, use0, use1, use2, pick, split, check, show, frame, fsplit, fjoin, fpick, fpack, feq_i, feq_l, rewrite, done}
+use denote.RattleType.{RattleType, Valss}
+use denote.Laws.{Typed, Is, shows}
+use denote.Param.{param, layout}
+use denote.Param.Laws.{Laws, param_laws}
+use denote.Memory.{lone, part_at, mem}
+use denote.RawPtr.{Ptr, RawPtr, ptr_val}
+use denote.Shadow.{makes_shadow}
+use denote.Slice.{elements_shared}
+use denote.Steps.{nothing, peeks}
+use denote.Struct.Struct.{Shape, Struct, within}
+use denote.Struct.Owning.{shape}
+use denote.Struct.Declared as Declared
+use denote.Struct.Tuple.{Tuple, tuple_type}
+use borrow.Table.OneValue.{part_in, part_out}
+use Rattle.std.specs.Prelude.{Option, Some, None}
+use Rattle.std.specs.Mem.{type_size}
+use Rattle.core.proofs.mem.Param.{El, R, el_x, elτ}
+use Rattle.std_alloc.proofs.RcSteps.{Good, word}
+use Rattle.split_vector.specs.Ownership.{cells_of, deed_owns, slot, slots, slot_lent, slots_lent}
+use Rattle.split_vector.specs.contracts.cells.Cells as C-type
+use Rattle.split_vector.specs.contracts.cells.Base as B-type
+
+module _ (E : El) where
+  abbrev pub Cr : RattleType
+  Cr = C-type.the_row (R E)
+
+  abbrev pub Bs : RattleType
+  Bs = B-type.the_row (R E)
+
+  -- the one field of `Cells`, which takes no bytes
+  abbrev pub Mark : RattleType
+  Mark = Struct (shape (C-type.the_type (R E)))
+
+  abbrev pub sz : ℕ
+  sz = type_size (R E)
+
+  abbrev pub Place : Type 0
+  Place = Option (el_x E)
+
+  abbrev pub None_of : Place
+  None_of = None
+
+  -- the cells of d, as one list
+  abbrev pub all_of : Cr.Denot → List Place
+  all_of d = cells_of d.left d.spare d.right
+
+  pub all_long : (d : Cr.Denot) → length (all_of d) ≡ length d.left + d.spare + length d.right
+  all_long d = cells_long d.left d.spare d.right
+
+  abbrev pub ty_raw : ℕ → Ty
+  ty_raw n = raw_ty (ty_array (lone (R E).mir) n)
+
+abbrev one_field : Shape
+one_field = record { name = []; args = []; types = []; fields = RawPtr ∷ [] }
+
+abbrev pub Word : RattleType
+Word = Struct one_field
+
+abbrev pub mark : Val
+mark = vstruct (vcons (vstruct vnil) vnil)
+
+pub mark_made : (E : El) {M : Type 1} {𝓤 : Ura M} (𝓛 : Logic 𝓤) → ent 𝓤 (emp 𝓤) (sem 𝓛 ((Mark E).own_val (tt, tt) (mark ∷ [])))
+mark_made E 𝓛 = makes_shadow 𝓛 ((Mark E).own_val (tt, tt) (mark ∷ [])) (λ vss. (tt, ((λ uss. (tt, tt)), tt))) ((vstruct vnil ∷ [], tt), (refl, ((tt, (refl, tt)), tt)))
+
+module _ {M : Type 1} {𝓤 : Ura M} {𝓛 : Logic 𝓤} {K : Type 0} {Γ : List (Item 𝓤)} {G : Goal 𝓤 𝓛.H} where
+  pub word_had : K → (c : Ptr) (vs : List Val) → (vs ≡ word c ∷ [] → Seq K 𝓛 Γ G) → Seq K 𝓛 (‵ (Word.own_val (c, tt) vs) ∷ Γ) G
+  word_had t c vs k = fpick t (λ vss. fsplit t $ feq_l t (λ ev. fsplit t $ feq_l t (λ e. skip t $ k (subst (λ (ws : List Val). vs ≡ vstruct (of_list (ws ++ [])) ∷ []) e ev))))
+
+  pub word_made : K → (c : Ptr) → Step K 𝓛 (‵ (Word.own_val (c, tt) (word c ∷ [])) ∷ Γ) G Γ G
+  word_made t c = step (λ s.
+      nothing t $ feq_i t (List Val) (ptr_val c ∷ []) (ptr_val c ∷ []) refl $ fjoin t $ feq_i t (List Val) (word c ∷ []) (word c ∷ []) refl $ fjoin t $
+      fpack t (Valss (RawPtr ∷ [])) (within one_field (c, tt) (word c ∷ [])) (ptr_val c ∷ [], tt) $ s)
+
+  pub mark_had : K → (E : El) (vs : List Val) → (vs ≡ mark ∷ [] → Seq K 𝓛 Γ G) → Seq K 𝓛 (‵ ((Mark E).own_val (tt, tt) vs) ∷ Γ) G
+  mark_had t E vs k = fpick t (λ vss. fsplit t $ feq_l t (λ ev. fsplit t $ fpick t (λ uss. fsplit t $ feq_l t (λ e. skip t $ skip t $
+      k (subst (λ (ws : List Val). vs ≡ vstruct (of_list (ws ++ [])) ∷ []) e ev)))))
+
+module _ {M : Type 1} {𝓤 : Ura M} {𝓛 : Logic 𝓤} {K : Type 0} {Γ : List (Item 𝓤)} where
+  -- an `ensures` of two facts
+  pub says_both : K → {φ ψ : Type 0} {P : SProp 𝓤} → φ → ψ → Step K 𝓛 Γ (prop P) Γ (prop (sep 𝓤 P (sep 𝓤 (fact 𝓤 φ) (fact 𝓤 ψ))))
+  says_both t {φ} {ψ} {P} x y = step (λ s. record {
+    prf = via 𝓤 P s.prf (qed 𝓛 (raw P ∷ []) {P = sep 𝓤 P (sep 𝓤 (fact 𝓤 φ) (fact 𝓤 ψ))} (
+        frame ! $ use0 𝓛 (raw (fact 𝓤 ψ)) (fact_i 𝓤 ψ (emp 𝓤) y) $ use0 𝓛 (raw (fact 𝓤 φ)) (fact_i 𝓤 φ (emp 𝓤) x) $ done !));
+  })
+
+module _ (i : ℕ) (Y : RattleType) (L : Laws Y) {M : Type 1} {𝓤 : Ura M} (𝓛 : Logic 𝓤) where
+  open 𝓛 use {H}
+
+  pub value_out : (x : Y.Denot) (b o : ℕ) → ent 𝓤 (sem 𝓛 (part_at (param i Y) full_share x b o)) (ex 𝓤 (λ (v : Val). guard 𝓤 (Good (layout Y) v) (sep 𝓤 (H.at full_share (layout Y) b o v) (sem 𝓛 (Y.own_val x (v ∷ []))))))
+  value_out x b o = qed 𝓛 (‵ (part_at (param i Y) full_share x b o) ∷ []) ∵
+      use1 𝓛 (some (λ (v : Val). ‵ (fat full_share (layout Y) b o v) ⊛ ‵ (Y.own_val x (v ∷ [])))) (part_out 𝓛 (param i Y) refl full_share x b o) $ pick ! (λ v. split ! $ move ! (1 ∷ []) $
+      peeks ! (param i Y) (Is (param i Y)) (shows 𝓛 (param i Y)) x (v ∷ []) (λ p.
+      show ! (λ (w : Val). guard 𝓤 (Good (layout Y) w) (sep 𝓤 (H.at full_share (layout Y) b o w) (sem 𝓛 (Y.own_val x (w ∷ []))))) v $ check ! (((param_laws i Y L).lawful 𝓛).typed x (v ∷ []) p).0 $ move ! (1 ∷ 0 ∷ []) $ done !))
+
+  pub value_in : (x : Y.Denot) (b o : ℕ) (v : Val) → ent 𝓤 (sep 𝓤 (H.at full_share (layout Y) b o v) (sem 𝓛 (Y.own_val x (v ∷ [])))) (sem 𝓛 (part_at (param i Y) full_share x b o))
+  value_in x b o v = part_in 𝓛 (param i Y) refl full_share x b o v
+
+abbrev pub three_val : Val → Val → Val → Val
+three_val u v w = vstruct (vcons u (vcons v (vcons w vnil)))
+
+pub three_of : {M : Type 1} {𝓤 : Ura M} (𝓛 : Logic 𝓤) (R S T : RattleType) (x : R.Denot) (y : S.Denot) (z : T.Denot) (u v w : Val)
+    → ent 𝓤 (sep 𝓤 (sem 𝓛 (R.own_val x (u ∷ []))) (sep 𝓤 (sem 𝓛 (S.own_val y (v ∷ []))) (sem 𝓛 (T.own_val z (w ∷ []))))) (sem 𝓛 ((Tuple (R ∷ S ∷ T ∷ [])).own_val (x, y, z) (three_val u v w ∷ [])))
+three_of 𝓛 R S T x y z u v w =
+    qed 𝓛 (‵ (R.own_val x (u ∷ [])) ∷ ‵ (S.own_val y (v ∷ [])) ∷ ‵ (T.own_val z (w ∷ [])) ∷ []) ∵ nothing ! $ move ! (3 ∷ 0 ∷ []) $ fjoin ! $ move ! (2 ∷ 0 ∷ []) $ fjoin ! $ move ! (1 ∷ 0 ∷ []) $ fjoin ! $
+    feq_i ! (List Val) (three_val u v w ∷ []) (three_val u v w ∷ []) refl $ fjoin ! $
+    fpack ! (Valss (R ∷ S ∷ T ∷ [])) (within (Declared.shape (tuple_type (R ∷ S ∷ T ∷ []))) (x, (y, (z, tt))) (three_val u v w ∷ [])) (u ∷ [], (v ∷ [], (w ∷ [], tt))) $ done !
+
+alone : (τ : Ty) (vs : List Val) → Typed (τ ∷ []) vs → (v : Val) × ((vs ≡ v ∷ []) × Good τ v)
+alone τ [] t = absurd t
+alone τ (v ∷ []) t = (v, (refl, t.0))
+alone τ (v ∷ w ∷ vs) t = absurd t.1
+
+module _ (Y : RattleType) (L : Laws Y) {M : Type 1} {𝓤 : Ura M} {𝓛 : Logic 𝓤} {K : Type 0} {Γ : List (Item 𝓤)} {G : Goal 𝓤 𝓛.H} where
+  -- what is owned of a value is one machine value, of its type
+  pub tells : K → (x : Y.Denot) (vs : List Val) → ((v : Val) → vs ≡ v ∷ [] → Good (layout Y) v → Seq K 𝓛 (‵ (Y.own_val x (v ∷ [])) ∷ Γ) G) → Seq K 𝓛 (‵ (Y.own_val x vs) ∷ Γ) G
+  tells t x vs k =
+      peeks t (param 0 Y) (Is (param 0 Y)) (shows 𝓛 (param 0 Y)) x vs (λ is.
+      let one = alone (layout Y) vs (((param_laws 0 Y L).lawful 𝓛).typed x vs is) in
+      rewrite t 0 (λ (us : List Val). ‵ (Y.own_val x us)) one.1.0 refl $ k one.0 one.1.0 one.1.1)
+
+pub filled_within : {X : Type 0} (cs : List (Option X)) (i : ℕ) (x : X) → get_or cs i None ≡ Some x → i < length cs
+filled_within [] i x e = cc
+filled_within (c ∷ cs) zero x e = omega arith
+filled_within (c ∷ cs) (suc i) x e = omega (arith, filled_within cs i x e)
+
+module _ (E : El) {M : Type 1} {𝓤 : Ura M} (𝓛 : Logic 𝓤) (t : Ty → Ptr → Fml) (p : Ptr) where
+  pub deed_made : (n : ℕ) → 0 < n → ent 𝓤 (sem 𝓛 (t (ty_raw E n) p)) (sem 𝓛 (deed_owns (R E) t p n))
+  deed_made zero lt = absurd (omega arith)
+  deed_made (suc n) lt = id⊢ 𝓤 _
+
+  pub deed_used : (n : ℕ) → 0 < n → ent 𝓤 (sem 𝓛 (deed_owns (R E) t p n)) (sem 𝓛 (t (ty_raw E n) p))
+  deed_used zero lt = absurd (omega arith)
+  deed_used (suc n) lt = id⊢ 𝓤 _
+
+module _ (E : El) {M : Type 1} {𝓤 : Ura M} (𝓛 : Logic 𝓤) (b : ℕ) where
+  open 𝓛 use {H}
+
+  abbrev s : ℕ
+  s = sz E
+
+  abbrev Row : ℕ → List (Place E) → Fml
+  Row = slots (R E) b
+
+  cut : (xs ys : List (Place E)) (o at : ℕ) → at ≡ length xs * s + o → ent 𝓤 (sem 𝓛 (Row o (xs ++ ys))) (sep 𝓤 (sem 𝓛 (Row o xs)) (sem 𝓛 (Row at ys)))
+  cut [] ys o at e = qed 𝓛 (‵ (Row o ys) ∷ []) ∵ rewrite ! 0 (λ (k : ℕ). ‵ (Row k ys)) {x = at} (omega (arith, zero-mul s)) refl $ nothing ! $ done !
+  cut (x ∷ xs) ys o at e = let more : at ≡ suc (length xs) * s + o = e in qed 𝓛 (‵ (Row o (x ∷ xs ++ ys)) ∷ []) ∵ fsplit ! $ move ! (1 ∷ []) $
+      use1 𝓛 (‵ (Row (o + s) xs) ⊛ ‵ (Row at ys)) (cut xs ys (o + s) at (omega (arith, suc-mul (length xs) s))) $ split ! $ move ! (2 ∷ 0 ∷ []) $ fjoin ! $ done !
+
+  glue : (xs ys : List (Place E)) (o at : ℕ) → at ≡ length xs * s + o → ent 𝓤 (sep 𝓤 (sem 𝓛 (Row o xs)) (sem 𝓛 (Row at ys))) (sem 𝓛 (Row o (xs ++ ys)))
+  glue [] ys o at e = qed 𝓛 (‵ ftrue ∷ ‵ (Row at ys) ∷ []) ∵ skip ! $ rewrite ! 0 (λ (k : ℕ). ‵ (Row k ys)) {x = o} (omega (arith, zero-mul s)) refl $ done !
+  glue (x ∷ xs) ys o at e = let more : at ≡ suc (length xs) * s + o = e in qed 𝓛 (‵ (Row o (x ∷ xs)) ∷ ‵ (Row at ys) ∷ []) ∵ fsplit ! $ move ! (1 ∷ 2 ∷ []) $
+      use2 𝓛 (‵ (Row (o + s) (xs ++ ys))) (glue xs ys (o + s) at (omega (arith, suc-mul (length xs) s))) $ move ! (1 ∷ 0 ∷ []) $ fjoin ! $ done !
+
+  module _ (o : ℕ) (cs : List (Place E)) (i : ℕ) where
+    -- the places but for the i-th
+    abbrev pub Besides : Fml
+    Besides = fsep (Row o (take i cs)) (Row (i * s + o + s) (drop (suc i) cs))
+
+    before : i ≤ length cs → i * s + o ≡ length (take i cs) * s + o
+    before le = let long : i ≡ length (take i cs) = omega (arith, length-take i cs) in ap (λ k. k * s + o) long
+
+    pub slot_out : i < length cs → ent 𝓤 (sem 𝓛 (Row o cs)) (sep 𝓤 (sem 𝓛 (slot (R E) b (i * s + o) (get_or cs i None))) (sem 𝓛 Besides))
+    slot_out lt = qed 𝓛 (‵ (Row o cs) ∷ []) ∵
+        rewrite ! 0 (λ (l : List (Place E)). ‵ (Row o l)) (sym (take-append-drop i cs) ∙ ap (λ l. take i cs ++ l) (drop-cons cs i None lt)) refl $
+        use1 𝓛 (‵ (Row o (take i cs)) ⊛ ‵ (Row (i * s + o) (get_or cs i None ∷ drop (suc i) cs))) (cut (take i cs) (get_or cs i None ∷ drop (suc i) cs) o (i * s + o) (before (omega arith))) $
+        split ! $ move ! (1 ∷ []) $ fsplit ! $ move ! (2 ∷ 1 ∷ []) $ fjoin ! $ move ! (1 ∷ []) $ done !
+
+    pub slot_in : i < length cs → (c : Place E) → ent 𝓤 (sep 𝓤 (sem 𝓛 (slot (R E) b (i * s + o) c)) (sem 𝓛 Besides)) (sem 𝓛 (Row o (set cs i c)))
+    slot_in lt c = qed 𝓛 (‵ (slot (R E) b (i * s + o) c) ∷ ‵ Besides ∷ []) ∵ move ! (1 ∷ []) $ fsplit ! $ move ! (2 ∷ 1 ∷ []) $ fjoin ! $ move ! (1 ∷ 0 ∷ []) $
+        use2 𝓛 (‵ (Row o (take i cs ++ c ∷ drop (suc i) cs))) (glue (take i cs) (c ∷ drop (suc i) cs) o (i * s + o) (before (omega arith))) $
+        rewrite ! 0 (λ (l : List (Place E)). ‵ (Row o l)) (sym (set_split cs i c lt)) refl $ done !
+
+    module _ (n : ℕ) where
+      -- the places but for the n from the i-th on
+      abbrev pub Around : Fml
+      Around = fsep (Row o (take i cs)) (Row (n * s + (i * s + o)) (drop (i + n) cs))
+
+      pub run_out : i + n ≤ length cs → ent 𝓤 (sem 𝓛 (Row o cs)) (sep 𝓤 (sem 𝓛 (Row (i * s + o) (take n (drop i cs)))) (sem 𝓛 Around))
+      run_out le =
+          let run = take n (drop i cs) in let long : n ≡ length run = omega (arith, length-take n (drop i cs), length-drop i cs) in
+          qed 𝓛 (‵ (Row o cs) ∷ []) ∵
+          rewrite ! 0 (λ (l : List (Place E)). ‵ (Row o l)) (sym (take-append-drop i cs) ∙ ap (λ l. take i cs ++ l) (sym (take-append-drop n (drop i cs)) ∙ ap (λ l. run ++ l) (drop-drop n i cs))) refl $
+          use1 𝓛 (‵ (Row o (take i cs)) ⊛ ‵ (Row (i * s + o) (run ++ drop (i + n) cs))) (cut (take i cs) (run ++ drop (i + n) cs) o (i * s + o) (before (omega arith))) $ split ! $ move ! (1 ∷ []) $
+          use1 𝓛 (‵ (Row (i * s + o) run) ⊛ ‵ (Row (n * s + (i * s + o)) (drop (i + n) cs))) (cut run (drop (i + n) cs) (i * s + o) (n * s + (i * s + o)) (ap (λ k. k * s + (i * s + o)) long)) $
+          split ! $ move ! (2 ∷ 1 ∷ []) $ fjoin ! $ move ! (1 ∷ []) $ done !
+
+      pub run_in : i + n ≤ length cs → (ws : List (Place E)) → n ≡ length ws
+          → ent 𝓤 (sep 𝓤 (sem 𝓛 (Row (i * s + o) ws)) (sem 𝓛 Around)) (sem 𝓛 (Row o (take i cs ++ (ws ++ drop (i + n) cs))))
+      run_in le ws long = qed 𝓛 (‵ (Row (i * s + o) ws) ∷ ‵ Around ∷ []) ∵ move ! (1 ∷ []) $ fsplit ! $ move ! (2 ∷ 1 ∷ []) $
+          use2 𝓛 (‵ (Row (i * s + o) (ws ++ drop (i + n) cs))) (glue ws (drop (i + n) cs) (i * s + o) (n * s + (i * s + o)) (ap (λ k. k * s + (i * s + o)) long)) $ move ! (1 ∷ 0 ∷ []) $
+          by ! (glue (take i cs) (ws ++ drop (i + n) cs) o (i * s + o) (before (omega arith)))
+
+  pub to_cells : (xs : List (el_x E)) (o : ℕ) → ent 𝓤 (sem 𝓛 (Row o (map Some xs))) (sem 𝓛 (cells (mem (R E)) xs b o))
+  to_cells [] o = id⊢ 𝓤 (emp 𝓤)
+  to_cells (x ∷ xs) o = mono_r 𝓤 (sem 𝓛 (part_at (R E) full_share x b o)) (to_cells xs (o + s))
+
+  pub of_cells : (xs : List (el_x E)) (o : ℕ) → ent 𝓤 (sem 𝓛 (cells (mem (R E)) xs b o)) (sem 𝓛 (Row o (map Some xs)))
+  of_cells [] o = id⊢ 𝓤 (emp 𝓤)
+  of_cells (x ∷ xs) o = mono_r 𝓤 (sem 𝓛 (part_at (R E) full_share x b o)) (of_cells xs (o + s))
+
+  pub of_room : (n o : ℕ) → ent 𝓤 (H.room (ty_array (elτ E) n) b o) (sem 𝓛 (Row o (replicate n None)))
+  of_room zero o = qed 𝓛 (‵ (froom (ty_array (elτ E) 0) b o) ∷ []) ∵ keep ! [] $ done !
+  of_room (suc n) o = qed 𝓛 (‵ (froom (ty_array (elτ E) (suc n)) b o) ∷ []) ∵
+      use1 𝓛 (‵ (froom (elτ E) b o) ⊛ ‵ (froom (ty_array (elτ E) n) b (o + s))) (𝓛.laws.room_uncons (elτ E) n b o) $ split ! $
+      use1 𝓛 (‵ (slot (R E) b o None)) (𝓛.laws.room-raw (elτ E) b o) $ frame ! $ by ! (of_room n (o + s))
+
+  pub to_room : (n o : ℕ) → ent 𝓤 (sem 𝓛 (Row o (replicate n None))) (H.room (ty_array (elτ E) n) b o)
+  to_room zero o = 𝓛.laws.room_nil (elτ E) b o
+  to_room (suc n) o = qed 𝓛 (‵ (slot (R E) b o None) ∷ ‵ (Row (o + s) (replicate n None)) ∷ []) ∵
+      use1 𝓛 (‵ (froom (elτ E) b o)) (𝓛.laws.raw-room (elτ E) b o) $ move ! (1 ∷ []) $
+      use1 𝓛 (‵ (froom (ty_array (elτ E) n) b (o + s))) (to_room n (o + s)) $ move ! (1 ∷ []) $ by ! (𝓛.laws.room_cons (elτ E) n b o)
+
+  pub slot_room : (c : Place E) (o : ℕ) → ent 𝓤 (sem 𝓛 (slot (R E) b o c)) (sem 𝓛 (slot (R E) b o None))
+  slot_room None o = id⊢ 𝓤 _
+  slot_room (Some x) o = qed 𝓛 (‵ (slot (R E) b o (Some x)) ∷ []) ∵
+      use1 𝓛 (some (λ (v : Val). given (Good (elτ E) v) (‵ (fat full_share (elτ E) b o v) ⊛ ‵ (E.row.own_val x (v ∷ []))))) (value_out 0 E.row E.laws 𝓛 x b o) $
+      pick ! (λ v. learn ! (λ good. split ! $ keep ! (0 ∷ []) $
+      use1 𝓛 (‵ (froom (elτ E) b o)) (𝓛.laws.at_room (elτ E) b o v) $ by ! (𝓛.laws.room-raw (elτ E) b o)))
+
+  -- a cell that held an item holds none
+  pub forgets : (cs : List (Place E)) (o : ℕ) → ent 𝓤 (sem 𝓛 (Row o cs)) (sem 𝓛 (Row o (replicate (length cs) None)))
+  forgets [] o = id⊢ 𝓤 _
+  forgets (c ∷ cs) o = qed 𝓛 (‵ (slot (R E) b o c) ∷ ‵ (Row (o + s) cs) ∷ []) ∵
+      use1 𝓛 (‵ (slot (R E) b o None)) (slot_room c o) $ move ! (1 ∷ []) $ use1 𝓛 (‵ (Row (o + s) (replicate (length cs) None))) (forgets cs (o + s)) $ move ! (1 ∷ 0 ∷ []) $ done !
+
+  -- a row of items is an array of them, and back
+  abbrev E' : arrays.El
+  E' = record { row = E.row; laws = E.laws }
+
+  to_array : (xs : List (el_x E)) (n o : ℕ) → length xs ≡ n → ent 𝓤 (sem 𝓛 (Row o (map Some xs))) (sem 𝓛 (part_at (Array (R E) n) full_share xs b o))
+  to_array xs n o e = qed 𝓛 (‵ (Row o (map Some xs)) ∷ []) ∵
+      use1 𝓛 (‵ (cells (mem (R E)) xs b o)) (to_cells xs o) $ use1 𝓛 (‵ (row (R E) full_share xs b o)) (whole_out 𝓛 (R E) xs b o) $ by ! (arrays.whole E' 𝓛 full_share n xs b o e)
+
+  of_array : (xs : List (el_x E)) (n o : ℕ) → ent 𝓤 (sem 𝓛 (part_at (Array (R E) n) full_share xs b o)) (sem 𝓛 (Row o (map Some xs)))
+  of_array xs n o = qed 𝓛 (‵ (part_at (Array (R E) n) full_share xs b o) ∷ []) ∵
+      use1 𝓛 (given (length xs ≡ n) (‵ (row (R E) full_share xs b o))) (arrays.apart E' 𝓛 full_share n xs b o) $ learn ! (λ _.
+      use1 𝓛 (‵ (cells (mem (R E)) xs b o)) (whole_in 𝓛 (R E) xs b o) $ by ! (of_cells xs o))
+
+  abbrev Values : List (el_x E) → ℕ → ℕ → Fml
+  Values xs n o = part_at (Array (R E) n) full_share xs b o
+
+  abbrev Space : ℕ → ℕ → Fml
+  Space n o = froom (ty_array (elτ E) n) b o
+
+  module _ (d : (Cr E).Denot) (o : ℕ) where
+    abbrev xs : List (el_x E)
+    xs = d.left
+
+    abbrev n : ℕ
+    n = d.spare
+
+    abbrev ys : List (el_x E)
+    ys = d.right
+
+    -- the items in reach of the gap are forgotten
+    pub widened : (i j : ℕ) → i ≤ length d.left → j ≤ length d.right → ent 𝓤 (sem 𝓛 (Row o (all_of E d))) (sem 𝓛 (Row o (cells_of (take i xs) (n + (length xs - i) + j) (drop j ys))))
+    widened i j p q =
+        let mid = around xs n ys i j in let wide = n + (length xs - i) + j in let long : length mid ≡ wide = around_long xs n ys i j p q in
+        let front : length (map Some (take i xs)) ≡ i = omega (arith, length-map (take i xs) Some, length-take i xs) in
+        let at = i * s + o in let at' = wide * s + at in let a : at ≡ length (map Some (take i xs)) * s + o = ap (λ k. k * s + o) (sym front) in
+        let a' : at' ≡ length mid * s + at = ap (λ k. k * s + at) (sym long) in let a'' : at' ≡ length (none wide) * s + at = ap (λ k. k * s + at) (sym (length-replicate wide (None_of E))) in
+        qed 𝓛 (‵ (Row o (all_of E d)) ∷ []) ∵ rewrite ! 0 (λ (l : List (Place E)). ‵ (Row o l)) (cells_around xs n ys i j) refl $
+        use1 𝓛 (‵ (Row o (map Some (take i xs))) ⊛ ‵ (Row at (mid ++ map Some (drop j ys)))) (cut (map Some (take i xs)) (mid ++ map Some (drop j ys)) o at a) $ split ! $ move ! (1 ∷ []) $
+        use1 𝓛 (‵ (Row at mid) ⊛ ‵ (Row at' (map Some (drop j ys)))) (cut mid (map Some (drop j ys)) at at' a') $ split ! $
+        use1 𝓛 (‵ (Row at (replicate (length mid) None))) (forgets mid at) $ rewrite ! 0 (λ (k : ℕ). ‵ (Row at (replicate k None))) long refl $
+        use2 𝓛 (‵ (Row at (none wide ++ map Some (drop j ys)))) (glue (none wide) (map Some (drop j ys)) at at' a'') $ move ! (1 ∷ 0 ∷ []) $
+        by ! (glue (map Some (take i xs)) (none wide ++ map Some (drop j ys)) o at a)
+
+    -- the items from the place i on come out of the row as an array with room above it, and go back above the room
+    module _ (i count : ℕ) (e : i + count ≡ length d.left) where
+      abbrev moving : List (el_x E)
+      moving = drop i xs
+
+      up_facts : (length (map Some (take i xs)) ≡ i) × (length moving ≡ count) × (length (map Some moving) ≡ count)
+      up_facts = (omega (arith, length-map (take i xs) Some, length-take i xs), omega (arith, length-drop i xs), omega (arith, length-map (drop i xs) Some, length-drop i xs))
+
+      abbrev low : ℕ
+      low = i * s + o
+
+      abbrev pub UpRest : Fml
+      UpRest = fsep (Row o (map Some (take i xs))) (Row (n * s + (count * s + low)) (map Some ys))
+
+      pub up_out : ent 𝓤 (sem 𝓛 (Row o (all_of E d))) (sep 𝓤 (sem 𝓛 (fsep (Values moving count low) (Space n (count * s + low)))) (sem 𝓛 UpRest))
+      up_out =
+          let f = up_facts in
+          qed 𝓛 (‵ (Row o (all_of E d)) ∷ []) ∵ rewrite ! 0 (λ (l : List (Place E)). ‵ (Row o l)) (cells_raised xs n ys i) refl $
+          use1 𝓛 (‵ (Row o (map Some (take i xs))) ⊛ ‵ (Row low (map Some moving ++ (none n ++ map Some ys)))) (cut (map Some (take i xs)) (map Some moving ++ (none n ++ map Some ys)) o low (ap (λ k. k * s + o) (sym f.0))) $ split ! $ move ! (1 ∷ []) $
+          use1 𝓛 (‵ (Row low (map Some moving)) ⊛ ‵ (Row (count * s + low) (none n ++ map Some ys))) (cut (map Some moving) (none n ++ map Some ys) low (count * s + low) (ap (λ k. k * s + low) (sym f.2))) $ split ! $ move ! (1 ∷ []) $
+          use1 𝓛 (‵ (Row (count * s + low) (none n)) ⊛ ‵ (Row (n * s + (count * s + low)) (map Some ys))) (cut (none n) (map Some ys) (count * s + low) (n * s + (count * s + low)) (ap (λ k. k * s + (count * s + low)) (sym (length-replicate n (None_of E))))) $ split ! $
+          use1 𝓛 (‵ (Space n (count * s + low))) (to_room n (count * s + low)) $ move ! (2 ∷ []) $ use1 𝓛 (‵ (Values moving count low)) (to_array moving count low f.1) $ move ! (0 ∷ 1 ∷ []) $ fjoin ! $
+          move ! (2 ∷ 1 ∷ []) $ fjoin ! $ move ! (1 ∷ []) $ done !
+
+      pub up_in : ent 𝓤 (sep 𝓤 (sem 𝓛 (fsep (Values moving count (n * s + low)) (Space n low))) (sem 𝓛 UpRest)) (sem 𝓛 (Row o (cells_of (take i xs) n (moving ++ ys))))
+      up_in =
+          let f = up_facts in let high : ℕ = n * s + low in
+          qed 𝓛 (‵ (fsep (Values moving count high) (Space n low)) ∷ ‵ UpRest ∷ []) ∵ fsplit ! $ use1 𝓛 (‵ (Row high (map Some moving))) (of_array moving count high) $ move ! (1 ∷ []) $
+          use1 𝓛 (‵ (Row low (none n))) (of_room n low) $ move ! (2 ∷ []) $ fsplit ! $ move ! (3 ∷ 1 ∷ []) $
+          use2 𝓛 (‵ (Row high (map Some moving ++ map Some ys))) (glue (map Some moving) (map Some ys) high (n * s + (count * s + low)) (let g = ap (λ k. k * s + high) (sym f.2) in omega (arith, g))) $ move ! (2 ∷ 0 ∷ []) $
+          use2 𝓛 (‵ (Row low (none n ++ (map Some moving ++ map Some ys)))) (glue (none n) (map Some moving ++ map Some ys) low high (ap (λ k. k * s + low) (sym (length-replicate n (None_of E))))) $ move ! (1 ∷ 0 ∷ []) $
+          use2 𝓛 (‵ (Row o (map Some (take i xs) ++ (none n ++ (map Some moving ++ map Some ys))))) (glue (map Some (take i xs)) (none n ++ (map Some moving ++ map Some ys)) o low (ap (λ k. k * s + o) (sym f.0))) $
+          rewrite ! 0 (λ (l : List (Place E)). ‵ (Row o l)) (raised_cells xs n ys i) refl $ done !
+
+    -- the first items after the gap come out of the row as an array with room below it, and go back below the room
+    module _ (count : ℕ) (e : count ≤ length d.right) where
+      abbrev coming : List (el_x E)
+      coming = take count ys
+
+      down_facts : (length (map Some xs) ≡ length xs) × (length coming ≡ count) × (length (map Some coming) ≡ count)
+      down_facts = (length-map xs Some, omega (arith, length-take count ys), omega (arith, length-map (take count ys) Some, length-take count ys))
+
+      abbrev foot : ℕ
+      foot = length xs * s + o
+
+      abbrev pub DownRest : Fml
+      DownRest = fsep (Row o (map Some xs)) (Row (count * s + (n * s + foot)) (map Some (drop count ys)))
+
+      pub down_out : ent 𝓤 (sem 𝓛 (Row o (all_of E d))) (sep 𝓤 (sem 𝓛 (fsep (Values coming count (n * s + foot)) (Space n foot))) (sem 𝓛 DownRest))
+      down_out =
+          let f = down_facts in let rest = map Some (drop count ys) in
+          qed 𝓛 (‵ (Row o (all_of E d)) ∷ []) ∵ rewrite ! 0 (λ (l : List (Place E)). ‵ (Row o l)) (cells_lowered xs n ys count) refl $
+          use1 𝓛 (‵ (Row o (map Some xs)) ⊛ ‵ (Row foot (none n ++ (map Some coming ++ rest)))) (cut (map Some xs) (none n ++ (map Some coming ++ rest)) o foot (ap (λ k. k * s + o) (sym f.0))) $ split ! $ move ! (1 ∷ []) $
+          use1 𝓛 (‵ (Row foot (none n)) ⊛ ‵ (Row (n * s + foot) (map Some coming ++ rest))) (cut (none n) (map Some coming ++ rest) foot (n * s + foot) (ap (λ k. k * s + foot) (sym (length-replicate n (None_of E))))) $ split ! $ move ! (1 ∷ []) $
+          use1 𝓛 (‵ (Row (n * s + foot) (map Some coming)) ⊛ ‵ (Row (count * s + (n * s + foot)) rest)) (cut (map Some coming) rest (n * s + foot) (count * s + (n * s + foot)) (ap (λ k. k * s + (n * s + foot)) (sym f.2))) $ split ! $
+          use1 𝓛 (‵ (Values coming count (n * s + foot))) (to_array coming count (n * s + foot) f.1) $ move ! (2 ∷ []) $ use1 𝓛 (‵ (Space n foot)) (to_room n foot) $ move ! (1 ∷ 0 ∷ []) $ fjoin ! $
+          move ! (2 ∷ 1 ∷ []) $ fjoin ! $ move ! (1 ∷ []) $ done !
+
+      pub down_in : ent 𝓤 (sep 𝓤 (sem 𝓛 (fsep (Values coming count foot) (Space n (count * s + foot)))) (sem 𝓛 DownRest)) (sem 𝓛 (Row o (cells_of (xs ++ coming) n (drop count ys))))
+      down_in =
+          let f = down_facts in let rest = map Some (drop count ys) in let high : ℕ = count * s + foot in
+          qed 𝓛 (‵ (fsep (Values coming count foot) (Space n high)) ∷ ‵ DownRest ∷ []) ∵ fsplit ! $ use1 𝓛 (‵ (Row foot (map Some coming))) (of_array coming count foot) $ move ! (1 ∷ []) $
+          use1 𝓛 (‵ (Row high (none n))) (of_room n high) $ move ! (2 ∷ []) $ fsplit ! $ move ! (2 ∷ 1 ∷ []) $
+          use2 𝓛 (‵ (Row high (none n ++ rest))) (glue (none n) rest high (count * s + (n * s + foot)) (let g = ap (λ k. k * s + high) (sym (length-replicate n (None_of E))) in omega (arith, g))) $ move ! (2 ∷ 0 ∷ []) $
+          use2 𝓛 (‵ (Row foot (map Some coming ++ (none n ++ rest)))) (glue (map Some coming) (none n ++ rest) foot high (ap (λ k. k * s + foot) (sym f.2))) $ move ! (1 ∷ 0 ∷ []) $
+          use2 𝓛 (‵ (Row o (map Some xs ++ (map Some coming ++ (none n ++ rest))))) (glue (map Some xs) (map Some coming ++ (none n ++ rest)) o foot (ap (λ k. k * s + o) (sym f.0))) $
+          rewrite ! 0 (λ (l : List (Place E)). ‵ (Row o l)) (lowered_cells xs n ys count) refl $ done !
+
+  module _ (κ : Lft) where
+    abbrev Seen : ℕ → List (Place E) → Fml
+    Seen o cs = slots_lent (R E) b o cs κ
+
+    from_on : (cs : List (Place E)) (i o at : ℕ) → i ≤ length cs → at ≡ i * s + o → ent 𝓤 (sem 𝓛 (Seen o cs)) (sem 𝓛 (Seen at (drop i cs)))
+    from_on cs zero o at le e = let same : o ≡ at = omega (arith, zero-mul s) in subst (λ k. ent 𝓤 (sem 𝓛 (Seen o cs)) (sem 𝓛 (Seen k cs))) same (id⊢ 𝓤 _)
+    from_on [] (suc i) o at le e = absurd (omega arith)
+    from_on (c ∷ cs) (suc i) o at le e =
+        via 𝓤 (sem 𝓛 (Seen (o + s) cs)) (snd∗ 𝓤 (sem 𝓛 (slot_lent (R E) b o c κ)) (sem 𝓛 (Seen (o + s) cs))) (from_on cs i (o + s) at (omega arith) (omega (arith, suc-mul i s)))
+
+    up_to : (xs : List (el_x E)) (rest : List (Place E)) (o : ℕ) → ent 𝓤 (sem 𝓛 (Seen o (map Some xs ++ rest))) (sem 𝓛 (elements_shared (R E) xs b o κ))
+    up_to [] rest o = qed 𝓛 (‵ (Seen o rest) ∷ []) ∵ keep ! [] $ done !
+    up_to (x ∷ xs) rest o = mono_r 𝓤 (sem 𝓛 (slot_lent (R E) b o (Some x) κ)) (up_to xs rest (o + s))
+
+    pub slot_seen : (o : ℕ) (cs : List (Place E)) (i : ℕ) → i < length cs → ent 𝓤 (sem 𝓛 (Seen o cs)) (sem 𝓛 (slot_lent (R E) b (i * s + o) (get_or cs i None) κ))
+    slot_seen o cs i lt = qed 𝓛 (‵ (Seen o cs) ∷ []) ∵ use1 𝓛 (‵ (Seen (i * s + o) (drop i cs))) (from_on cs i o (i * s + o) (omega arith) refl) $
+        rewrite ! 0 (λ (l : List (Place E)). ‵ (Seen (i * s + o) l)) (drop-cons cs i None lt) refl $ fsplit ! $ keep ! (0 ∷ []) $ done !
+
+    pub run_seen : (o : ℕ) (cs : List (Place E)) (i n : ℕ) (xs : List (el_x E)) → i ≤ length cs → take n (drop i cs) ≡ map Some xs
+        → ent 𝓤 (sem 𝓛 (Seen o cs)) (sem 𝓛 (elements_shared (R E) xs b (i * s + o) κ))
+    run_seen o cs i n xs le e = qed 𝓛 (‵ (Seen o cs) ∷ []) ∵ use1 𝓛 (‵ (Seen (i * s + o) (drop i cs))) (from_on cs i o (i * s + o) le refl) $
+        rewrite ! 0 (λ (l : List (Place E)). ‵ (Seen (i * s + o) l)) (sym (take-append-drop n (drop i cs)) ∙ ap (λ l. l ++ drop n (drop i cs)) e) refl $ by ! (up_to xs (drop n (drop i cs)) (i * s + o))

@@ -1,0 +1,5 @@
+pub mod Block
+pub mod Cells
+pub mod Ownership
+pub mod Split
+pub mod SplitLends

@@ -1,0 +1,57 @@
+-- What a contract sees of a `SplitVector`.
+use Rattle.std.specs.Prelude.{ℕ, ◌+◌, ◌-◌, ◌^◌, ◌==◌, nat_lt, nat_le, ◌&&◌, if◌then◌else◌, min, List, take, drop, ◌++◌, refl}
+use Rattle.std.specs.Coded.{Coded, code_by, coded×, coded_list, coded_ℕ}
+
+-- the items, how many more fit into the block, how many items lie before the gap, and how many were moved or written so far
+pub record Split (X : Type 0) : Type 0 where
+  pub items : List X
+  pub spare : ℕ
+  pub gap : ℕ
+  pub moved : ℕ
+
+module _ {X : Type 0} where
+  abbrev pub split : List X → ℕ → ℕ → ℕ → Split X
+  split xs spare gap moved = record { items = xs; spare = spare; gap = gap; moved = moved }
+
+  abbrev pub split_code : Coded X → Coded (Split X)
+  split_code c = code_by (List X × (ℕ × (ℕ × ℕ))) (coded× (coded_list c) (coded× coded_ℕ (coded× coded_ℕ coded_ℕ))) (λ s. (s.items, (s.spare, (s.gap, s.moved)))) (λ p. split p.0 p.1.0 p.1.1.0 p.1.1.1) (λ _. refl)
+
+  -- xs with the items new put in at the place
+  abbrev pub inserted : List X → ℕ → List X → List X
+  inserted xs place new = take place xs ++ new ++ drop place xs
+
+  -- xs without the count items from the place on
+  abbrev pub deleted : List X → ℕ → ℕ → List X
+  deleted xs place count = take place xs ++ drop (place + count) xs
+
+-- a counter that stays at the greatest `u64`
+abbrev pub counted : ℕ → ℕ → ℕ
+counted moved n = min (moved + n) (2 ^ 64 - 1)
+
+-- how far the places p and q lie from one another
+abbrev pub apart : ℕ → ℕ → ℕ
+apart p q = (p - q) + (q - p)
+
+-- how far the place g lies outside the range from low to high
+abbrev pub outside : ℕ → ℕ → ℕ → ℕ
+outside low high g = (low - g) + (g - high)
+
+-- where the gap lies after count items went in at the place, or after none did
+abbrev pub gap_after : ℕ → ℕ → ℕ → ℕ
+gap_after place count gap = if count == 0 then gap else place + count
+
+-- the counter after count items went in at the place: the gap was moved there, and the items were written
+abbrev pub moved_after : ℕ → ℕ → ℕ → ℕ → ℕ
+moved_after place count gap moved = if count == 0 then moved else counted moved (apart place gap + count)
+
+-- where the gap lies after the count items from the place on were taken away
+abbrev pub gap_closed : ℕ → ℕ → ℕ → ℕ
+gap_closed place count gap = if count == 0 then gap else place
+
+-- the counter after that: the gap was moved to the nearer end of the range, or not at all where it lay inside
+abbrev pub moved_closed : ℕ → ℕ → ℕ → ℕ → ℕ
+moved_closed place count gap moved = if count == 0 then moved else counted moved (outside place (place + count) gap)
+
+-- where the gap lies while the items from low to high are lent as one slice: at the nearer end, if it lay between them
+abbrev pub gap_beside : ℕ → ℕ → ℕ → ℕ
+gap_beside low high gap = if nat_lt low gap && nat_lt gap high then (if nat_le (gap - low) (high - gap) then low else high) else gap

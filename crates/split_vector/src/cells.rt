@@ -1,0 +1,189 @@
+//! The block, the one place with raw pointers: a row of cells, of which those in the gap hold nothing.
+//!
+//! `Base` is the address alone, and may be copied. `Cells` is the right to the cells, and `Deed` the right to give the
+//! block back: they take no bytes, exist once each, and are handed in where they are needed.
+ghost use Rattle.std.specs.Prelude.{◌≡◌, ℕ, ◌+◌, ◌-◌, ◌*◌, ◌^◌, ◌<◌, ◌≤◌, ◌⊎◌, List, [], ◌∷◌, ◌++◌, map, length, take, drop, slice_set, Some, IfOk, ⊤};
+ghost use Rattle.std.specs.Vec.Ownership.{FitsInBlock};
+ghost use base.Fml.{ftrue};
+ghost use denote.RawPtr.{Ptr};
+ghost use Rattle.split_vector.specs.Cells.{IsRun};
+ghost use Rattle.split_vector.specs.Ownership.{cells_of, cells_own, cells_lent, deed_owns};
+
+use crate::raw::{move_down, move_up};
+use std::alloc::{AllocError, Allocator};
+use std::marker::{Model, PhantomData};
+use std::mem::{align_of, size_of};
+use std::slice;
+
+/// Where the block begins. It owns nothing.
+pub struct Base<T> {
+    ptr: *mut T,
+}
+
+impl<T> Clone for Base<T> {
+    ghost is_clone = { λ x y. y ≡ x };
+
+    ghost is_infallible = { λ _. ⊤ };
+
+    fn clone(&self) -> Result<Base<T>, AllocError> {
+        Ok(*self)
+    }
+}
+
+impl<T> Copy for Base<T> {}
+
+/// The owner of the cells: the items `left` of the gap, `spare` cells with no item, and the items `right` of it.
+pub struct Cells<T> {
+    mark: PhantomData<*const T>,
+    ghost at: { Ptr },
+    ghost left: { List T },
+    ghost spare: { ℕ },
+    ghost right: { List T },
+}
+
+impl<T> Model for Cells<T> {
+    ghost also_owns = { λ c. cells_own T.row c.at (cells_of c.left c.spare c.right) };
+
+    ghost also_shares = { λ c _ κ. cells_lent T.row c.at (cells_of c.left c.spare c.right) κ };
+}
+
+/// The right to give the block of `len` cells at `at` back to `alloc`, or nothing where `len` is 0.
+pub struct Deed<T, A: Allocator> {
+    mark: PhantomData<*const (T, A)>,
+    ghost at: { Ptr },
+    ghost len: { ℕ },
+    ghost alloc: { A },
+}
+
+impl<T, A: Allocator> Model for Deed<T, A> {
+    ghost also_owns = { λ d. deed_owns T.row (A.dealloc_token d.alloc) d.at d.len };
+
+    ghost also_shares = { λ _ _ _. ftrue };
+}
+
+/// No cell at all. The address lies nowhere, and nothing is read through it.
+pub(crate) fn no_cells<T, A: Allocator>(_alloc: &A) -> (Base<T>, Cells<T>, Deed<T, A>)
+    ensures { (result.1.at ≡ result.0.ptr) × (result.1.left ≡ []) × (result.1.spare ≡ 0) × (result.1.right ≡ []) × (result.2.at ≡ result.0.ptr) × (result.2.len ≡ 0) × (result.2.alloc ≡ _alloc.now) }
+{
+    let none: [T; 0] = [];
+    let base = Base {
+        ptr: &raw const none as *mut T,
+    };
+    (
+        base,
+        Cells { mark: PhantomData },
+        Deed { mark: PhantomData },
+    )
+}
+
+/// Takes a block of `len` cells.
+pub(crate) fn allocate<T, A: Allocator>(
+    alloc: &A,
+    len: usize,
+) -> Result<(Base<T>, Cells<T>, Deed<T, A>), AllocError>
+    requires { FitsInBlock T.row len × (0 < len) }
+    ensures { IfOk result (λ r. (r.1.at ≡ r.0.ptr) × (r.1.left ≡ []) × (r.1.spare ≡ len) × (r.1.right ≡ []) × (r.2.at ≡ r.0.ptr) × (r.2.len ≡ len) × (r.2.alloc ≡ alloc.now)) }
+{
+    match alloc.allocate(len * size_of::<T>(), align_of::<T>()) {
+        Ok(block) => {
+            let base = Base {
+                ptr: block as *mut T,
+            };
+            Ok((
+                base,
+                Cells { mark: PhantomData },
+                Deed { mark: PhantomData },
+            ))
+        }
+        Err(error) => Err(error),
+    }
+}
+
+/// Gives a block back. Its items are forgotten.
+pub(crate) fn deallocate<T, A: Allocator>(
+    alloc: &A,
+    base: Base<T>,
+    len: usize,
+    cells: Cells<T>,
+    deed: Deed<T, A>,
+)
+    requires { (cells.at ≡ base.ptr) × (length cells.left + cells.spare + length cells.right ≡ len) × (0 < len) × (deed.at ≡ base.ptr) × (deed.len ≡ len) × (deed.alloc ≡ alloc.now) }
+{
+    let Cells { mark: _ } = cells;
+    let Deed { mark: _ } = deed;
+    unsafe {
+        alloc.deallocate(base.ptr as *mut u8, len * size_of::<T>(), align_of::<T>());
+    }
+}
+
+/// Ends the rights to a block that was never taken.
+pub(crate) fn discard<T, A: Allocator>(cells: Cells<T>, deed: Deed<T, A>)
+    requires { deed.len ≡ 0 }
+{
+    let Cells { mark: _ } = cells;
+    let Deed { mark: _ } = deed;
+}
+
+impl<T> Cells<T> {
+    /// Writes `item` into the first cell of the gap.
+    pub(crate) fn push(&mut self, base: Base<T>, gap: usize, item: T)
+        requires { (base.ptr ≡ self.old.at) × (gap ≡ length self.old.left) × (0 < self.old.spare) }
+        ensures { (self.new.at ≡ self.old.at) × (self.new.left ≡ self.old.left ++ item ∷ []) × (self.new.spare ≡ self.old.spare - 1) × (self.new.right ≡ self.old.right) }
+    {
+        unsafe { base.ptr.add(gap).write(item) }
+    }
+
+    /// Writes `item` into the last cell of the gap.
+    pub(crate) fn push_right(&mut self, base: Base<T>, place: usize, item: T)
+        requires { (base.ptr ≡ self.old.at) × (place + 1 ≡ length self.old.left + self.old.spare) × (0 < self.old.spare) }
+        ensures { (self.new.at ≡ self.old.at) × (self.new.left ≡ self.old.left) × (self.new.spare ≡ self.old.spare - 1) × (self.new.right ≡ item ∷ self.old.right) }
+    {
+        unsafe { base.ptr.add(place).write(item) }
+    }
+
+    /// Writes `item` over the one at `index` on the left. The old item is forgotten.
+    pub(crate) fn replace_left(&mut self, base: Base<T>, index: usize, item: T)
+        requires { (base.ptr ≡ self.old.at) × (index < length self.old.left) }
+        ensures { (self.new.at ≡ self.old.at) × (self.new.left ≡ slice_set self.old.left index item) × (self.new.spare ≡ self.old.spare) × (self.new.right ≡ self.old.right) }
+    {
+        unsafe { base.ptr.add(index).write(item) }
+    }
+
+    /// Writes `item` over the one in the cell `place`, which lies right of the gap. The old item is forgotten.
+    pub(crate) fn replace_right(&mut self, base: Base<T>, place: usize, item: T)
+        requires { (base.ptr ≡ self.old.at) × (length self.old.left + self.old.spare ≤ place) × (place < length self.old.left + self.old.spare + length self.old.right) }
+        ensures { (self.new.at ≡ self.old.at) × (self.new.left ≡ self.old.left) × (self.new.spare ≡ self.old.spare) × (self.new.right ≡ slice_set self.old.right (place - (length self.old.left + self.old.spare)) item) }
+    {
+        unsafe { base.ptr.add(place).write(item) }
+    }
+
+    /// The `len` items from the cell `from` on.
+    pub(crate) fn slice(&self, base: Base<T>, from: usize, len: usize) -> &[T]
+        requires { (base.ptr ≡ self.now.at) × IsRun (cells_of self.now.left self.now.spare self.now.right) from len }
+        ensures { take len (drop from (cells_of self.now.left self.now.spare self.now.right)) ≡ map Some result.now }
+    {
+        unsafe { slice::from_raw_parts(base.ptr.add(from), len) }
+    }
+
+    /// Moves the last `count` items on the left over the gap.
+    pub(crate) fn raise(&mut self, base: Base<T>, from: usize, to: usize, count: usize)
+        requires { (base.ptr ≡ self.old.at) × (from + count ≡ length self.old.left) × (to ≡ from + self.old.spare) }
+        ensures { (self.new.at ≡ self.old.at) × (self.new.left ≡ take from self.old.left) × (self.new.spare ≡ self.old.spare) × (self.new.right ≡ drop from self.old.left ++ self.old.right) }
+    {
+        unsafe { move_up(base.ptr.add(from), base.ptr.add(to), count) }
+    }
+
+    /// Moves the first `count` items on the right back over the gap.
+    pub(crate) fn lower(&mut self, base: Base<T>, from: usize, to: usize, count: usize)
+        requires { (base.ptr ≡ self.old.at) × (to ≡ length self.old.left) × (from ≡ to + self.old.spare) × (count ≤ length self.old.right) }
+        ensures { (self.new.at ≡ self.old.at) × (self.new.left ≡ self.old.left ++ take count self.old.right) × (self.new.spare ≡ self.old.spare) × (self.new.right ≡ drop count self.old.right) }
+    {
+        unsafe { move_down(base.ptr.add(from), base.ptr.add(to), count) }
+    }
+
+    /// Forgets the items beside the gap: all but the first `left` on the left, and the first `after` on the right.
+    pub(crate) fn widen(&mut self, left: usize, after: usize)
+        requires { (left ≤ length self.old.left) × (after ≤ length self.old.right) }
+        ensures { (self.new.at ≡ self.old.at) × (self.new.left ≡ take left self.old.left) × (self.new.spare ≡ self.old.spare + (length self.old.left - left) + after) × (self.new.right ≡ drop after self.old.right) }
+    {}
+}

@@ -1,0 +1,72 @@
+//! What a block shows of its items, on either side of the gap.
+ghost use Rattle.std.specs.Prelude.{◌≡◌, ◌≤◌, ◌<◌, ◌+◌, ◌-◌, ◌⊎◌, ◌++◌, length, take, drop, slice_index_or, slice_range};
+ghost use Rattle.split_vector.specs.Split.{gap_beside};
+ghost use Rattle.split_vector.specs.Block.{IsBlock, block_items};
+
+use crate::block::Block;
+use std::alloc::Allocator;
+
+impl<T, A: Allocator> Block<T, A> {
+    /// The item at `index`.
+    pub(crate) fn get(&self, index: usize) -> T
+    where
+        T: Copy,
+        requires { IsBlock self.now × (index < self.now.len) }
+        ensures { result ≡ slice_index_or (block_items self.now) index result }
+    {
+        if index < self.gap {
+            self.left()[index]
+        } else {
+            self.right()[index - self.gap]
+        }
+    }
+
+    /// Copies the items from `start` on into `target`, as many as it is long.
+    pub(crate) fn copy_out(&self, start: usize, target: &mut [T])
+    where
+        T: Copy,
+        requires { IsBlock self.now × (start + length target.old ≤ self.now.len) }
+        ensures { target.new ≡ slice_range (block_items self.now) start (start + length target.old) }
+    {
+        let end = start + target.len();
+        if end <= self.gap {
+            target.copy_from_slice(&self.left()[start..end]);
+        } else if self.gap <= start {
+            target.copy_from_slice(&self.right()[start - self.gap..end - self.gap]);
+        } else {
+            let (before, behind) = target.split_at_mut(self.gap - start);
+            before.copy_from_slice(&self.left()[start..]);
+            behind.copy_from_slice(&self.right()[..end - self.gap]);
+        }
+    }
+
+    /// Moves the gap, if it lies between `low` and `high`, to the nearer of the two.
+    pub(crate) fn settle(&mut self, low: usize, high: usize)
+        requires { IsBlock self.old × (low ≤ high) × (high ≤ self.old.len) }
+        ensures fields { IsBlock self.new × (self.new.len ≡ self.old.len) × (self.new.spare ≡ self.old.spare) × (self.new.moved ≡ self.old.moved) }
+        ensures items { block_items self.new ≡ block_items self.old }
+        ensures gap { self.new.gap ≡ gap_beside low high self.old.gap }
+        ensures beside { (self.new.gap ≤ low) ⊎ (high ≤ self.new.gap) }
+    {
+        if low < self.gap && self.gap < high {
+            if self.gap - low <= high - self.gap {
+                self.slide(low);
+            } else {
+                self.slide(high);
+            }
+        }
+    }
+
+    /// The `count` items from `start` on, of which none lies beyond the gap from another.
+    pub(crate) fn run(&self, start: usize, count: usize) -> &[T]
+        requires inside { IsBlock self.now × (start + count ≤ self.now.len) }
+        requires beside { (self.now.gap ≤ start) ⊎ (start + count ≤ self.now.gap) }
+        ensures { result.now ≡ slice_range (block_items self.now) start (start + count) }
+    {
+        if start + count <= self.gap {
+            &self.left()[start..start + count]
+        } else {
+            &self.right()[start - self.gap..start + count - self.gap]
+        }
+    }
+}

@@ -1,0 +1,59 @@
+//! Safe steps over runs of cells.
+ghost use Rattle.std.specs.Prelude.{◌≡◌, ◌+◌, ◌-◌, ◌≤◌, ◌^◌, ◌<◌, ◌++◌, length, replicate};
+
+use crate::cells::{Base, Cells};
+
+impl<T> Cells<T> {
+    /// The items on the left.
+    pub(crate) fn left(&self, base: Base<T>, gap: usize) -> &[T]
+        requires { (base.ptr ≡ self.now.at) × (gap ≡ length self.now.left) }
+        ensures { result.now ≡ self.now.left }
+    {
+        self.slice(base, 0, gap)
+    }
+
+    /// The items on the right, which begin in the cell `place`.
+    pub(crate) fn right(&self, base: Base<T>, place: usize, len: usize) -> &[T]
+        requires { (base.ptr ≡ self.now.at) × (place ≡ length self.now.left + self.now.spare) × (len ≡ length self.now.right) }
+        ensures { result.now ≡ self.now.right }
+    {
+        self.slice(base, place, len)
+    }
+
+    /// Writes the items of `source` into the first cells of the gap.
+    pub(crate) fn push_slice(&mut self, base: Base<T>, gap: usize, source: &[T])
+    where
+        T: Copy,
+        requires { (base.ptr ≡ self.old.at) × (gap ≡ length self.old.left) × (length source.now ≤ self.old.spare) × (length self.old.left + self.old.spare < 2 ^ 63) }
+        ensures { (self.new.at ≡ self.old.at) × (self.new.left ≡ self.old.left ++ source.now) × (self.new.spare ≡ self.old.spare - length source.now) × (self.new.right ≡ self.old.right) }
+    {
+        for i in 0..source.len() {
+            self.push(base, gap + i, source[i]);
+        }
+    }
+
+    /// Writes `item` into the first `count` cells of the gap.
+    pub(crate) fn push_fill(&mut self, base: Base<T>, gap: usize, count: usize, item: T)
+    where
+        T: Copy,
+        requires { (base.ptr ≡ self.old.at) × (gap ≡ length self.old.left) × (count ≤ self.old.spare) × (length self.old.left + self.old.spare < 2 ^ 63) }
+        ensures { (self.new.at ≡ self.old.at) × (self.new.left ≡ self.old.left ++ replicate count item) × (self.new.spare ≡ self.old.spare - count) × (self.new.right ≡ self.old.right) }
+    {
+        for i in 0..count {
+            self.push(base, gap + i, item);
+        }
+    }
+
+    /// Writes the items of `source` into the last cells of the gap, which end before the cell `end`.
+    pub(crate) fn push_right_slice(&mut self, base: Base<T>, end: usize, source: &[T])
+    where
+        T: Copy,
+        requires { (base.ptr ≡ self.old.at) × (end ≡ length self.old.left + self.old.spare) × (length source.now ≤ self.old.spare) }
+        ensures { (self.new.at ≡ self.old.at) × (self.new.left ≡ self.old.left) × (self.new.spare ≡ self.old.spare - length source.now) × (self.new.right ≡ source.now ++ self.old.right) }
+    {
+        let len = source.len();
+        for i in 0..len {
+            self.push_right(base, end - 1 - i, source[len - 1 - i]);
+        }
+    }
+}

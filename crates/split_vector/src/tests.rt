@@ -1,0 +1,121 @@
+//! The calls in rows, at several types of items. The lists are written out by hand.
+use crate::SplitVector;
+use std::alloc::AllocError;
+use std::test::Fail;
+
+#[derive(Clone, Copy, Debug, PartialEq)]
+struct Mark {
+    line: u32,
+    kind: u8,
+}
+
+/// The two halves as one list.
+fn joined(v: &SplitVector<u8>, rt: &HostRuntime) -> Result<Vec<u8>, AllocError> {
+    let (left, right) = v.halves();
+    let mut all = left.to_vec(rt.alloc())?;
+    all.extend_from_slice(right)?;
+    Ok(all)
+}
+
+#[test]
+fn bytes_go_in_and_out(rt: HostRuntime) -> Result<(), Fail> {
+    let mut v: SplitVector<u8> = SplitVector::new(rt.alloc());
+    assert_eq!(rt; v.spare(), 0);
+    assert!(rt; v.is_empty());
+    v.reserve(3)?;
+    v.insert_slice_reserved(0, b"abc");
+    v.reserve(2)?;
+    assert_eq!(rt; joined(&v, &rt)?.as_slice(), b"abc".as_slice());
+    assert!(rt; v.spare() >= 2);
+    v.insert_reserved(1, b'x');
+    assert_eq!(rt; v.gap(), 2);
+    assert_eq!(rt; joined(&v, &rt)?.as_slice(), b"axbc".as_slice());
+    assert_eq!(rt; v.lend(0, 4), b"axbc".as_slice());
+    v.delete(0, 4);
+    assert!(rt; v.spare() >= 5);
+    assert!(rt; v.is_empty());
+    Ok(())
+}
+
+#[test]
+fn a_deletion_across_the_gap(rt: HostRuntime) -> Result<(), Fail> {
+    let mut v: SplitVector<u8> = SplitVector::new(rt.alloc());
+    v.reserve(4)?;
+    v.insert_slice_reserved(0, b"abc");
+    v.insert_reserved(1, b'x');
+    assert_eq!(rt; v.moved(), 6);
+    v.delete(0, 2);
+    assert_eq!(rt; v.moved(), 6);
+    assert_eq!(rt; v.gap(), 0);
+    assert_eq!(rt; joined(&v, &rt)?.as_slice(), b"bc".as_slice());
+    assert_eq!(rt; v.lend(0, 2), b"bc".as_slice());
+    Ok(())
+}
+
+#[test]
+fn a_refused_growth_changes_nothing(rt: HostRuntime) -> Result<(), Fail> {
+    let mut v: SplitVector<u8> = SplitVector::new(rt.alloc());
+    v.reserve(5)?;
+    v.insert_slice_reserved(0, b"abc");
+    let spare = v.spare();
+    assert!(rt; v.reserve(usize::MAX).is_err());
+    assert!(rt; v.reserve(usize::MAX / 2).is_err());
+    assert_eq!(rt; v.spare(), spare);
+    assert_eq!(rt; joined(&v, &rt)?.as_slice(), b"abc".as_slice());
+    Ok(())
+}
+
+#[test]
+fn moves_are_counted(rt: HostRuntime) -> Result<(), Fail> {
+    let mut v: SplitVector<u8> = SplitVector::new(rt.alloc());
+    v.reserve(1001)?;
+    for _ in 0..1000 {
+        let len = v.len();
+        assert!(rt; v.spare() > 0);
+        v.insert_reserved(len, b'.');
+    }
+    assert_eq!(rt; v.moved(), 1000);
+    assert!(rt; v.spare() > 0);
+    v.insert_reserved(0, b'^');
+    assert_eq!(rt; v.moved(), 2001);
+    assert_eq!(rt; v.len(), 1001);
+    Ok(())
+}
+
+#[test]
+fn growth_keeps_both_sides(rt: HostRuntime) -> Result<(), Fail> {
+    let mut v: SplitVector<u32> = SplitVector::new(rt.alloc());
+    v.reserve(4)?;
+    v.insert_slice_reserved(0, &[10, 20, 30, 40]);
+    v.delete(1, 1);
+    v.reserve(100)?;
+    assert_eq!(rt; v.gap(), 1);
+    assert!(rt; v.spare() >= 100);
+    assert_eq!(rt; v.len(), 3);
+    assert_eq!(rt; v.get(0), 10);
+    assert_eq!(rt; v.get(2), 40);
+    v.set(1, 31);
+    v.insert_fill_reserved(3, 2, 7);
+    let mut part = [0; 4];
+    assert_eq!(rt; v.len(), 5);
+    v.copy_out(1, &mut part);
+    assert_eq!(rt; part.as_slice(), [31, 40, 7, 7].as_slice());
+    Ok(())
+}
+
+#[test]
+fn marks_are_copied(rt: HostRuntime) -> Result<(), Fail> {
+    let mut v: SplitVector<Mark> = SplitVector::new(rt.alloc());
+    let first = Mark { line: 1, kind: 2 };
+    let other = Mark { line: 9, kind: 0 };
+    v.reserve(3)?;
+    v.insert_fill_reserved(0, 2, first);
+    v.insert_reserved(1, other);
+    assert_eq!(rt; v.len(), 3);
+    assert_eq!(rt; v.get(1), other);
+    let mut part = [other; 3];
+    v.copy_out(0, &mut part);
+    assert_eq!(rt; part.as_slice(), [first, other, first].as_slice());
+    assert_eq!(rt; v.lend(1, 2), [other, first].as_slice());
+    Ok(())
+}

@@ -1,0 +1,206 @@
+//! `SplitVector` and its calls. A clause sees a vector as its `items`, `spare`, `gap` and `moved`.
+ghost use Rattle.std.specs.Prelude.{◌≡◌, ◌≤◌, ◌<◌, ◌+◌, ◌*◌, ◌^◌, ◌==◌, ◌⊎◌, [], ◌∷◌, ◌++◌, length, replicate, slice_index_or, slice_set, slice_range, OnOk, OnErr, IsOk};
+ghost use Rattle.std.specs.Borrow.{sem};
+ghost use Rattle.split_vector.specs.Split.{split, inserted, deleted, gap_after, moved_after, gap_closed, moved_closed};
+
+use crate::block::Block;
+use std::alloc::{AllocError, Allocator, Global};
+use std::marker::Model;
+
+/// A list of items in one block of memory, with the free room as a gap among them.
+pub struct SplitVector<T, A: Allocator = Global> {
+    block: Block<T, A>,
+}
+
+impl<T, A: Allocator> Model for SplitVector<T, A> {
+    ghost use Rattle.split_vector.specs.Split.{Split, split_code};
+
+    ghost Value = { Split T };
+
+    ghost coded = { split_code T.code };
+
+    ghost use Rattle.split_vector.specs.Split.{split};
+    ghost use Rattle.split_vector.specs.Block.{IsBlock, block_items};
+
+    ghost view = { λ v. split (block_items v.block) v.block.spare v.block.gap v.block.moved };
+
+    ghost invariant = { λ v. IsBlock v.block };
+}
+
+impl<T: Copy, A: Allocator> SplitVector<T, A> {
+    ghost use Rattle.split_vector.specs.SplitLends.{lent_and_back};
+
+    /// Returns an empty vector with no room. It takes no memory.
+    pub fn new(alloc: A) -> Self
+        ensures { result ≡ split [] 0 0 0 }
+    {
+        SplitVector {
+            block: Block::new(alloc),
+        }
+    }
+
+    /// Returns the number of items.
+    pub fn len(&self) -> usize
+        ensures len { result ≡ length self.now.items }
+        ensures within { length self.now.items + self.now.spare < 2 ^ 63 }
+    {
+        self.block.len
+    }
+
+    /// Returns whether there is no item.
+    pub fn is_empty(&self) -> bool
+        ensures { result ≡ (length self.now.items == 0) }
+    {
+        self.len() == 0
+    }
+
+    /// Returns how many more items fit in without more memory.
+    pub fn spare(&self) -> usize
+        ensures spare { result ≡ self.now.spare }
+        ensures within { length self.now.items + self.now.spare < 2 ^ 63 }
+    {
+        self.block.spare
+    }
+
+    /// Returns how many items lie before the gap.
+    pub fn gap(&self) -> usize
+        ensures gap { result ≡ self.now.gap }
+        ensures within { self.now.gap ≤ length self.now.items }
+    {
+        self.block.gap
+    }
+
+    /// Returns how many items insertions and deletions have moved or written so far, or `u64::MAX` for any number above it.
+    /// Growth and lending are not counted.
+    pub fn moved(&self) -> u64
+        ensures { result ≡ self.now.moved }
+    {
+        self.block.moved
+    }
+
+    /// Returns the item at `index`.
+    pub fn get(&self, index: usize) -> T
+        requires { index < length self.now.items }
+        ensures { result ≡ slice_index_or self.now.items index result }
+    {
+        self.block.get(index)
+    }
+
+    /// Puts `item` in the place of the one at `index`.
+    pub fn set(&mut self, index: usize, item: T)
+        requires { index < length self.old.items }
+        ensures items { self.new.items ≡ slice_set self.old.items index item }
+        ensures spare { self.new.spare ≡ self.old.spare }
+        ensures gap { self.new.gap ≡ self.old.gap }
+        ensures moved { self.new.moved ≡ self.old.moved }
+    {
+        self.block.replace(index, item);
+    }
+
+    /// Makes room for `count` more items, in a block of at least twice the size where the room is too small, so that a
+    /// run of insertions takes amortised constant time for each item.
+    ///
+    /// # Errors
+    ///
+    /// `AllocError` where the memory is refused, or where no block can be so large. The vector is then as it was.
+    pub fn reserve(&mut self, count: usize) -> Result<(), AllocError>
+        ensures ok { OnOk result ((self.new.items ≡ self.old.items) × (count ≤ self.new.spare) × (self.new.gap ≡ self.old.gap) × (self.new.moved ≡ self.old.moved)) }
+        ensures room_is_there { count ≤ self.old.spare → IsOk result × (self.new ≡ self.old) }
+        ensures doubles { OnOk result ((self.new ≡ self.old) ⊎ (2 * (length self.old.items + self.old.spare) ≤ length self.new.items + self.new.spare)) }
+        ensures err { OnErr result (self.new ≡ self.old) }
+        ensures within { length self.new.items + self.new.spare < 2 ^ 63 }
+    {
+        if count <= self.spare() {
+            return Ok(());
+        }
+        let wanted = self.len().saturating_add(count);
+        let doubled = 2 * (self.len() + self.spare());
+        self.block.grow(wanted.max(doubled))
+    }
+
+    /// Puts `item` in before the one at `place`, or at the end. There must be room for it.
+    pub fn insert_reserved(&mut self, place: usize, item: T)
+        requires { (place ≤ length self.old.items) × (0 < self.old.spare) }
+        ensures items { self.new.items ≡ inserted self.old.items place (item ∷ []) }
+        ensures spare { self.new.spare + 1 ≡ self.old.spare }
+        ensures gap { self.new.gap ≡ place + 1 }
+        ensures moved { self.new.moved ≡ moved_after place 1 self.old.gap self.old.moved }
+    {
+        self.block.move_gap(place);
+        self.block.write(item);
+    }
+
+    /// Puts the items of `source` in, in their order, before the one at `place`, or at the end. There must be room for them.
+    pub fn insert_slice_reserved(&mut self, place: usize, source: &[T])
+        requires { (place ≤ length self.old.items) × (length source.now ≤ self.old.spare) }
+        ensures items { self.new.items ≡ inserted self.old.items place source.now }
+        ensures spare { self.new.spare + length source.now ≡ self.old.spare }
+        ensures gap { self.new.gap ≡ gap_after place (length source.now) self.old.gap }
+        ensures moved { self.new.moved ≡ moved_after place (length source.now) self.old.gap self.old.moved }
+    {
+        if !source.is_empty() {
+            self.block.move_gap(place);
+            self.block.write_slice(source);
+        }
+    }
+
+    /// Puts `item` in `count` times before the one at `place`, or at the end. There must be room for them.
+    pub fn insert_fill_reserved(&mut self, place: usize, count: usize, item: T)
+        requires { (place ≤ length self.old.items) × (count ≤ self.old.spare) }
+        ensures items { self.new.items ≡ inserted self.old.items place (replicate count item) }
+        ensures spare { self.new.spare + count ≡ self.old.spare }
+        ensures gap { self.new.gap ≡ gap_after place count self.old.gap }
+        ensures moved { self.new.moved ≡ moved_after place count self.old.gap self.old.moved }
+    {
+        if count > 0 {
+            self.block.move_gap(place);
+            self.block.write_fill(count, item);
+        }
+    }
+
+    /// Takes the `count` items from `place` on away. Their room becomes spare.
+    pub fn delete(&mut self, place: usize, count: usize)
+        requires { place + count ≤ length self.old.items }
+        ensures items { self.new.items ≡ deleted self.old.items place count }
+        ensures spare { self.new.spare ≡ self.old.spare + count }
+        ensures gap { self.new.gap ≡ gap_closed place count self.old.gap }
+        ensures moved { self.new.moved ≡ moved_closed place count self.old.gap self.old.moved }
+    {
+        if count > 0 {
+            self.block.remove(place, count);
+        }
+    }
+
+    /// Copies the items from `start` on into `target`, as many as it is long.
+    pub fn copy_out(&self, start: usize, target: &mut [T])
+        requires { start + length target.old ≤ length self.now.items }
+        ensures { target.new ≡ slice_range self.now.items start (start + length target.old) }
+    {
+        self.block.copy_out(start, target);
+    }
+
+    /// Returns the items before the gap and those behind it. Nothing moves.
+    pub fn halves(&self) -> (&[T], &[T])
+        ensures joined { result.0.now ++ result.1.now ≡ self.now.items }
+        ensures parted { length result.0.now ≡ self.now.gap }
+    {
+        (self.block.left(), self.block.right())
+    }
+
+    /// Lends the `count` items from `start` on as one slice. If the gap lies among them, it is moved to the nearer end.
+    pub fn lend(&mut self, start: usize, count: usize) -> &[T]
+        requires { start + count ≤ length self.old.items }
+        ensures* back { sem 𝓛 (lent_and_back T.row A.row A.Allocator self.entry start count) }
+        ensures value { result.now ≡ slice_range self.old.items start (start + count) }
+    {
+        self.block.settle(start, start + count);
+        self.block.run(start, count)
+    }
+}
+
+impl<T: Drop, A: Allocator> Drop for SplitVector<T, A> {
+    fn drop(self) {
+        let SplitVector { block } = self;
+        block.free();
+    }
+}
