@@ -51,3 +51,5 @@ pub mod UndoLaws
 pub mod MergeLaws
 pub mod SoundLaws
 pub mod PlansFit
+pub mod Recording
+pub mod WorkedRecording

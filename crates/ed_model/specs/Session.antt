@@ -1,5 +1,5 @@
 -- Documents, views and sessions: all that a session keeps. [Scintilla: document pointers]
-use Rattle.std.specs.Prelude.{ℕ, ◌+◌, ◌-◌, ◌^◌, ◌==◌, nat_lt, not, if◌then◌else◌, Bool, true, false, List, [], ◌∷◌, length, map, filter, find, filter_map, replicate, Option}
+use Rattle.std.specs.Prelude.{ℕ, ◌+◌, ◌-◌, ◌^◌, ◌==◌, nat_lt, nat_le, ◌&&◌, not, if◌then◌else◌, Bool, true, false, List, [], ◌∷◌, length, map, filter, find, filter_map, replicate, Option}
 use Rattle.ed_types.specs.declared.limits.Limits.{Limits}
 use Rattle.ed_model.specs.declared.plan.LineEnd.{LineEnd}
 use Rattle.ed_model.specs.declared.plan.LineEnd.TheVariants.{Lf}
@@ -58,6 +58,18 @@ pub record Session : Type 0 where
 -- the greatest limits that a session may have
 abbrev pub greatest_limits : Limits
 greatest_limits = record { doc_bytes = 2 ^ 31 - 1; large_bytes = 2 ^ 40; handles = 2 ^ 31 - 1; ids = 2 ^ 31 - 1; refs = 2 ^ 31 - 1; views = 1024; depth = 255 }
+
+-- from 1 to the greatest
+abbrev pub is_between_one_and : ℕ → ℕ → Bool
+is_between_one_and greatest n = nat_lt 0 n && nat_le n greatest
+
+-- limits that a session may be given: none is 0, and none is above the greatest
+abbrev pub is_allowed : Limits → Bool
+is_allowed l =
+    is_between_one_and greatest_limits.doc_bytes l.doc_bytes && is_between_one_and greatest_limits.large_bytes l.large_bytes
+    && is_between_one_and greatest_limits.handles l.handles && is_between_one_and greatest_limits.ids l.ids
+    && is_between_one_and greatest_limits.refs l.refs && is_between_one_and greatest_limits.views l.views
+    && is_between_one_and greatest_limits.depth l.depth
 
 abbrev pub new_session : Limits → Session
 new_session limits = record { documents = []; views = []; clipboard = []; next_document = 1; next_view = 1; limits = limits }

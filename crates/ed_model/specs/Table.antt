@@ -3,14 +3,15 @@ use Rattle.std.specs.Prelude.{ℕ, ◌+◌, nat_lt, nat_le, ◌==◌, not, ◌||
 use Rattle.ed_types.specs.declared.kind.Kind.{Kind}
 use Rattle.ed_types.specs.declared.kind.Kind.TheVariants.{AddText, InsertText, ClearAll, GetLength, GetCharAt, GetCurrentPos, GetAnchor, GetStyleAt, Redo, SetUndoCollection, SelectAll, SetSavePoint, GetStyledText, CanRedo, MarkerLineFromHandle, MarkerDeleteHandle, GetUndoCollection, GotoLine, GotoPos, SetAnchor, GetCurLine, GetEndStyled, ConvertEols, GetEolMode, SetEolMode, StartStyling, SetStyling, MarkerAdd, MarkerDelete, MarkerDeleteAll, MarkerGet, MarkerNext, MarkerPrevious, SetStylingEx, BeginUndoAction, EndUndoAction, SetLineState, GetLineState, GetLineEndPosition, GetReadOnly, SetCurrentPos, SetSelectionStart, GetSelectionStart, SetSelectionEnd, GetSelectionEnd, GetLine, GetLineCount, GetModify, SetSel, GetSelText, GetTextRange, LineFromPosition, PositionFromLine, ReplaceSel, SetReadOnly, CanPaste, CanUndo, EmptyUndoBuffer, Undo, Cut, Copy, Paste, Clear, SetText, GetText, GetTextLength, SetTargetStart, GetTargetStart, SetTargetEnd, GetTargetEnd, ReplaceTarget, SearchInTarget, SetSearchFlags, GetSearchFlags, VisibleFromDocLine, DocLineFromVisible, SetFoldLevel, GetFoldLevel, GetLastChild, GetFoldParent, ShowLines, HideLines, GetLineVisible, SetFoldExpanded, GetFoldExpanded, ToggleFold, EnsureVisible, GetAllLinesVisible, FoldLine, AppendText, TargetFromSelection, CharLeft, CharLeftExtend, CharRight, CharRightExtend, Home, HomeExtend, LineEnd, LineEndExtend, DocumentStart, DocumentStartExtend, DocumentEnd, DocumentEndExtend, DeleteBack, NewLine, LineLength, GetDocPointer, SetDocPointer, SetModEventMask, CreateDocument, AddRefDocument, ReleaseDocument, GetModEventMask, GetDocumentOptions, PositionBefore, PositionAfter, CopyRange, CopyText, MarkerAddSet, SetPasteConvertEndings, GetPasteConvertEndings, SetIndicatorCurrent, GetIndicatorCurrent, SetIndicatorValue, GetIndicatorValue, IndicatorFillRange, IndicatorClearRange, IndicatorAllOnFor, IndicatorValueAt, IndicatorStart, IndicatorEnd, SetEmptySelection, AddUndoAction, DeleteRange, GetSelectionEmpty, SetLineEndTypesAllowed, GetLineEndTypesAllowed, GetLineEndTypesActive, SetTargetRange, GetTargetText, TargetWholeDocument, StartRecord, StopRecord, Colourise}
 use Rattle.ed_types.specs.declared.message.Message.{Message}
+use Rattle.ed_types.specs.declared.limits.Limits.{Limits}
 use Rattle.ed_types.specs.declared.refusal.Refusal.{Refusal}
-use Rattle.ed_types.specs.declared.refusal.Refusal.TheVariants.{NoSuchView, UnknownMessage, NoSuchDocument, TooMany}
+use Rattle.ed_types.specs.declared.refusal.Refusal.TheVariants.{NoSuchView, UnknownMessage, NoSuchDocument, TooMany, BadArgument}
 use Rattle.ed_types.specs.Messages.{kind_of, marks_of}
 use Rattle.ed_types.specs.Notices.{Notice, Response}
 use Rattle.ed_model.specs.declared.plan.Plan.{Plan}
 use Rattle.ed_model.specs.declared.plan.Plan.TheVariants as plan
 use Rattle.ed_model.specs.History.{undo_changes, redo_changes, undone, redone}
-use Rattle.ed_model.specs.Session.{Session, Document, View, view_at, document_at, watching, new_document, new_view, left_by, living}
+use Rattle.ed_model.specs.Session.{Session, Document, View, view_at, document_at, watching, new_document, new_view, new_session, is_allowed, left_by, living}
 use Rattle.ed_model.specs.Notes as notes
 use Rattle.ed_model.specs.Requests.{Request, Planned, size, text}
 use Rattle.ed_model.specs.TextPlans.{add_text, append_text, can_paste, char_left, char_right, clear, clear_all, convert_eols, copy, copy_range, copy_text, cut, delete_back, delete_range, extend_to, get_anchor, get_char_at, get_cur_line, get_current_pos, get_eol_mode, get_length, get_line, get_line_count, get_line_end_position, get_paste_convert_endings, get_sel_text, get_selection_empty, get_selection_end, get_selection_start, get_text, get_text_range, go_to, go_to_line, go_to_pos, insert_text, line_from_position, line_length, new_line, paste, place_home, place_left, place_line_end, place_right, position_after, position_before, position_from_line, replace_sel, select_all, set_anchor, set_current_pos, set_eol_mode, set_paste_convert_endings, set_sel, set_selection_end, set_selection_start, set_text}
@@ -220,6 +221,10 @@ table_from_view known s m (Some v) = table_from_kind known s v m (kind_of m.numb
 -- a message to a view: the session afterwards and the reply, or the first refusal that holds, which leaves the session
 abbrev pub table : (Kind → Bool) → Session → ℕ → Message → Result (Session × Response) Refusal
 table known s view m = table_from_view known s m (view_at s.views view)
+
+-- a session with these limits, if they are allowed
+abbrev pub limited : Limits → Result Session Refusal
+limited limits = if is_allowed limits then Ok (new_session limits) else Err BadArgument
 
 -- Opening and closing views.
 

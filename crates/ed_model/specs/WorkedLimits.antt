@@ -11,6 +11,7 @@ use Rattle.ed_types.specs.declared.script.Outcome.{Outcome}
 use Rattle.ed_types.specs.declared.script.Outcome.TheVariants.{Opened, Closed, Replied, Refused, Expected}
 use Rattle.ed_types.specs.Messages.{number_of}
 use Rattle.ed_model.specs.Session.{new_session, greatest_limits}
+use Rattle.ed_model.specs.Table.{limited}
 use Rattle.ed_model.specs.Run.{outcomes, starting}
 
 -- the value of an outcome, or its refusal
@@ -74,3 +75,13 @@ pub record AnswersWithinLimits : Type 0 where
       said_within two_references (send AddRefDocument (pos 0) (pos 1) [] ∷ send AddRefDocument (pos 0) (pos 1) [] ∷ [])
       ≡ answer 1 ∷ answer 0 ∷ Err TooMany ∷ []
   pub views_used_up : said_within one_view (OpenView ∷ []) ≡ answer 1 ∷ Err TooMany ∷ []
+
+-- limits of 0, or above the greatest, are refused
+abbrev pub SessionsWithinLimits : Type 0
+SessionsWithinLimits =
+    let most = greatest_limits in
+    (limited most ≡ Ok (new_session most))
+    × (limited (record most { views = 0 }) ≡ Err BadArgument)
+    × (limited (record most { views = 1025 }) ≡ Err BadArgument)
+    × (limited (record most { large_bytes = 0 }) ≡ Err BadArgument)
+    × (limited (record most { doc_bytes = 2147483648 }) ≡ Err BadArgument)

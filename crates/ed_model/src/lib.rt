@@ -48,5 +48,5 @@ pub use table_laws::{
 };
 pub use undo_laws::{earlier_texts_are_kept, undos_and_redos};
 pub use worked_examples::{
-    worked_characters, worked_joins, worked_limits, worked_lines, worked_matches,
+    worked_characters, worked_joins, worked_limits, worked_lines, worked_matches, worked_recording,
 };

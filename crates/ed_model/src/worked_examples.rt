@@ -2,7 +2,8 @@
 
 ghost use Rattle.ed_model.specs.WorkedCharacters.{CutsOfAMixedText, WellFormedSequences, IllFormedSequences, MatchesInATextOfWords, MatchesBackwards, MatchesOfBothCases, LinesOfATextWithEachLineEnd, LinesOfATextWithUnicodeLineEnds};
 ghost use Rattle.ed_model.specs.WorkedLines.{MarkersUnderSteps, IndicatorUnderSteps, DisplayLinesAroundAHiddenLine, FoldsOfNestedLevels, StepsThatJoin};
-ghost use Rattle.ed_model.specs.WorkedLimits.{AnswersWithinLimits};
+ghost use Rattle.ed_model.specs.WorkedLimits.{AnswersWithinLimits, SessionsWithinLimits};
+ghost use Rattle.ed_model.specs.WorkedRecording.{RecordsWhatCanBeReplayed};
 
 /// Where texts are cut into characters: well-formed sequences, CRLF, and single bytes for the rest.
 pub fn worked_characters()
@@ -35,5 +36,11 @@ pub fn worked_joins()
 
 /// What messages answer at the limits of a session, and which refusal they meet past them.
 pub fn worked_limits()
+    ensures sessions_within_limits { SessionsWithinLimits }
     ensures answers_within_limits { AnswersWithinLimits }
+{}
+
+/// What a recording view records of the messages that it is sent.
+pub fn worked_recording()
+    ensures records_what_can_be_replayed { RecordsWhatCanBeReplayed }
 {}
