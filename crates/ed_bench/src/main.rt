@@ -1,0 +1,52 @@
+//! Benchmarks of the containers and of scripts. The sizes are arguments; check sums go to standard output, times to
+//! standard error, so that a run prints the same whatever the machine.
+//!
+//!     ed_bench split ITEMS FAR NEAR
+//!     ed_bench partitions STARTS LOOK_UPS EDITS
+//!     ed_bench all                                  (each part, tiny)
+#![tactic(auto)]
+
+mod partitions;
+mod split;
+
+use std::time::Instant;
+use std::{env, io};
+
+/// The number in the word at `index`, or 0.
+fn number_at(words: &[String], index: usize) -> usize {
+    match words.get(index) {
+        Some(word) => word.parse::<usize>().unwrap_or(0),
+        None => 0,
+    }
+}
+
+/// Tells how long `count` rounds took since `start`.
+fn tell(rt: &HostRuntime, what: &str, start: Instant, count: usize) -> io::Result<()> {
+    let nanos = start.elapsed(rt)?.as_nanos();
+    let each = nanos / count.max(1) as u128;
+    let micros = nanos / 1000;
+    eprintln!(rt; "{what}: {micros} us, {each} ns each")
+}
+
+fn main(rt: HostRuntime) -> io::Result<()> {
+    let mut words = Vec::new(rt.alloc());
+    for word in env::args(&rt)? {
+        words.push(word)?;
+    }
+    let part = match words.get(1) {
+        Some(word) => word.as_str(),
+        None => "",
+    };
+    let first = number_at(&words, 2);
+    let second = number_at(&words, 3);
+    let third = number_at(&words, 4);
+    match part {
+        "all" => {
+            split::run(&rt, 1000, 10, 100)?;
+            partitions::run(&rt, 100, 100, 10)
+        }
+        "split" => split::run(&rt, first, second, third),
+        "partitions" => partitions::run(&rt, first, second, third),
+        _ => eprintln!(&rt; "ed_bench split|partitions|all SIZES.."),
+    }
+}

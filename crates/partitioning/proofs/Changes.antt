@@ -1,0 +1,218 @@
+-- What is stored, when a start comes or goes at the step, and when the end moves.
+use Rattle.std.proofs.Common.{◌≡◌, ℕ, ◌+◌, ◌-◌, ◌<◌, ◌≤◌, List, [], ◌∷◌, length, get_or, map, insert, remove, sym, ap, ◌∙◌, ◌⊎◌, inl, inr, arith, add-one, append_assoc}
+use Rattle.std.proofs.lemmas.List.{ext_get_or, get_or_past, map-append, take-map, drop-map}
+use Rattle.std.proofs.lemmas.Bool.{cases_lt, cases_order}
+use Rattle.std.proofs.lemmas.List.Edits.{length-insert, get_or-insert_below, get_or-insert_at, get_or-insert_above, length-remove, get_or-remove_below, get_or-remove_above}
+use Rattle.split_vector.specs.Split.{inserted, deleted}
+use Rattle.partitioning.specs.Partitions.{CanStart, CanLose, raised_behind, lowered_behind}
+use Rattle.partitioning.specs.Stored.{AreWithin, IsSound, starts_of}
+use Rattle.partitioning.proofs.Lists.{length-map_from, map_from_before, map_from_behind}
+use Rattle.partitioning.proofs.Parts.{sound_raised, sound_lowered, sound_inserted, sound_removed, rising_or_same, past_loss}
+use Rattle.partitioning.proofs.Steps.{starts_of_near, starts_of_far, length-starts_of}
+
+pub map_inserted : {X : Type 0} (f : X → ℕ) (xs : List X) (i : ℕ) (x : X) → map f (inserted xs i (x ∷ [])) ≡ insert (map f xs) i (f x)
+map_inserted f xs i x = simp (map-append, take-map, drop-map, append_assoc)
+
+pub map_deleted : {X : Type 0} (f : X → ℕ) (xs : List X) (i : ℕ) → map f (deleted xs i 1) ≡ remove (map f xs) i
+map_deleted f xs i = simp (map-append, take-map, drop-map, add-one)
+
+within_all_at : (e : ℕ) (xs : List ℕ) (k : ℕ) → ((k : ℕ) → k < length xs → get_or xs k 0 ≤ e) → (k < length xs) ⊎ (length xs ≤ k) → get_or xs k 0 ≤ e
+within_all_at e xs k w (inl h) = w k h
+within_all_at e xs k w (inr h) = omega (arith, get_or_past xs k 0 h)
+
+within_all : (e : ℕ) (xs : List ℕ) → ((k : ℕ) → k < length xs → get_or xs k 0 ≤ e) → AreWithin e xs
+within_all e xs w k = within_all_at e xs k w (cases_lt k (length xs))
+
+-- text was put into the partition at the step
+module _ (greatest e i n : ℕ) (xs : List ℕ) (sound : IsSound greatest e i xs) (l : i < length xs) where
+  raised_at : (k : ℕ) → k < length xs → (i < k) ⊎ (k ≤ i) → get_or (starts_of (e + n) i xs) k 0 ≡ get_or (raised_behind (starts_of e i xs) i n) k 0
+  raised_at k b (inl h) =
+      let m : k < length (starts_of e i xs) = omega (arith, length-starts_of e i xs) in
+      omega (arith, starts_of_far (e + n) i xs k h b, map_from_behind (λ x. x + n) (i + 1) (starts_of e i xs) k (omega arith) m, starts_of_far e i xs k h b, sound.within k)
+  raised_at k b (inr h) =
+      starts_of_near (e + n) i xs k h ∙ sym (starts_of_near e i xs k h) ∙ sym (map_from_before (λ x. x + n) (i + 1) (starts_of e i xs) k (omega arith))
+
+  pub starts_of_raised : starts_of (e + n) i xs ≡ raised_behind (starts_of e i xs) i n
+  starts_of_raised =
+      ext_get_or 0 (starts_of (e + n) i xs) (raised_behind (starts_of e i xs) i n)
+      (length-starts_of (e + n) i xs ∙ sym (length-starts_of e i xs) ∙ sym (length-map_from (λ x. x + n) (i + 1) (starts_of e i xs)))
+      (λ k h. raised_at k (omega (arith, length-starts_of (e + n) i xs)) (cases_lt i k))
+
+  pub stored_raised : e + n ≤ greatest → IsSound greatest (e + n) i xs
+  stored_raised fits =
+      record {
+        within = λ k. omega (arith, sound.within k);
+        step_within = sound.step_within;
+        fits = fits;
+        sound = rw starts_of_raised (sound_raised (starts_of e i xs) e i n sound.sound (omega (arith, length-starts_of e i xs)));
+      }
+
+-- text was taken out of the partition at the step
+module _ (greatest e i n : ℕ) (xs : List ℕ) (sound : IsSound greatest e i xs) (l : i < length xs) (can : CanLose (starts_of e i xs) e i n) where
+  lowered_at : (k : ℕ) → k < length xs → (i < k) ⊎ (k ≤ i) → get_or (starts_of (e - n) i xs) k 0 ≡ get_or (lowered_behind (starts_of e i xs) i n) k 0
+  lowered_at k b (inl h) =
+      let m : k < length (starts_of e i xs) = omega (arith, length-starts_of e i xs) in
+      omega (arith, starts_of_far (e - n) i xs k h b, map_from_behind (λ x. x - n) (i + 1) (starts_of e i xs) k (omega arith) m, starts_of_far e i xs k h b)
+  lowered_at k b (inr h) =
+      starts_of_near (e - n) i xs k h ∙ sym (starts_of_near e i xs k h) ∙ sym (map_from_before (λ x. x - n) (i + 1) (starts_of e i xs) k (omega arith))
+
+  pub starts_of_lowered : starts_of (e - n) i xs ≡ lowered_behind (starts_of e i xs) i n
+  starts_of_lowered =
+      ext_get_or 0 (starts_of (e - n) i xs) (lowered_behind (starts_of e i xs) i n)
+      (length-starts_of (e - n) i xs ∙ sym (length-starts_of e i xs) ∙ sym (length-map_from (λ x. x - n) (i + 1) (starts_of e i xs)))
+      (λ k h. lowered_at k (omega (arith, length-starts_of (e - n) i xs)) (cases_lt i k))
+
+  lowered_within_at : (k : ℕ) → k < length xs → (i < k) ⊎ (k ≤ i) → get_or xs k 0 ≤ e - n
+  lowered_within_at k b (inl h) =
+      let m = length-starts_of e i xs in
+      omega (arith, past_loss (starts_of e i xs) e i n sound.sound (omega arith) can k h (omega arith), starts_of_far e i xs k h b)
+  lowered_within_at k b (inr h) =
+      let m = length-starts_of e i xs in
+      omega (arith, rising_or_same (starts_of e i xs) sound.sound.rising k i h (omega arith), starts_of_near e i xs k h, can.before_end)
+
+  pub stored_lowered : IsSound greatest (e - n) i xs
+  stored_lowered =
+      record {
+        within = within_all (e - n) xs (λ k b. lowered_within_at k b (cases_lt i k));
+        step_within = sound.step_within;
+        fits = omega (arith, sound.fits);
+        sound = rw starts_of_lowered (sound_lowered (starts_of e i xs) e i n sound.sound (omega (arith, length-starts_of e i xs)) can);
+      }
+
+-- a start came in at place i, with the step right before it
+module _ (greatest e i x : ℕ) (xs : List ℕ) (sound : IsSound greatest e (i - 1) xs) (can : CanStart (starts_of e (i - 1) xs) e i x) where
+  inside : i ≤ length xs
+  inside = omega (arith, can.within, length-starts_of e (i - 1) xs)
+
+  more : length (insert xs i x) ≡ length xs + 1
+  more = length-insert xs i x inside
+
+  inserted_start :
+      (k : ℕ) → k < length xs + 1 → (k ≡ i) ⊎ ((k < i) ⊎ (i < k))
+      → get_or (starts_of e i (insert xs i x)) k 0 ≡ get_or (insert (starts_of e (i - 1) xs) i x) k 0
+  inserted_start k b (inl q) =
+      rw q (starts_of_near e i (insert xs i x) i (omega arith) ∙ get_or-insert_at xs i x 0 inside ∙ sym (get_or-insert_at (starts_of e (i - 1) xs) i x 0 can.within))
+  inserted_start k b (inr (inl h)) =
+      starts_of_near e i (insert xs i x) k (omega arith) ∙ get_or-insert_below xs i x 0 k h inside
+      ∙ sym (starts_of_near e (i - 1) xs k (omega arith)) ∙ sym (get_or-insert_below (starts_of e (i - 1) xs) i x 0 k h can.within)
+  inserted_start k b (inr (inr h)) =
+      let q : k - 1 + 1 ≡ k = omega arith in
+      let left : get_or (insert xs i x) k 0 ≡ get_or xs (k - 1) 0 = rw q at (get_or-insert_above xs i x 0 (k - 1) (omega arith) inside) in
+      let right : get_or (insert (starts_of e (i - 1) xs) i x) k 0 ≡ get_or (starts_of e (i - 1) xs) (k - 1) 0 =
+      rw q at (get_or-insert_above (starts_of e (i - 1) xs) i x 0 (k - 1) (omega arith) can.within) in
+      starts_of_far e i (insert xs i x) k h (omega (arith, more)) ∙ ap (λ v. e - v) left
+      ∙ sym (starts_of_far e (i - 1) xs (k - 1) (omega (arith, can.not_first)) (omega arith)) ∙ sym right
+
+  pub starts_of_inserted : starts_of e i (insert xs i x) ≡ insert (starts_of e (i - 1) xs) i x
+  starts_of_inserted =
+      let n = length-starts_of e i (insert xs i x) in
+      let m = length-insert (starts_of e (i - 1) xs) i x can.within in
+      let o = length-starts_of e (i - 1) xs in
+      let p = more in
+      ext_get_or 0 (starts_of e i (insert xs i x)) (insert (starts_of e (i - 1) xs) i x) (omega arith)
+      (λ k h. inserted_start k (omega arith) (cases_order k i))
+
+  inserted_within_at : (k : ℕ) → k < length xs + 1 → (k ≡ i) ⊎ ((k < i) ⊎ (i < k)) → get_or (insert xs i x) k 0 ≤ e
+  inserted_within_at k b (inl q) = rw q (omega (arith, get_or-insert_at xs i x 0 inside, can.at_most))
+  inserted_within_at k b (inr (inl h)) = omega (arith, get_or-insert_below xs i x 0 k h inside, sound.within k)
+  inserted_within_at k b (inr (inr h)) =
+      let q : k - 1 + 1 ≡ k = omega arith in
+      let left : get_or (insert xs i x) k 0 ≡ get_or xs (k - 1) 0 = rw q at (get_or-insert_above xs i x 0 (k - 1) (omega arith) inside) in
+      omega (arith, sound.within (k - 1))
+
+  pub stored_inserted : IsSound greatest e i (insert xs i x)
+  stored_inserted =
+      record {
+        within = within_all e (insert xs i x) (λ k b. inserted_within_at k (omega (arith, more)) (cases_order k i));
+        step_within = omega (arith, more, inside);
+        fits = sound.fits;
+        sound = rw starts_of_inserted (sound_inserted (starts_of e (i - 1) xs) e i x sound.sound can);
+      }
+
+-- the start at place i went away, with the step right behind it
+module _ (greatest e i : ℕ) (xs : List ℕ) (sound : IsSound greatest e (i + 1) xs) (not_first : 0 < i) (l : i < length xs) where
+  fewer : length (remove xs i) + 1 ≡ length xs
+  fewer = length-remove xs i l
+
+  there : i < length (starts_of e (i + 1) xs)
+  there = omega (arith, length-starts_of e (i + 1) xs)
+
+  removed_start :
+      (k : ℕ) → k + 1 < length xs → (k ≡ i) ⊎ ((k < i) ⊎ (i < k))
+      → get_or (starts_of e i (remove xs i)) k 0 ≡ get_or (remove (starts_of e (i + 1) xs) i) k 0
+  removed_start k b (inl q) =
+      starts_of_near e i (remove xs i) k (omega arith) ∙ get_or-remove_above xs i 0 k (omega arith) l
+      ∙ sym (starts_of_near e (i + 1) xs (k + 1) (omega arith)) ∙ sym (get_or-remove_above (starts_of e (i + 1) xs) i 0 k (omega arith) there)
+  removed_start k b (inr (inl h)) =
+      starts_of_near e i (remove xs i) k (omega arith) ∙ get_or-remove_below xs i 0 k h l
+      ∙ sym (starts_of_near e (i + 1) xs k (omega arith)) ∙ sym (get_or-remove_below (starts_of e (i + 1) xs) i 0 k h there)
+  removed_start k b (inr (inr h)) =
+      starts_of_far e i (remove xs i) k h (omega (arith, fewer)) ∙ ap (λ v. e - v) (get_or-remove_above xs i 0 k (omega arith) l)
+      ∙ sym (starts_of_far e (i + 1) xs (k + 1) (omega arith) b) ∙ sym (get_or-remove_above (starts_of e (i + 1) xs) i 0 k (omega arith) there)
+
+  pub starts_of_removed : starts_of e i (remove xs i) ≡ remove (starts_of e (i + 1) xs) i
+  starts_of_removed =
+      let n = length-starts_of e i (remove xs i) in
+      let m = length-remove (starts_of e (i + 1) xs) i there in
+      let o = length-starts_of e (i + 1) xs in
+      let p = fewer in
+      ext_get_or 0 (starts_of e i (remove xs i)) (remove (starts_of e (i + 1) xs) i) (omega arith)
+      (λ k h. removed_start k (omega arith) (cases_order k i))
+
+  removed_within_at : (k : ℕ) → (k < i) ⊎ (i ≤ k) → get_or (remove xs i) k 0 ≤ e
+  removed_within_at k (inl h) = omega (arith, get_or-remove_below xs i 0 k h l, sound.within k)
+  removed_within_at k (inr h) = omega (arith, get_or-remove_above xs i 0 k h l, sound.within (k + 1))
+
+  pub stored_removed : IsSound greatest e i (remove xs i)
+  stored_removed =
+      record {
+        within = λ k. removed_within_at k (cases_lt k i);
+        step_within = omega (arith, fewer);
+        fits = sound.fits;
+        sound = rw starts_of_removed (sound_removed (starts_of e (i + 1) xs) e i sound.sound not_first there);
+      }
+
+-- what a call leaves: it is sound, and its starts are those that are wanted
+abbrev pub Leaves : ℕ → ℕ → ℕ → List ℕ → List ℕ → Type 0
+Leaves greatest e i stored starts = IsSound greatest e i stored × (starts_of e i stored ≡ starts)
+
+pub text_put_in :
+    (greatest e e' i j n end : ℕ) (xs old : List ℕ) → IsSound greatest e i xs → starts_of e i xs ≡ old → i ≡ j → e ≡ end → e' ≡ e + n
+    → j < length old → end + n ≤ greatest → Leaves greatest e' i xs (raised_behind old j n)
+text_put_in greatest e e' i j n end xs old sound q r same p l fits =
+    let b : i < length xs = omega (arith, length-starts_of e i xs, ap length q) in (
+      rw p (stored_raised greatest e i n xs sound b (omega arith)),
+      rw p (starts_of_raised greatest e i n xs sound b ∙ ap (λ s. raised_behind s i n) q ∙ ap (λ k. raised_behind old k n) r),
+    )
+
+pub text_taken_out :
+    (greatest e e' i j n end : ℕ) (xs old : List ℕ) → IsSound greatest e i xs → starts_of e i xs ≡ old → i ≡ j → e ≡ end → e' ≡ e - n
+    → j < length old → CanLose old end j n → Leaves greatest e' i xs (lowered_behind old j n)
+text_taken_out greatest e e' i j n end xs old sound q r same p l can =
+    let b : i < length xs = omega (arith, length-starts_of e i xs, ap length q) in
+    let can' : CanLose (starts_of e i xs) e i n = rw (q, r, same) can in (
+      rw p (stored_lowered greatest e i n xs sound b can'),
+      rw p (starts_of_lowered greatest e i n xs sound b can' ∙ ap (λ s. lowered_behind s i n) q ∙ ap (λ k. lowered_behind old k n) r),
+    )
+
+pub start_put_in :
+    (greatest e i j x end : ℕ) (xs ys old : List ℕ) → IsSound greatest e i xs → starts_of e i xs ≡ old → i ≡ j - 1 → e ≡ end → ys ≡ insert xs j x
+    → CanStart old end j x → Leaves greatest e j ys (insert old j x)
+start_put_in greatest e i j x end xs ys old sound q r same p can =
+    let sound' : IsSound greatest e (j - 1) xs = rw (← r) sound in
+    let q' : starts_of e (j - 1) xs ≡ old = rw (← r) q in
+    let can' : CanStart (starts_of e (j - 1) xs) e j x = rw (q', same) can in (
+      rw p (stored_inserted greatest e j x xs sound' can'),
+      rw p (starts_of_inserted greatest e j x xs sound' can' ∙ ap (λ s. insert s j x) q'),
+    )
+
+pub start_taken_out :
+    (greatest e i j : ℕ) (xs ys old : List ℕ) → IsSound greatest e i xs → starts_of e i xs ≡ old → i ≡ j + 1 → ys ≡ remove xs j
+    → 0 < j → j < length old → Leaves greatest e j ys (remove old j)
+start_taken_out greatest e i j xs ys old sound q r p not_first l =
+    let sound' : IsSound greatest e (j + 1) xs = rw (← r) sound in
+    let q' : starts_of e (j + 1) xs ≡ old = rw (← r) q in
+    let b : j < length xs = omega (arith, length-starts_of e (j + 1) xs, ap length q') in (
+      rw p (stored_removed greatest e j xs sound' not_first b),
+      rw p (starts_of_removed greatest e j xs sound' not_first b ∙ ap (λ s. remove s j) q'),
+    )

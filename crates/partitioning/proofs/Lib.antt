@@ -1,0 +1,5 @@
+pub mod Changes
+pub mod Halving
+pub mod Lists
+pub mod Parts
+pub mod Steps

@@ -1,0 +1,67 @@
+-- What is stored, when the step moves.
+use Rattle.std.proofs.Common.{◌≡◌, ℕ, ◌+◌, ◌-◌, ◌<◌, ◌≤◌, min, max, List, length, get_or, sym, ◌∙◌, ◌⊎◌, inl, inr, arith}
+use Rattle.std.proofs.lemmas.List.{ext_get_or}
+use Rattle.std.proofs.lemmas.Bool.{cases_lt}
+use Rattle.partitioning.specs.Stored.{IsTurned, AreWithin, IsSound, starts_of, near_count}
+use Rattle.partitioning.proofs.Lists.{length-map_from, map_from_before, map_from_behind}
+
+-- the starts that are stored as they are
+pub starts_of_near : (e s : ℕ) (xs : List ℕ) (k : ℕ) → k ≤ s → get_or (starts_of e s xs) k 0 ≡ get_or xs k 0
+starts_of_near e s xs k h = map_from_before (λ d. e - d) (s + 1) xs k (omega arith)
+
+-- the starts that are stored as distances
+pub starts_of_far : (e s : ℕ) (xs : List ℕ) (k : ℕ) → s < k → k < length xs → get_or (starts_of e s xs) k 0 ≡ e - get_or xs k 0
+starts_of_far e s xs k h l = map_from_behind (λ d. e - d) (s + 1) xs k (omega arith) l
+
+pub length-starts_of : (e s : ℕ) (xs : List ℕ) → length (starts_of e s xs) ≡ length xs
+length-starts_of e s xs = length-map_from (λ d. e - d) (s + 1) xs
+
+module _ (e s t : ℕ) (xs ys : List ℕ) (low high : ℕ)
+    (w : AreWithin e xs)
+    (lo : low ≡ min (near_count s (length xs)) (near_count t (length xs)))
+    (hi : high ≡ max (near_count s (length xs)) (near_count t (length xs)))
+    (turned : IsTurned e low high xs ys) where
+  same_start : (k : ℕ) → k < length xs → (k < s + 1) ⊎ (s + 1 ≤ k) → (k < t + 1) ⊎ (t + 1 ≤ k) → get_or (starts_of e t ys) k 0 ≡ get_or (starts_of e s xs) k 0
+  same_start k l (inl a) (inl b) =
+      starts_of_near e t ys k (omega arith) ∙ turned.kept_below k (omega arith) ∙ sym (starts_of_near e s xs k (omega arith))
+  same_start k l (inl a) (inr b) =
+      omega (arith, starts_of_far e t ys k (omega arith) (omega (arith, turned.same_length)), turned.turned k (omega arith) (omega arith), starts_of_near e s xs k (omega arith), w k)
+  same_start k l (inr a) (inl b) =
+      omega (arith, starts_of_near e t ys k (omega arith), turned.turned k (omega arith) (omega arith), starts_of_far e s xs k (omega arith) l)
+  same_start k l (inr a) (inr b) =
+      omega (arith, starts_of_far e t ys k (omega arith) (omega (arith, turned.same_length)), turned.kept_above k (omega arith), starts_of_far e s xs k (omega arith) l)
+
+  -- the starts are the same after the step
+  pub starts_of_turned : starts_of e t ys ≡ starts_of e s xs
+  starts_of_turned =
+      ext_get_or 0 (starts_of e t ys) (starts_of e s xs)
+      (length-starts_of e t ys ∙ turned.same_length ∙ sym (length-starts_of e s xs))
+      (λ k h. same_start k (omega (arith, turned.same_length, length-starts_of e t ys)) (cases_lt k (s + 1)) (cases_lt k (t + 1)))
+
+  within_at : (k : ℕ) → (k < low) ⊎ (low ≤ k) → (k < high) ⊎ (high ≤ k) → get_or ys k 0 ≤ e
+  within_at k (inl a) _ = omega (arith, turned.kept_below k a, w k)
+  within_at k (inr a) (inl b) = omega (arith, turned.turned k a b)
+  within_at k (inr a) (inr b) = omega (arith, turned.kept_above k b, w k)
+
+  pub within_turned : AreWithin e ys
+  within_turned k = within_at k (cases_lt k low) (cases_lt k high)
+
+  -- what is stored is sound after the step
+  pub sound_turned : (greatest : ℕ) → IsSound greatest e s xs → t ≤ length xs → IsSound greatest e t ys
+  sound_turned greatest sound b =
+      record {
+        within = within_turned;
+        step_within = omega (arith, turned.same_length);
+        fits = sound.fits;
+        sound = rw starts_of_turned sound.sound;
+      }
+
+-- the step was moved from s to t: what is stored is sound, and the starts are the same
+pub step_taken :
+    (greatest e s t count near wanted low high : ℕ) (xs ys : List ℕ) → count ≡ length xs → near ≡ near_count s count → wanted ≡ near_count t count
+    → low ≡ min near wanted → high ≡ max near wanted → IsTurned e low high xs ys → IsSound greatest e s xs → t ≤ length xs
+    → IsSound greatest e t ys × (starts_of e t ys ≡ starts_of e s xs)
+step_taken greatest e s t count near wanted low high xs ys n a b lo hi turned sound h =
+    let lo' : low ≡ min (near_count s (length xs)) (near_count t (length xs)) = omega arith in
+    let hi' : high ≡ max (near_count s (length xs)) (near_count t (length xs)) = omega arith in
+    (sound_turned e s t xs ys low high sound.within lo' hi' turned greatest sound h, starts_of_turned e s t xs ys low high sound.within lo' hi' turned)

@@ -1,0 +1,42 @@
+use Rattle.std.proofs.Common.{◌≡◌, ◌+◌, ◌-◌, ◌/◌, min, length, refl, ap, ◌∙◌, arith}
+use Rattle.partitioning.proofs.Halving.{halved, found, above_later, below_where_not}
+use Rattle.partitioning.proofs.table.Partitioning.partition_of.Goals as goal
+
+pub halving-preserved-then-is_at_most : goal.halving-preserved-then-is_at_most
+halving-preserved-then-is_at_most g c =
+    let h = c.halving in
+    let q : h.low + h.width / 2 + (h.width - h.width / 2) ≡ h.low + h.width = omega arith in
+    record {
+      in_range = (omega arith, omega arith);
+      at_most = let t = c.if-is_at_most.ensures in omega (arith, t.0 refl, c.probe.ensures.start);
+      above = rw q h.invariant.above;
+      counted = omega arith;
+      few =
+          halved (length c.args.self.now.starts) c.args.probes.now h.probes c.probe.new.probes h.width (h.width - h.width / 2) (omega arith)
+          (omega arith) (omega arith) h.invariant.few;
+    }
+
+pub halving-preserved : goal.halving-preserved
+halving-preserved g c =
+    let h = c.halving in
+    let s = c.args.self.now.starts in
+    let w = g.P.Place.number c.from_usize-wanted.result in
+    record {
+      in_range = (omega arith, omega arith);
+      at_most = h.invariant.at_most;
+      above = λ b.
+          let t = c.if-is_at_most.ensures in
+          above_later s c.args.self.now.length w (h.low + h.width / 2) (h.low + (h.width - h.width / 2)) c.length.ensures.sound
+          (omega (arith, below_where_not _ _ t.1, c.probe.ensures.start)) (omega arith) b;
+      counted = omega arith;
+      few =
+          halved (length s) c.args.probes.now h.probes c.probe.new.probes h.width (h.width - h.width / 2) (omega arith) (omega arith)
+          (omega arith) h.invariant.few;
+    }
+
+pub returns-clause-last : goal.returns-clause-last
+returns-clause-last g c =
+    let h = c.halving in
+    found c.args.self.now.starts c.args.self.now.length c.args.place (g.P.Place.number c.from_usize-wanted.result) h.low h.width
+    c.length.ensures.sound (c.from_usize-wanted.ensures ∙ c.min.ensures ∙ ap (min c.args.place) c.length.ensures.length)
+    h.invariant.in_range (omega arith) h.invariant.at_most h.invariant.above

@@ -1,0 +1,16 @@
+use Rattle.std.proofs.Common.{◌+◌, ◌<◌, ◌≤◌, length, get_or}
+use Rattle.partitioning.proofs.Halving.{MayRead}
+use Rattle.partitioning.proofs.table.Partitioning.partition_of.Given as goal
+
+abbrev pub invariant-halving : goal.invariant-halving
+invariant-halving g l =
+    record {
+      in_range : (0 < l.width) × (l.low + l.width ≤ length l.self.starts);
+      at_most : get_or l.self.starts l.low 0 ≤ g.P.Place.number l.wanted;
+      above : l.low + l.width < length l.self.starts → g.P.Place.number l.wanted < get_or l.self.starts (l.low + l.width) 0;
+      counted : l.initial.probes ≤ l.probes;
+      few : MayRead (length l.self.starts) l.initial.probes l.probes l.width;
+    }
+
+abbrev pub decreases-halving : goal.decreases-halving
+decreases-halving g l = l.width

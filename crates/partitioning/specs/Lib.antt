@@ -1,0 +1,2 @@
+pub mod Partitions
+pub mod Stored

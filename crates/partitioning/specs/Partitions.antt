@@ -1,0 +1,65 @@
+-- What a contract sees of a `Partitioning`.
+use Rattle.std.specs.Prelude.{◌≡◌, ℕ, ◌+◌, ◌-◌, ◌^◌, ◌<◌, ◌≤◌, List, length, take, drop, map, ◌++◌, slice_index, EachIndex, refl}
+use Rattle.std.specs.List.Sorted.{IsStrictlyIncreasing}
+use Rattle.std.specs.Coded.{Coded, code_by, coded×, coded_list, coded_ℕ}
+
+-- where each partition starts, the length of the whole, how many more starts fit in,
+-- how many stored starts were changed for the step's sake, and where the step stands
+pub record Partitions : Type 0 where
+  pub starts : List ℕ
+  pub length : ℕ
+  pub room : ℕ
+  pub stepped : ℕ
+  pub step_at : ℕ
+
+abbrev pub partitions : List ℕ → ℕ → ℕ → ℕ → ℕ → Partitions
+partitions starts end room stepped step_at =
+    record { starts = starts; length = end; room = room; stepped = stepped; step_at = step_at }
+
+abbrev pub partitions_code : Coded Partitions
+partitions_code =
+    code_by (List ℕ × (ℕ × (ℕ × (ℕ × ℕ)))) (coded× (coded_list coded_ℕ) (coded× coded_ℕ (coded× coded_ℕ (coded× coded_ℕ coded_ℕ))))
+    (λ p. (p.starts, (p.length, (p.room, (p.stepped, p.step_at)))))
+    (λ q. partitions q.0 q.1.0 q.1.1.0 q.1.1.1.0 q.1.1.1.1) (λ _. refl)
+
+-- the first start is 0, each is below the next, and none is past the end: only the last partition may be empty
+pub record ArePartitions (starts : List ℕ) (end : ℕ) : Type 0 where
+  pub some : 0 < length starts
+  pub first : slice_index starts 0 ≡ 0
+  pub rising : IsStrictlyIncreasing starts
+  pub within : EachIndex starts (λ k. slice_index starts k ≤ end)
+
+-- partition i is the last that starts at the place or before it
+pub record IsLastAtMost (starts : List ℕ) (place i : ℕ) : Type 0 where
+  pub within : i < length starts
+  pub at_most : slice_index starts i ≤ place
+  pub last : (k : ℕ) → i < k → k < length starts → place < slice_index starts k
+
+-- a partition can be put in before partition i, or at the end: it starts behind the one before it and before the next
+pub record CanStart (starts : List ℕ) (end i start : ℕ) : Type 0 where
+  pub not_first : 0 < i
+  pub within : i ≤ length starts
+  pub behind : slice_index starts (i - 1) < start
+  pub before : i < length starts → start < slice_index starts i
+  pub at_most : start ≤ end
+
+-- so much can be taken out of partition i, and it does not become empty unless it is the last
+pub record CanLose (starts : List ℕ) (end i n : ℕ) : Type 0 where
+  pub before_next : i + 1 < length starts → slice_index starts i + n < slice_index starts (i + 1)
+  pub before_end : slice_index starts i + n ≤ end
+
+-- the list, with f of each number from place n on
+abbrev pub map_from : (ℕ → ℕ) → ℕ → List ℕ → List ℕ
+map_from f n xs = take n xs ++ map f (drop n xs)
+
+-- the starts, with each one behind partition i raised by n
+abbrev pub raised_behind : List ℕ → ℕ → ℕ → List ℕ
+raised_behind starts i n = map_from (λ s. s + n) (i + 1) starts
+
+-- the starts, with each one behind partition i lowered by n
+abbrev pub lowered_behind : List ℕ → ℕ → ℕ → List ℕ
+lowered_behind starts i n = map_from (λ s. s - n) (i + 1) starts
+
+-- k is the greatest number with 2 ^ k at most n
+abbrev pub IsFloorLog : ℕ → ℕ → Type 0
+IsFloorLog k n = (2 ^ k ≤ n) × (n < 2 ^ (k + 1))

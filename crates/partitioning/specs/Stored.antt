@@ -1,0 +1,29 @@
+-- How a `Partitioning` stores its starts: up to the step as they are, and behind it as their distances to the end.
+use Rattle.std.specs.Prelude.{◌≡◌, ℕ, ◌+◌, ◌-◌, ◌<◌, ◌≤◌, min, List, length, slice_index}
+use Rattle.partitioning.specs.Partitions.{ArePartitions, map_from}
+
+-- the starts that are stored so with the step at a partition
+abbrev pub starts_of : ℕ → ℕ → List ℕ → List ℕ
+starts_of end step stored = map_from (λ distance. end - distance) (step + 1) stored
+
+-- how many of the starts are stored as they are
+abbrev pub near_count : ℕ → ℕ → ℕ
+near_count step count = min count (step + 1)
+
+-- none of the numbers is past the end
+abbrev pub AreWithin : ℕ → List ℕ → Type 0
+AreWithin end stored = (k : ℕ) → slice_index stored k ≤ end
+
+-- new is old, with each number of the range replaced by its distance to the end
+pub record IsTurned (end low high : ℕ) (old new : List ℕ) : Type 0 where
+  pub same_length : length new ≡ length old
+  pub turned : (k : ℕ) → low ≤ k → k < high → slice_index new k ≡ end - slice_index old k
+  pub kept_below : (k : ℕ) → k < low → slice_index new k ≡ slice_index old k
+  pub kept_above : (k : ℕ) → high ≤ k → slice_index new k ≡ slice_index old k
+
+-- what is stored makes partitions up to an end that a place can stand for
+pub record IsSound (greatest end step : ℕ) (stored : List ℕ) : Type 0 where
+  pub within : AreWithin end stored
+  pub step_within : step ≤ length stored
+  pub fits : end ≤ greatest
+  pub sound : ArePartitions (starts_of end step stored) end

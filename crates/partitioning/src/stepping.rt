@@ -1,0 +1,51 @@
+//! How the step moves.
+ghost use Rattle.std.specs.Prelude.{◌≡◌, ◌≤◌, length, map};
+ghost use Rattle.partitioning.specs.Stored.{AreWithin, IsTurned, near_count};
+ghost use Rattle.split_vector.specs.Split.{counted, apart};
+
+use crate::places::Place;
+use crate::table::Partitioning;
+use split_vector::SplitVector;
+use std::alloc::Allocator;
+
+// Returns how many of the starts are stored as they are, with the step at a partition.
+fn near_starts(step: usize, count: usize) -> usize
+    ensures { result ≡ near_count step count }
+{
+    if step < count { step + 1 } else { count }
+}
+
+// Replaces each start from `low` up to `high` by its distance to the end, and each distance by the start.
+fn turn<P: Place, A: Allocator>(body: &mut SplitVector<P, A>, low: usize, high: usize, end: P)
+    requires range { (low ≤ high) × (high ≤ length body.old.items) }
+    requires within { AreWithin (P.number end) (map P.number body.old.items) }
+    ensures turned { IsTurned (P.number end) low high (map P.number body.old.items) (map P.number body.new.items) }
+    ensures spare { body.new.spare ≡ body.old.spare }
+{
+    for index in low..high {
+        let distance = end.minus(body.get(index));
+        body.set(index, distance);
+    }
+}
+
+impl<P: Place, A: Allocator> Partitioning<P, A> {
+    // Moves the step to the partition at `index`, and counts the starts that this changes.
+    pub(crate) fn step_to(&mut self, index: usize)
+        requires { index ≤ length self.old.starts }
+        ensures starts { self.new.starts ≡ self.old.starts }
+        ensures length { self.new.length ≡ self.old.length }
+        ensures room { self.new.room ≡ self.old.room }
+        ensures step_at { self.new.step_at ≡ index }
+        ensures counted { self.old.stepped ≤ self.new.stepped }
+        ensures stepped { let count = length self.old.starts in self.new.stepped ≡ counted self.old.stepped (apart (near_count index count) (near_count self.old.step_at count)) }
+    {
+        let count = self.count();
+        let near = near_starts(self.step_at, count);
+        let wanted = near_starts(index, count);
+        let low = near.min(wanted);
+        let high = near.max(wanted);
+        turn(&mut self.body, low, high, self.end);
+        self.step_at = index;
+        self.stepped = self.stepped.saturating_add((high - low) as u64);
+    }
+}

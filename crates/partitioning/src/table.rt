@@ -1,0 +1,158 @@
+//! `Partitioning`: how it is made and read, and its room.
+ghost use Rattle.std.specs.Prelude.{◌≡◌, ◌≤◌, ◌<◌, ◌+◌, ◌^◌, ℕ, [], ◌∷◌, length, slice_index, IfOk, OnOk, OnErr, IsOk};
+ghost use Rattle.partitioning.specs.Partitions.{ArePartitions, IsLastAtMost, IsFloorLog};
+ghost use Rattle.split_vector.specs.Split.{counted};
+
+use crate::lookups::Probes;
+use crate::places::Place;
+use split_vector::SplitVector;
+use std::alloc::{AllocError, Allocator, Global};
+use std::marker::Model;
+
+/// A text cut into partitions, of which only the last may be empty: where each starts, and the length of the whole.
+///
+/// The starts up to the step are stored as they are, and those behind it as their distances to the end. So text that is
+/// put into the partition at the step, or taken from it, changes the end alone, and each start behind the step moves
+/// with it. A call that names another partition moves the step there first, and changes the starts between the two.
+#[derive(Drop)]
+pub struct Partitioning<P: Place, A: Allocator = Global> {
+    pub(crate) body: SplitVector<P, A>,
+    pub(crate) end: P,
+    // The last start that is stored as it is. Where the last partition was just removed, there is none at this place.
+    pub(crate) step_at: usize,
+    pub(crate) stepped: u64,
+}
+
+impl<P: Place, A: Allocator> Model for Partitioning<P, A> {
+    ghost use Rattle.std.specs.Prelude.{map};
+    ghost use Rattle.partitioning.specs.Partitions.{Partitions, partitions, partitions_code};
+    ghost use Rattle.partitioning.specs.Stored.{starts_of, IsSound};
+
+    ghost Value = { Partitions };
+
+    ghost coded = { partitions_code };
+
+    ghost view = { λ t. partitions (starts_of (P.number t.end) t.step_at (map P.number t.body.items)) (P.number t.end) t.body.spare t.stepped t.step_at };
+
+    ghost invariant = { λ t. IsSound P.GREATEST (P.number t.end) t.step_at (map P.number t.body.items) };
+}
+
+impl<P: Place, A: Allocator> Partitioning<P, A> {
+    /// Returns one partition, which starts at 0 and is empty.
+    ///
+    /// # Errors
+    ///
+    /// `AllocError` where the memory for its start is refused.
+    pub fn new(alloc: A) -> Result<Self, AllocError>
+        ensures { IfOk result (λ t. (t.starts ≡ 0 ∷ []) × (t.length ≡ 0) × (t.stepped ≡ 0) × (t.step_at ≡ 0)) }
+    {
+        let mut body = SplitVector::new(alloc);
+        body.reserve(1)?;
+        body.insert_reserved(0, P::zero());
+        Ok(Partitioning {
+            body,
+            end: P::zero(),
+            step_at: 0,
+            stepped: 0,
+        })
+    }
+
+    /// Returns the number of partitions, which is at least 1.
+    pub fn count(&self) -> usize
+        ensures count { result ≡ length self.now.starts }
+        ensures within { length self.now.starts + self.now.room < 2 ^ 63 }
+        ensures sound { ArePartitions self.now.starts self.now.length }
+    {
+        self.body.len()
+    }
+
+    /// Returns the length of the whole.
+    pub fn length(&self) -> usize
+        ensures length { result ≡ self.now.length }
+        ensures within { self.now.length ≤ P.GREATEST }
+        ensures sound { ArePartitions self.now.starts self.now.length }
+    {
+        self.end.to_usize()
+    }
+
+    // Returns where the partition starts, as it is stored as a place.
+    fn place_of(&self, index: usize) -> P
+        requires { index < length self.now.starts }
+        ensures { P.number result ≡ slice_index self.now.starts index }
+    {
+        let stored = self.body.get(index);
+        if index <= self.step_at {
+            return stored;
+        }
+        self.end.minus(stored)
+    }
+
+    /// Returns where the partition starts.
+    pub fn start_of(&self, index: usize) -> usize
+        requires { index < length self.now.starts }
+        ensures start { result ≡ slice_index self.now.starts index }
+        ensures within { result ≤ self.now.length }
+    {
+        let _ = &self.end;
+        self.place_of(index).to_usize()
+    }
+
+    // Returns where the partition starts, for a look-up: this is the one call by which look-ups read a start.
+    fn probe(&self, index: usize, probes: &mut Probes) -> P
+        requires { index < length self.now.starts }
+        ensures start { P.number result ≡ slice_index self.now.starts index }
+        ensures probes { probes.new ≡ counted probes.old 1 }
+        ensures rises { probes.old ≤ probes.new }
+    {
+        probes.reads = probes.reads.saturating_add(1);
+        self.place_of(index)
+    }
+
+    /// Returns how many stored starts were changed for the step's sake so far, or `u64::MAX` for any number above it.
+    pub fn stepped(&self) -> u64
+        ensures { result ≡ self.now.stepped }
+    {
+        self.stepped
+    }
+
+    /// Returns the partition that the step stands at: the one that was named by the last call that changes a partition.
+    pub fn step_at(&self) -> usize
+        ensures { result ≡ self.now.step_at }
+    {
+        self.step_at
+    }
+
+    /// Makes room for `count` more starts.
+    ///
+    /// # Errors
+    ///
+    /// `AllocError` where the memory is refused. All is then as it was.
+    pub fn reserve(&mut self, count: usize) -> Result<(), AllocError>
+        ensures ok { OnOk result ((count ≤ self.new.room) × (self.new ≡ record self.old { room = self.new.room })) }
+        ensures room_is_there { count ≤ self.old.room → IsOk result × (self.new ≡ self.old) }
+        ensures err { OnErr result (self.new ≡ self.old) }
+    {
+        self.body.reserve(count)
+    }
+
+    /// Returns the last partition that starts at `place` or before it: from the length on, the last of all.
+    /// Each start that it reads is counted in `probes`.
+    pub fn partition_of(&self, place: usize, probes: &mut Probes) -> usize
+        ensures last { IsLastAtMost self.now.starts place result }
+        ensures counted { probes.old ≤ probes.new }
+        ensures few { (k : ℕ) → IsFloorLog k (length self.now.starts) → probes.new ≤ probes.old + (2 + k) }
+    {
+        let wanted = P::from_usize(place.min(self.length()));
+        let mut low = 0;
+        let mut width = self.count();
+        'halving: while width > 1 {
+            let half = width / 2;
+            let middle = low + half;
+            width -= half;
+            if self.probe(middle, probes).is_at_most(wanted) {
+                low = middle;
+            }
+        }
+        low
+    }
+}
