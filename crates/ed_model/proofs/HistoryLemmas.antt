@@ -155,7 +155,8 @@ joined : (later : Bool) (c : Change) (h : History) (t : Transaction) (ts : List 
     with_change b c h.past ≡ record t { changes = c ∷ t.changes } ∷ ts
 joined later c h t ts b e p = ap (λ (x : Bool). with_change x c h.past) e ∙ ap (with_change true c) p
 
-joined_open : (later : Bool) (c : Change) (h : History) (t : Transaction) (ts : List Transaction) → joins_last later c h (t ∷ ts) ≡ true → t.is_sealed ≡ false
+-- a transaction that is joined is open
+pub joined_open : (later : Bool) (c : Change) (h : History) (t : Transaction) (ts : List Transaction) → joins_last later c h (t ∷ ts) ≡ true → t.is_sealed ≡ false
 joined_open later c h t ts e = first_false t.is_sealed (at_save_point h) _ e
   where
     first_false : (a b d : Bool) → (not a && not b && d) ≡ true → a ≡ false

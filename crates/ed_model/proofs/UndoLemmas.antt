@@ -65,7 +65,8 @@ undos_go_back (suc k) scene =
     ∙ ap (undone_text k (undone (history_of scene)).past) (undo_makes_its_steps scene)
     ∙ undo_keeps_earlier_texts k (history_of scene) (text_of_scene scene)
 
-one_redone : (k : ℕ) (h : History) (future : List Transaction) (text : List ℕ) → h.future ≡ future →
+-- one redo, and the texts after it
+pub one_redone : (k : ℕ) (h : History) (future : List Transaction) (text : List ℕ) → h.future ≡ future →
     redone_text k (redone_from h future).future (after_steps (text_steps (reverse (first_changes future))) text) ≡ redone_text (suc k) future text
 one_redone k h [] text e = ap (λ (future : List Transaction). redone_text k future text) e ∙ nothing_to_redo k text
 one_redone k h (t ∷ ts) text e = refl

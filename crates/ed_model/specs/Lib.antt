@@ -53,3 +53,6 @@ pub mod SoundLaws
 pub mod PlansFit
 pub mod Recording
 pub mod WorkedRecording
+pub mod EarlierTextLaws
+pub mod RunUndoLaws
+pub mod UndoMessageLaws

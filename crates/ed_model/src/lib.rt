@@ -3,23 +3,27 @@
 #![tactic(auto)]
 
 mod carry_laws;
+mod earlier_text_laws;
 mod examples;
 mod history_laws;
 mod inverse_laws;
 mod line_laws;
 mod neighbour_laws;
 mod plan;
+mod run_undo_laws;
 mod script_examples;
 mod script_laws;
 mod sound_laws;
 mod table_laws;
 mod undo_laws;
+mod undo_message_laws;
 mod worked_examples;
 
 pub use carry_laws::{
     rows_after_a_step, rows_after_regrouping, rows_come_in_blocks, rows_that_meet, single_rows,
     starts_near_a_step,
 };
+pub use earlier_text_laws::{changes_keep_earlier_texts, undo_goes_back_to_earlier_states};
 pub use examples::{
     examples_of_documents, examples_of_folding, examples_of_markers, examples_of_recording,
     examples_of_selection, examples_of_styles, examples_of_text, examples_of_undo,
@@ -38,6 +42,7 @@ pub use plan::{
     DocumentChange, Edit, Follow, LineEnd, LineEndTypes, Plan, Planned, SessionChange, Source,
     ViewChange,
 };
+pub use run_undo_laws::undo_goes_back_in_every_run;
 pub use script_examples::{
     printed_outcomes, script_lines_at_fault, script_spelling, script_texts_at_fault,
 };
@@ -47,6 +52,7 @@ pub use table_laws::{
     free_messages_are_silent, queries_leave_the_session, refusals_leave_the_session,
 };
 pub use undo_laws::{earlier_texts_are_kept, undos_and_redos};
+pub use undo_message_laws::undo_and_redo_act;
 pub use worked_examples::{
     worked_characters, worked_joins, worked_limits, worked_lines, worked_matches, worked_recording,
 };

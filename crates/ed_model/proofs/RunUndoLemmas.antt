@@ -1,0 +1,384 @@
+-- Documents go on from what they were, message by message, and so undo goes back to earlier states of every run.
+use Rattle.std.proofs.Common.{◌≡◌, ℕ, ◌+◌, ◌-◌, ◌≤◌, ◌==◌, nat_lt, cond, Bool, true, false, List, [], ◌∷◌, ◌++◌, length, map, refl, ap, ◌∙◌, sym, subst, arith, Option, Some, None, Result, Ok, Err}
+use Rattle.std.specs.Prelude.{option_map, ◌||◌, nat_le, if◌then◌else◌}
+use Rattle.std.specs.Option.{option_or}
+use Rattle.std.specs.List.{cons_option}
+use Rattle.std.proofs.lemmas.Bool.{eqb-true, eq-eqb}
+use Rattle.std.proofs.lemmas.List.Folds.{find-append}
+use Rattle.ed_types.specs.declared.kind.Kind.{Kind}
+use Rattle.ed_types.specs.declared.limits.Limits.{Limits}
+use Rattle.ed_types.specs.declared.message.Message.{Message}
+use Rattle.ed_types.specs.declared.refusal.Refusal.{Refusal}
+use Rattle.ed_types.specs.declared.refusal.Refusal.TheVariants.{TooMany}
+use Rattle.ed_types.specs.declared.script.Command.{Command}
+use Rattle.ed_types.specs.declared.script.Command.TheVariants.{OpenView, CloseView, LoadFile, SendMessage, Expect}
+use Rattle.ed_types.specs.Notices.{Response}
+use Rattle.ed_types.specs.Messages.{kind_of}
+use Rattle.ed_model.specs.declared.plan.Follow.{Follow}
+use Rattle.ed_model.specs.declared.plan.Follow.TheVariants as follow
+use Rattle.ed_model.specs.declared.plan.SessionChange.{SessionChange}
+use Rattle.ed_model.specs.declared.plan.SessionChange.TheVariants as session_change
+use Rattle.ed_model.specs.declared.plan.Plan.{Plan}
+use Rattle.ed_model.specs.declared.plan.Plan.TheVariants as plan
+use Rattle.ed_model.specs.Text.{Cell}
+use Rattle.ed_model.specs.Steps.{Step, Insert, Delete}
+use Rattle.ed_model.specs.History.{History, Change, TextStep, ContainerStep, undo_changes, redo_changes}
+use Rattle.ed_model.specs.Session.{Session, Document, View, document_at, view_at, with_document, living, references, left_by, new_session, new_document, new_view, text_of}
+use Rattle.ed_model.specs.Notes as notes
+use Rattle.ed_model.specs.Requests.{Request, Planned, text}
+use Rattle.ed_model.specs.Edits.{steps_of}
+use Rattle.ed_model.specs.DocumentPlans.{text_steps}
+use Rattle.ed_model.specs.Performing.{Scene, scene_of, session_of, step_made, steps_made, sealed_scene, edit_made, followed, changes_performed, change_performed, changes_lines, is_last}
+use Rattle.ed_model.specs.Changes.{changed_document, session_changed, with_attached, attached_last, with_new_document, held_more, held_less}
+use Rattle.ed_model.specs.Table.{table, table_from_view, table_from_kind, table_if_known, table_from_document, answered, plan_of, performed, request, opened, closed_view}
+use Rattle.ed_model.specs.Run.{Running, after_command, after_opening, after_closing, after_message, loaded, file_at, run_to, starting, set_text_message}
+use Rattle.ed_model.specs.InverseLaws as inverse
+use Rattle.ed_model.specs.InverseLaws.{text_of_scene, history_of, after_undo, after_redo}
+use Rattle.ed_model.specs.EarlierTextLaws.{KeepsEarlierTexts, GoesBackAmong}
+use Rattle.ed_model.specs.RunUndoLaws.{GoesOn, DocumentsGoOn, MessagesLetDocumentsGoOn, CommandsLetDocumentsGoOn, sessions_of, states_of, UndoGoesBackInEveryRun}
+use Rattle.ed_model.specs.SoundLaws as sound
+use Rattle.ed_model.specs.SoundLaws.{IsSound, IsSoundDocument, Rise}
+use Rattle.ed_model.specs.PlansFit.{IsSoundRequest, IsFitPlan, IsFitPlanned}
+use Rattle.ed_model.proofs.HistoryLemmas.{both_hold}
+use Rattle.ed_model.proofs.EarlierTextLemmas.{keeps_same, edits_keep_earlier_texts, undo_keeps_the_texts_before, redo_keeps_the_texts_before, document_changes_keep_earlier_texts, goes_back_at_first, goes_back_afterwards}
+use Rattle.ed_model.proofs.SoundSteps.{fits_range}
+use Rattle.ed_model.proofs.SoundSessions.{document_id, view_id, replaced_found, replaced_other}
+use Rattle.ed_model.proofs.SoundChanges.{changed_id}
+use Rattle.ed_model.proofs.SoundReferences.{documents_push}
+use Rattle.ed_model.proofs.SoundPlans.{request_document, plan_fits}
+use Rattle.ed_model.proofs.SoundRuns.{edit_steps_fit, redo_steps_fit, command_sound, new_session_sound}
+
+-- A step that fits in the sense of sound histories fits here.
+behind_its_bytes : (p n size : ℕ) → p + n ≤ size → p ≤ size
+behind_its_bytes p n size h = omega arith
+
+step_fits : (step : Step) (t : List ℕ) → sound.Fits t step → inverse.Fits step t
+step_fits (Insert p bytes) t h = h.0
+step_fits (Delete p bytes) t h = (behind_its_bytes p (length bytes) (length t) (fits_range t (Delete p bytes) h), h.0)
+
+steps_fit : (steps : List Step) (t : List ℕ) → sound.FitInTurn t steps → inverse.FitInTurn steps t
+steps_fit [] t h = tt
+steps_fit (step ∷ steps) t h = (step_fits step t h.0, steps_fit steps _ h.1)
+
+-- Lists of documents.
+
+abbrev ListsGoOn : List Document → List Document → Type 0
+ListsGoOn ds es = (id : ℕ) (d : Document) → document_at es id ≡ Some d → GoesOn (document_at ds id) d
+
+same_found : (o : Option Document) (d e : Document) → o ≡ Some d → o ≡ Some e → d ≡ e
+same_found o d e p q = cc
+
+goes_on_same : (d : Document) → GoesOn (Some d) d
+goes_on_same d = keeps_same d.history (text_of d)
+
+lists_go_on_same : (ds : List Document) → ListsGoOn ds ds
+lists_go_on_same ds id d e = subst (λ (o : Option Document). GoesOn o d) (sym e) (goes_on_same d)
+
+-- one document replaced by one that goes on from it
+lists_go_on_replaced : (ds : List Document) (old new : Document) → document_at ds new.id ≡ Some old → KeepsEarlierTexts old new → ListsGoOn ds (with_document new ds)
+lists_go_on_replaced ds old new found keeps id d e = go (id == new.id) refl
+  where
+    go : (b : Bool) → (id == new.id) ≡ b → GoesOn (document_at ds id) d
+    go true t =
+        let same = eqb-true id new.id t in
+        let there : document_at (with_document new ds) id ≡ Some new = ap (document_at (with_document new ds)) same ∙ replaced_found ds old new found in
+        let is_new : new ≡ d = same_found (document_at (with_document new ds) id) new d there e in
+        let was : Some old ≡ document_at ds id = sym (ap (document_at ds) same ∙ found) in
+        subst (λ (o : Option Document). GoesOn o d) was (subst (λ (x : Document). KeepsEarlierTexts old x) is_new keeps)
+    go false t =
+        let other : id ≡ new.id → ⊥ = λ same. apart_false (eq-eqb id new.id same) t in
+        lists_go_on_same ds id d (sym (replaced_other ds new id other) ∙ e)
+      where
+        apart_false : (id == new.id) ≡ true → (id == new.id) ≡ false → ⊥
+        apart_false p q = cc
+
+-- documents that are relisted: only their views and references change
+pub record IsRelisted (d e : Document) : Type 0 where
+  pub id : e.id ≡ d.id
+  pub history : e.history ≡ d.history
+  pub cells : e.cells ≡ d.cells
+
+mapped_at : (g : Document → Document) → ((d : Document) → IsRelisted d (g d)) → (ds : List Document) (id : ℕ) → document_at (map g ds) id ≡ option_map g (document_at ds id)
+mapped_at g r [] id = refl
+mapped_at g r (d ∷ ds) id =
+    ap (λ n. cond (n == id) (Some (g d)) (document_at (map g ds) id)) (r d).id ∙ go (d.id == id) (mapped_at g r ds id)
+  where
+    go : (b : Bool) → document_at (map g ds) id ≡ option_map g (document_at ds id) → cond b (Some (g d)) (document_at (map g ds) id) ≡ option_map g (cond b (Some d) (document_at ds id))
+    go true rest = refl
+    go false rest = rest
+
+goes_on_relisted : (o : Option Document) (d e : Document) → IsRelisted d e → GoesOn o d → GoesOn o e
+goes_on_relisted None d e r h = ap (λ (x : History). x.past) r.history ∙ h
+goes_on_relisted (Some old) d e r h =
+    subst (λ (x : History). KeepsEarlierTexts old (record d { history = x; cells = e.cells })) (sym r.history)
+    (subst (λ (x : List Cell). KeepsEarlierTexts old (record d { cells = x })) (sym r.cells) h)
+
+lists_go_on_mapped : (ds es : List Document) (g : Document → Document) → ((d : Document) → IsRelisted d (g d)) → ListsGoOn ds es → ListsGoOn ds (map g es)
+lists_go_on_mapped ds es g r h id d e = go (document_at es id) refl (sym (mapped_at g r es id) ∙ e)
+  where
+    go : (o : Option Document) → document_at es id ≡ o → option_map g o ≡ Some d → GoesOn (document_at ds id) d
+    go None found f = cc
+    go (Some x) found f =
+        let is : g x ≡ d = cc in
+        subst (GoesOn (document_at ds id)) is (goes_on_relisted (document_at ds id) x (g x) (r x) (h id x found))
+
+-- found in rising documents, an id is not below them
+rise_found : (low high : ℕ) (ds : List Document) (id : ℕ) (d : Document) → Rise low high (map (λ (x : Document). x.id) ds) → document_at ds id ≡ Some d → low ≤ id
+rise_found low high [] id d rise e = cc
+rise_found low high (x ∷ xs) id d rise e = go (x.id == id) refl e (λ f. rise_found (x.id + 1) high xs id d rise.2 f)
+  where
+    go : (b : Bool) → (x.id == id) ≡ b → cond b (Some x) (document_at xs id) ≡ Some d → (document_at xs id ≡ Some d → x.id + 1 ≤ id) → low ≤ id
+    go true t f rest = let same = eqb-true x.id id t in let first : low ≤ x.id = rise.0 in omega arith
+    go false t f rest = let first : low ≤ x.id = rise.0 in let later : x.id + 1 ≤ id = rest f in omega arith
+
+-- what lives was there, as it is
+living_from : (low high : ℕ) (ds : List Document) (id : ℕ) (d : Document) → Rise low high (map (λ (x : Document). x.id) ds) → document_at (living ds) id ≡ Some d → document_at ds id ≡ Some d
+living_from low high [] id d rise e = e
+living_from low high (x ∷ xs) id d rise e = go (nat_lt 0 (references x)) e (λ f. living_from (x.id + 1) high xs id d rise.2 f)
+  where
+    first : (b : Bool) → (document_at (living xs) id ≡ Some d → document_at xs id ≡ Some d) → cond b (Some x) (document_at (living xs) id) ≡ Some d → cond b (Some x) (document_at xs id) ≡ Some d
+    first true rest f = f
+    first false rest f = rest f
+
+    later : (b : Bool) → (x.id == id) ≡ b → x.id + 1 ≤ id → document_at xs id ≡ Some d → cond b (Some x) (document_at xs id) ≡ Some d
+    later true t above f = let same = eqb-true x.id id t in absurd (omega arith)
+    later false t above f = f
+
+    go : (b : Bool) → document_at (cond b (x ∷ living xs) (living xs)) id ≡ Some d → (document_at (living xs) id ≡ Some d → document_at xs id ≡ Some d) → cond (x.id == id) (Some x) (document_at xs id) ≡ Some d
+    go true f rest = first (x.id == id) rest f
+    go false f rest = later (x.id == id) refl (rise_found (x.id + 1) high xs id d rise.2 (rest f)) (rest f)
+
+lists_go_on_living : (ds es : List Document) (low high : ℕ) → Rise low high (map (λ (x : Document). x.id) es) → ListsGoOn ds es → ListsGoOn ds (living es)
+lists_go_on_living ds es low high rise h id d e = h id d (living_from low high es id d rise e)
+
+mapped_ids : (g : Document → Document) → ((d : Document) → IsRelisted d (g d)) → (ds : List Document) → map (λ (x : Document). x.id) (map g ds) ≡ map (λ (x : Document). x.id) ds
+mapped_ids g r [] = refl
+mapped_ids g r (d ∷ ds) = ap (λ n. n ∷ map (λ (x : Document). x.id) (map g ds)) (r d).id ∙ ap (λ ids. d.id ∷ ids) (mapped_ids g r ds)
+
+-- the documents of other ones relisted, of which some go
+lists_go_on_relisted : (ds es : List Document) (g : Document → Document) (low high : ℕ) → ((d : Document) → IsRelisted d (g d)) →
+    Rise low high (map (λ (x : Document). x.id) es) → ListsGoOn ds es → ListsGoOn ds (living (map g es))
+lists_go_on_relisted ds es g low high r rise h =
+    lists_go_on_living ds (map g es) low high (subst (Rise low high) (sym (mapped_ids g r es)) rise) (lists_go_on_mapped ds es g r h)
+
+-- a new document has no past
+lists_go_on_pushed : (ds : List Document) (new : Document) → new.history.past ≡ [] → ListsGoOn ds (ds ++ new ∷ [])
+lists_go_on_pushed ds new none id d e =
+    go (document_at ds id) (sym (find-append (λ (x : Document). x.id == id) ds (new ∷ [])) ∙ e)
+  where
+    alone : (b : Bool) → cond b (Some new) None ≡ Some d → d.history.past ≡ []
+    alone true f = let same : new ≡ d = cc in ap (λ (x : Document). x.history.past) (sym same) ∙ none
+    alone false f = cc
+
+    go : (o : Option Document) → option_or o (document_at (new ∷ []) id) ≡ Some d → GoesOn o d
+    go None f = alone (new.id == id) f
+    go (Some x) f = subst (GoesOn (Some x)) (let same : x ≡ d = cc in same) (goes_on_same x)
+
+-- Relistings.
+
+same_listed : (d : Document) → IsRelisted d d
+same_listed d = record { id = refl; history = refl; cells = refl }
+
+left_relisted : (view : ℕ) (d : Document) → IsRelisted d (left_by view d)
+left_relisted view d = record { id = refl; history = refl; cells = refl }
+
+attached_relisted : (view id : ℕ) (d : Document) → IsRelisted d (attached_last view id d)
+attached_relisted view id d =
+    let left = left_by view d in
+    both_hold (IsRelisted d) (d.id == id) (record left { views = left.views ++ view ∷ [] }) left
+    (λ e. record { id = refl; history = refl; cells = refl }) (λ e. record { id = refl; history = refl; cells = refl })
+
+held_more_relisted : (id : ℕ) (d : Document) → IsRelisted d (held_more id d)
+held_more_relisted id d = both_hold (IsRelisted d) (d.id == id) (record d { held = d.held + 1 }) d (λ e. record { id = refl; history = refl; cells = refl }) (λ e. same_listed d)
+
+held_less_relisted : (id : ℕ) (d : Document) → IsRelisted d (held_less id d)
+held_less_relisted id d = both_hold (IsRelisted d) (d.id == id) (record d { held = d.held - 1 }) d (λ e. record { id = refl; history = refl; cells = refl }) (λ e. same_listed d)
+
+-- What a plan does.
+
+attached_go_on : (ds : List Document) (s : Session) (o : Option Document) (v : View) (high : ℕ) → Rise 0 high (map (λ (x : Document). x.id) s.documents) →
+    ListsGoOn ds s.documents → ListsGoOn ds (with_attached o v s).documents
+attached_go_on ds s None v high rise h = h
+attached_go_on ds s (Some d) v high rise h = lists_go_on_relisted ds s.documents (attached_last v.id d.id) 0 high (attached_relisted v.id d.id) rise h
+
+session_change_goes_on : (r : Request) (what : SessionChange) → IsSound r.session → ListsGoOn r.session.documents (session_changed r what).documents
+session_change_goes_on r (session_change.Copy start count) h = lists_go_on_same r.session.documents
+session_change_goes_on r (session_change.CopyText count) h = lists_go_on_same r.session.documents
+session_change_goes_on r (session_change.Attach id) h =
+    attached_go_on r.session.documents r.session (document_at r.session.documents id) r.view r.session.next_document h.document_ids (lists_go_on_same r.session.documents)
+session_change_goes_on r session_change.AttachNew h =
+    let s = r.session in
+    let with = with_new_document (new_document s.next_document 0) s in
+    attached_go_on s.documents with (document_at with.documents s.next_document) r.view (s.next_document + 1)
+    (documents_push s.next_document s.documents (new_document s.next_document 0) refl h.document_ids)
+    (lists_go_on_pushed s.documents (new_document s.next_document 0) refl)
+session_change_goes_on r (session_change.Create options) h =
+    let d = new_document r.session.next_document options in
+    lists_go_on_pushed r.session.documents (record d { held = 1 }) refl
+session_change_goes_on r (session_change.AddReference id) h =
+    lists_go_on_mapped r.session.documents r.session.documents (held_more id) (held_more_relisted id) (lists_go_on_same r.session.documents)
+session_change_goes_on r (session_change.Release id) h =
+    lists_go_on_relisted r.session.documents r.session.documents (held_less id) 0 r.session.next_document (held_less_relisted id) h.document_ids (lists_go_on_same r.session.documents)
+
+steps_made_id : (later : Bool) (steps : List Step) (scene : Scene) → (steps_made later steps scene).document.id ≡ scene.document.id
+steps_made_id later [] scene = refl
+steps_made_id later (step ∷ steps) scene = steps_made_id true steps (step_made later step scene)
+
+edit_made_id : (steps : List Step) (scene : Scene) → (edit_made steps scene).document.id ≡ scene.document.id
+edit_made_id steps scene =
+    both_hold (λ (x : Scene). x.document.id ≡ scene.document.id) (nat_lt 1 (length steps)) (sealed_scene (steps_made false steps (sealed_scene scene))) (steps_made false steps scene)
+    (λ e. steps_made_id false steps (sealed_scene scene)) (λ e. steps_made_id false steps scene)
+
+-- a document keeps its id
+pub changes_performed_id : (who several : ℕ) (b : Bool) (cs : List Change) (scene : Scene) → (changes_performed who several b cs scene).document.id ≡ scene.document.id
+changes_performed_id who several b [] scene = refl
+changes_performed_id who several b (TextStep step ∷ cs) scene =
+    let changed = (if b then true else changes_lines (TextStep step) scene.document) in
+    changes_performed_id who several changed cs (change_performed who several (is_last cs) changed (TextStep step) scene)
+changes_performed_id who several b (ContainerStep token coalesce ∷ cs) scene =
+    let changed = (if b then true else changes_lines (ContainerStep token coalesce) scene.document) in
+    changes_performed_id who several changed cs (change_performed who several (is_last cs) changed (ContainerStep token coalesce) scene)
+
+own_document : (r : Request) → IsSoundRequest r → document_at r.session.documents r.document.id ≡ Some r.document
+own_document r h = ap (document_at r.session.documents) (document_id r.session.documents r.view.document r.document h.document) ∙ h.document
+
+-- the request's document replaced by one that goes on from it
+own_replaced : (r : Request) (new : Document) → IsSoundRequest r → new.id ≡ r.document.id → KeepsEarlierTexts r.document new → ListsGoOn r.session.documents (with_document new r.session.documents)
+own_replaced r new h same keeps =
+    lists_go_on_replaced r.session.documents r.document new (ap (document_at r.session.documents) same ∙ own_document r h) keeps
+
+followed_documents : (view : ℕ) (before : List ℕ) (after : Follow) (s : Session) → (followed view before after s).documents ≡ s.documents
+followed_documents view before follow.Nothing s = refl
+followed_documents view before (follow.Caret place) s = refl
+followed_documents view before (follow.Target start past) s = refl
+followed_documents view before (follow.Clipboard start count) s = refl
+
+performed_goes_on : (r : Request) (what : Plan) → IsSoundRequest r → IsFitPlan r what → ListsGoOn r.session.documents (performed r what).0.documents
+performed_goes_on r (plan.Answer value) h fit = lists_go_on_same r.session.documents
+performed_goes_on r (plan.HandOut value start count) h fit = lists_go_on_same r.session.documents
+performed_goes_on r (plan.HandOutStyled start count) h fit = lists_go_on_same r.session.documents
+performed_goes_on r plan.Attempt h fit = lists_go_on_same r.session.documents
+performed_goes_on r (plan.ChangeView change value) h fit = lists_go_on_same r.session.documents
+performed_goes_on r (plan.ChangeSession change value) h fit = session_change_goes_on r change h.sound
+performed_goes_on r (plan.ChangeDocument change value) h fit =
+    own_replaced r (changed_document r.message.text change r.document) h (changed_id r.message.text change r.document) (document_changes_keep_earlier_texts r.message.text change r.document)
+performed_goes_on r (plan.Edit change value after) h fit =
+    let scene = edit_made (steps_of r change) (scene_of r) in
+    let history = (request_document r h).history in
+    subst (ListsGoOn r.session.documents) (sym (followed_documents r.view.id (text r) after (session_of r.session scene)))
+    (own_replaced r scene.document h (edit_made_id (steps_of r change) (scene_of r))
+    (edits_keep_earlier_texts (steps_of r change) (scene_of r) (steps_fit (steps_of r change) (text r) (edit_steps_fit r change fit.0)) (λ e. (history.kept e).0)))
+performed_goes_on r plan.Undo h fit =
+    let past = undo_changes r.document.history in
+    own_replaced r (after_undo (scene_of r)).document h
+    (changes_performed_id notes.performed_undo (notes.bit_if (nat_lt 1 (length past)) notes.multi_step) false past (scene_of r))
+    (undo_keeps_the_texts_before (scene_of r))
+performed_goes_on r plan.Redo h fit =
+    let future = redo_changes r.document.history in
+    own_replaced r (after_redo (scene_of r)).document h
+    (changes_performed_id notes.performed_redo (notes.bit_if (nat_lt 1 (length future)) notes.multi_step) false future (scene_of r))
+    (redo_keeps_the_texts_before (scene_of r) (steps_fit (text_steps future) (text r) (redo_steps_fit r h)))
+
+-- Messages.
+
+-- what comes of a message lets the documents go on
+abbrev LetsGoOn : Session → Result (Session × Response) Refusal → Type 0
+LetsGoOn s (Ok done) = DocumentsGoOn s done.0
+LetsGoOn s (Err refusal) = Unit {0}
+
+answered_goes_on : (kind : Kind) (r : Request) (p : Planned) → IsSoundRequest r → IsFitPlanned r p → LetsGoOn r.session (answered kind r p)
+answered_goes_on kind r (Err refusal) h fit = tt
+answered_goes_on kind r (Ok what) h fit = performed_goes_on r what h fit
+
+from_document_goes_on : (s : Session) (v : View) (kind : Kind) (m : Message) (o : Option Document) → IsSound s → view_at s.views v.id ≡ Some v → document_at s.documents v.document ≡ o →
+    LetsGoOn s (table_from_document s v kind m o)
+from_document_goes_on s v kind m None h e f = tt
+from_document_goes_on s v kind m (Some d) h e f =
+    let sound_request : IsSoundRequest (request s v d m) = record { sound = h; view = e; document = f } in
+    answered_goes_on kind (request s v d m) (plan_of kind (request s v d m)) sound_request (plan_fits kind (request s v d m) sound_request)
+
+if_known_goes_on : (b : Bool) (s : Session) (v : View) (kind : Kind) (m : Message) → IsSound s → view_at s.views v.id ≡ Some v → LetsGoOn s (table_if_known b s v kind m)
+if_known_goes_on true s v kind m h e = from_document_goes_on s v kind m (document_at s.documents v.document) h e refl
+if_known_goes_on false s v kind m h e = tt
+
+from_kind_goes_on : (known : Kind → Bool) (s : Session) (v : View) (m : Message) (o : Option Kind) → IsSound s → view_at s.views v.id ≡ Some v → LetsGoOn s (table_from_kind known s v m o)
+from_kind_goes_on known s v m None h e = tt
+from_kind_goes_on known s v m (Some kind) h e = if_known_goes_on (known kind) s v kind m h e
+
+from_view_goes_on : (known : Kind → Bool) (s : Session) (view : ℕ) (m : Message) (o : Option View) → IsSound s → view_at s.views view ≡ o → LetsGoOn s (table_from_view known s m o)
+from_view_goes_on known s view m None h e = tt
+from_view_goes_on known s view m (Some v) h e =
+    from_kind_goes_on known s v m (kind_of m.number) h (ap (view_at s.views) (view_id s.views view v e) ∙ e)
+
+table_goes_on : (known : Kind → Bool) (s : Session) (view : ℕ) (m : Message) → IsSound s → LetsGoOn s (table known s view m)
+table_goes_on known s view m h = from_view_goes_on known s view m (view_at s.views view) h refl
+
+pub messages_let_documents_go_on : MessagesLetDocumentsGoOn
+messages_let_documents_go_on known s view m done h e = subst (LetsGoOn s) e (table_goes_on known s view m h)
+
+-- Commands.
+
+message_goes_on : (s : Session) (o : Result (Session × Response) Refusal) → LetsGoOn s o → DocumentsGoOn s (after_message s o).0.session
+message_goes_on s (Ok done) k = k
+message_goes_on s (Err refusal) k = lists_go_on_same s.documents
+
+abbrev OpeningGoesOn : Session → Result (Session × ℕ) Refusal → Type 0
+OpeningGoesOn s o = DocumentsGoOn s (after_opening s o).0.session
+
+opening_goes_on : (s : Session) → OpeningGoesOn s (opened s)
+opening_goes_on s =
+    let d = new_document s.next_document 0 in
+    let with = with_new_document (record d { views = s.next_view ∷ [] }) s in
+    both_hold (OpeningGoesOn s) (nat_le s.limits.views (length s.views) || nat_lt s.limits.ids s.next_view || nat_lt s.limits.ids s.next_document) (Err TooMany)
+    (Ok (record with { views = s.views ++ new_view s.next_view d ∷ []; next_view = s.next_view + 1 }, s.next_view))
+    (λ e. lists_go_on_same s.documents) (λ e. lists_go_on_pushed s.documents (record d { views = s.next_view ∷ [] }) refl)
+
+closing_goes_on : (s : Session) (o : Option View) → IsSound s → DocumentsGoOn s (after_closing s (closed_view s o)).0.session
+closing_goes_on s None h = lists_go_on_same s.documents
+closing_goes_on s (Some v) h =
+    lists_go_on_relisted s.documents s.documents (left_by v.id) 0 s.next_document (left_relisted v.id) h.document_ids (lists_go_on_same s.documents)
+
+loaded_goes_on : (known : Kind → Bool) (s : Session) (view : ℕ) (v : Option View) (file : Option (List ℕ)) → IsSound s → LetsGoOn s (loaded known s view v file)
+loaded_goes_on known s view None file h = tt
+loaded_goes_on known s view (Some v) None h = tt
+loaded_goes_on known s view (Some v) (Some bytes) h = table_goes_on known s view (set_text_message bytes) h
+
+pub commands_let_documents_go_on : CommandsLetDocumentsGoOn
+commands_let_documents_go_on known files OpenView s h = opening_goes_on s.session
+commands_let_documents_go_on known files (CloseView view) s h = closing_goes_on s.session (view_at s.session.views view) h
+commands_let_documents_go_on known files (LoadFile view file) s h =
+    message_goes_on s.session (loaded known s.session view (view_at s.session.views view) (file_at files file)) (loaded_goes_on known s.session view (view_at s.session.views view) (file_at files file) h)
+commands_let_documents_go_on known files (SendMessage view message) s h = message_goes_on s.session (table known s.session view message) (table_goes_on known s.session view message h)
+commands_let_documents_go_on known files (Expect value) s h = lists_go_on_same s.session.documents
+
+-- Runs.
+
+-- in this session undo goes back to texts of these sessions
+abbrev pub GoesBackIn : Session → List Session → Type 0
+GoesBackIn s sessions = (id : ℕ) (d : Document) → document_at s.documents id ≡ Some d → GoesBackAmong d (states_of id sessions)
+
+state_there : (id : ℕ) (s : Session) (earlier : List Session) (d : Document) → document_at s.documents id ≡ Some d → states_of id (s ∷ earlier) ≡ d ∷ states_of id earlier
+state_there id s earlier d e = ap (λ (o : Option Document). cons_option o (states_of id earlier)) e
+
+goes_back_next : (s t : Session) (earlier : List Session) → GoesBackIn s (s ∷ earlier) → DocumentsGoOn s t → GoesBackIn t (t ∷ s ∷ earlier)
+goes_back_next s t earlier back on id d e =
+    subst (GoesBackAmong d) (sym (state_there id t (s ∷ earlier) d e)) (go (document_at s.documents id) refl (on id d e))
+  where
+    go : (o : Option Document) → document_at s.documents id ≡ o → GoesOn o d → GoesBackAmong d (d ∷ states_of id (s ∷ earlier))
+    go None found g = goes_back_at_first d (states_of id (s ∷ earlier)) g
+    go (Some old) found g = goes_back_afterwards old d (states_of id (s ∷ earlier)) (back id old found) g
+
+pub goes_back_in_run : (known : Kind → Bool) (files : List (List ℕ)) (cs : List Command) (s : Running) (earlier : List Session) → IsSound s.session → GoesBackIn s.session (s.session ∷ earlier) →
+    GoesBackIn (run_to known files cs s).session (sessions_of known files cs s earlier)
+goes_back_in_run known files [] s earlier h back = back
+goes_back_in_run known files (c ∷ cs) s earlier h back =
+    let t = (after_command known files c s).0 in
+    goes_back_in_run known files cs t (s.session ∷ earlier) (command_sound known files c s h)
+    (goes_back_next s.session t.session earlier back (commands_let_documents_go_on known files c s h))
+
+none_at_first : (limits : Limits) → GoesBackIn (new_session limits) (new_session limits ∷ [])
+none_at_first limits id d e = cc
+
+pub undo_goes_back_in_every_run : UndoGoesBackInEveryRun
+undo_goes_back_in_every_run known files commands limits id d e =
+    goes_back_in_run known files commands (starting (new_session limits)) [] (new_session_sound limits) (none_at_first limits) id d e

@@ -1,0 +1,113 @@
+-- The messages UNDO and REDO.
+use Rattle.std.proofs.Common.{◌≡◌, ℕ, Bool, true, false, cond, nat_lt, List, [], ◌∷◌, length, refl, ap, ◌∙◌, sym, subst, Option, Some, Ok, Err}
+use Rattle.ed_types.specs.declared.kind.Kind.{Kind}
+use Rattle.ed_types.specs.declared.kind.Kind.TheVariants.{Undo, Redo}
+use Rattle.ed_types.specs.declared.message.Message.{Message}
+use Rattle.ed_types.specs.declared.refusal.Refusal.{Refusal}
+use Rattle.ed_types.specs.declared.refusal.Refusal.TheVariants.{TooLong}
+use Rattle.ed_types.specs.Messages.{kind_of}
+use Rattle.ed_model.specs.declared.plan.Plan.{Plan}
+use Rattle.ed_model.specs.declared.plan.Plan.TheVariants as plan
+use Rattle.ed_model.specs.History.{Change, TextStep, ContainerStep, undone, redone, undo_changes, redo_changes, can_undo, can_redo}
+use Rattle.ed_model.specs.Session.{Session, View, Document, view_at, document_at, with_document, text_of, limit_of}
+use Rattle.ed_model.specs.Notes as notes
+use Rattle.ed_model.specs.Requests.{Request, Planned, size}
+use Rattle.ed_model.specs.Edits.{stays_within}
+use Rattle.ed_model.specs.DocumentPlans.{text_steps, act_on_history}
+use Rattle.ed_model.specs.Performing.{Scene, scene_of, changes_performed, change_performed, changes_lines, is_last}
+use Rattle.ed_model.specs.Table.{table, table_from_view, table_from_kind, table_if_known, table_from_document, answered, plan_of, request}
+use Rattle.ed_model.specs.InverseLaws.{after_undo, after_redo}
+use Rattle.ed_model.specs.TableLaws.{Answered}
+use Rattle.ed_model.specs.UndoLaws.{undone_text, redone_text}
+use Rattle.ed_model.specs.UndoMessageLaws.{IsUndone, IsRedone, UndoUndoes, RedoRedoes}
+use Rattle.ed_model.proofs.TransactionLemmas.{undo_makes_its_steps, redo_makes_its_steps}
+use Rattle.ed_model.proofs.UndoLemmas.{undo_keeps_earlier_texts, one_redone}
+use Rattle.ed_model.proofs.SoundSessions.{document_id, replaced_found}
+use Rattle.ed_model.proofs.RunUndoLemmas.{changes_performed_id}
+
+-- What every refusal has, and the answer of the kind at the view and its document, the table has.
+module _ (P : Answered → Type 0) (refused : (e : Refusal) → P (Err e)) (known : Kind → Bool) (s : Session) (m : Message) (kind : Kind) (v : View) (d : Document) where
+  at_document : (o : Option Document) → o ≡ Some d → P (answered kind (request s v d m) (plan_of kind (request s v d m))) → P (table_from_document s v kind m o)
+  at_document o e h = subst (λ (x : Option Document). P (table_from_document s v kind m x)) (sym e) h
+
+  at_known : (b : Bool) → document_at s.documents v.document ≡ Some d → P (answered kind (request s v d m) (plan_of kind (request s v d m))) → P (table_if_known b s v kind m)
+  at_known true e h = at_document (document_at s.documents v.document) e h
+  at_known false e h = refused _
+
+  -- the fact of a message, at its view and document
+  pub at_table : (view : ℕ) → kind_of m.number ≡ Some kind → view_at s.views view ≡ Some v → document_at s.documents v.document ≡ Some d →
+      P (answered kind (request s v d m) (plan_of kind (request s v d m))) → P (table known s view m)
+  at_table view k e f h =
+      subst (λ (x : Option View). P (table_from_view known s m x)) (sym e)
+      (subst (λ (x : Option Kind). P (table_from_kind known s v m x)) (sym k) (at_known (known kind) f h))
+
+-- undo and redo that are not refused act, where they can and may
+acts_if_written : (P : Planned → Type 0) (act : Plan) (b within : Bool) → b ≡ false → P (Ok act) → P (Err TooLong) → P (cond b (Ok plan.Attempt) (cond within (Ok act) (Err TooLong)))
+acts_if_written P act true within e h k = cc
+acts_if_written P act false true e h k = h
+acts_if_written P act false false e h k = k
+
+acts : (P : Planned → Type 0) (r : Request) (can : Bool) (cs : List Change) (act : Plan) → can ≡ true → r.document.read_only ≡ false → P (Ok act) → P (Err TooLong) → P (act_on_history r can cs act)
+acts P r true cs act e f h k = acts_if_written P act r.document.read_only (stays_within (limit_of r.session.limits r.document) (size r) (text_steps cs)) f h k
+acts P r false cs act e f h k = cc
+
+changes_performed_read_only : (who several : ℕ) (b : Bool) (cs : List Change) (scene : Scene) → (changes_performed who several b cs scene).document.read_only ≡ scene.document.read_only
+changes_performed_read_only who several b [] scene = refl
+changes_performed_read_only who several b (TextStep step ∷ cs) scene =
+    let changed = (cond b true (changes_lines (TextStep step) scene.document)) in
+    changes_performed_read_only who several changed cs (change_performed who several (is_last cs) changed (TextStep step) scene)
+changes_performed_read_only who several b (ContainerStep token coalesce ∷ cs) scene =
+    let changed = (cond b true (changes_lines (ContainerStep token coalesce) scene.document)) in
+    changes_performed_read_only who several changed cs (change_performed who several (is_last cs) changed (ContainerStep token coalesce) scene)
+
+-- the scene's document with its last transaction undone, and with its next one redone
+pub undone_document : (scene : Scene) → IsUndone scene.document (after_undo scene).document
+undone_document scene =
+    let cs = undo_changes scene.document.history in
+    record {
+      history = refl;
+      read_only = changes_performed_read_only notes.performed_undo (notes.bit_if (nat_lt 1 (length cs)) notes.multi_step) false cs scene;
+      texts = λ k. ap (undone_text k (undone scene.document.history).past) (undo_makes_its_steps scene) ∙ undo_keeps_earlier_texts k scene.document.history (text_of scene.document);
+    }
+
+pub redone_document : (scene : Scene) → IsRedone scene.document (after_redo scene).document
+redone_document scene =
+    let cs = redo_changes scene.document.history in
+    record {
+      history = refl;
+      read_only = changes_performed_read_only notes.performed_redo (notes.bit_if (nat_lt 1 (length cs)) notes.multi_step) false cs scene;
+      texts = λ k. ap (redone_text k (redone scene.document.history).future) (redo_makes_its_steps scene) ∙ one_redone k scene.document.history scene.document.history.future (text_of scene.document) refl;
+    }
+
+-- in a session whose documents hold this one, the new one takes its place
+found_again : (ds : List Document) (id : ℕ) (d e : Document) → document_at ds id ≡ Some d → e.id ≡ d.id → document_at (with_document e ds) id ≡ Some e
+found_again ds id d e found same =
+    let here : id ≡ e.id = sym (same ∙ document_id ds id d found) in
+    ap (document_at (with_document e ds)) here ∙ replaced_found ds d e (ap (document_at ds) (sym here) ∙ found)
+
+-- a fact of the session of a reply
+abbrev Afterwards : (Session → Type 0) → Answered → Type 0
+Afterwards C (Ok done) = C done.0
+Afterwards C (Err refusal) = Unit {0}
+
+pub undo_undoes : UndoUndoes
+undo_undoes known s view m v d done k e f can write answer =
+    let r = request s v d m in
+    let cs = undo_changes d.history in
+    let same : (after_undo (scene_of r)).document.id ≡ d.id = changes_performed_id notes.performed_undo (notes.bit_if (nat_lt 1 (length cs)) notes.multi_step) false cs (scene_of r) in
+    let C : Session → Type 0 = λ t. (x : Document) × (document_at t.documents v.document ≡ Some x) × IsUndone d x in
+    subst (Afterwards C) answer
+    (at_table (Afterwards C) (λ refusal. tt) known s m Undo v d view k e f
+    (acts (λ (p : Planned). Afterwards C (answered Undo r p)) r (can_undo d.history) cs plan.Undo can write
+    ((after_undo (scene_of r)).document, found_again s.documents v.document d (after_undo (scene_of r)).document f same, undone_document (scene_of r)) tt))
+
+pub redo_redoes : RedoRedoes
+redo_redoes known s view m v d done k e f can write answer =
+    let r = request s v d m in
+    let cs = redo_changes d.history in
+    let same : (after_redo (scene_of r)).document.id ≡ d.id = changes_performed_id notes.performed_redo (notes.bit_if (nat_lt 1 (length cs)) notes.multi_step) false cs (scene_of r) in
+    let C : Session → Type 0 = λ t. (x : Document) × (document_at t.documents v.document ≡ Some x) × IsRedone d x in
+    subst (Afterwards C) answer
+    (at_table (Afterwards C) (λ refusal. tt) known s m Redo v d view k e f
+    (acts (λ (p : Planned). Afterwards C (answered Redo r p)) r (can_redo d.history) cs plan.Redo can write
+    ((after_redo (scene_of r)).document, found_again s.documents v.document d (after_redo (scene_of r)).document f same, redone_document (scene_of r)) tt))

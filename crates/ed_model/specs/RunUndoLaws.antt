@@ -1,0 +1,49 @@
+-- Undo over whole runs: in every state, undo goes back to texts of earlier states of the run.
+use Rattle.std.specs.Prelude.{◌≡◌, ℕ, Bool, List, [], ◌∷◌, filter_map, Option, Some, None, Ok}
+use Rattle.ed_types.specs.declared.kind.Kind.{Kind}
+use Rattle.ed_types.specs.declared.limits.Limits.{Limits}
+use Rattle.ed_types.specs.declared.message.Message.{Message}
+use Rattle.ed_types.specs.declared.script.Command.{Command}
+use Rattle.ed_types.specs.Notices.{Response}
+use Rattle.ed_model.specs.Session.{Session, Document, document_at, new_session}
+use Rattle.ed_model.specs.Table.{table}
+use Rattle.ed_model.specs.Run.{Running, after_command, run_to, starting}
+use Rattle.ed_model.specs.SoundLaws.{IsSound}
+use Rattle.ed_model.specs.EarlierTextLaws.{KeepsEarlierTexts, GoesBackAmong}
+
+-- a document goes on from what it was: it keeps its earlier texts, or is new and has no past
+abbrev pub GoesOn : Option Document → Document → Type 0
+GoesOn None d = d.history.past ≡ []
+GoesOn (Some old) d = KeepsEarlierTexts old d
+
+-- every document that is there afterwards goes on from what it was
+abbrev pub DocumentsGoOn : Session → Session → Type 0
+DocumentsGoOn s t = (id : ℕ) (d : Document) → document_at t.documents id ≡ Some d → GoesOn (document_at s.documents id) d
+
+-- a message to a sound session lets its documents go on
+abbrev pub MessagesLetDocumentsGoOn : Type 0
+MessagesLetDocumentsGoOn =
+    (known : Kind → Bool) (s : Session) (view : ℕ) (m : Message) (done : Session × Response) →
+    IsSound s → table known s view m ≡ Ok done → DocumentsGoOn s done.0
+
+-- and so does every command
+abbrev pub CommandsLetDocumentsGoOn : Type 0
+CommandsLetDocumentsGoOn =
+    (known : Kind → Bool) (files : List (List ℕ)) (c : Command) (s : Running) → IsSound s.session → DocumentsGoOn s.session (after_command known files c s).0.session
+
+-- the sessions of a run, the latest first, from those before it on
+abbrev pub sessions_of : (Kind → Bool) → List (List ℕ) → List Command → Running → List Session → List Session
+sessions_of known files [] s earlier = s.session ∷ earlier
+sessions_of known files (c ∷ cs) s earlier = sessions_of known files cs (after_command known files c s).0 (s.session ∷ earlier)
+
+-- the states of a document in these sessions
+abbrev pub states_of : ℕ → List Session → List Document
+states_of id sessions = filter_map (λ (s : Session). document_at s.documents id) sessions
+
+-- after every run from a new session, undo of k transactions goes back to the text of the latest state of the run in which the
+-- document's past had k transactions fewer
+abbrev pub UndoGoesBackInEveryRun : Type 0
+UndoGoesBackInEveryRun =
+    (known : Kind → Bool) (files : List (List ℕ)) (commands : List Command) (limits : Limits) (id : ℕ) (d : Document) →
+    document_at (run_to known files commands (starting (new_session limits))).session.documents id ≡ Some d →
+    GoesBackAmong d (states_of id (sessions_of known files commands (starting (new_session limits)) []))

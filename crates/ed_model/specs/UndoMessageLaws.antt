@@ -1,0 +1,39 @@
+-- The messages UNDO and REDO: what becomes of the document.
+use Rattle.std.specs.Prelude.{◌≡◌, ℕ, suc, Bool, true, false, Some, Ok}
+use Rattle.ed_types.specs.declared.kind.Kind.{Kind}
+use Rattle.ed_types.specs.declared.kind.Kind.TheVariants.{Undo, Redo}
+use Rattle.ed_types.specs.declared.message.Message.{Message}
+use Rattle.ed_types.specs.Notices.{Response}
+use Rattle.ed_types.specs.Messages.{kind_of}
+use Rattle.ed_model.specs.History.{undone, redone, can_undo, can_redo}
+use Rattle.ed_model.specs.Session.{Session, View, Document, view_at, document_at, text_of}
+use Rattle.ed_model.specs.Table.{table}
+use Rattle.ed_model.specs.UndoLaws.{undone_text, redone_text}
+
+-- The document with its last transaction undone: the text is the one from before it, and so are all texts before that.
+pub record IsUndone (d e : Document) : Type 0 where
+  pub history : e.history ≡ undone d.history
+  pub read_only : e.read_only ≡ d.read_only
+  pub texts : (k : ℕ) → undone_text k e.history.past (text_of e) ≡ undone_text (suc k) d.history.past (text_of d)
+
+-- The document with its next transaction redone: the text is the one after it, and so are all texts after that.
+pub record IsRedone (d e : Document) : Type 0 where
+  pub history : e.history ≡ redone d.history
+  pub read_only : e.read_only ≡ d.read_only
+  pub texts : (k : ℕ) → redone_text k e.history.future (text_of e) ≡ redone_text (suc k) d.history.future (text_of d)
+
+-- UNDO, if it is answered and there is something to undo in a document that can be written, undoes the last transaction
+abbrev pub UndoUndoes : Type 0
+UndoUndoes =
+    (known : Kind → Bool) (s : Session) (view : ℕ) (m : Message) (v : View) (d : Document) (done : Session × Response) →
+    kind_of m.number ≡ Some Undo → view_at s.views view ≡ Some v → document_at s.documents v.document ≡ Some d →
+    can_undo d.history ≡ true → d.read_only ≡ false → table known s view m ≡ Ok done →
+    (e : Document) × (document_at done.0.documents v.document ≡ Some e) × IsUndone d e
+
+-- and REDO redoes the next one
+abbrev pub RedoRedoes : Type 0
+RedoRedoes =
+    (known : Kind → Bool) (s : Session) (view : ℕ) (m : Message) (v : View) (d : Document) (done : Session × Response) →
+    kind_of m.number ≡ Some Redo → view_at s.views view ≡ Some v → document_at s.documents v.document ≡ Some d →
+    can_redo d.history ≡ true → d.read_only ≡ false → table known s view m ≡ Ok done →
+    (e : Document) × (document_at done.0.documents v.document ≡ Some e) × IsRedone d e
