@@ -36,29 +36,16 @@ use Rattle.ed_model.specs.InverseLaws as inverse
 use Rattle.ed_model.specs.InverseLaws.{text_of_scene, history_of, after_undo, after_redo}
 use Rattle.ed_model.specs.EarlierTextLaws.{KeepsEarlierTexts, GoesBackAmong}
 use Rattle.ed_model.specs.RunUndoLaws.{GoesOn, DocumentsGoOn, MessagesLetDocumentsGoOn, CommandsLetDocumentsGoOn, sessions_of, states_of, UndoGoesBackInEveryRun}
-use Rattle.ed_model.specs.SoundLaws as sound
 use Rattle.ed_model.specs.SoundLaws.{IsSound, IsSoundDocument, Rise}
 use Rattle.ed_model.specs.PlansFit.{IsSoundRequest, IsFitPlan, IsFitPlanned}
 use Rattle.ed_model.proofs.HistoryLemmas.{both_hold}
 use Rattle.ed_model.proofs.EarlierTextLemmas.{keeps_same, edits_keep_earlier_texts, undo_keeps_the_texts_before, redo_keeps_the_texts_before, document_changes_keep_earlier_texts, goes_back_at_first, goes_back_afterwards}
-use Rattle.ed_model.proofs.SoundSteps.{fits_range}
-use Rattle.ed_model.proofs.SoundSessions.{document_id, view_id, replaced_found, replaced_other}
+use Rattle.ed_model.proofs.SoundHistory.{fit_in_turn}
+use Rattle.ed_model.proofs.SoundFinding.{document_id, view_id, replaced_found, replaced_other}
 use Rattle.ed_model.proofs.SoundChanges.{changed_id}
 use Rattle.ed_model.proofs.SoundReferences.{documents_push}
 use Rattle.ed_model.proofs.SoundPlans.{request_document, plan_fits}
 use Rattle.ed_model.proofs.SoundRuns.{edit_steps_fit, redo_steps_fit, command_sound, new_session_sound}
-
--- A step that fits in the sense of sound histories fits here.
-behind_its_bytes : (p n size : ℕ) → p + n ≤ size → p ≤ size
-behind_its_bytes p n size h = omega arith
-
-step_fits : (step : Step) (t : List ℕ) → sound.Fits t step → inverse.Fits step t
-step_fits (Insert p bytes) t h = h.0
-step_fits (Delete p bytes) t h = (behind_its_bytes p (length bytes) (length t) (fits_range t (Delete p bytes) h), h.0)
-
-steps_fit : (steps : List Step) (t : List ℕ) → sound.FitInTurn t steps → inverse.FitInTurn steps t
-steps_fit [] t h = tt
-steps_fit (step ∷ steps) t h = (step_fits step t h.0, steps_fit steps _ h.1)
 
 -- Lists of documents.
 
@@ -267,7 +254,7 @@ performed_goes_on r (plan.Edit change value after) h fit =
     let history = (request_document r h).history in
     subst (ListsGoOn r.session.documents) (sym (followed_documents r.view.id (text r) after (session_of r.session scene)))
     (own_replaced r scene.document h (edit_made_id (steps_of r change) (scene_of r))
-    (edits_keep_earlier_texts (steps_of r change) (scene_of r) (steps_fit (steps_of r change) (text r) (edit_steps_fit r change fit.0)) (λ e. (history.kept e).0)))
+    (edits_keep_earlier_texts (steps_of r change) (scene_of r) (fit_in_turn (steps_of r change) (text r) (edit_steps_fit r change fit.0)) (λ e. (history.kept e).0)))
 performed_goes_on r plan.Undo h fit =
     let past = undo_changes r.document.history in
     own_replaced r (after_undo (scene_of r)).document h
@@ -277,7 +264,7 @@ performed_goes_on r plan.Redo h fit =
     let future = redo_changes r.document.history in
     own_replaced r (after_redo (scene_of r)).document h
     (changes_performed_id notes.performed_redo (notes.bit_if (nat_lt 1 (length future)) notes.multi_step) false future (scene_of r))
-    (redo_keeps_the_texts_before (scene_of r) (steps_fit (text_steps future) (text r) (redo_steps_fit r h)))
+    (redo_keeps_the_texts_before (scene_of r) (fit_in_turn (text_steps future) (text r) (redo_steps_fit r h)))
 
 -- Messages.
 

@@ -12,8 +12,8 @@ use Rattle.ed_model.specs.declared.plan.LineEndTypes.{LineEndTypes}
 use Rattle.ed_model.specs.Requests.{Request, Planned, text, size, lines, with_argument, argument, text_length, text_range, counted_range, with_line, line_argument, end_or_size}
 use Rattle.ed_model.specs.SoundLaws.{Rise}
 use Rattle.ed_model.specs.PlansFit.{IsFitPlanned}
-use Rattle.ed_model.proofs.SoundLists.{line_starts_rise}
-use Rattle.ed_model.proofs.SoundSessions.{found_all, found_test, all_append}
+use Rattle.ed_model.proofs.SoundLists.{starts_rise}
+use Rattle.ed_model.proofs.SoundFinding.{found_all, found_test, all_append}
 
 -- Numbers.
 
@@ -89,10 +89,10 @@ rise_slice low n (x ∷ xs) zero r = let a : x < n + 1 = r.1 in omega arith
 rise_slice low n (x ∷ xs) (suc i) r = rise_slice (x + 1) n xs i r.2
 
 pub start_bound : (types : LineEndTypes) (text : List ℕ) (line : ℕ) → start_of_line types text line ≤ length text
-start_bound types text line = let a = rise_get 0 (length text + 1) (line_starts types text) line (omega arith) (line_starts_rise types text).1 in omega arith
+start_bound types text line = let a = rise_get 0 (length text + 1) (line_starts types text) line (omega arith) (starts_rise types text) in omega arith
 
 pub past_bound : (types : LineEndTypes) (text : List ℕ) (line : ℕ) → start_after_line types text line ≤ length text
-past_bound types text line = rise_slice 0 (length text) (line_starts types text) (line + 1) (line_starts_rise types text).1
+past_bound types text line = rise_slice 0 (length text) (line_starts types text) (line + 1) (starts_rise types text)
 
 pub end_bound : (types : LineEndTypes) (text : List ℕ) (line : ℕ) → end_of_line types text line ≤ length text
 end_bound types text line =

@@ -1,60 +1,22 @@
--- What is carried over a step: how many rows, that line 0 stays visible, and that no handle comes to stand more often.
+-- What is carried over a step: line 0 stays visible, and no handle comes to stand more often.
 use Rattle.std.proofs.Common.{◌≡◌, ℕ, ◌+◌, ◌<◌, ◌≤◌, Bool, true, false, cond, List, [], ◌∷◌, ◌++◌, length, map, refl, ap, ◌∙◌, arith, length-append}
-use Rattle.std.specs.Prelude.{◌==◌, nat_le, filter, flat_map, zip}
+use Rattle.std.specs.Prelude.{◌==◌, filter, flat_map, zip}
 use Rattle.std.specs.List.{range_with_len}
 use Rattle.std.proofs.lemmas.List.{map-append}
-use Rattle.std.proofs.lemmas.List.FromFn.{length-map-range_with_len}
-use Rattle.std.proofs.lemmas.List.Sums.{length-filter}
 use Rattle.std.proofs.lemmas.List.Elements.{filter-append}
-use Rattle.std.proofs.lemmas.Bool.{eqb-true, eqb-false, leb-true, le-leb, ne_eqb}
-use Rattle.std.proofs.lemmas.Bool.Decides.{nat_tests}
+use Rattle.std.proofs.lemmas.Bool.{eqb-true, eqb-false, ne_eqb}
 use Rattle.ed_model.specs.declared.plan.LineEndTypes.{LineEndTypes}
-use Rattle.ed_model.specs.Lines.{line_starts, line_of, line_count}
-use Rattle.ed_model.specs.Steps.{Step, Insert, Delete, edited, moved_start, moved_position}
+use Rattle.ed_model.specs.Lines.{line_starts, line_of}
+use Rattle.ed_model.specs.Steps.{Step, edited, moved_start}
 use Rattle.ed_model.specs.Carry.{rows_on, carried, carried_by, carried_unless_empty, regrouped}
 use Rattle.ed_model.specs.Rows.{Row, Marker, Flags, flags_together, rows_together}
 use Rattle.ed_model.specs.Folding.{is_visible}
-use Rattle.ed_model.specs.Edits.{size_after}
 use Rattle.ed_model.specs.SoundLaws.{Rise, occurrences, handles_in}
-use Rattle.ed_model.proofs.SoundLists.{rise_range, line_starts_rise}
-use Rattle.ed_model.proofs.SoundSteps.{InRange}
-
--- as many rows as lines
-pub length_carried : {R : Type 0} (together : List R → R) (moved : ℕ → ℕ) (old new : List ℕ) (rows : List R) → length (carried together moved old new rows) ≡ length new
-length_carried together moved old new rows = length-map-range_with_len (λ line. together (rows_on moved old new rows line)) 0 (length new)
-
-length_unless_empty : {R : Type 0} (together : List R → R) (types : LineEndTypes) (step : Step) (text new : List ℕ) (rows : List R)
-    → length (carried_unless_empty together types step text new rows) ≡ line_count types new
-length_unless_empty together types step text [] rows = refl
-length_unless_empty together types step text (b ∷ bs) rows = length_carried together (moved_start step) (line_starts types text) (line_starts types (b ∷ bs)) rows
-
-pub length_carried_by : {R : Type 0} (together : List R → R) (types : LineEndTypes) (step : Step) (text : List ℕ) (rows : List R)
-    → length (carried_by together types step text rows) ≡ line_count types (edited step text)
-length_carried_by together types step text rows = length_unless_empty together types step text (edited step text) rows
+use Rattle.ed_model.proofs.LineLemmas.{line_of_monotone}
+use Rattle.ed_model.proofs.StepLemmas.{start_keeps_order}
+use Rattle.ed_model.proofs.SoundLists.{rise_range, starts_rise}
 
 -- Line 0 stays visible.
-
-more_pass : (p q : ℕ → Bool) (xs : List ℕ) → ((x : ℕ) → p x ≡ true → q x ≡ true) → length (filter p xs) ≤ length (filter q xs)
-more_pass p q [] h = omega arith
-more_pass p q (x ∷ xs) h = go (p x) (q x) (h x) (more_pass p q xs h)
-  where
-    go : (b c : Bool) → (b ≡ true → c ≡ true) → length (filter p xs) ≤ length (filter q xs)
-        → length (cond b (x ∷ filter p xs) (filter p xs)) ≤ length (cond c (x ∷ filter q xs) (filter q xs))
-    go true true i le = omega arith
-    go true false i le = let e = i refl in absurd (cc)
-    go false true i le = omega arith
-    go false false i le = le
-
-pub line_of_rises : (starts : List ℕ) (p q : ℕ) → p ≤ q → line_of starts p ≤ line_of starts q
-line_of_rises starts p q h =
-    let m = more_pass (λ s. nat_le s p) (λ s. nat_le s q) starts (λ s t. le-leb s q (let g = leb-true s p t in omega arith)) in
-    let a = length-filter (λ s. nat_le s p) starts in
-    let b = length-filter (λ s. nat_le s q) starts in
-    omega arith
-
-pub moved_start_rises : (step : Step) (p q : ℕ) → p ≤ q → moved_start step p ≤ moved_start step q
-moved_start_rises (Insert at bytes) p q h = grind (arith, nat_tests)
-moved_start_rises (Delete at bytes) p q h = grind (arith, nat_tests)
 
 none_on_first : {R : Type 0} (moved : ℕ → ℕ) (rises : (p q : ℕ) → p ≤ q → moved p ≤ moved q) (low high : ℕ) (old new : List ℕ) (rows : List R)
     → Rise low high old → 0 < line_of new (moved low)
@@ -62,8 +24,8 @@ none_on_first : {R : Type 0} (moved : ℕ → ℕ) (rises : (p q : ℕ) → p �
 none_on_first moved rises low high [] new rows r h = refl
 none_on_first moved rises low high (x ∷ xs) new [] r h = refl
 none_on_first {R} moved rises low high (x ∷ xs) new (row ∷ rows) r h =
-    let a = line_of_rises new (moved low) (moved x) (rises low x r.0) in
-    let b = line_of_rises new (moved low) (moved (x + 1)) (rises low (x + 1) (let g : low ≤ x = r.0 in omega arith)) in
+    let a = line_of_monotone new (moved low) (moved x) (rises low x r.0) in
+    let b = line_of_monotone new (moved low) (moved (x + 1)) (rises low (x + 1) (let g : low ≤ x = r.0 in omega arith)) in
     let rest = none_on_first moved rises (x + 1) high xs new rows r.2 (omega arith) in
     let no : (line_of new (moved x) == 0) ≡ false = ne_eqb (line_of new (moved x)) 0 (λ e. omega arith) in
     rw no rest
@@ -79,7 +41,7 @@ first_on_zero moved rises high (x ∷ xs) new (f ∷ fs) r v = go (line_of new (
     go true e = v
     go false e =
         let ne = eqb-false (line_of new (moved x)) 0 e in
-        let up = line_of_rises new (moved x) (moved (x + 1)) (rises x (x + 1) (omega arith)) in
+        let up = line_of_monotone new (moved x) (moved (x + 1)) (rises x (x + 1) (omega arith)) in
         let none = none_on_first moved rises (x + 1) high xs new fs r.2 (let pos : 0 < line_of new (moved x) = omega (arith, ne) in omega arith) in
         rw none refl
 
@@ -92,8 +54,8 @@ first_unless_empty : (types : LineEndTypes) (step : Step) (text new : List ℕ) 
     → is_visible (carried_unless_empty flags_together types step text new flags) 0 ≡ true
 first_unless_empty types step text [] flags v = refl
 first_unless_empty types step text (b ∷ bs) flags v =
-    first_carried (moved_start step) (moved_start_rises step) (length text + 1) (line_starts types text) (line_starts types (b ∷ bs)) flags
-    (line_starts_rise types text).1 v
+    first_carried (moved_start step) (start_keeps_order step) (length text + 1) (line_starts types text) (line_starts types (b ∷ bs)) flags
+    (starts_rise types text) v
 
 -- line 0 is visible after a step
 pub first_carried_by : (types : LineEndTypes) (step : Step) (text : List ℕ) (flags : List Flags) → is_visible flags 0 ≡ true
@@ -104,7 +66,7 @@ first_carried_by types step text flags v = first_unless_empty types step text (e
 pub first_regrouped : (old new : LineEndTypes) (text : List ℕ) (flags : List Flags) → is_visible flags 0 ≡ true
     → is_visible (regrouped flags_together old new text flags) 0 ≡ true
 first_regrouped old new text flags v =
-    first_carried (λ start. start) (λ p q h. h) (length text + 1) (line_starts old text) (line_starts new text) flags (line_starts_rise old text).1 v
+    first_carried (λ start. start) (λ p q h. h) (length text + 1) (line_starts old text) (line_starts new text) flags (starts_rise old text) v
 
 -- Handles.
 
@@ -209,9 +171,3 @@ handles_unless_empty h types step text (b ∷ bs) rows = handles_carried h (move
 pub handles_carried_by : (h : ℕ) (types : LineEndTypes) (step : Step) (text : List ℕ) (rows : List Row)
     → occurrences h (handles_in (carried_by rows_together types step text rows)) ≤ occurrences h (handles_in rows)
 handles_carried_by h types step text rows = handles_unless_empty h types step text (edited step text) rows
-
--- Positions.
-
-pub moved_within : (n : ℕ) (step : Step) (q : ℕ) → InRange n step → q ≤ n → moved_position step q ≤ size_after n step
-moved_within n (Insert p bytes) q r h = grind (arith, nat_tests)
-moved_within n (Delete p bytes) q r h = grind (arith, nat_tests)

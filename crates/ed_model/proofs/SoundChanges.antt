@@ -18,8 +18,9 @@ use Rattle.ed_model.specs.Session.{Document, View, text_of, lines_in, limit_of, 
 use Rattle.ed_model.specs.DocumentPlans.{numbers_in}
 use Rattle.ed_model.specs.Changes.{changed_document, changed_lines, with_markers, with_new_markers, new_markers, without_marker, without_markers, is_of_number, restyled, styled}
 use Rattle.ed_model.specs.SoundLaws.{FitsText, IsSoundDocument, StandsOn, occurrences, handles_in}
-use Rattle.ed_model.proofs.SoundLists.{line_starts_rise}
-use Rattle.ed_model.proofs.SoundCarry.{length_carried, handles_carried, first_regrouped, occurrences_append}
+use Rattle.ed_model.proofs.CarryLemmas.{length-carried}
+use Rattle.ed_model.proofs.SoundLists.{are_line_starts}
+use Rattle.ed_model.proofs.SoundCarry.{handles_carried, first_regrouped, occurrences_append}
 use Rattle.ed_model.proofs.SoundHistory.{saved_fits, group_begun_fits, group_ended_fits, emptied_fits, collecting_set_fits, container_step_fits}
 use Rattle.ed_model.proofs.SoundMarkers.{set_occurrences, with_markers_occurrences, length_with_markers, new_below, new_above, new_once, without_marker_occurrences, without_markers_occurrences}
 
@@ -79,8 +80,8 @@ rows_changed limits d rows was n fewer = record {
 regrouped_sound : (limits : Limits) (d : Document) (to : LineEndTypes) → IsSoundDocument limits d
     → IsSoundDocument limits (record d { line_end_types = to; rows = regrouped rows_together d.line_end_types to (text_of d) d.rows })
 regrouped_sound limits d to was = record {
-  line_starts = line_starts_rise to (text_of d);
-  rows = length_carried rows_together (λ start. start) (line_starts d.line_end_types (text_of d)) (line_starts to (text_of d)) d.rows;
+  line_starts = are_line_starts to (text_of d);
+  rows = length-carried rows_together (λ start. start) (line_starts d.line_end_types (text_of d)) (line_starts to (text_of d)) d.rows;
   indicator_count = was.indicator_count;
   indicators = was.indicators;
   styled = was.styled;
@@ -162,7 +163,7 @@ styled_sound limits d new was le =
     let bytes = styled_bytes new d in
     let n : length (styled new d).cells ≡ length d.cells = length_from_bytes (styled new d).cells d.cells bytes in
     record {
-      line_starts = line_starts_rise d.line_end_types (text_of (styled new d));
+      line_starts = are_line_starts d.line_end_types (text_of (styled new d));
       rows = was.rows ∙ ap (line_count d.line_end_types) (sym bytes);
       indicator_count = was.indicator_count;
       indicators = subst (λ k. AllByRecursion (λ (values : List ℕ). length values ≡ k) d.indicators) (sym n) was.indicators;
@@ -283,7 +284,7 @@ regrouped_stands d to rows v on = record {
   caret = on.caret;
   target_start = on.target_start;
   target_end = on.target_end;
-  lines = length_carried flags_together (λ start. start) (line_starts d.line_end_types (text_of d)) (line_starts to (text_of d)) v.lines;
+  lines = length-carried flags_together (λ start. start) (line_starts d.line_end_types (text_of d)) (line_starts to (text_of d)) v.lines;
   first_line = first_regrouped d.line_end_types to (text_of d) v.lines on.first_line;
   indicator = on.indicator;
   listed = on.listed;
@@ -297,6 +298,10 @@ styled_stands new d v on =
 pub changed_id : (bytes : List ℕ) (what : DocumentChange) (d : Document) → (changed_document bytes what d).id ≡ d.id
 changed_id bytes (change.SetReadOnly on) d = refl
 changed_id bytes _ d = refl
+
+pub changed_views : (bytes : List ℕ) (what : DocumentChange) (d : Document) → (changed_document bytes what d).views ≡ d.views
+changed_views bytes (change.SetReadOnly on) d = refl
+changed_views bytes _ d = refl
 
 pub changed_stands : (bytes : List ℕ) (what : DocumentChange) (d : Document) (v : View) → v.document ≡ d.id → StandsOn d v → StandsOn (changed_document bytes what d) (changed_lines what d v)
 changed_stands bytes (change.SetLineEndTypes to) d v e on =

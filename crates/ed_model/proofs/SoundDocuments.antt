@@ -5,17 +5,19 @@ use Rattle.std.proofs.lemmas.List.{length-map, length-replicate}
 use Rattle.ed_types.specs.declared.limits.Limits.{Limits}
 use Rattle.ed_model.specs.Text.{Cell, plain_cells, plain_cell}
 use Rattle.ed_model.specs.Lines.{line_count}
-use Rattle.ed_model.specs.Steps.{Step, Insert, Delete, edited, edited_cells, place_of}
+use Rattle.ed_model.specs.Steps.{Step, Insert, Delete, edited, edited_cells, place_of, moved_position}
 use Rattle.ed_model.specs.Rows.{rows_together, flags_together}
 use Rattle.ed_model.specs.Indicators.{indicator_after, indicators_after, inserted_value}
 use Rattle.ed_model.specs.History.{History}
 use Rattle.ed_model.specs.Edits.{size_after}
 use Rattle.ed_model.specs.Session.{Document, View, text_of, limit_of}
 use Rattle.ed_model.specs.Performing.{document_after, moved_view}
-use Rattle.ed_model.specs.SoundLaws.{Fits, FitsText, IsSoundDocument, StandsOn}
-use Rattle.ed_model.proofs.SoundLists.{line_starts_rise}
-use Rattle.ed_model.proofs.SoundSteps.{InRange, fits_range, bytes_after, length_edited, length_deleted}
-use Rattle.ed_model.proofs.SoundCarry.{length_carried_by, first_carried_by, handles_carried_by, moved_within}
+use Rattle.ed_model.specs.SoundLaws.{IsStepOf, FitsText, IsSoundDocument, StandsOn}
+use Rattle.ed_model.proofs.StepLemmas.{bytes_of_edited_cells, position_stays_in_range}
+use Rattle.ed_model.proofs.CarryLemmas.{length-carried_by}
+use Rattle.ed_model.proofs.SoundLists.{are_line_starts}
+use Rattle.ed_model.proofs.SoundSteps.{InRange, fits_range, length_edited, length_deleted}
+use Rattle.ed_model.proofs.SoundCarry.{first_carried_by, handles_carried_by}
 
 pub length_text : (d : Document) → length (text_of d) ≡ length d.cells
 length_text d = length-map d.cells (λ (c : Cell). c.byte)
@@ -40,15 +42,15 @@ place_within (Insert p bytes) n h = omega arith
 place_within (Delete p bytes) n h = omega arith
 
 -- the range of a step that fits the document's text, in cells
-pub cells_range : (d : Document) (step : Step) → Fits (text_of d) step → InRange (length d.cells) step
+pub cells_range : (d : Document) (step : Step) → IsStepOf (text_of d) step → InRange (length d.cells) step
 cells_range d step f = subst (λ k. InRange k step) (length_text d) (fits_range (text_of d) step f)
 
 -- the text after a step
 pub text_after : (d : Document) (step : Step) → text_of (document_after step d) ≡ edited step (text_of d)
-text_after d step = bytes_after step d.cells
+text_after d step = bytes_of_edited_cells step d.cells
 
 -- a sound document is sound after a step that fits, with any history that fits the new text
-pub document_made : (limits : Limits) (d : Document) (step : Step) (h : History) → IsSoundDocument limits d → Fits (text_of d) step
+pub document_made : (limits : Limits) (d : Document) (step : Step) (h : History) → IsSoundDocument limits d → IsStepOf (text_of d) step
     → size_after (length d.cells) step ≤ limit_of limits d → FitsText (edited step (text_of d)) h
     → IsSoundDocument limits (record (document_after step d) { history = h })
 document_made limits d step h sound fits room history =
@@ -56,8 +58,8 @@ document_made limits d step h sound fits room history =
     let n : length (edited_cells step d.cells) ≡ size_after (length d.cells) step = length_cells_after step d.cells range in
     let place = place_within step (length d.cells) range in
     record {
-      line_starts = line_starts_rise d.line_end_types (text_of (document_after step d));
-      rows = length_carried_by rows_together d.line_end_types step (text_of d) d.rows ∙ ap (line_count d.line_end_types) (sym (text_after d step));
+      line_starts = are_line_starts d.line_end_types (text_of (document_after step d));
+      rows = length-carried_by rows_together d.line_end_types step (text_of d) d.rows ∙ ap (line_count d.line_end_types) (sym (text_after d step));
       indicator_count = length-map d.indicators (indicator_after step) ∙ sound.indicator_count;
       indicators = subst (λ k. AllByRecursion (λ (values : List ℕ). length values ≡ k) (indicators_after step d.indicators)) (sym n)
           (indicators_fit step (length d.cells) d.indicators range sound.indicators);
@@ -70,22 +72,19 @@ document_made limits d step h sound fits room history =
     }
 
 -- a view stands well on the document after a step
-pub view_made : (d : Document) (step : Step) (h : History) (v : View) → Fits (text_of d) step → StandsOn d v
-    → StandsOn (record (document_after step d) { history = h }) (moved_view step d v)
-view_made d step h v fits stands =
-    let range = cells_range d step fits in
-    let n : length (edited_cells step d.cells) ≡ size_after (length d.cells) step = length_cells_after step d.cells range in
-    let a = moved_within (length d.cells) step v.anchor range stands.anchor in
-    let b = moved_within (length d.cells) step v.caret range stands.caret in
-    let c = moved_within (length d.cells) step v.target_start range stands.target_start in
-    let e = moved_within (length d.cells) step v.target_end range stands.target_end in
-    record {
-      anchor = omega arith;
-      caret = omega arith;
-      target_start = omega arith;
-      target_end = omega arith;
-      lines = length_carried_by flags_together d.line_end_types step (text_of d) v.lines ∙ ap (line_count d.line_end_types) (sym (text_after d step));
-      first_line = first_carried_by d.line_end_types step (text_of d) v.lines stands.first_line;
-      indicator = stands.indicator;
-      listed = stands.listed;
-    }
+pub view_made : (d : Document) (step : Step) (h : History) (v : View) → StandsOn d v → StandsOn (record (document_after step d) { history = h }) (moved_view step d v)
+view_made d step h v stands = record {
+  anchor = place v.anchor stands.anchor;
+  caret = place v.caret stands.caret;
+  target_start = place v.target_start stands.target_start;
+  target_end = place v.target_end stands.target_end;
+  lines = length-carried_by flags_together d.line_end_types step (text_of d) v.lines ∙ ap (line_count d.line_end_types) (sym (text_after d step));
+  first_line = first_carried_by d.line_end_types step (text_of d) v.lines stands.first_line;
+  indicator = stands.indicator;
+  listed = stands.listed;
+}
+  where
+    place : (q : ℕ) → q ≤ length d.cells → moved_position step q ≤ length (edited_cells step d.cells)
+    place q le =
+        let n : length (edited step (text_of d)) ≡ length (edited_cells step d.cells) = ap length (sym (text_after d step)) ∙ length_text (document_after step d) in
+        subst (λ k. moved_position step q ≤ k) n (position_stays_in_range step (text_of d) q (subst (λ k. q ≤ k) (sym (length_text d)) le))

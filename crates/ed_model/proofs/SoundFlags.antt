@@ -113,3 +113,7 @@ changed_view_stands levels _ d v on fit =
 pub changed_view_document : (levels : List ℕ) (what : ViewChange) (v : View) → (changed_view levels what v).document ≡ v.document
 changed_view_document levels (view_change.Select anchor caret) v = refl
 changed_view_document levels _ v = refl
+
+pub changed_view_id : (levels : List ℕ) (what : ViewChange) (v : View) → (changed_view levels what v).id ≡ v.id
+changed_view_id levels (view_change.Select anchor caret) v = refl
+changed_view_id levels _ v = refl

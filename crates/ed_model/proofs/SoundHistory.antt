@@ -1,5 +1,5 @@
 -- The history fits the text: after steps, undo and redo, and after what changes the history alone.
-use Rattle.std.proofs.Common.{◌≡◌, ℕ, ◌+◌, ◌-◌, ◌≤◌, Bool, true, false, cond, List, [], ◌∷◌, ◌++◌, length, map, reverse, refl, ap, sym, ◌∙◌, subst, arith, append_assoc}
+use Rattle.std.proofs.Common.{suc, zero, ◌≡◌, ℕ, ◌+◌, ◌-◌, ◌≤◌, Bool, true, false, cond, List, [], ◌∷◌, ◌++◌, length, map, reverse, refl, ap, sym, ◌∙◌, subst, arith, append_assoc}
 use Rattle.std.specs.Prelude.{ℤ, flat_map, Option, Some, None, ◌==◌, ◌||◌, not}
 use Rattle.std.specs.List.{last_or}
 use Rattle.std.proofs.lemmas.List.{map-append, reverse-append, reverse-reverse}
@@ -10,56 +10,24 @@ use Rattle.ed_model.specs.History.{Change, TextStep, ContainerStep, Transaction,
 use Rattle.ed_model.specs.LineEnds.{after_steps}
 use Rattle.ed_model.specs.DocumentPlans.{text_steps}
 use Rattle.ed_model.specs.Performing.{place_behind}
-use Rattle.ed_model.specs.SoundLaws.{Fits, FitInTurn, undo_path, redo_path, FitsText}
-use Rattle.ed_model.proofs.SoundSteps.{inverse_fits, inverse_returns, fit_append, fit_front, fit_back, reversed, reversed_is, reversed_fits, reversed_returns, fits_range, length_after}
+use Rattle.ed_model.specs.Session.{text_of}
+use Rattle.ed_model.specs.InverseLaws.{FitInTurn}
+use Rattle.ed_model.specs.UndoLaws.{CanBeUndone}
+use Rattle.ed_model.specs.SoundLaws.{IsStepOf, AreStepsOf, undo_path, redo_path, FitsText, ThePastCanBeUndone, UndoneThenRedoneIsTheSame}
+use Rattle.ed_model.proofs.TransactionLemmas.{steps_of_more_changes, steps_of_inverse_changes, steps_of_reversed_changes, inverses_of_inverses, inverses_of_reversed}
+use Rattle.ed_model.proofs.UndoLemmas.{undos_then_redos_give_back_the_text, undos_then_redos_give_back_the_history}
+use Rattle.ed_model.proofs.SoundSteps.{inverse_is_step, inverse_returns, fit_append, fit_front, fit_back, reversed, reversed_is, reversed_fits, reversed_returns, fits_range, length_after}
 
 -- Paths.
-
-pub text_steps_append : (xs ys : List Change) → text_steps (xs ++ ys) ≡ text_steps xs ++ text_steps ys
-text_steps_append [] ys = refl
-text_steps_append (TextStep step ∷ xs) ys = ap (λ t. step ∷ t) (text_steps_append xs ys)
-text_steps_append (ContainerStep token coalesce ∷ xs) ys = text_steps_append xs ys
-
-pub text_steps_inverse : (cs : List Change) → text_steps (map inverse_change cs) ≡ map inverse_of (text_steps cs)
-text_steps_inverse [] = refl
-text_steps_inverse (TextStep step ∷ cs) = ap (λ t. inverse_of step ∷ t) (text_steps_inverse cs)
-text_steps_inverse (ContainerStep token coalesce ∷ cs) = text_steps_inverse cs
-
-text_steps_one : (c : Change) → text_steps (c ∷ []) ≡ reverse (text_steps (c ∷ []))
-text_steps_one (TextStep step) = refl
-text_steps_one (ContainerStep token coalesce) = refl
-
-pub text_steps_reverse : (cs : List Change) → text_steps (reverse cs) ≡ reverse (text_steps cs)
-text_steps_reverse [] = refl
-text_steps_reverse (c ∷ cs) =
-    ap text_steps (reverse-append (c ∷ []) cs)
-    ∙ text_steps_append (reverse cs) (c ∷ [])
-    ∙ ap (λ t. t ++ text_steps (c ∷ [])) (text_steps_reverse cs)
-    ∙ ap (λ t. reverse (text_steps cs) ++ t) (text_steps_one c)
-    ∙ sym (reverse-append (text_steps (c ∷ [])) (text_steps cs))
-    ∙ ap reverse (sym (text_steps_append (c ∷ []) cs))
-
-inverses_twice : (xs : List Step) → map inverse_of (map inverse_of xs) ≡ xs
-inverses_twice [] = refl
-inverses_twice (Insert p bytes ∷ xs) = ap (λ t. Insert p bytes ∷ t) (inverses_twice xs)
-inverses_twice (Delete p bytes ∷ xs) = ap (λ t. Delete p bytes ∷ t) (inverses_twice xs)
-
-map_reverse : (xs : List Step) → map inverse_of (reverse xs) ≡ reverse (map inverse_of xs)
-map_reverse [] = refl
-map_reverse (x ∷ xs) =
-    ap (map inverse_of) (reverse-append (x ∷ []) xs)
-    ∙ map-append inverse_of (reverse xs) (x ∷ [])
-    ∙ ap (λ t. t ++ inverse_of x ∷ []) (map_reverse xs)
-    ∙ sym (reverse-append (inverse_of x ∷ []) (map inverse_of xs))
 
 -- the undo path of one more transaction
 pub undo_path_cons : (t : Transaction) (ts : List Transaction) → undo_path (t ∷ ts) ≡ map inverse_of (text_steps t.changes) ++ undo_path ts
 undo_path_cons t ts =
-    ap (map inverse_of) (text_steps_append t.changes (flat_map (λ (t : Transaction). t.changes) ts))
+    ap (map inverse_of) (steps_of_more_changes t.changes (flat_map (λ (t : Transaction). t.changes) ts))
     ∙ map-append inverse_of (text_steps t.changes) (text_steps (flat_map (λ (t : Transaction). t.changes) ts))
 
 pub redo_path_cons : (t : Transaction) (ts : List Transaction) → redo_path (t ∷ ts) ≡ text_steps (reverse t.changes) ++ redo_path ts
-redo_path_cons t ts = text_steps_append (reverse t.changes) (flat_map (λ (t : Transaction). reverse t.changes) ts)
+redo_path_cons t ts = steps_of_more_changes (reverse t.changes) (flat_map (λ (t : Transaction). reverse t.changes) ts)
 
 pub undo_path_sealed : (ts : List Transaction) → undo_path (seal_first ts) ≡ undo_path ts
 undo_path_sealed [] = refl
@@ -91,7 +59,7 @@ with_depth_fits text h n f = record { past = f.past; future = f.future; kept = f
 
 pub last_sealed_fits : (text : List ℕ) (h : History) → FitsText text h → FitsText text (with_last_sealed h)
 last_sealed_fits text h f = record {
-  past = subst (λ p. FitInTurn text p) (sym (undo_path_sealed h.past)) f.past;
+  past = subst (λ p. AreStepsOf text p) (sym (undo_path_sealed h.past)) f.past;
   future = f.future;
   kept = λ e. (ap seal_first (f.kept e).0, (f.kept e).1);
 }
@@ -110,21 +78,21 @@ group_ended_fits text h f =
 -- A change appended.
 
 -- a step of the text appended, on the text after it
-pub appended_fits : (later : Bool) (step : Step) (text : List ℕ) (h : History) → FitsText text h → Fits text step
+pub appended_fits : (later : Bool) (step : Step) (text : List ℕ) (h : History) → FitsText text h → IsStepOf text step
     → FitsText (edited step text) (appended later (TextStep step) h)
 appended_fits later step text h f fits = go h.collecting refl
   where
     go : (b : Bool) → h.collecting ≡ b → FitsText (edited step text) (cond b
         (record h { past = with_change (joins later (TextStep step) h) (TextStep step) h.past; future = []; save_point = History.reachable (length h.past) h.save_point }) h)
     go true e = record {
-      past = subst (λ cs. FitInTurn (edited step text) (map inverse_of (text_steps cs))) (sym (changes_with (joins later (TextStep step) h) (TextStep step) h.past))
-          (inverse_fits step text fits, subst (λ t. FitInTurn t (undo_path h.past)) (sym (inverse_returns step text fits)) f.past);
+      past = subst (λ cs. AreStepsOf (edited step text) (map inverse_of (text_steps cs))) (sym (changes_with (joins later (TextStep step) h) (TextStep step) h.past))
+          (inverse_is_step step text fits, subst (λ t. AreStepsOf t (undo_path h.past)) (sym (inverse_returns step text fits)) f.past);
       future = tt;
       kept = λ no. let bad : true ≡ false = sym e ∙ no in absurd (cc);
     }
     go false e = let k = f.kept e in record {
-      past = subst (λ ts. FitInTurn (edited step text) (undo_path ts)) (sym k.0) tt;
-      future = subst (λ ts. FitInTurn (edited step text) (redo_path ts)) (sym k.1) tt;
+      past = subst (λ ts. AreStepsOf (edited step text) (undo_path ts)) (sym k.0) tt;
+      future = subst (λ ts. AreStepsOf (edited step text) (redo_path ts)) (sym k.1) tt;
       kept = f.kept;
     }
 
@@ -136,7 +104,7 @@ container_fits later token coalesce text h f = go h.collecting refl
     go : (b : Bool) → h.collecting ≡ b → FitsText text (cond b
         (record h { past = with_change (joins later (ContainerStep token coalesce) h) (ContainerStep token coalesce) h.past; future = []; save_point = History.reachable (length h.past) h.save_point }) h)
     go true e = record {
-      past = subst (λ cs. FitInTurn text (map inverse_of (text_steps cs))) (sym (changes_with (joins later (ContainerStep token coalesce) h) (ContainerStep token coalesce) h.past)) f.past;
+      past = subst (λ cs. AreStepsOf text (map inverse_of (text_steps cs))) (sym (changes_with (joins later (ContainerStep token coalesce) h) (ContainerStep token coalesce) h.past)) f.past;
       future = tt;
       kept = λ no. let bad : true ≡ false = sym e ∙ no in absurd (cc);
     }
@@ -151,15 +119,15 @@ container_step_fits token coalesce text h f =
 -- Undo and redo.
 
 undo_fits_from : (text : List ℕ) (h : History) (ts : List Transaction) → h.past ≡ ts → FitsText text h
-    → FitInTurn text (text_steps (map inverse_change (first_changes ts)))
+    → AreStepsOf text (text_steps (map inverse_change (first_changes ts)))
 undo_fits_from text h [] e f = tt
 undo_fits_from text h (t ∷ ts) e f =
-    subst (λ ss. FitInTurn text ss) (sym (text_steps_inverse t.changes))
+    subst (λ ss. AreStepsOf text ss) (sym (steps_of_inverse_changes t.changes))
     (fit_front (map inverse_of (text_steps t.changes)) (undo_path ts) text
-    (subst (λ ss. FitInTurn text ss) (undo_path_cons t ts) (subst (λ p. FitInTurn text (undo_path p)) e f.past)))
+    (subst (λ ss. AreStepsOf text ss) (undo_path_cons t ts) (subst (λ p. AreStepsOf text (undo_path p)) e f.past)))
 
 -- what UNDO performs fits the text
-pub undo_fits : (text : List ℕ) (h : History) → FitsText text h → FitInTurn text (text_steps (undo_changes h))
+pub undo_fits : (text : List ℕ) (h : History) → FitsText text h → AreStepsOf text (text_steps (undo_changes h))
 undo_fits text h f = undo_fits_from text h h.past refl f
 
 undone_fits_from : (text : List ℕ) (h : History) (ts : List Transaction) → h.past ≡ ts → FitsText text h
@@ -167,16 +135,16 @@ undone_fits_from : (text : List ℕ) (h : History) (ts : List Transaction) → h
 undone_fits_from text h [] e f = f
 undone_fits_from text h (t ∷ ts) e f =
     let us = map inverse_of (text_steps t.changes) in
-    let path : FitInTurn text (us ++ undo_path ts) = subst (λ ss. FitInTurn text ss) (undo_path_cons t ts) (subst (λ p. FitInTurn text (undo_path p)) e f.past) in
+    let path : AreStepsOf text (us ++ undo_path ts) = subst (λ ss. AreStepsOf text ss) (undo_path_cons t ts) (subst (λ p. AreStepsOf text (undo_path p)) e f.past) in
     let front = fit_front us (undo_path ts) text path in
     let back = fit_back us (undo_path ts) text path in
-    let again : reversed us ≡ text_steps (reverse t.changes) = reversed_is us ∙ ap reverse (inverses_twice (text_steps t.changes)) ∙ sym (text_steps_reverse t.changes) in
-    let redone : FitInTurn (after_steps us text) (reversed us ++ redo_path h.future) =
+    let again : reversed us ≡ text_steps (reverse t.changes) = reversed_is us ∙ ap reverse (inverses_of_inverses (text_steps t.changes)) ∙ sym (steps_of_reversed_changes t.changes) in
+    let redone : AreStepsOf (after_steps us text) (reversed us ++ redo_path h.future) =
     fit_append (reversed us) (redo_path h.future) (after_steps us text) (reversed_fits us text front)
-    (subst (λ x. FitInTurn x (redo_path h.future)) (sym (reversed_returns us text front)) f.future) in
-    subst (λ ss. FitsText (after_steps ss text) (undone_to h (t ∷ ts))) (sym (text_steps_inverse t.changes)) (record {
-      past = subst (λ p. FitInTurn (after_steps us text) p) (sym (undo_path_sealed ts)) back;
-      future = subst (λ p. FitInTurn (after_steps us text) p) (ap (λ p. p ++ redo_path h.future) again ∙ sym (redo_path_cons t h.future)) redone;
+    (subst (λ x. AreStepsOf x (redo_path h.future)) (sym (reversed_returns us text front)) f.future) in
+    subst (λ ss. FitsText (after_steps ss text) (undone_to h (t ∷ ts))) (sym (steps_of_inverse_changes t.changes)) (record {
+      past = subst (λ p. AreStepsOf (after_steps us text) p) (sym (undo_path_sealed ts)) back;
+      future = subst (λ p. AreStepsOf (after_steps us text) p) (ap (λ p. p ++ redo_path h.future) again ∙ sym (redo_path_cons t h.future)) redone;
       kept = λ no. let bad : t ∷ ts ≡ [] = sym e ∙ (f.kept no).0 in absurd (cc);
     })
 
@@ -185,14 +153,14 @@ pub undone_fits : (text : List ℕ) (h : History) → FitsText text h → FitsTe
 undone_fits text h f = undone_fits_from text h h.past refl f
 
 redo_fits_from : (text : List ℕ) (h : History) (ts : List Transaction) → h.future ≡ ts → FitsText text h
-    → FitInTurn text (text_steps (reverse (first_changes ts)))
+    → AreStepsOf text (text_steps (reverse (first_changes ts)))
 redo_fits_from text h [] e f = tt
 redo_fits_from text h (t ∷ ts) e f =
     fit_front (text_steps (reverse t.changes)) (redo_path ts) text
-    (subst (λ ss. FitInTurn text ss) (redo_path_cons t ts) (subst (λ p. FitInTurn text (redo_path p)) e f.future))
+    (subst (λ ss. AreStepsOf text ss) (redo_path_cons t ts) (subst (λ p. AreStepsOf text (redo_path p)) e f.future))
 
 -- what REDO performs fits the text
-pub redo_fits : (text : List ℕ) (h : History) → FitsText text h → FitInTurn text (text_steps (redo_changes h))
+pub redo_fits : (text : List ℕ) (h : History) → FitsText text h → AreStepsOf text (text_steps (redo_changes h))
 redo_fits text h f = redo_fits_from text h h.future refl f
 
 redone_fits_from : (text : List ℕ) (h : History) (ts : List Transaction) → h.future ≡ ts → FitsText text h
@@ -200,17 +168,17 @@ redone_fits_from : (text : List ℕ) (h : History) (ts : List Transaction) → h
 redone_fits_from text h [] e f = f
 redone_fits_from text h (t ∷ ts) e f =
     let rs = text_steps (reverse t.changes) in
-    let path : FitInTurn text (rs ++ redo_path ts) = subst (λ ss. FitInTurn text ss) (redo_path_cons t ts) (subst (λ p. FitInTurn text (redo_path p)) e f.future) in
+    let path : AreStepsOf text (rs ++ redo_path ts) = subst (λ ss. AreStepsOf text ss) (redo_path_cons t ts) (subst (λ p. AreStepsOf text (redo_path p)) e f.future) in
     let front = fit_front rs (redo_path ts) text path in
     let back = fit_back rs (redo_path ts) text path in
     let again : reversed rs ≡ map inverse_of (text_steps t.changes) =
-    reversed_is rs ∙ ap (λ ss. reverse (map inverse_of ss)) (text_steps_reverse t.changes)
-    ∙ ap reverse (map_reverse (text_steps t.changes)) ∙ reverse-reverse (map inverse_of (text_steps t.changes)) in
-    let undone : FitInTurn (after_steps rs text) (reversed rs ++ undo_path h.past) =
+    reversed_is rs ∙ ap (λ ss. reverse (map inverse_of ss)) (steps_of_reversed_changes t.changes)
+    ∙ ap reverse (inverses_of_reversed (text_steps t.changes)) ∙ reverse-reverse (map inverse_of (text_steps t.changes)) in
+    let undone : AreStepsOf (after_steps rs text) (reversed rs ++ undo_path h.past) =
     fit_append (reversed rs) (undo_path h.past) (after_steps rs text) (reversed_fits rs text front)
-    (subst (λ x. FitInTurn x (undo_path h.past)) (sym (reversed_returns rs text front)) f.past) in
+    (subst (λ x. AreStepsOf x (undo_path h.past)) (sym (reversed_returns rs text front)) f.past) in
     record {
-      past = subst (λ p. FitInTurn (after_steps rs text) p) (ap (λ p. p ++ undo_path h.past) again ∙ sym (undo_path_cons t h.past)) undone;
+      past = subst (λ p. AreStepsOf (after_steps rs text) p) (ap (λ p. p ++ undo_path h.past) again ∙ sym (undo_path_cons t h.past)) undone;
       future = back;
       kept = λ no. let bad : t ∷ ts ≡ [] = sym e ∙ (f.kept no).1 in absurd (cc);
     }
@@ -226,13 +194,13 @@ abbrev pub BehindWithin : Option Step → ℕ → Type 0
 BehindWithin None n = Unit {0}
 BehindWithin (Some step) n = place_behind step ≤ n
 
-behind_within : (step : Step) (text : List ℕ) → Fits text step → place_behind step ≤ length (edited step text)
+behind_within : (step : Step) (text : List ℕ) → IsStepOf text step → place_behind step ≤ length (edited step text)
 behind_within (Insert p bytes) text f = let e = length_after (Insert p bytes) text f.0 in let h : p ≤ length text = f.0 in omega arith
 behind_within (Delete p bytes) text f =
     let r : p + length bytes ≤ length text = fits_range text (Delete p bytes) f in
     let e = length_after (Delete p bytes) text r in omega arith
 
-pub last_behind : (steps : List Step) (text : List ℕ) (o : Option Step) → FitInTurn text steps → BehindWithin o (length text)
+pub last_behind : (steps : List Step) (text : List ℕ) (o : Option Step) → AreStepsOf text steps → BehindWithin o (length text)
     → BehindWithin (last_or o steps) (length (after_steps steps text))
 last_behind [] text o f b = b
 last_behind (x ∷ xs) text o f b = last_behind xs (edited x text) (Some x) f.1 (behind_within x text f.0)
@@ -252,3 +220,26 @@ append_nothing (c ∷ cs) = ap (λ t. c ∷ t) (append_nothing cs)
 
 pub latest_is_last : (cs : List Change) → latest_text_step (reverse cs) ≡ last_or None (text_steps cs)
 latest_is_last cs = ap latest_text_step (sym (append_nothing (reverse cs))) ∙ latest_of_reversed cs []
+
+-- Undoing all the past.
+
+pub fit_in_turn : (steps : List Step) (text : List ℕ) → AreStepsOf text steps → FitInTurn steps text
+fit_in_turn [] text f = tt
+fit_in_turn (x ∷ xs) text f = (f.0.0, fit_in_turn xs (edited x text) f.1)
+
+can_be_undone : (k : ℕ) (ts : List Transaction) (text : List ℕ) → k ≤ length ts → AreStepsOf text (undo_path ts) → CanBeUndone k ts text
+can_be_undone zero ts text le f = tt
+can_be_undone (suc k) [] text le f = absurd (omega arith)
+can_be_undone (suc k) (t ∷ ts) text le f =
+    let steps = text_steps (map inverse_change t.changes) in
+    let path : AreStepsOf text (steps ++ undo_path ts) =
+    subst (λ ss. AreStepsOf text ss) (undo_path_cons t ts ∙ ap (λ us. us ++ undo_path ts) (sym (steps_of_inverse_changes t.changes))) f in
+    (fit_in_turn steps text (fit_front steps (undo_path ts) text path), can_be_undone k ts (after_steps steps text) (omega arith) (fit_back steps (undo_path ts) text path))
+
+pub the_past_can_be_undone : ThePastCanBeUndone
+the_past_can_be_undone limits d k h le = can_be_undone k d.history.past (text_of d) le h.history.past
+
+pub undone_then_redone_is_the_same : UndoneThenRedoneIsTheSame
+undone_then_redone_is_the_same limits scene k h le =
+    let can = the_past_can_be_undone limits scene.document k h le in
+    (undos_then_redos_give_back_the_text k scene can, undos_then_redos_give_back_the_history k scene can)

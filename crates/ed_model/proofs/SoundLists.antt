@@ -1,10 +1,11 @@
 -- Lemmas on lists of numbers that rise, on counting, and on line starts.
-use Rattle.std.proofs.Common.{◌≡◌, ℕ, zero, suc, ◌+◌, ◌<◌, ◌≤◌, Bool, true, false, cond, List, [], ◌∷◌, length, refl, sym, subst, arith}
+use Rattle.std.proofs.Common.{◌≡◌, ℕ, zero, suc, ◌+◌, ◌<◌, ◌≤◌, Bool, true, false, cond, List, [], ◌∷◌, length, subst, arith}
 use Rattle.std.specs.Prelude.{filter}
 use Rattle.std.specs.List.{range_with_len}
 use Rattle.ed_model.specs.declared.plan.LineEndTypes.{LineEndTypes}
 use Rattle.ed_model.specs.Lines.{line_starts, is_line_start}
-use Rattle.ed_model.specs.SoundLaws.{Rise, BeginAtZero, RiseFromZero}
+use Rattle.ed_model.specs.SoundLaws.{Rise, AreLineStarts}
+use Rattle.ed_model.proofs.LineLemmas.{first_line_start, line_starts_increase, line_starts_in_range}
 
 pub rise_from : (low low' high : ℕ) (xs : List ℕ) → low' ≤ low → Rise low high xs → Rise low' high xs
 rise_from low low' high [] le r = tt
@@ -23,15 +24,12 @@ pub rise_filter : (p : ℕ → Bool) (low high : ℕ) (xs : List ℕ) → Rise l
 rise_filter p low high [] r = tt
 rise_filter p low high (x ∷ xs) r = rise_cond low high x xs (filter p xs) (p x) r.0 r.1 (rise_filter p (x + 1) high xs r.2)
 
-starts_from : (types : LineEndTypes) (text : List ℕ) (n : ℕ) → BeginAtZero (filter (is_line_start types text) (range_with_len 0 (suc n)))
-starts_from types text n = refl
+rise_range_zero : (n : ℕ) → Rise 0 n (range_with_len 0 n)
+rise_range_zero n = let e : 0 + n ≡ n = omega arith in subst (λ h. Rise 0 h (range_with_len 0 n)) e (rise_range 0 n)
 
-pub line_starts_rise : (types : LineEndTypes) (text : List ℕ) → RiseFromZero (length text) (line_starts types text)
-line_starts_rise types text = (
-  let e : length text + 1 ≡ suc (length text) = omega arith in
-      subst (λ n. BeginAtZero (filter (is_line_start types text) (range_with_len 0 n))) (sym e) (starts_from types text (length text)),
-  rise_filter (is_line_start types text) 0 (length text + 1) (range_with_len 0 (length text + 1)) (rise_range_zero (length text + 1)),
-)
-  where
-    rise_range_zero : (n : ℕ) → Rise 0 n (range_with_len 0 n)
-    rise_range_zero n = let e : 0 + n ≡ n = omega arith in subst (λ h. Rise 0 h (range_with_len 0 n)) e (rise_range 0 n)
+-- line starts rise, and none passes the length
+pub starts_rise : (types : LineEndTypes) (text : List ℕ) → Rise 0 (length text + 1) (line_starts types text)
+starts_rise types text = rise_filter (is_line_start types text) 0 (length text + 1) (range_with_len 0 (length text + 1)) (rise_range_zero (length text + 1))
+
+pub are_line_starts : (types : LineEndTypes) (text : List ℕ) → AreLineStarts (length text) (line_starts types text)
+are_line_starts types text = record { first = first_line_start types text; rise = line_starts_increase types text; within = line_starts_in_range types text }

@@ -35,7 +35,7 @@ use Rattle.ed_model.specs.SoundLaws.{IsSoundDocument, IsSoundView, StandsOn}
 use Rattle.ed_model.specs.PlansFit.{IsSoundRequest, IsFitSource, IsFitEdit, IsFitFollow, IsFitPlan, IsFitPlanned, IsRoomFor, IsFitSessionChange, PlansFit}
 use Rattle.ed_model.proofs.SoundSteps.{length_replacement}
 use Rattle.ed_model.proofs.SoundDocuments.{length_text}
-use Rattle.ed_model.proofs.SoundSessions.{found_all, document_sound, document_id}
+use Rattle.ed_model.proofs.SoundFinding.{found_all, document_sound, document_id}
 use Rattle.ed_model.proofs.SoundArguments.{with_argument_fits, argument_fits, text_length_fits, text_range_fits, counted_range_fits, line_fits, if_fits, within_bounds, clamped_bound, start_bound, past_bound, end_bound, cut_after_bound, cut_before_bound, match_bound, all_range, all_reverse}
 
 -- The request's own document and view.
@@ -320,7 +320,8 @@ plan_fits DocumentStart r h = (omega arith, omega arith)
 plan_fits DocumentStartExtend r h = ((request_stands r h).anchor, omega arith)
 plan_fits DocumentEnd r h = (omega arith, omega arith)
 plan_fits DocumentEndExtend r h = ((request_stands r h).anchor, omega arith)
-plan_fits BeginUndoAction r h = if_fits r (nat_lt r.document.history.depth r.session.limits.depth) _ _ (λ _. tt) (λ _. tt)
+plan_fits BeginUndoAction r h =
+    if_fits r (nat_lt r.document.history.depth r.session.limits.depth) _ _ (λ t. ltb-true r.document.history.depth r.session.limits.depth t) (λ _. tt)
 plan_fits AddUndoAction r h = argument_fits r 0 1 r.message.l _ (λ flags a b. tt)
 plan_fits MarkerAdd r h =
     argument_fits r 0 31 r.message.l _ (λ number a b. line_fits r (answer (negsuc 0)) _ tt (λ line l.

@@ -11,12 +11,13 @@ use Rattle.ed_model.specs.Folding.{is_visible}
 use Rattle.ed_model.specs.Session.{Session, Document, View, document_at, view_at, in_place_of_view, references, living, without, left_by, new_document, new_view, attached_to, lines_in}
 use Rattle.ed_model.specs.Changes.{attached_last, with_attached, attached, with_new_document, held_more, held_less}
 use Rattle.ed_model.specs.Table.{opened, closed, closed_view}
-use Rattle.ed_model.specs.SoundLaws.{Rise, occurrences, IsSound, IsSoundDocument, IsSoundView, StandsOn}
-use Rattle.ed_model.proofs.SoundLists.{rise_from, line_starts_rise}
+use Rattle.ed_model.specs.SoundLaws.{Rise, occurrences, IsSound, IsSoundDocument, IsSoundView, StandsOn, ListsItsViews}
+use Rattle.ed_model.proofs.SoundLists.{rise_from, are_line_starts}
 use Rattle.ed_model.proofs.SoundCarry.{occurrences_append}
 use Rattle.ed_model.proofs.SoundHistory.{fresh_fits}
 use Rattle.ed_model.proofs.SoundMarkers.{one_if, occurrences_cons}
-use Rattle.ed_model.proofs.SoundSessions.{all_map, all_weaker, all_append, document_id}
+use Rattle.ed_model.proofs.SoundListing.{lists_attached, lists_before, lists_left, lists_less, lists_more, view_last}
+use Rattle.ed_model.proofs.SoundFinding.{all_map, all_weaker, all_append, document_id}
 
 -- A document with other references.
 
@@ -227,6 +228,7 @@ pub record IsSoundIfAllHeld (s : Session) : Type 0 where
   pub view_ids : Rise 0 s.next_view (map (λ (v : View). v.id) s.views)
   pub documents : AllByRecursion (IsSoundIfHeld s.limits) s.documents
   pub views : AllByRecursion (IsSoundView s.documents) s.views
+  pub lists : AllByRecursion (ListsItsViews s.views) s.documents
 
 pub if_all_held : (s : Session) → IsSound s → IsSoundIfAllHeld s
 if_all_held s h = record {
@@ -234,16 +236,18 @@ if_all_held s h = record {
   view_ids = h.view_ids;
   documents = all_weaker (IsSoundDocument s.limits) (IsSoundIfHeld s.limits) (sound_if_held s.limits) s.documents h.documents;
   views = h.views;
+  lists = h.lists;
 }
 
-pub attached_sound : (s : Session) (id : ℕ) (d : Document) (v : View) → IsSoundIfAllHeld s → v.indicator < 32 → document_at s.documents id ≡ Some d → IsSound (with_attached (Some d) v s)
+pub attached_sound : (s : Session) (id : ℕ) (d : Document) (v : View) → IsSoundIfAllHeld s → view_at s.views v.id ≡ Some v → v.indicator < 32 → document_at s.documents id ≡ Some d → IsSound (with_attached (Some d) v s)
 unfolding attached_relists
-attached_sound s id d v h indicator found = record {
+attached_sound s id d v h there indicator found = record {
   document_ids = living_ids (attached_last v.id d.id) (attached_relists v.id d.id) 0 s.next_document s.documents h.document_ids;
   view_ids = subst (λ ids. Rise 0 s.next_view ids) (sym (same_view_ids (in_place_of_view (attached_to d v)) (λ w. ids w (w.id == v.id) refl) s.views)) h.view_ids;
   documents = living_sound s.limits (attached_last v.id d.id) (attached_relists v.id d.id) s.documents h.documents;
   views = all_map (IsSoundView s.documents) (IsSoundView (living (map (attached_last v.id d.id) s.documents))) (in_place_of_view (attached_to d v))
       (λ w k. go w k (w.id == v.id) refl) s.views h.views;
+  lists = lists_attached s.views d v s.documents there h.lists;
 }
   where
     ids : (w : View) (b : Bool) → (w.id == v.id) ≡ b → (cond b (attached_to d v) w).id ≡ w.id
@@ -252,14 +256,14 @@ attached_sound s id d v h indicator found = record {
 
     go : (w : View) → IsSoundView s.documents w → (b : Bool) → (w.id == v.id) ≡ b → IsSoundView (living (map (attached_last v.id d.id) s.documents)) (cond b (attached_to d v) w)
     go w k true t =
-        let there : document_at s.documents d.id ≡ Some d = ap (document_at s.documents) (document_id s.documents id d found) ∙ found in
+        let at : document_at s.documents d.id ≡ Some d = ap (document_at s.documents) (document_id s.documents id d found) ∙ found in
         let once = attached_lists_itself v.id d in
         let t' : (d.id == d.id) ≡ true = eq-eqb d.id d.id refl in
         let some : 0 < references (attached_last v.id d.id d) = (let n = listed_some v.id (attached_last v.id d.id d).views once in omega arith) in
         record {
           document = attached_last v.id d.id d;
           found = living_found (map (attached_last v.id d.id) s.documents) d.id (attached_last v.id d.id d)
-              (mapped_found (attached_last v.id d.id) (attached_relists v.id d.id) s.documents d.id d there) some;
+              (mapped_found (attached_last v.id d.id) (attached_relists v.id d.id) s.documents d.id d at) some;
           stands = subst (λ (e : Document). StandsOn e (attached_to d v)) (sym ((attached_relists v.id d.id).is d))
               (fresh_stands (with_references ((attached_relists v.id d.id).views d) d.held d) (attached_to d v)
               (ap (λ (e : Document). occurrences v.id e.views) (sym ((attached_relists v.id d.id).is d)) ∙ once) refl refl refl refl refl indicator);
@@ -309,7 +313,7 @@ view_before ds es v h = record { document = h.document; found = found_before ds 
 -- a new document is sound once something refers to it
 pub new_document_sound : (limits : Limits) (id options : ℕ) (views : List ℕ) (held : ℕ) → 0 < length views + held → IsSoundDocument limits (with_references views held (new_document id options))
 new_document_sound limits id options views held some = record {
-  line_starts = line_starts_rise Default [];
+  line_starts = are_line_starts Default [];
   rows = refl;
   indicator_count = refl;
   indicators = nothing_kept 32;
@@ -334,6 +338,7 @@ created_sound s options h = record {
       (new_document_sound s.limits s.next_document options [] 1 (omega arith), tt);
   views = all_weaker (IsSoundView s.documents) (IsSoundView (s.documents ++ with_references [] 1 (new_document s.next_document options) ∷ []))
       (view_before s.documents (with_references [] 1 (new_document s.next_document options) ∷ [])) s.views h.views;
+  lists = all_append (ListsItsViews s.views) s.documents (with_references [] 1 (new_document s.next_document options) ∷ []) h.lists (tt, tt);
 }
 
 -- a session with one more document that no one refers to yet
@@ -345,19 +350,20 @@ with_unheld s h = record {
       (new_document_sound s.limits s.next_document 0 [] 1 (omega arith), tt);
   views = all_weaker (IsSoundView s.documents) (IsSoundView (s.documents ++ new_document s.next_document 0 ∷ []))
       (view_before s.documents (new_document s.next_document 0 ∷ [])) s.views h.views;
+  lists = all_append (ListsItsViews s.views) s.documents (new_document s.next_document 0 ∷ []) h.lists (tt, tt);
 }
 
-pub attached_new_sound : (s : Session) (v : View) → IsSound s → v.indicator < 32 → IsSound (attached s.next_document v (with_new_document (new_document s.next_document 0) s))
-attached_new_sound s v h indicator =
+pub attached_new_sound : (s : Session) (v : View) → IsSound s → view_at s.views v.id ≡ Some v → v.indicator < 32 → IsSound (attached s.next_document v (with_new_document (new_document s.next_document 0) s))
+attached_new_sound s v h there indicator =
     let found = found_last 0 s.next_document s.documents (new_document s.next_document 0) refl h.document_ids in
-    rw found (attached_sound (with_new_document (new_document s.next_document 0) s) s.next_document (new_document s.next_document 0) v (with_unheld s h) indicator found)
+    rw found (attached_sound (with_new_document (new_document s.next_document 0) s) s.next_document (new_document s.next_document 0) v (with_unheld s h) there indicator found)
 
-pub attached_any_sound : (s : Session) (id : ℕ) (v : View) → IsSound s → v.indicator < 32 → IsSound (attached id v s)
-attached_any_sound s id v h indicator = go (document_at s.documents id) refl
+pub attached_any_sound : (s : Session) (id : ℕ) (v : View) → IsSound s → view_at s.views v.id ≡ Some v → v.indicator < 32 → IsSound (attached id v s)
+attached_any_sound s id v h there indicator = go (document_at s.documents id) refl
   where
     go : (o : Option Document) → document_at s.documents id ≡ o → IsSound (with_attached o v s)
     go None e = h
-    go (Some d) e = attached_sound s id d v (if_all_held s h) indicator e
+    go (Some d) e = attached_sound s id d v (if_all_held s h) there indicator e
 
 -- References that callers hold.
 
@@ -385,6 +391,7 @@ held_more_sound s id h = record {
     found = mapped_found (held_more id) (more_relists id) s.documents v.document k.document k.found;
     stands = on k.document v (k.document.id == id) k.stands;
   }) s.views h.views;
+  lists = lists_more s.views id s.documents h.lists;
 }
   where
     ids : (ds : List Document) → map (λ (d : Document). d.id) (map (held_more id) ds) ≡ map (λ (d : Document). d.id) ds
@@ -410,6 +417,7 @@ released_sound s id h = record {
       (λ e at. subst (λ (x : Document). occurrences v.id x.views ≡ 1) (sym ((less_relists id).is e))
       (let same : k.document ≡ e = (let f : document_at s.documents v.document ≡ Some k.document = k.found in cc) in subst (λ (x : Document). occurrences v.id x.views ≡ 1) same k.stands.listed)))
       s.views h.views;
+  lists = lists_less s.views id s.documents h.lists;
 }
 
 -- Opening and closing.
@@ -437,6 +445,9 @@ opened_session_sound s h = record {
         },
         tt,
       );
+  lists = all_append (ListsItsViews (s.views ++ new_view s.next_view (with_references (s.next_view ∷ []) 0 (new_document s.next_document 0)) ∷ [])) s.documents (with_references (s.next_view ∷ []) 0 (new_document s.next_document 0) ∷ [])
+      (lists_before s.views (new_view s.next_view (with_references (s.next_view ∷ []) 0 (new_document s.next_document 0)) ∷ []) s.documents h.lists)
+      (((new_view s.next_view (with_references (s.next_view ∷ []) 0 (new_document s.next_document 0)), view_last 0 s.next_view s.views (new_view s.next_view (with_references (s.next_view ∷ []) 0 (new_document s.next_document 0))) refl h.view_ids, refl), tt), tt);
 }
 
 pub opened_sound : (s : Session) → IsSound s → IfOk (opened s) (λ (done : Session × ℕ). IsSound done.0)
@@ -472,6 +483,7 @@ closed_session_sound s id h = record {
       (λ e at. without_other id v.id e.views k.1
       ∙ (let same : k.0.document ≡ e = (let f : document_at s.documents v.document ≡ Some k.0.document = k.0.found in cc) in subst (λ (x : Document). occurrences v.id x.views ≡ 1) same k.0.stands.listed)))
       (filter (λ (w : View). not (w.id == id)) s.views) (kept_views (IsSoundView s.documents) id s.views h.views);
+  lists = lists_left s.views id s.documents h.lists;
 }
 
 closed_view_sound : (s : Session) (o : Option View) → IsSound s → IfOk (closed_view s o) IsSound

@@ -32,16 +32,18 @@ use Rattle.ed_model.specs.Performing.{Scene, scene_of, session_of, edit_made, ed
 use Rattle.ed_model.specs.Changes.{changed_document, changed_lines, document_change_performed, changed_view, view_change_performed, session_changed}
 use Rattle.ed_model.specs.Table.{plan_of, answered, request, table_from_document, table_if_known, table_from_kind, table_from_view}
 use Rattle.ed_model.specs.Run.{starting, after_opening, after_closing, after_message, loaded, file_at, set_text_message, after_command}
-use Rattle.ed_model.specs.SoundLaws.{FitInTurn, FitsText, IsSound, StandsOn, NewSessionIsSound, MessageKeepsSound, OpeningKeepsSound, ClosingKeepsSound, CommandKeepsSound, IsSoundInEveryStateFrom, IsSoundInEveryState}
+use Rattle.ed_model.specs.SoundLaws.{AreStepsOf, FitsText, IsSound, StandsOn, NewSessionIsSound, MessageKeepsSound, OpeningKeepsSound, ClosingKeepsSound, CommandKeepsSound, IsSoundInEveryStateFrom, IsSoundInEveryState}
 use Rattle.ed_model.specs.PlansFit.{IsSoundRequest, IsFitFollow, IsFitDocumentChange, IsFitViewChange, IsFitPlan, IsFitPlanned, IsRoomFor, EditStepsFit, UndoStepsFit, RedoStepsFit, PlansKeepSound}
+use Rattle.ed_model.proofs.TransactionLemmas.{text_after_changes}
 use Rattle.ed_model.proofs.SoundSteps.{replacement_fits}
 use Rattle.ed_model.proofs.SoundConversion.{conversion_fits}
 use Rattle.ed_model.proofs.SoundHistory.{fresh_fits, undo_fits, undone_fits, redo_fits, redone_fits, BehindWithin, last_behind, latest_is_last}
 use Rattle.ed_model.proofs.SoundDocuments.{length_text}
-use Rattle.ed_model.proofs.SoundSessions.{document_id, view_id, replaced_found, document_replaced, view_replaced, sender_changed, found_once, all_weaker}
-use Rattle.ed_model.proofs.SoundScenes.{IsSoundScene, scene_history, scene_told, edit_made_sound, text_edited, without_history, changes_performed_sound, text_performed}
-use Rattle.ed_model.proofs.SoundChanges.{IsFitOn, changed_sound, changed_id, changed_stands, changed_lines_id, changed_lines_document, changed_lines_others}
-use Rattle.ed_model.proofs.SoundFlags.{IsFitHere, changed_view_stands, changed_view_document}
+use Rattle.ed_model.proofs.SoundFinding.{document_id, view_id, replaced_found, found_once, all_weaker}
+use Rattle.ed_model.proofs.SoundSessions.{document_replaced, view_replaced, sender_changed}
+use Rattle.ed_model.proofs.SoundScenes.{IsSoundScene, scene_history, scene_told, edit_made_sound, text_edited, without_history, changes_performed_sound}
+use Rattle.ed_model.proofs.SoundChanges.{IsFitOn, changed_sound, changed_id, changed_views, changed_stands, changed_lines_id, changed_lines_document, changed_lines_others}
+use Rattle.ed_model.proofs.SoundFlags.{IsFitHere, changed_view_stands, changed_view_document, changed_view_id}
 use Rattle.ed_model.proofs.SoundReferences.{created_sound, attached_new_sound, attached_any_sound, held_more_sound, released_sound, opened_sound, closed_sound}
 use Rattle.ed_model.proofs.SoundPlans.{request_document, request_stands, plan_fits}
 
@@ -56,7 +58,7 @@ scene_of_sound r h =
     let d = r.document in
     record {
       sound = subst (λ vs. IsSound (record s { documents = with_document r.document s.documents; views = vs })) (map-id s.views)
-          (document_replaced r.session r.document r.document (λ (v : View). v) h.sound (own_document r h) refl (request_document r h) (λ v. refl) (λ v. refl) (λ v e on. on) (λ v ne. refl));
+          (document_replaced r.session r.document r.document (λ (v : View). v) h.sound (own_document r h) refl refl (request_document r h) (λ v. refl) (λ v. refl) (λ v e on. on) (λ v ne. refl));
       found = replaced_found s.documents r.document r.document (own_document r h);
       owner = all_weaker (λ (v : View). v.id ≡ r.view.id → v ≡ r.view) (λ (v : View). v.id ≡ r.view.id → v.document ≡ r.document.id)
           (λ v is e. ap (λ (w : View). w.document) (is e) ∙ sym (document_id s.documents r.view.document r.document h.document)) s.views
@@ -65,7 +67,7 @@ scene_of_sound r h =
 
 -- the session with another clipboard
 pub clipboard_sound : (s : Session) (bytes : List ℕ) → IsSound s → IsSound (record s { clipboard = bytes })
-clipboard_sound s bytes h = record { document_ids = h.document_ids; view_ids = h.view_ids; documents = h.documents; views = h.views }
+clipboard_sound s bytes h = record { document_ids = h.document_ids; view_ids = h.view_ids; documents = h.documents; views = h.views; lists = h.lists }
 
 caret_stands : (d : Document) (place : ℕ) → place ≤ length d.cells → (v : View) → StandsOn d v → StandsOn d (record v { anchor = place; caret = place })
 caret_stands d place le v on =
@@ -116,14 +118,14 @@ behind_sound : (sender : ℕ) (s : Session) (scene : Scene) (o : Option Step) �
 behind_sound sender s scene None h b = h.sound
 behind_sound sender s scene (Some step) h b = caret_sound sender s scene (place_behind step) h b
 
-history_sound : (r : Request) (who : ℕ) (cs : List Change) (new : History) → IsSoundRequest r → FitInTurn (text r) (text_steps cs) → IsRoomFor r (text_steps cs)
+history_sound : (r : Request) (who : ℕ) (cs : List Change) (new : History) → IsSoundRequest r → AreStepsOf (text r) (text_steps cs) → IsRoomFor r (text_steps cs)
     → FitsText (after_steps (text_steps cs) (text r)) new → IsSound (history_performed r who cs new).0
 history_sound r who cs new h fits room history =
     let several = notes.bit_if (nat_lt 1 (length cs)) notes.multi_step in
     let done = changes_performed who several false cs (scene_of r) in
     let start : IsSoundScene r.view.id r.session (without_history (scene_of r)) = scene_history r.view.id r.session (scene_of r) fresh_history (scene_of_sound r h) (fresh_fits (text r)) in
     let made : IsSoundScene r.view.id r.session (without_history done) = changes_performed_sound r.view.id r.session who several false cs (scene_of r) start (record { fits = fits; within = room }) in
-    let same : text_of done.document ≡ after_steps (text_steps cs) (text r) = text_performed who several false cs (scene_of r) in
+    let same : text_of done.document ≡ after_steps (text_steps cs) (text r) = text_after_changes who several false cs (scene_of r) in
     let kept : IsSoundScene r.view.id r.session (with_history new (without_history done)) =
     scene_history r.view.id r.session (without_history done) new made (subst (λ t. FitsText t new) (sym same) history) in
     let scene = transaction_performed who cs new (scene_of r) in
@@ -150,7 +152,7 @@ fit_on r _ fit = tt
 document_change_sound : (r : Request) (what : DocumentChange) (value : ℤ) → IsSoundRequest r → IsFitDocumentChange r what → IsSound (document_change_performed r what value).0
 document_change_sound r what value h fit =
     document_replaced r.session r.document (changed_document r.message.text what r.document) (changed_lines what r.document) h.sound (own_document r h)
-    (changed_id r.message.text what r.document)
+    (changed_id r.message.text what r.document) (changed_views r.message.text what r.document)
     (changed_sound r.session.limits r.message.text what r.document (request_document r h) (fit_on r what fit))
     (changed_lines_id what r.document) (changed_lines_document what r.document)
     (λ v e on. changed_stands r.message.text what r.document v e on)
@@ -162,17 +164,21 @@ fit_here r (view_change.SetTarget start past) fit = fit
 fit_here r (view_change.SetIndicator indicator) fit = fit
 fit_here r _ fit = tt
 
+same_view : (r : Request) (old : View) → IsSoundRequest r → view_at r.session.views r.view.id ≡ Some old → r.view ≡ old
+same_view r old h e = let f : view_at r.session.views r.view.id ≡ Some r.view = h.view in cc
+
 view_change_sound : (r : Request) (what : ViewChange) → IsSoundRequest r → IsFitViewChange r what → IsSound (view_change_performed r what)
 view_change_sound r what h fit =
     view_replaced r.session r.document (changed_view (levels r) what r.view) h.sound
     (ap (document_at r.session.documents) (changed_view_document (levels r) what r.view) ∙ h.document)
+    (λ old e. changed_view_document (levels r) what r.view ∙ ap (λ (v : View). v.document) (same_view r old h (ap (view_at r.session.views) (sym (changed_view_id (levels r) what r.view)) ∙ e)))
     (changed_view_stands (levels r) what r.document r.view (request_stands r h) (fit_here r what fit))
 
 session_change_sound : (r : Request) (what : SessionChange) → IsSoundRequest r → IsSound (session_changed r what)
 session_change_sound r (session_change.Copy start count) h = clipboard_sound r.session _ h.sound
 session_change_sound r (session_change.CopyText count) h = clipboard_sound r.session _ h.sound
-session_change_sound r (session_change.Attach id) h = attached_any_sound r.session id r.view h.sound (request_stands r h).indicator
-session_change_sound r session_change.AttachNew h = attached_new_sound r.session r.view h.sound (request_stands r h).indicator
+session_change_sound r (session_change.Attach id) h = attached_any_sound r.session id r.view h.sound h.view (request_stands r h).indicator
+session_change_sound r session_change.AttachNew h = attached_new_sound r.session r.view h.sound h.view (request_stands r h).indicator
 session_change_sound r (session_change.Create options) h = created_sound r.session options h.sound
 session_change_sound r (session_change.AddReference id) h = held_more_sound r.session id h.sound
 session_change_sound r (session_change.Release id) h = released_sound r.session id h.sound
@@ -266,7 +272,7 @@ run_sound known files [] s h = h
 run_sound known files (c ∷ cs) s h = run_sound known files cs (after_command known files c s).0 (command_sound known files c s h)
 
 pub new_session_sound : NewSessionIsSound
-new_session_sound limits = record { document_ids = tt; view_ids = tt; documents = tt; views = tt }
+new_session_sound limits = record { document_ids = tt; view_ids = tt; documents = tt; views = tt; lists = tt }
 
 pub sound_in_every_state : IsSoundInEveryState
 sound_in_every_state known files commands limits = run_sound known files commands (starting (new_session limits)) (new_session_sound limits)

@@ -13,10 +13,11 @@ use Rattle.ed_model.specs.Edits.{size_after, stays_within}
 use Rattle.ed_model.specs.DocumentPlans.{text_steps}
 use Rattle.ed_model.specs.Session.{Session, Document, View, document_at, with_document, text_of, limit_of}
 use Rattle.ed_model.specs.Performing.{Scene, document_after, moved_view, view_after, with_history, step_made, steps_made, sealed_scene, edit_made, change_performed, changes_performed, session_of, changes_lines, is_last}
-use Rattle.ed_model.specs.SoundLaws.{Fits, FitInTurn, FitsText, IsSound, IsSoundDocument, StandsOn}
+use Rattle.ed_model.specs.SoundLaws.{IsStepOf, AreStepsOf, FitsText, IsSound, IsSoundDocument, StandsOn}
 use Rattle.ed_model.proofs.SoundHistory.{appended_fits, sealed_fits, fresh_fits}
 use Rattle.ed_model.proofs.SoundDocuments.{document_made, view_made, text_after, length_cells_after, cells_range}
-use Rattle.ed_model.proofs.SoundSessions.{document_sound, replaced_found, replaced_twice, document_replaced, IsOwner, all_map}
+use Rattle.ed_model.proofs.SoundFinding.{document_sound, replaced_found, replaced_twice, all_map}
+use Rattle.ed_model.proofs.SoundSessions.{document_replaced, IsOwner}
 
 -- the session that the scene makes is sound, and the sender is a view on its document
 pub record IsSoundScene (sender : ℕ) (s : Session) (scene : Scene) : Type 0 where
@@ -29,13 +30,13 @@ scene_document_sound sender s scene h = document_sound s.limits (with_document s
 
 -- the document of a scene changes, and the views on it with it
 pub scene_changed : (sender : ℕ) (s : Session) (scene : Scene) (d' : Document) (f : View → View) (notes : List Notice) → IsSoundScene sender s scene
-    → d'.id ≡ scene.document.id → IsSoundDocument s.limits d' → ((v : View) → (f v).id ≡ v.id) → ((v : View) → (f v).document ≡ v.document)
+    → d'.id ≡ scene.document.id → d'.views ≡ scene.document.views → IsSoundDocument s.limits d' → ((v : View) → (f v).id ≡ v.id) → ((v : View) → (f v).document ≡ v.document)
     → ((v : View) → v.document ≡ scene.document.id → StandsOn scene.document v → StandsOn d' (f v))
     → ((v : View) → (v.document ≡ scene.document.id → ⊥) → f v ≡ v)
     → IsSoundScene sender s (record { document = d'; views = map f scene.views; notes = notes })
-scene_changed sender s scene d' f notes h same made keeps_id keeps_document moves others = record {
+scene_changed sender s scene d' f notes h same alike made keeps_id keeps_document moves others = record {
   sound = subst (λ ds. IsSound (record s { documents = ds; views = map f scene.views })) (replaced_twice scene.document d' s.documents (sym same))
-      (document_replaced (session_of s scene) scene.document d' f h.sound h.found same made keeps_id keeps_document moves others);
+      (document_replaced (session_of s scene) scene.document d' f h.sound h.found same alike made keeps_id keeps_document moves others);
   found = subst (λ ds. document_at ds d'.id ≡ Some d') (replaced_twice scene.document d' s.documents (sym same))
       (replaced_found (with_document scene.document s.documents) scene.document d' (ap (document_at (with_document scene.document s.documents)) same ∙ h.found));
   owner = all_map (λ (v : View). v.id ≡ sender → v.document ≡ scene.document.id) (λ (v : View). v.id ≡ sender → v.document ≡ d'.id) f
@@ -44,11 +45,11 @@ scene_changed sender s scene d' f notes h same made keeps_id keeps_document move
 
 -- the document alone changes
 pub scene_document : (sender : ℕ) (s : Session) (scene : Scene) (d' : Document) (notes : List Notice) → IsSoundScene sender s scene
-    → d'.id ≡ scene.document.id → IsSoundDocument s.limits d' → ((v : View) → v.document ≡ scene.document.id → StandsOn scene.document v → StandsOn d' v)
+    → d'.id ≡ scene.document.id → d'.views ≡ scene.document.views → IsSoundDocument s.limits d' → ((v : View) → v.document ≡ scene.document.id → StandsOn scene.document v → StandsOn d' v)
     → IsSoundScene sender s (record { document = d'; views = scene.views; notes = notes })
-scene_document sender s scene d' notes h same made moves =
+scene_document sender s scene d' notes h same alike made moves =
     subst (λ vs. IsSoundScene sender s (record { document = d'; views = vs; notes = notes })) (map-id scene.views)
-    (scene_changed sender s scene d' (λ (v : View). v) notes h same made (λ v. refl) (λ v. refl) moves (λ v ne. refl))
+    (scene_changed sender s scene d' (λ (v : View). v) notes h same alike made (λ v. refl) (λ v. refl) moves (λ v ne. refl))
 
 -- the notes change
 pub scene_told : (sender : ℕ) (s : Session) (scene : Scene) (notes : List Notice) → IsSoundScene sender s scene → IsSoundScene sender s (record scene { notes = notes })
@@ -60,7 +61,7 @@ pub scene_history : (sender : ℕ) (s : Session) (scene : Scene) (h : History) �
 scene_history sender s scene h sound fits =
     let d = scene.document in
     let was = scene_document_sound sender s scene sound in
-    scene_document sender s scene (record d { history = h }) scene.notes sound refl
+    scene_document sender s scene (record d { history = h }) scene.notes sound refl refl
     (record {
       line_starts = was.line_starts;
       rows = was.rows;
@@ -87,7 +88,7 @@ after_document step d v false = refl
 
 -- a step that fits, with a history that fits the new text
 pub scene_step : (sender : ℕ) (s : Session) (scene : Scene) (step : Step) (h : History) (notes : List Notice) → IsSoundScene sender s scene
-    → Fits (text_of scene.document) step → size_after (length scene.document.cells) step ≤ limit_of s.limits scene.document
+    → IsStepOf (text_of scene.document) step → size_after (length scene.document.cells) step ≤ limit_of s.limits scene.document
     → FitsText (edited step (text_of scene.document)) h
     → IsSoundScene sender s (record {
       document = record (document_after step scene.document) { history = h };
@@ -95,18 +96,18 @@ pub scene_step : (sender : ℕ) (s : Session) (scene : Scene) (step : Step) (h :
       notes = notes;
     })
 scene_step sender s scene step h notes sound fits room history =
-    scene_changed sender s scene (record (document_after step scene.document) { history = h }) (view_after step scene.document) notes sound refl
+    scene_changed sender s scene (record (document_after step scene.document) { history = h }) (view_after step scene.document) notes sound refl refl
     (document_made s.limits scene.document step h (scene_document_sound sender s scene sound) fits room history)
     (λ v. after_id step scene.document v (v.document == scene.document.id))
     (λ v. after_document step scene.document v (v.document == scene.document.id))
-    (λ v e on. let t : (v.document == scene.document.id) ≡ true = eq-eqb v.document scene.document.id e in rw t (view_made scene.document step h v fits on))
+    (λ v e on. let t : (v.document == scene.document.id) ≡ true = eq-eqb v.document scene.document.id e in rw t (view_made scene.document step h v on))
     (λ v ne. let t : (v.document == scene.document.id) ≡ false = ne_eqb v.document scene.document.id ne in rw t refl)
 
 -- The steps of an edit.
 
 -- a text of these steps: they fit in turn, and none passes the limit
 pub record IsRoom (s : Session) (scene : Scene) (steps : List Step) : Type 0 where
-  pub fits : FitInTurn (text_of scene.document) steps
+  pub fits : AreStepsOf (text_of scene.document) steps
   pub within : stays_within (limit_of s.limits scene.document) (length scene.document.cells) steps ≡ true
 
 room_first : (s : Session) (scene : Scene) (step : Step) (steps : List Step) → IsRoom s scene (step ∷ steps) → size_after (length scene.document.cells) step ≤ limit_of s.limits scene.document
@@ -117,7 +118,7 @@ room_first s scene step steps room =
 room_rest : (s : Session) (scene next : Scene) (step : Step) (steps : List Step) → IsRoom s scene (step ∷ steps)
     → next.document.cells ≡ (document_after step scene.document).cells → next.document.options ≡ scene.document.options → IsRoom s next steps
 room_rest s scene next step steps room cells options = record {
-  fits = subst (λ t. FitInTurn t steps) (sym (text_after scene.document step) ∙ ap bytes_of (sym cells)) room.fits.1;
+  fits = subst (λ t. AreStepsOf t steps) (sym (text_after scene.document step) ∙ ap bytes_of (sym cells)) room.fits.1;
   within =
       let n : length next.document.cells ≡ size_after (length scene.document.cells) step = ap length cells ∙ length_cells_after step scene.document.cells (cells_range scene.document step room.fits.0) in
       let l : limit_of s.limits next.document ≡ limit_of s.limits scene.document = ap (λ o. if meets o 0x100 then s.limits.large_bytes else s.limits.doc_bytes) options in
@@ -187,14 +188,3 @@ changes_performed_sound sender s who several lines_changed (ContainerStep token 
     changes_performed_sound sender s who several changed cs next
     (record { sound = sound.sound; found = sound.found; owner = sound.owner })
     (record { fits = room.fits; within = room.within })
-
-pub text_performed : (who several : ℕ) (lines_changed : Bool) (cs : List Change) (scene : Scene)
-    → text_of (changes_performed who several lines_changed cs scene).document ≡ after_steps (text_steps cs) (text_of scene.document)
-text_performed who several lines_changed [] scene = refl
-text_performed who several lines_changed (TextStep step ∷ cs) scene =
-    let changed = (if lines_changed then true else changes_lines (TextStep step) scene.document) in
-    text_performed who several changed cs (change_performed who several (is_last cs) changed (TextStep step) scene)
-    ∙ ap (after_steps (text_steps cs)) (text_after scene.document step)
-text_performed who several lines_changed (ContainerStep token coalesce ∷ cs) scene =
-    let changed = (if lines_changed then true else changes_lines (ContainerStep token coalesce) scene.document) in
-    text_performed who several changed cs (change_performed who several (is_last cs) changed (ContainerStep token coalesce) scene)

@@ -1,36 +1,27 @@
 -- Steps that fit a text: lengths after them, their inverses, and the steps of a replacement and of a conversion.
-use Rattle.std.proofs.Common.{◌≡◌, ℕ, suc, ◌+◌, ◌-◌, ◌<◌, ◌≤◌, List, [], ◌∷◌, ◌++◌, length, map, take, drop, reverse, refl, ap, sym, ◌∙◌, subst, arith, append_assoc, length-append, length-take, length-drop}
+use Rattle.std.proofs.Common.{◌≡◌, ℕ, suc, ◌+◌, ◌-◌, ◌<◌, ◌≤◌, List, [], ◌∷◌, ◌++◌, length, map, take, drop, reverse, refl, ap, sym, ◌∙◌, subst, arith, length-append, length-take, length-drop}
 use Rattle.std.specs.Prelude.{slice_range}
-use Rattle.std.proofs.lemmas.List.{take_at, drop_at, drop-drop, take-append-drop, length-take-le, reverse-append, map-append, take-map, drop-map}
-use Rattle.ed_model.specs.Text.{Cell, bytes_of, plain_cells}
-use Rattle.ed_model.specs.Steps.{Step, Insert, Delete, edited, edited_cells, inverse_of, replacement, deletion, insertion}
+use Rattle.std.proofs.lemmas.List.{reverse-append}
+use Rattle.ed_model.specs.Steps.{Step, Insert, Delete, edited, inverse_of, replacement, deletion, insertion}
 use Rattle.ed_model.specs.LineEnds.{after_steps}
 use Rattle.ed_model.specs.Edits.{size_after}
-use Rattle.ed_model.specs.SoundLaws.{Fits, FitInTurn}
+use Rattle.ed_model.specs.SoundLaws.{IsStepOf, AreStepsOf}
+use Rattle.ed_model.proofs.InverseLemmas.{inverse_fits, inverse_gives_back_the_text, steps_after_steps}
 
 -- a step whose place, and what it deletes, lies within n bytes
 abbrev pub InRange : ℕ → Step → Type 0
 InRange n (Insert p bytes) = p ≤ n
 InRange n (Delete p bytes) = p + length bytes ≤ n
 
-pub fits_range : (text : List ℕ) (step : Step) → Fits text step → InRange (length text) step
+pub fits_range : (text : List ℕ) (step : Step) → IsStepOf text step → InRange (length text) step
 fits_range text (Insert p bytes) f = f.0
 fits_range text (Delete p bytes) f =
-    let e = ap length f.0 in
+    let e = ap length f.0.1 in
+    let le : p ≤ length text = f.0.0 in
     let e2 = length-take (p + length bytes - p) (drop p text) in
     let e3 = length-drop p text in
     let h : 0 < length bytes = f.1 in
     omega arith
-
--- the bytes of the cells after a step
-pub bytes_of_plain : (bytes : List ℕ) → bytes_of (plain_cells bytes) ≡ bytes
-bytes_of_plain [] = refl
-bytes_of_plain (b ∷ bs) = ap (λ t. b ∷ t) (bytes_of_plain bs)
-
-pub bytes_after : (step : Step) (cells : List Cell) → bytes_of (edited_cells step cells) ≡ edited step (bytes_of cells)
-bytes_after (Insert p bytes) cells =
-    simp (map-append, take-map, drop-map) (let e = bytes_of_plain bytes in rw e refl)
-bytes_after (Delete p bytes) cells = simp (map-append, take-map, drop-map)
 
 -- lengths after a step
 pub length_edited : {A : Type 0} (n p : ℕ) (xs ys : List A) → length ys ≡ n → p ≤ length xs → length (take p xs ++ ys ++ drop p xs) ≡ length xs + n
@@ -44,64 +35,23 @@ length_after (Insert p bytes) text h = length_edited (length bytes) p text bytes
 length_after (Delete p bytes) text h = length_deleted (length bytes) p text h
 
 -- a step that is taken back
-pub inverse_fits : (step : Step) (text : List ℕ) → Fits text step → Fits (edited step text) (inverse_of step)
-inverse_fits (Insert p bytes) text f = (inserted_stands p bytes text f.0, f.1)
-  where
-    inserted_stands : (p : ℕ) (bytes text : List ℕ) → p ≤ length text → slice_range (take p text ++ bytes ++ drop p text) p (p + length bytes) ≡ bytes
-    inserted_stands p bytes text h =
-        let e = length-take-le p text h in
-        let d : drop p (take p text ++ (bytes ++ drop p text)) ≡ bytes ++ drop p text = drop_at (take p text) (bytes ++ drop p text) p e in
-        let n : p + length bytes - p ≡ length bytes = omega arith in
-        rw (append_assoc, d, n) (take_at bytes (drop p text) (length bytes) refl)
-inverse_fits (Delete p bytes) text f =
-    let r : p + length bytes ≤ length text = fits_range text (Delete p bytes) f in
-    let e = length_deleted (length bytes) p text r in
-    (omega arith, f.1)
+pub inverse_is_step : (step : Step) (text : List ℕ) → IsStepOf text step → IsStepOf (edited step text) (inverse_of step)
+inverse_is_step (Insert p bytes) text f = (inverse_fits (Insert p bytes) text f.0, f.1)
+inverse_is_step (Delete p bytes) text f = (inverse_fits (Delete p bytes) text f.0, f.1)
 
-pub inverse_returns : (step : Step) (text : List ℕ) → Fits text step → edited (inverse_of step) (edited step text) ≡ text
-inverse_returns (Insert p bytes) text f = put_back p bytes text f.0
-  where
-    put_back : (p : ℕ) (bytes text : List ℕ) → p ≤ length text → take p (take p text ++ bytes ++ drop p text) ++ drop (p + length bytes) (take p text ++ bytes ++ drop p text) ≡ text
-    put_back p bytes text h =
-        let e = length-take-le p text h in
-        let a : take p (take p text ++ (bytes ++ drop p text)) ≡ take p text = take_at (take p text) (bytes ++ drop p text) p e in
-        let m : length (take p text ++ bytes) ≡ p + length bytes = simp length-append (omega arith) in
-        let d : drop (p + length bytes) (take p text ++ bytes ++ drop p text) ≡ drop p text = drop_at (take p text ++ bytes) (drop p text) (p + length bytes) m in
-        rw d (rw (append_assoc, a) (take-append-drop p text))
-inverse_returns (Delete p bytes) text f = put_in p bytes text (fits_range text (Delete p bytes) f) f.0
-  where
-    put_in : (p : ℕ) (bytes text : List ℕ) → p + length bytes ≤ length text → slice_range text p (p + length bytes) ≡ bytes
-        → take p (take p text ++ drop (p + length bytes) text) ++ bytes ++ drop p (take p text ++ drop (p + length bytes) text) ≡ text
-    put_in p bytes text h s =
-        let le : p ≤ length text = omega arith in
-        let e = length-take-le p text le in
-        let a = take_at (take p text) (drop (p + length bytes) text) p e in
-        let b = drop_at (take p text) (drop (p + length bytes) text) p e in
-        let n : p + length bytes - p ≡ length bytes = omega arith in
-        let s' : take (length bytes) (drop p text) ≡ bytes = subst (λ k. take k (drop p text) ≡ bytes) n s in
-        let d : drop (length bytes) (drop p text) ≡ drop (p + length bytes) text = drop-drop (length bytes) p text in
-        let joined : bytes ++ drop (p + length bytes) text ≡ drop p text =
-        subst (λ t. t ++ drop (p + length bytes) text ≡ drop p text) s' (subst (λ t. take (length bytes) (drop p text) ++ t ≡ drop p text) d (take-append-drop (length bytes) (drop p text))) in
-        rw (a, b, append_assoc, joined) (take-append-drop p text)
-
-pub inverse_twice : (step : Step) → inverse_of (inverse_of step) ≡ step
-inverse_twice (Insert p bytes) = refl
-inverse_twice (Delete p bytes) = refl
+pub inverse_returns : (step : Step) (text : List ℕ) → IsStepOf text step → edited (inverse_of step) (edited step text) ≡ text
+inverse_returns step text f = inverse_gives_back_the_text step text f.0
 
 -- steps in turn
-pub after_append : (xs ys : List Step) (text : List ℕ) → after_steps (xs ++ ys) text ≡ after_steps ys (after_steps xs text)
-after_append [] ys text = refl
-after_append (x ∷ xs) ys text = after_append xs ys (edited x text)
-
-pub fit_append : (xs ys : List Step) (text : List ℕ) → FitInTurn text xs → FitInTurn (after_steps xs text) ys → FitInTurn text (xs ++ ys)
+pub fit_append : (xs ys : List Step) (text : List ℕ) → AreStepsOf text xs → AreStepsOf (after_steps xs text) ys → AreStepsOf text (xs ++ ys)
 fit_append [] ys text f g = g
 fit_append (x ∷ xs) ys text f g = (f.0, fit_append xs ys (edited x text) f.1 g)
 
-pub fit_front : (xs ys : List Step) (text : List ℕ) → FitInTurn text (xs ++ ys) → FitInTurn text xs
+pub fit_front : (xs ys : List Step) (text : List ℕ) → AreStepsOf text (xs ++ ys) → AreStepsOf text xs
 fit_front [] ys text f = tt
 fit_front (x ∷ xs) ys text f = (f.0, fit_front xs ys (edited x text) f.1)
 
-pub fit_back : (xs ys : List Step) (text : List ℕ) → FitInTurn text (xs ++ ys) → FitInTurn (after_steps xs text) ys
+pub fit_back : (xs ys : List Step) (text : List ℕ) → AreStepsOf text (xs ++ ys) → AreStepsOf (after_steps xs text) ys
 fit_back [] ys text f = f
 fit_back (x ∷ xs) ys text f = fit_back xs ys (edited x text) f.1
 
@@ -114,25 +64,25 @@ pub reversed_is : (xs : List Step) → reversed xs ≡ reverse (map inverse_of x
 reversed_is [] = refl
 reversed_is (x ∷ xs) = rw (reversed_is xs) (sym (reverse-append (inverse_of x ∷ []) (map inverse_of xs)))
 
-pub reversed_returns : (steps : List Step) (text : List ℕ) → FitInTurn text steps → after_steps (reversed steps) (after_steps steps text) ≡ text
+pub reversed_returns : (steps : List Step) (text : List ℕ) → AreStepsOf text steps → after_steps (reversed steps) (after_steps steps text) ≡ text
 reversed_returns [] text f = refl
 reversed_returns (x ∷ xs) text f =
-    after_append (reversed xs) (inverse_of x ∷ []) (after_steps xs (edited x text))
+    steps_after_steps (reversed xs) (inverse_of x ∷ []) (after_steps xs (edited x text))
     ∙ ap (edited (inverse_of x)) (reversed_returns xs (edited x text) f.1)
     ∙ inverse_returns x text f.0
 
-pub reversed_fits : (steps : List Step) (text : List ℕ) → FitInTurn text steps → FitInTurn (after_steps steps text) (reversed steps)
+pub reversed_fits : (steps : List Step) (text : List ℕ) → AreStepsOf text steps → AreStepsOf (after_steps steps text) (reversed steps)
 reversed_fits [] text f = tt
 reversed_fits (x ∷ xs) text f =
     fit_append (reversed xs) (inverse_of x ∷ []) (after_steps xs (edited x text))
     (reversed_fits xs (edited x text) f.1)
-    (subst (λ t. FitInTurn t (inverse_of x ∷ [])) (sym (reversed_returns xs (edited x text) f.1)) (inverse_fits x text f.0, tt))
+    (subst (λ t. AreStepsOf t (inverse_of x ∷ [])) (sym (reversed_returns xs (edited x text) f.1)) (inverse_is_step x text f.0, tt))
 
 -- a replacement
 abbrev pub insertion_after : ℕ → List ℕ → List ℕ → List ℕ
 insertion_after p bytes text = after_steps (insertion p bytes) text
 
-pub insertion_fits : (p : ℕ) (bytes text : List ℕ) → p ≤ length text → FitInTurn text (insertion p bytes)
+pub insertion_fits : (p : ℕ) (bytes text : List ℕ) → p ≤ length text → AreStepsOf text (insertion p bytes)
 insertion_fits p [] text h = tt
 insertion_fits p (b ∷ bs) text h = ((h, (let g : 0 < suc (length bs) = omega arith in g)), tt)
 
@@ -141,18 +91,18 @@ length_insertion p [] text h = omega arith
 length_insertion p (b ∷ bs) text h = length_edited (length (b ∷ bs)) p text (b ∷ bs) refl h
 
 deletion_fits : (p count : ℕ) (bytes text : List ℕ) → p + count ≤ length text → slice_range text p (p + count) ≡ bytes → length bytes ≡ count
-    → FitInTurn text (deletion p bytes) × (length (after_steps (deletion p bytes) text) ≡ length text - count)
+    → AreStepsOf text (deletion p bytes) × (length (after_steps (deletion p bytes) text) ≡ length text - count)
 deletion_fits p count [] text h s e = (tt, omega arith)
 deletion_fits p count (b ∷ bs) text h s e =
     let n : count ≡ length (b ∷ bs) = sym e in (
-      ((subst (λ k. slice_range text p (p + k) ≡ b ∷ bs) n s, (let g : 0 < suc (length bs) = omega arith in g)), tt),
+      ((((let le : p ≤ length text = omega arith in le), subst (λ k. slice_range text p (p + k) ≡ b ∷ bs) n s), (let g : 0 < suc (length bs) = omega arith in g)), tt),
       rw n (length_deleted (length (b ∷ bs)) p text (subst (λ k. p + k ≤ length text) n h)),
     )
 
 pub length_slice : (text : List ℕ) (p count : ℕ) → p + count ≤ length text → length (slice_range text p (p + count)) ≡ count
 length_slice text p count h = simp (length-take, length-drop) (omega arith)
 
-pub replacement_fits : (start count : ℕ) (bytes text : List ℕ) → start + count ≤ length text → FitInTurn text (replacement start count bytes text)
+pub replacement_fits : (start count : ℕ) (bytes text : List ℕ) → start + count ≤ length text → AreStepsOf text (replacement start count bytes text)
 replacement_fits start count bytes text h =
     let d = deletion_fits start count (slice_range text start (start + count)) text h refl (length_slice text start count h) in
     let n : length (after_steps (deletion start (slice_range text start (start + count))) text) ≡ length text - count = d.1 in
@@ -165,5 +115,5 @@ length_replacement start count bytes text h =
     let d = deletion_fits start count (slice_range text start (start + count)) text h refl (length_slice text start count h) in
     let deleted : List ℕ = after_steps (deletion start (slice_range text start (start + count))) text in
     let n : length deleted ≡ length text - count = d.1 in
-    rw (after_append (deletion start (slice_range text start (start + count))) (insertion start bytes) text)
+    rw (steps_after_steps (deletion start (slice_range text start (start + count))) (insertion start bytes) text)
     (length_insertion start bytes deleted (omega arith) ∙ ap (λ k. k + length bytes) n)

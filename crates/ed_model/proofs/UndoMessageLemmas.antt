@@ -22,7 +22,7 @@ use Rattle.ed_model.specs.UndoLaws.{undone_text, redone_text}
 use Rattle.ed_model.specs.UndoMessageLaws.{IsUndone, IsRedone, UndoUndoes, RedoRedoes}
 use Rattle.ed_model.proofs.TransactionLemmas.{undo_makes_its_steps, redo_makes_its_steps}
 use Rattle.ed_model.proofs.UndoLemmas.{undo_keeps_earlier_texts, one_redone}
-use Rattle.ed_model.proofs.SoundSessions.{document_id, replaced_found}
+use Rattle.ed_model.proofs.SoundFinding.{document_id, replaced_found}
 use Rattle.ed_model.proofs.RunUndoLemmas.{changes_performed_id}
 
 -- What every refusal has, and the answer of the kind at the view and its document, the table has.

@@ -23,7 +23,7 @@ use Rattle.ed_model.specs.Requests.{Request, Planned, text, size, lines}
 use Rattle.ed_model.specs.Edits.{steps_of, stays_within}
 use Rattle.ed_model.specs.DocumentPlans.{text_steps, numbers_in}
 use Rattle.ed_model.specs.Table.{plan_of, performed}
-use Rattle.ed_model.specs.SoundLaws.{IsSound, FitInTurn}
+use Rattle.ed_model.specs.SoundLaws.{IsSound, AreStepsOf}
 
 -- a request of a sound session: its view is found by its id, and its document by the view's
 pub record IsSoundRequest (r : Request) : Type 0 where
@@ -47,6 +47,7 @@ IsFitFollow r after (follow.Target start past) = (start ≤ after) × (past ≤ 
 IsFitFollow r after (follow.Clipboard start count) = start + count ≤ size r
 
 abbrev pub IsFitDocumentChange : Request → DocumentChange → Type 0
+IsFitDocumentChange r document_change.BeginGroup = r.document.history.depth < r.session.limits.depth
 IsFitDocumentChange r (document_change.AddMarker line number) = (line < lines r) × (number ≤ 31) × (r.document.next_handle + 1 ≤ r.session.limits.handles + 1)
 IsFitDocumentChange r (document_change.AddMarkers line mask) = (line < lines r) × (mask < 2 ^ 32) × (r.document.next_handle + length (numbers_in mask) ≤ r.session.limits.handles + 1)
 IsFitDocumentChange r (document_change.DeleteMarker line number) = line < lines r
@@ -108,13 +109,13 @@ PlansFit = (kind : Kind) (r : Request) → IsSoundRequest r → IsFitPlanned r (
 -- The steps that a fit plan makes fit the text one after another.
 
 abbrev pub EditStepsFit : Type 0
-EditStepsFit = (r : Request) (change : Edit) → IsFitEdit r change → FitInTurn (text r) (steps_of r change)
+EditStepsFit = (r : Request) (change : Edit) → IsFitEdit r change → AreStepsOf (text r) (steps_of r change)
 
 abbrev pub UndoStepsFit : Type 0
-UndoStepsFit = (r : Request) → IsSoundRequest r → FitInTurn (text r) (text_steps (undo_changes r.document.history))
+UndoStepsFit = (r : Request) → IsSoundRequest r → AreStepsOf (text r) (text_steps (undo_changes r.document.history))
 
 abbrev pub RedoStepsFit : Type 0
-RedoStepsFit = (r : Request) → IsSoundRequest r → FitInTurn (text r) (text_steps (redo_changes r.document.history))
+RedoStepsFit = (r : Request) → IsSoundRequest r → AreStepsOf (text r) (text_steps (redo_changes r.document.history))
 
 -- what a fit plan does keeps a session sound
 abbrev pub PlansKeepSound : Type 0

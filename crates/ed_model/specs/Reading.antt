@@ -78,12 +78,18 @@ abbrev pub not_empty : List ℕ → Result (List ℕ) Cause
 not_empty [] = Err BadShape
 not_empty (b ∷ bs) = Ok (b ∷ bs)
 
-abbrev pub number_field : {T : Type 0} → (List ℕ → Option T) → List ℕ → Result (T × List ℕ) Cause
-number_field number line = do
+-- a word behind one space, up to the next space or the line's end
+abbrev pub word_field : List ℕ → Result (List ℕ × List ℕ) Cause
+word_field line = do
   fields ← behind space line
   word ← not_empty (word_of fields)
+  Ok (word, behind_word fields)
+
+abbrev pub number_field : {T : Type 0} → (List ℕ → Option T) → List ℕ → Result (T × List ℕ) Cause
+number_field number line = do
+  (word, rest) ← word_field line
   value ← ok_or (number word) BadNumber
-  Ok (value, behind_word fields)
+  Ok (value, rest)
 
 abbrev pub text_field : List ℕ → Result (List ℕ × List ℕ) Cause
 text_field line = do

@@ -1,18 +1,23 @@
 -- Sound sessions: what holds of every session that a run reaches.
-use Rattle.std.specs.Prelude.{ℕ, ◌+◌, ◌==◌, ◌≡◌, ◌≤◌, ◌<◌, Bool, true, false, List, [], ◌∷◌, length, map, filter, flat_map, reverse, slice_range, Some, IfOk}
+use Rattle.std.specs.Prelude.{ℕ, ◌+◌, ◌==◌, ◌≡◌, ◌≤◌, ◌<◌, Bool, true, false, List, [], ◌∷◌, length, map, filter, flat_map, reverse, slice_index, All, Some, IfOk}
 use Rattle.std.specs.List.{AllByRecursion}
+use Rattle.std.specs.List.Sorted.{IsStrictlyIncreasing}
 use Rattle.ed_types.specs.declared.limits.Limits.{Limits}
 use Rattle.ed_types.specs.declared.kind.Kind.{Kind}
 use Rattle.ed_types.specs.declared.message.Message.{Message}
 use Rattle.ed_types.specs.declared.script.Command.{Command}
 use Rattle.ed_types.specs.Notices.{Response}
 use Rattle.ed_model.specs.Lines.{line_starts}
-use Rattle.ed_model.specs.Steps.{Step, Insert, Delete, edited, inverse_of}
+use Rattle.ed_model.specs.Steps.{Step, step_bytes, edited, inverse_of}
+use Rattle.ed_model.specs.InverseLaws.{Fits}
 use Rattle.ed_model.specs.Rows.{Row, Marker}
 use Rattle.ed_model.specs.History.{History, Transaction}
 use Rattle.ed_model.specs.Folding.{is_visible}
-use Rattle.ed_model.specs.Session.{Session, View, Document, new_session, document_at, text_of, lines_in, references, limit_of}
+use Rattle.ed_model.specs.Session.{Session, View, Document, new_session, document_at, view_at, text_of, lines_in, references, limit_of}
 use Rattle.ed_model.specs.DocumentPlans.{text_steps}
+use Rattle.ed_model.specs.Performing.{Scene}
+use Rattle.ed_model.specs.HistoryLaws.{SameButForSeals}
+use Rattle.ed_model.specs.UndoLaws.{CanBeUndone, undos, redos}
 use Rattle.ed_model.specs.Table.{table, opened, closed}
 use Rattle.ed_model.specs.Run.{Running, starting, after_command, run_to}
 
@@ -21,13 +26,11 @@ abbrev pub Rise : ℕ → ℕ → List ℕ → Type 0
 Rise low high [] = Unit {0}
 Rise low high (x ∷ xs) = (low ≤ x) × (x < high) × Rise (x + 1) high xs
 
-abbrev pub BeginAtZero : List ℕ → Type 0
-BeginAtZero [] = ⊥
-BeginAtZero (x ∷ xs) = x ≡ 0
-
--- numbers that rise strictly from 0, none past n
-abbrev pub RiseFromZero : ℕ → List ℕ → Type 0
-RiseFromZero n xs = BeginAtZero xs × Rise 0 (n + 1) xs
+-- line starts of a text of n bytes: they rise strictly from 0, and none passes n
+pub record AreLineStarts (n : ℕ) (starts : List ℕ) : Type 0 where
+  pub first : slice_index starts 0 ≡ 0
+  pub rise : IsStrictlyIncreasing starts
+  pub within : All (λ s. s ≤ n) starts
 
 -- how often the number stands in the list
 abbrev pub occurrences : ℕ → List ℕ → ℕ
@@ -39,15 +42,14 @@ handles_in rows = flat_map (λ (row : Row). map (λ (m : Marker). m.handle) row.
 
 -- The history.
 
--- a step fits a text if its place lies inside and what it deletes stands there
-abbrev pub Fits : List ℕ → Step → Type 0
-Fits text (Insert p bytes) = (p ≤ length text) × (0 < length bytes)
-Fits text (Delete p bytes) = (slice_range text p (p + length bytes) ≡ bytes) × (0 < length bytes)
+-- a step of this text: it has bytes, and it can be made
+abbrev pub IsStepOf : List ℕ → Step → Type 0
+IsStepOf text step = Fits step text × (0 < length (step_bytes step))
 
--- steps fit one after another, each the text that the ones before it made
-abbrev pub FitInTurn : List ℕ → List Step → Type 0
-FitInTurn text [] = Unit {0}
-FitInTurn text (step ∷ steps) = Fits text step × FitInTurn (edited step text) steps
+-- steps of this text in turn: each is one of the text that the steps before it made
+abbrev pub AreStepsOf : List ℕ → List Step → Type 0
+AreStepsOf text [] = Unit {0}
+AreStepsOf text (step ∷ steps) = IsStepOf text step × AreStepsOf (edited step text) steps
 
 -- the steps that take back all the past, the latest first
 abbrev pub undo_path : List Transaction → List Step
@@ -59,8 +61,8 @@ redo_path future = text_steps (flat_map (λ (t : Transaction). reverse t.changes
 
 -- all the past can be taken back from this text, and all the future made again; where nothing is collected there is neither
 pub record FitsText (text : List ℕ) (h : History) : Type 0 where
-  pub past : FitInTurn text (undo_path h.past)
-  pub future : FitInTurn text (redo_path h.future)
+  pub past : AreStepsOf text (undo_path h.past)
+  pub future : AreStepsOf text (redo_path h.future)
   pub kept : h.collecting ≡ false → (h.past ≡ []) × (h.future ≡ [])
 
 -- Documents, views and sessions.
@@ -69,7 +71,7 @@ pub record FitsText (text : List ℕ) (h : History) : Type 0 where
 -- as the text, and end styled lies in it; it is within its limit; handles are distinct and below the next one; something refers to it;
 -- and its history fits its text
 pub record IsSoundDocument (limits : Limits) (d : Document) : Type 0 where
-  pub line_starts : RiseFromZero (length (text_of d)) (line_starts d.line_end_types (text_of d))
+  pub line_starts : AreLineStarts (length (text_of d)) (line_starts d.line_end_types (text_of d))
   pub rows : length d.rows ≡ lines_in d
   pub indicator_count : length d.indicators ≡ 32
   pub indicators : AllByRecursion (λ (values : List ℕ). length values ≡ length d.cells) d.indicators
@@ -98,12 +100,21 @@ pub record IsSoundView (documents : List Document) (v : View) : Type 0 where
   pub found : document_at documents v.document ≡ Some document
   pub stands : StandsOn document v
 
+-- the view of this id is there and on this document
+abbrev pub IsViewOn : List View → ℕ → ℕ → Type 0
+IsViewOn views document id = (v : View) × (view_at views id ≡ Some v) × (v.document ≡ document)
+
+-- a document lists only views that are on it
+abbrev pub ListsItsViews : List View → Document → Type 0
+ListsItsViews views d = AllByRecursion (IsViewOn views d.id) d.views
+
 -- a session: ids rise, below the next ones
 pub record IsSound (s : Session) : Type 0 where
   pub document_ids : Rise 0 s.next_document (map (λ (d : Document). d.id) s.documents)
   pub view_ids : Rise 0 s.next_view (map (λ (v : View). v.id) s.views)
   pub documents : AllByRecursion (IsSoundDocument s.limits) s.documents
   pub views : AllByRecursion (IsSoundView s.documents) s.views
+  pub lists : AllByRecursion (ListsItsViews s.views) s.documents
 
 -- Laws.
 
@@ -130,3 +141,13 @@ IsSoundInEveryStateFrom = (known : Kind → Bool) (files : List (List ℕ)) (com
 -- the session is sound in every state that a run reaches, from a new session with any limits
 abbrev pub IsSoundInEveryState : Type 0
 IsSoundInEveryState = (known : Kind → Bool) (files : List (List ℕ)) (commands : List Command) (limits : Limits) → IsSound (run_to known files commands (starting (new_session limits))).session
+
+-- in a sound document as many transactions as there are can be undone, each in its turn
+abbrev pub ThePastCanBeUndone : Type 0
+ThePastCanBeUndone = (limits : Limits) (d : Document) (k : ℕ) → IsSoundDocument limits d → k ≤ length d.history.past → CanBeUndone k d.history.past (text_of d)
+
+-- so undos, then as many redos, give back its text, and its history but for seals
+abbrev pub UndoneThenRedoneIsTheSame : Type 0
+UndoneThenRedoneIsTheSame =
+    (limits : Limits) (scene : Scene) (k : ℕ) → IsSoundDocument limits scene.document → k ≤ length scene.document.history.past →
+    (text_of (redos k (undos k scene)).document ≡ text_of scene.document) × SameButForSeals scene.document.history (redos k (undos k scene)).document.history

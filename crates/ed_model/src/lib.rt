@@ -47,7 +47,9 @@ pub use script_examples::{
     printed_outcomes, script_lines_at_fault, script_spelling, script_texts_at_fault,
 };
 pub use script_laws::laws_of_scripts;
-pub use sound_laws::{plans_are_fit, session_is_sound, soundness_is_kept};
+pub use sound_laws::{
+    plans_are_fit, session_is_sound, sound_histories_can_be_undone, soundness_is_kept,
+};
 pub use table_laws::{
     free_messages_are_silent, queries_leave_the_session, refusals_leave_the_session,
 };

@@ -1,6 +1,6 @@
 //! Laws of sound sessions and fit plans. Each is the contract of a function that does nothing.
 
-ghost use Rattle.ed_model.specs.SoundLaws.{NewSessionIsSound, MessageKeepsSound, OpeningKeepsSound, ClosingKeepsSound, CommandKeepsSound, IsSoundInEveryStateFrom, IsSoundInEveryState};
+ghost use Rattle.ed_model.specs.SoundLaws.{NewSessionIsSound, MessageKeepsSound, OpeningKeepsSound, ClosingKeepsSound, CommandKeepsSound, IsSoundInEveryStateFrom, IsSoundInEveryState, ThePastCanBeUndone, UndoneThenRedoneIsTheSame};
 ghost use Rattle.ed_model.specs.PlansFit.{PlansFit, EditStepsFit, UndoStepsFit, RedoStepsFit, PlansKeepSound};
 
 /// The session is sound in every state that a run reaches: from a new session, whatever its limits, and from any sound one.
@@ -26,4 +26,10 @@ pub fn plans_are_fit()
     ensures undo_steps { UndoStepsFit }
     ensures redo_steps { RedoStepsFit }
     ensures keep_sound { PlansKeepSound }
+{}
+
+/// In a sound document all the past can be undone, and as many redos give back the text, and the history but for seals.
+pub fn sound_histories_can_be_undone()
+    ensures all_the_past { ThePastCanBeUndone }
+    ensures and_redone { UndoneThenRedoneIsTheSame }
 {}

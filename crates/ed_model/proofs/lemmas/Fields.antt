@@ -7,7 +7,7 @@ use Rattle.std.proofs.lemmas.Bool.{eqb-true, ne_eqb}
 use Rattle.ed_types.specs.declared.script.Cause.{Cause}
 use Rattle.ed_types.specs.declared.script.Cause.TheVariants.{BadShape, BadNumber}
 use Rattle.ed_model.specs.Spelling.{space}
-use Rattle.ed_model.specs.Reading.{◌>>=◌, behind, word_of, behind_word, not_empty, number_field}
+use Rattle.ed_model.specs.Reading.{◌>>=◌, behind, word_of, behind_word, not_empty, word_field, number_field}
 use Rattle.ed_model.proofs.lemmas.Spelling.{AreWordBytes}
 
 -- nothing, or a space first: what may follow a word
@@ -74,25 +74,34 @@ pub ok_or-is : {A E : Type 0} (o : Option A) (e : E) (a : A) → ok_or o e ≡ O
 ok_or-is None e a h = cc
 ok_or-is (Some b) e a h = cc
 
+pub word_field-word : (word rest : List ℕ) → AreWordBytes word → 0 < length word → EndsWord rest → word_field (space ∷ word ++ rest) ≡ Ok (word, rest)
+word_field-word word rest all some ends =
+    let bs = word ++ rest in
+    ap (λ found. not_empty found >>= (λ w. Ok (w, behind_word bs))) (word_of-word word rest all ends) ∙
+    ap (λ r. r >>= (λ w. Ok (w, behind_word bs))) (not_empty-some word some) ∙
+    ap (λ left. Ok (word, left)) (behind_word-word word rest all ends)
+
+pub word_field-is : (line word rest : List ℕ) → word_field line ≡ Ok (word, rest) → line ≡ space ∷ word ++ rest
+word_field-is line word rest h =
+    let fields = bind-is (behind space line) _ (word, rest) h in
+    let found = bind-is (not_empty (word_of fields.0)) _ (word, rest) fields.2 in
+    let same = same_field {E = Cause} found.0 word (behind_word fields.0) rest found.2 in
+    let first = not_empty-is (word_of fields.0) found.0 found.1 in
+    behind-is space line fields.0 fields.1 ∙ ap (λ bs. space ∷ bs) (sym (word_and_rest fields.0) ∙ ap (λ w. w ++ behind_word fields.0) (first ∙ same.0) ∙ ap (λ bs. word ++ bs) same.1)
+
 module _ {T : Type 0} {number : List ℕ → Option T} {spelling : T → List ℕ} {IsOne : T → Type 0} (spells : Spells number spelling IsOne) where
   pub number_field-spelled : (v : T) (rest : List ℕ) → IsOne v → EndsWord rest → number_field number (space ∷ spelling v ++ rest) ≡ Ok (v, rest)
   number_field-spelled v rest one ends =
-      let bs = spelling v ++ rest in
-      let read : List ℕ → Result (T × List ℕ) Cause = λ word. ok_or (number word) BadNumber >>= (λ value. Ok (value, behind_word bs)) in
-      ap (λ word. not_empty word >>= read) (word_of-word (spelling v) rest (spells.word_bytes v one) ends) ∙
-      ap (λ r. r >>= read) (not_empty-some (spelling v) (spells.some v one)) ∙
-      ap (λ o. ok_or o BadNumber >>= (λ value. Ok (value, behind_word bs))) (spells.reads v one) ∙
-      ap (λ left. Ok (v, left)) (behind_word-word (spelling v) rest (spells.word_bytes v one) ends)
+      let read : List ℕ × List ℕ → Result (T × List ℕ) Cause = λ p. ok_or (number p.0) BadNumber >>= (λ value. Ok (value, p.1)) in
+      ap (λ r. r >>= read) (word_field-word (spelling v) rest (spells.word_bytes v one) (spells.some v one) ends) ∙
+      ap (λ o. ok_or o BadNumber >>= (λ value. Ok (value, rest))) (spells.reads v one)
 
   pub number_field-is : (line : List ℕ) (v : T) (rest : List ℕ) → number_field number line ≡ Ok (v, rest) → (line ≡ space ∷ spelling v ++ rest) × IsOne v
   number_field-is line v rest h =
-      let first = bind-is (behind space line) _ (v, rest) h in
-      let fields = first.0 in
-      let second = bind-is (not_empty (word_of fields)) _ (v, rest) first.2 in
-      let third = bind-is (ok_or (number second.0) BadNumber) _ (v, rest) second.2 in
-      let found = ok_or-is (number second.0) BadNumber third.0 third.1 in
-      let same = same_field {E = Cause} third.0 v (behind_word fields) rest third.2 in
-      let one = spells.only second.0 third.0 found in
-      let word = not_empty-is (word_of fields) second.0 second.1 in
-      let value : spelling third.0 ≡ spelling v = ap spelling same.0 in
-      (behind-is space line fields first.1 ∙ ap (λ bs. space ∷ bs) (sym (word_and_rest fields) ∙ ap (λ bs. bs ++ behind_word fields) (word ∙ one.1 ∙ value) ∙ ap (λ bs. spelling v ++ bs) same.1), subst IsOne same.0 one.0)
+      let field = bind-is (word_field line) _ (v, rest) h in
+      let value = bind-is (ok_or (number field.0.0) BadNumber) _ (v, rest) field.2 in
+      let found = ok_or-is (number field.0.0) BadNumber value.0 value.1 in
+      let same = same_field {E = Cause} value.0 v field.0.1 rest value.2 in
+      let one = spells.only field.0.0 value.0 found in
+      let spelled-so : field.0.0 ≡ spelling v = one.1 ∙ ap spelling same.0 in
+      (word_field-is line field.0.0 field.0.1 field.1 ∙ ap (λ bs. space ∷ bs) (ap (λ word. word ++ field.0.1) spelled-so ∙ ap (λ bs. spelling v ++ bs) same.1), subst IsOne same.0 one.0)

@@ -181,13 +181,13 @@ read_lines-is version number (line ∷ next ∷ parts) commands h =
     })
 
 -- The first line, and what stands behind it.
-read_script-first : (line text : List ℕ) → read_script (line ∷ slice_split (λ b. b == line_feed) text) ≡ (at_line 1 line (read_version line) >>= (λ version. read_from version 2 text))
+pub read_script-first : (line text : List ℕ) → read_script (line ∷ slice_split (λ b. b == line_feed) text) ≡ (at_line 1 line (read_version line) >>= (λ version. read_from version 2 text))
 read_script-first line text =
     let some = split-some text in
     let P : List (List ℕ) → Type 0 = λ parts. read_script (line ∷ parts) ≡ (at_line 1 line (read_version line) >>= (λ version. read_lines version 2 parts)) in
     subst P (sym some.2) refl
 
-reads_within : (text : List ℕ) (read : Result (List Command) ScriptFault) → fits_script text ≡ true → read_script (slice_split (λ b. b == line_feed) text) ≡ read → reading text ≡ read
+pub reads_within : (text : List ℕ) (read : Result (List Command) ScriptFault) → fits_script text ≡ true → read_script (slice_split (λ b. b == line_feed) text) ≡ read → reading text ≡ read
 reads_within text read fits h = cond-true (fits_script text) (read_script (slice_split (λ b. b == line_feed) text)) (Err TooLong) fits ∙ h
 
 listing_2_is_read : (commands : List Command) → IsScript 2 commands → reading (listing 2 commands) ≡ Ok commands
@@ -201,7 +201,7 @@ listing_1_is_read commands script =
     reads_within (listing 1 commands) (Ok commands) tests.1 (read_script-first (codes "sci 1") (lines_of commands) ∙ read_from-listed 1 2 commands (inr script.spoken) script.typed tests.0)
 
 -- there are versions 1 and 2
-versions : (version : ℕ) (commands : List Command) → speaks version commands ≡ true → (version ≡ 2) ⊎ (version ≡ 1)
+pub versions : (version : ℕ) (commands : List Command) → speaks version commands ≡ true → (version ≡ 2) ⊎ (version ≡ 1)
 versions version commands h =
     elim (or_cases (version == 2) (version == 1 && list_all (λ c. not (is_expect c)) commands) h) [
       | inl second ↦ inl (eqb-true version 2 second)

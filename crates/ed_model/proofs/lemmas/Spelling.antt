@@ -1,5 +1,6 @@
 -- How numbers are spelled, and read back.
-use Rattle.std.proofs.Common.{◌≡◌, ℕ, suc, ◌+◌, ◌^◌, ◌<◌, Bool, true, false, cond, List, [], ◌∷◌, length, refl, sym, ◌∙◌, ap, subst, arith, rules, ℤ, pos, negsuc, Some, None, lt-ltb}
+use Rattle.std.proofs.Common.{◌≡◌, ℕ, suc, ◌+◌, ◌^◌, ◌<◌, Bool, true, false, cond, List, [], ◌∷◌, length, refl, sym, ◌∙◌, ap, subst, arith, rules, ℤ, pos, negsuc, Some, None, lt-ltb, SFits, w64}
+use Rattle.std.specs.Fmt.{signed_decimal}
 use Rattle.std.specs.Prelude.{decimal, bytes_eq, nat_lt, ◌==◌, ◌&&◌, slice_index}
 use Rattle.std.specs.List.{AllByRecursion}
 use Rattle.std.specs.Str.Parse.{digits_value, AllDigits}
@@ -93,3 +94,12 @@ integer-is word z h =
     let tests = and_parts _ _ parts.0 in
     let P : ℤ → Type 0 = λ y. (is_64_bits y ≡ true) × (word ≡ spelled_int y) in
     subst P parts.1 (tests.0, bytes_eq-true word _ tests.1)
+
+pub spelled_int-signed : (z : ℤ) → is_64_bits z ≡ true → spelled_int z ≡ signed_decimal z
+spelled_int-signed (pos n) h = spelled-decimal n (omega (arith, ltb-true n (2 ^ 63) h))
+spelled_int-signed (negsuc n) h = ap (λ ds. 0x2D ∷ ds) (spelled-decimal (suc n) (omega (arith, ltb-true n (2 ^ 63) h)))
+
+-- the values of signed types of 64 bits
+pub is_64_bits-fits : (z : ℤ) → SFits w64 z → is_64_bits z ≡ true
+is_64_bits-fits (pos n) h = lt-ltb n (2 ^ 63) (omega (arith, h))
+is_64_bits-fits (negsuc n) h = lt-ltb n (2 ^ 63) (omega (arith, h))
