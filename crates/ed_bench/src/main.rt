@@ -3,10 +3,12 @@
 //!
 //!     ed_bench split ITEMS FAR NEAR
 //!     ed_bench partitions STARTS LOOK_UPS EDITS
+//!     ed_bench script BYTES
 //!     ed_bench all                                  (each part, tiny)
 #![tactic(auto)]
 
 mod partitions;
+mod scripts;
 mod split;
 
 use std::time::Instant;
@@ -43,10 +45,12 @@ fn main(rt: HostRuntime) -> io::Result<()> {
     match part {
         "all" => {
             split::run(&rt, 1000, 10, 100)?;
-            partitions::run(&rt, 100, 100, 10)
+            partitions::run(&rt, 100, 100, 10)?;
+            scripts::run(&rt, 1000)
         }
         "split" => split::run(&rt, first, second, third),
+        "script" => scripts::run(&rt, first),
         "partitions" => partitions::run(&rt, first, second, third),
-        _ => eprintln!(&rt; "ed_bench split|partitions|all SIZES.."),
+        _ => eprintln!(&rt; "ed_bench split|partitions|script|all SIZES.."),
     }
 }

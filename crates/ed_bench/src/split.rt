@@ -82,6 +82,7 @@ fn run_items<T: Copy>(
     let start = Instant::now(rt)?;
     move_within(&mut plain, far);
     tell(rt, "std copy_within", start, far)?;
+    vector.reserve(near)?;
     let start = Instant::now(rt)?;
     insert_near(&mut vector, item, near)?;
     tell(rt, "near", start, near)?;

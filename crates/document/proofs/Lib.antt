@@ -1,0 +1,3 @@
+-- Lemmas.
+pub mod PlainLemmas
+pub mod PlainStep

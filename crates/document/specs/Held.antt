@@ -1,0 +1,53 @@
+-- A document whose rows are all fresh, with the room that it has.
+use Rattle.std.specs.Prelude.{◌≡◌, ℕ, ◌≤◌, Bool, true, false, List, replicate, length}
+use Rattle.ed_model.specs.declared.plan.LineEnd.TheVariants.{Lf}
+use Rattle.ed_model.specs.declared.plan.LineEndTypes.TheVariants.{Default}
+use Rattle.ed_model.specs.Text.{Cell, bytes_of}
+use Rattle.ed_model.specs.Lines.{line_count}
+use Rattle.ed_model.specs.Rows.{fresh_row}
+use Rattle.ed_model.specs.Steps.{Step}
+use Rattle.ed_model.specs.History.{History, TextStep, appended}
+use Rattle.ed_model.specs.Session.{Document}
+use Rattle.ed_model.specs.Performing.{document_after}
+
+-- a document without markers, levels, states, styles and indicators, with these cells, this history and these views
+abbrev pub plain_document : ℕ → List Cell → History → List ℕ → Document
+plain_document id cells history views = record {
+  id = id;
+  cells = cells;
+  rows = replicate (line_count Default (bytes_of cells)) fresh_row;
+  indicators = replicate 32 (replicate (length cells) 0);
+  end_styled = 0;
+  history = history;
+  read_only = false;
+  line_end = Lf;
+  options = 0;
+  line_end_types = Default;
+  next_handle = 1;
+  views = views;
+  held = 0;
+}
+
+-- What a `Document` keeps: its cells, its history and the views attached to it; and how many bytes fit in, and how many steps, with
+-- how many bytes in all, its history has room for.
+pub record Held : Type 0 where
+  pub id : ℕ
+  pub cells : List Cell
+  pub history : History
+  pub views : List ℕ
+  pub text_room : ℕ
+  pub step_room : ℕ
+  pub byte_room : ℕ
+
+-- the document that it is
+abbrev pub document_of : Held → Document
+document_of h = plain_document h.id h.cells h.history h.views
+
+-- the document after a step that is appended to its history; `later` says that it is a later step of its message
+abbrev pub step_on : Bool → Step → Document → Document
+step_on later step d = let after = document_after step d in record after { history = appended later (TextStep step) d.history }
+
+-- room for so many bytes of text, and in the history for so many steps with so many bytes in all; a history that does not
+-- collect needs none
+abbrev pub HasRoom : Held → ℕ → ℕ → ℕ → Type 0
+HasRoom h text steps bytes = (text ≤ h.text_room) × (h.history.collecting ≡ true → (steps ≤ h.step_room) × (bytes ≤ h.byte_room))

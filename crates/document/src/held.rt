@@ -1,0 +1,163 @@
+//! `Document` and its calls.
+
+ghost use Rattle.std.specs.Prelude.{◌≡◌, ◌≤◌, ◌<◌, ◌+◌, ◌^◌, ◌∷◌, ◌++◌, [], length, slice_get, slice_range, vec_len, vec_capacity, OnOk, OnErr, IsOk, Some, nat_lt};
+ghost use Rattle.ed_model.specs.Text.{bytes_of};
+ghost use Rattle.ed_model.specs.Steps.{Insert, Delete};
+ghost use Rattle.ed_model.specs.Session.{new_document, without};
+ghost use Rattle.document.specs.Held.{document_of, step_on, HasRoom};
+
+use cell_buffer::Cells;
+use std::alloc::{AllocError, Global};
+use std::marker::Model;
+use undo_history::{StepKind, UndoHistory};
+
+/// A document. It is edited in single steps, for which room is made before.
+#[derive(Drop)]
+pub struct Document {
+    id: u32,
+    cells: Cells,
+    history: UndoHistory,
+    views: Vec<u32>,
+}
+
+impl Model for Document {
+    ghost use Rattle.document.specs.Held.{Held};
+
+    ghost Value = { Held };
+
+    ghost view = { λ d. record { id = d.id; cells = d.cells.cells; history = d.history.history; views = d.views.items; text_room = d.cells.room; step_room = d.history.step_room; byte_room = d.history.byte_room } };
+}
+
+/// Takes every copy of the view out of the list.
+fn leave(views: &mut Vec<u32>, view: u32)
+    ensures { views.new.items ≡ without view views.old.items }
+{
+    views.retain(|id| *id != view);
+}
+
+impl Document {
+    /// A document without text, to which no view is attached. Takes no memory.
+    pub fn new(alloc: Global, id: u32) -> Self
+        ensures id { result.id ≡ id }
+        ensures document { document_of result ≡ new_document id 0 }
+    {
+        Document {
+            id,
+            cells: Cells::new(alloc),
+            history: UndoHistory::new(alloc),
+            views: Vec::new(alloc),
+        }
+    }
+
+    /// Its id in the session.
+    pub fn id(&self) -> u32
+        ensures { result ≡ self.now.id }
+    {
+        self.id
+    }
+
+    /// The length of its text, in bytes.
+    pub fn len(&self) -> usize
+        ensures len { result ≡ length self.now.cells }
+        ensures within { length self.now.cells + self.now.text_room < 2 ^ 63 }
+    {
+        self.cells.len()
+    }
+
+    /// The byte at a place.
+    pub fn byte(&self, place: usize) -> u8
+        requires { place < length self.now.cells }
+        ensures { slice_get (bytes_of self.now.cells) place ≡ Some result }
+    {
+        self.cells.byte(place)
+    }
+
+    /// Appends the `count` bytes from `start` on to `target`.
+    ///
+    /// # Errors
+    ///
+    /// `AllocError` where memory is refused; `target` has then the same bytes.
+    pub fn append_text_to(
+        &self,
+        start: usize,
+        count: usize,
+        target: &mut Vec<u8>,
+    ) -> Result<(), AllocError>
+        requires { start + count ≤ length self.now.cells }
+        ensures ok { OnOk result (target.new.items ≡ target.old.items ++ slice_range (bytes_of self.now.cells) start (start + count)) }
+        ensures err { OnErr result (target.new.items ≡ target.old.items) }
+    {
+        self.cells.append_text_to(start, count, target)
+    }
+
+    /// Attaches a view, behind those that are attached.
+    ///
+    /// # Errors
+    ///
+    /// `AllocError` where memory is refused; the document is then as it was.
+    pub fn attach(&mut self, view: u32) -> Result<(), AllocError>
+        ensures ok { OnOk result (self.new ≡ record self.old { views = self.old.views ++ view ∷ [] }) }
+        ensures err { OnErr result (self.new ≡ self.old) }
+    {
+        self.views.push(view)?;
+        Ok(())
+    }
+
+    /// Lets a view go, if it is attached.
+    pub fn detach(&mut self, view: u32)
+        ensures { self.new ≡ record self.old { views = without view self.old.views } }
+    {
+        leave(&mut self.views, view);
+    }
+
+    /// Whether a view is attached.
+    pub fn has_views(&self) -> bool
+        ensures { result ≡ nat_lt 0 (length self.now.views) }
+    {
+        !self.views.is_empty()
+    }
+
+    /// Makes room for `text` more bytes, and in the history for `steps` more steps with `bytes` bytes in all.
+    ///
+    /// # Errors
+    ///
+    /// `AllocError` where memory is refused; the document is then as it was.
+    pub fn reserve(&mut self, text: usize, steps: usize, bytes: usize) -> Result<(), AllocError>
+        ensures id { self.new.id ≡ self.old.id }
+        ensures same { document_of self.new ≡ document_of self.old }
+        ensures ok { OnOk result (HasRoom self.new text steps bytes) }
+    {
+        self.cells.reserve(text)?;
+        self.history.reserve(steps, bytes)?;
+        Ok(())
+    }
+
+    /// Puts bytes in at a place, as a step that is appended to the history; `later` says that it is a later step of its
+    /// message. There must be room for it.
+    #[tactic(auto, using(crate::proofs::PlainLemmas::plain_step))]
+    pub fn insert_reserved(&mut self, later: bool, place: usize, bytes: &[u8])
+        requires place { place ≤ length self.old.cells }
+        requires room { HasRoom self.old (length bytes.now) 1 (length bytes.now) }
+        ensures id { self.new.id ≡ self.old.id }
+        ensures document { document_of self.new ≡ step_on later (Insert place bytes.now) (document_of self.old) }
+    {
+        self.history
+            .append_reserved(later, StepKind::Insert, place, bytes);
+        self.cells.insert_reserved(place, bytes);
+    }
+
+    /// Deletes `count` bytes from a place on, as a step that is appended to the history; `later` says that it is a later
+    /// step of its message. There must be room for it in the history.
+    #[tactic(auto, using(crate::proofs::PlainLemmas::plain_step))]
+    pub fn delete_reserved(&mut self, later: bool, place: usize, count: usize)
+        requires place { place + count ≤ length self.old.cells }
+        requires room { HasRoom self.old 0 1 count }
+        ensures id { self.new.id ≡ self.old.id }
+        ensures document { document_of self.new ≡ step_on later (Delete place (slice_range (bytes_of self.old.cells) place (place + count))) (document_of self.old) }
+    {
+        let deleted = self.cells.lend(place, count);
+        self.history
+            .append_reserved(later, StepKind::Delete, place, deleted);
+        self.cells.delete(place, count);
+    }
+}

@@ -1,0 +1,9 @@
+//! A document under a step: its text, its undo history, and the views attached to it.
+//!
+//! Rows of lines, indicators and options are as in a new document as long as no message sets them, so nothing is kept of
+//! them yet: what a contract sees of them is made from the text.
+#![tactic(auto)]
+
+mod held;
+
+pub use held::Document;

@@ -1,0 +1,4 @@
+-- Lemmas that several proofs share.
+pub mod OrderLemmas
+pub mod DocumentLemmas
+pub mod LeavingLemmas

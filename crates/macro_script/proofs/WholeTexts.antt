@@ -1,0 +1,46 @@
+-- Whole texts, read from their first line on.
+use Rattle.std.proofs.Common.{◌≡◌, ◌⊎◌, inl, inr, ℕ, ◌≤◌, List, [], ◌∷◌, length, sym, ◌∙◌, ap, Ok, Err, le-leb}
+use Rattle.std.specs.Prelude.{◌==◌}
+use Rattle.std.specs.List.{slice_split}
+use Rattle.ed_types.specs.declared.script.Cause.TheVariants.{NoLineEnd}
+use Rattle.ed_types.specs.declared.script.Command.{Command}
+use Rattle.ed_types.specs.declared.script.ScriptFault.{ScriptFault}
+use Rattle.ed_model.specs.Text.{line_feed}
+use Rattle.ed_model.specs.Listing.{listing}
+use Rattle.ed_model.specs.Reading.{◌>>=◌, at_line, read_version, read_script, reading}
+use Rattle.ed_model.proofs.lemmas.Scripts.{read_from, read_script-first, reads_within, versions, only_listings_are_read}
+use Rattle.macro_script.specs.Lines.{OrMemory}
+use Rattle.macro_script.specs.Scripts.{IsProper}
+
+-- a text of one line or more
+pub from_first : (text first rest : List ℕ) → length text ≤ 16777216 → slice_split (λ b. b == line_feed) text ≡ first ∷ slice_split (λ b. b == line_feed) rest → reading text ≡ (at_line 1 first (read_version first) >>= (λ version. read_from version 2 rest))
+from_first text first rest short split =
+    reads_within text (at_line 1 first (read_version first) >>= (λ version. read_from version 2 rest)) (le-leb (length text) 16777216 short) (ap read_script split ∙ read_script-first first rest)
+
+-- a text without a line's end
+pub from_unended : (text : List ℕ) → length text ≤ 16777216 → slice_split (λ b. b == line_feed) text ≡ text ∷ [] → reading text ≡ at_line 1 text (Err NoLineEnd)
+from_unended text short split = reads_within text (at_line 1 text (Err NoLineEnd)) (le-leb (length text) 16777216 short) (ap read_script split)
+
+pub bad_version : (text first rest : List ℕ) (fault : ScriptFault) → length text ≤ 16777216 → slice_split (λ b. b == line_feed) text ≡ first ∷ slice_split (λ b. b == line_feed) rest → at_line 1 first (read_version first) ≡ Err fault → reading text ≡ Err fault
+bad_version text first rest fault short split h = from_first text first rest short split ∙ ap (λ r. r >>= (λ version. read_from version 2 rest)) h
+
+pub good_version : (text first rest : List ℕ) (version : ℕ) → length text ≤ 16777216 → slice_split (λ b. b == line_feed) text ≡ first ∷ slice_split (λ b. b == line_feed) rest → at_line 1 first (read_version first) ≡ Ok version → reading text ≡ read_from version 2 rest
+good_version text first rest version short split h = from_first text first rest short split ∙ ap (λ r. r >>= (λ v. read_from v 2 rest)) h
+
+-- the lines' fault is the whole's
+pub lines_fault : (text rest : List ℕ) (version : ℕ) (fault : ScriptFault) → reading text ≡ read_from version 2 rest → OrMemory (read_from version 2 rest) (Err fault) → OrMemory (reading text) (Err fault)
+lines_fault text rest version fault whole (inl is) = inl (is ∙ sym whole)
+lines_fault text rest version fault whole (inr refused) = inr refused
+
+pub lines_found : (text rest : List ℕ) (version : ℕ) (commands : List Command) → reading text ≡ read_from version 2 rest → OrMemory (read_from version 2 rest) (Ok commands) → reading text ≡ Ok commands
+lines_found text rest version commands whole (inl is) = whole ∙ sym is
+lines_found text rest version commands whole (inr refused) = cc
+
+length_either : (version : ℕ) (commands : List Command) → (version ≡ 2) ⊎ (version ≡ 1) → length (listing version commands) ≡ length (listing 2 commands)
+length_either version commands (inl second) = ap (λ v. length (listing v commands)) second
+length_either version commands (inr first) = ap (λ v. length (listing v commands)) first
+
+pub proper_read : (text : List ℕ) (commands : List Command) → reading text ≡ Ok commands → IsProper commands (length text)
+proper_read text commands h =
+    let is = only_listings_are_read text commands h in
+    record { typed = is.2.typed; within = is.2.within; length_is = ap length is.1 ∙ length_either is.0 commands (versions is.0 commands is.2.spoken) }

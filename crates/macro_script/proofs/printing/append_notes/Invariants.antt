@@ -1,0 +1,6 @@
+use Rattle.std.proofs.Common.{◌≡◌, ◌++◌, take, flat_map}
+use Rattle.ed_model.specs.Printed.{printed_note}
+use Rattle.macro_script.proofs.printing.append_notes.Given as goal
+
+abbrev pub invariant-loop-index : goal.invariant-loop-index
+invariant-loop-index l = l.out.items ≡ l.fn.out.items ++ flat_map printed_note (take l.index l.reply.notes)

@@ -1,0 +1,19 @@
+-- What the reading of a field answers and leaves.
+use Rattle.std.specs.Prelude.{ℕ, List, Result, Ok, Err}
+use Rattle.std.proofs.Common.{Bor}
+use Rattle.ed_types.specs.declared.script.Cause.{Cause}
+
+-- the answer, and what is left of the line
+abbrev pub and_rest : {T : Type 0} → Result T Cause → List ℕ → Result (T × List ℕ) Cause
+and_rest (Ok value) rest = Ok (value, rest)
+and_rest (Err cause) rest = Err cause
+
+-- what is left of the line alone
+abbrev pub rest_of : Result (Unit {0}) Cause → List ℕ → Result (List ℕ) Cause
+rest_of (Ok done) rest = Ok rest
+rest_of (Err cause) rest = Err cause
+
+-- the bytes that are lent
+abbrev pub lent : Result (Bor (List ℕ)) Cause → Result (List ℕ) Cause
+lent (Ok bytes) = Ok bytes.now
+lent (Err cause) = Err cause

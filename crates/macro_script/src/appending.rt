@@ -1,0 +1,111 @@
+//! Pieces of text, appended to an output.
+
+ghost use Rattle.std.specs.Prelude.{◌∷◌, ◌<◌, length};
+ghost use Rattle.ed_model.specs.Spelling.{spelled, spelled_int, spelled_bytes, spelled_text};
+ghost use Rattle.macro_script.specs.Appending.{Appends, AppendsSome, number_fields, text_field, line_of, lent_text};
+
+use crate::spelled::{plain_len, spell_byte};
+use itoa::Buffer;
+use std::alloc::AllocError;
+
+/// Appends bytes as they are.
+fn append_bytes(out: &mut Vec<u8>, bytes: &[u8]) -> Result<(), AllocError>
+    ensures { Appends bytes.now out.old.items out.new.items result }
+{
+    out.extend_from_slice(bytes)
+}
+
+/// Appends a number that is not negative, in decimal digits.
+pub fn append_number(out: &mut Vec<u8>, number: u64) -> Result<(), AllocError>
+    ensures { Appends (spelled number) out.old.items out.new.items result }
+{
+    let mut buffer = Buffer::new();
+    append_bytes(out, buffer.format(number).as_bytes())
+}
+
+/// Appends a number, with `-` before its digits where it is negative.
+pub fn append_integer(out: &mut Vec<u8>, value: i64) -> Result<(), AllocError>
+    ensures { Appends (spelled_int value) out.old.items out.new.items result }
+{
+    let mut buffer = Buffer::new();
+    append_bytes(out, buffer.format(value).as_bytes())
+}
+
+/// Appends a space and a number.
+fn append_field(out: &mut Vec<u8>, number: i64) -> Result<(), AllocError>
+    ensures { Appends (32 ∷ spelled_int number) out.old.items out.new.items result }
+{
+    append_bytes(out, b" ")?;
+    append_integer(out, number)
+}
+
+/// Appends numbers, each behind a space.
+fn append_fields(out: &mut Vec<u8>, numbers: &[i64]) -> Result<(), AllocError>
+    ensures { Appends (number_fields numbers.now) out.old.items out.new.items result }
+{
+    for number in numbers {
+        append_field(out, *number)?;
+    }
+    Ok(())
+}
+
+/// Appends the spelling of the first bytes, and says of how many, one at least.
+fn append_some(out: &mut Vec<u8>, text: &[u8]) -> Result<usize, AllocError>
+    requires { 0 < length text.now }
+    ensures { AppendsSome text.now out.old.items out.new.items result }
+{
+    let run = plain_len(text);
+    if run > 0 {
+        append_bytes(out, &text[..run])?;
+        return Ok(run);
+    }
+    let (bytes, len) = spell_byte(text[0]);
+    append_bytes(out, &bytes[..len])?;
+    Ok(1)
+}
+
+/// Appends the spelling of a text, without quotes.
+fn append_spelled(out: &mut Vec<u8>, text: &[u8]) -> Result<(), AllocError>
+    ensures { Appends (spelled_bytes text.now) out.old.items out.new.items result }
+{
+    let mut at = 0;
+    while at < text.len() {
+        at += append_some(out, &text[at..])?;
+    }
+    Ok(())
+}
+
+/// Appends a text, spelled between quotes.
+pub fn append_text(out: &mut Vec<u8>, text: &[u8]) -> Result<(), AllocError>
+    ensures { Appends (spelled_text text.now) out.old.items out.new.items result }
+{
+    append_bytes(out, b"\"")?;
+    append_spelled(out, text)?;
+    append_bytes(out, b"\"")
+}
+
+/// Appends a space and a text, if there is one.
+fn append_text_field(out: &mut Vec<u8>, text: Option<&[u8]>) -> Result<(), AllocError>
+    ensures { Appends (text_field (lent_text text.entry)) out.old.items out.new.items result }
+{
+    let Some(text) = text else {
+        return Ok(());
+    };
+    append_bytes(out, b" ")?;
+    append_text(out, text)
+}
+
+/// Appends a line of a word, numbers and a text.
+pub fn append_line(
+    out: &mut Vec<u8>,
+    word: &[u8],
+    numbers: &[i64],
+    text: Option<&[u8]>,
+) -> Result<(), AllocError>
+    ensures { Appends (line_of word.now numbers.now (lent_text text.entry)) out.old.items out.new.items result }
+{
+    append_bytes(out, word)?;
+    append_fields(out, numbers)?;
+    append_text_field(out, text)?;
+    append_bytes(out, b"\n")
+}

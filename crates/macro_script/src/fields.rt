@@ -1,0 +1,123 @@
+//! The fields of a line, read from the left.
+
+ghost use Rattle.std.specs.Prelude.{◌≡◌, length, ◌==◌};
+ghost use Rattle.std.specs.List.{position_or_len};
+ghost use Rattle.ed_model.specs.Reading.{natural as natural_of, integer as integer_of, behind, word_of, behind_word, word_field, number_field, text_field, ended as ended_by};
+ghost use Rattle.macro_script.specs.Stops.{AnswersAndLeaves};
+ghost use Rattle.macro_script.specs.Fields.{and_rest, rest_of, lent};
+
+use crate::numbers;
+use crate::stop::Stop;
+use crate::texts::read_text;
+use ed_types::{Bytes, Cause, Command};
+use std::alloc::Global;
+use std::marker::Model;
+
+/// What is left of a line.
+#[derive(Drop)]
+pub struct Fields<'a> {
+    rest: &'a [u8],
+}
+
+impl<'a> Model for Fields<'a> {
+    ghost use Rattle.std.specs.Prelude.{List, ℕ};
+
+    ghost Value = { List ℕ };
+
+    ghost view = { λ fields. fields.rest.now };
+}
+
+/// The length of the word at the front, in bytes.
+fn word_len(line: &[u8]) -> usize
+    ensures place { result ≡ position_or_len (λ b. b == 32) line.now }
+    ensures len { result ≡ length (word_of line.now) }
+{
+    for (i, byte) in line.iter().enumerate() {
+        if *byte == b' ' {
+            return i;
+        }
+    }
+    line.len()
+}
+
+impl<'a> Fields<'a> {
+    /// All fields of a line.
+    pub fn new(line: &'a [u8]) -> Self
+        ensures { result ≡ line.now }
+    {
+        Fields { rest: line }
+    }
+
+    /// The word at the front, up to the next space or the end.
+    pub fn word(&mut self) -> &'a [u8]
+        ensures word { result.now ≡ word_of self.old }
+        ensures rest { self.new ≡ behind_word self.old }
+    {
+        let (word, rest) = self.rest.split_at(word_len(self.rest));
+        self.rest = rest;
+        word
+    }
+
+    /// Passes one byte, which has to be this.
+    fn pass(&mut self, byte: u8) -> Result<(), Cause>
+        ensures { rest_of result self.new ≡ behind byte self.old }
+    {
+        match self.rest {
+            [first, rest @ ..] if *first == byte => {
+                self.rest = rest;
+                Ok(())
+            }
+            _ => Err(Cause::BadShape),
+        }
+    }
+
+    /// The next word, behind one space.
+    fn next_word(&mut self) -> Result<&'a [u8], Cause>
+        ensures { and_rest (lent result) self.new ≡ word_field self.old }
+    {
+        self.pass(b' ')?;
+        let word = self.word();
+        if word.is_empty() {
+            return Err(Cause::BadShape);
+        }
+        Ok(word)
+    }
+
+    /// The next number from 0 to 4,294,967,295.
+    pub fn natural(&mut self) -> Result<u32, Cause>
+        ensures { and_rest result self.new ≡ number_field natural_of self.old }
+    {
+        let word = self.next_word()?;
+        numbers::natural(word).ok_or(Cause::BadNumber)
+    }
+
+    /// The next number of 64 bits.
+    pub fn integer(&mut self) -> Result<i64, Cause>
+        ensures { and_rest result self.new ≡ number_field integer_of self.old }
+    {
+        let word = self.next_word()?;
+        numbers::integer(word).ok_or(Cause::BadNumber)
+    }
+
+    /// The next text, behind one space.
+    pub fn text(&mut self, alloc: Global) -> Result<Bytes, Stop>
+        ensures { AnswersAndLeaves (text_field self.old) result self.new }
+    {
+        self.pass(b' ')?;
+        self.pass(b'"')?;
+        let (text, passed) = read_text(alloc, self.rest)?;
+        self.rest = &self.rest[passed..];
+        Ok(text)
+    }
+
+    /// The command, if nothing is left.
+    pub fn ended(&self, command: Command) -> Result<Command, Cause>
+        ensures { result ≡ ended_by command self.now }
+    {
+        if self.rest.is_empty() {
+            Ok(command)
+        } else {
+            Err(Cause::BadShape)
+        }
+    }
+}

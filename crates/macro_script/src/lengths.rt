@@ -1,0 +1,77 @@
+//! Lengths of listed lines, without making them.
+
+ghost use Rattle.std.specs.Prelude.{◌≡◌, ◌+◌, ◌≤◌, length, SomeIff, IsTrue, ◌<◌, ◌^◌};
+ghost use Rattle.std.specs.List.{AllByRecursion};
+ghost use Rattle.ed_model.specs.Spelling.{spelled, spelled_int, spelled_bytes, is_64_bits};
+ghost use Rattle.ed_model.specs.Listing.{listed_command, FitsTypes};
+
+use crate::lines::LINE_LIMIT;
+use crate::spelled::spell_byte;
+use ed_types::Command;
+use itoa::Buffer;
+
+/// The length of a number and of the space before it.
+fn number_len(value: i64) -> usize
+    ensures len { result ≡ length (spelled_int value) + 1 }
+    ensures short { result ≤ 41 }
+    ensures typed { IsTrue (is_64_bits value) }
+{
+    let mut buffer = Buffer::new();
+    buffer.format(value).len() + 1
+}
+
+/// The same of a number that is not negative.
+fn id_len(id: u32) -> usize
+    ensures len { result ≡ length (spelled id) + 1 }
+    ensures short { result ≤ 41 }
+    ensures typed { id < 2 ^ 32 }
+{
+    number_len(i64::from(id))
+}
+
+/// The length of a text's spelling, without quotes, unless it passes the limit of a line.
+fn text_len(text: &[u8]) -> Option<usize>
+    ensures len { SomeIff result (length (spelled_bytes text.now) ≤ 65536) (length (spelled_bytes text.now)) }
+    ensures typed { AllByRecursion (λ b. b < 256) text.now }
+{
+    let mut len = 0;
+    for byte in text {
+        len += spell_byte(*byte).1;
+        if len > LINE_LIMIT {
+            return None;
+        }
+    }
+    Some(len)
+}
+
+/// The length, unless it passes the limit of a line.
+fn within_limit(len: usize) -> Option<usize>
+    ensures { SomeIff result (len ≤ 65536) len }
+{
+    if len > LINE_LIMIT { None } else { Some(len) }
+}
+
+/// The length of a command's listed line, unless it passes the limit.
+pub fn line_len(command: &Command) -> Option<usize>
+    ensures typed { FitsTypes command.now }
+    ensures len { SomeIff result (length (listed_command command.now) ≤ 65536) (length (listed_command command.now)) }
+{
+    match command {
+        Command::OpenView => within_limit(4),
+        Command::CloseView { view } => within_limit(5 + id_len(*view)),
+        Command::LoadFile { view, file } => {
+            let ids = id_len(*view) + id_len(*file);
+            within_limit(4 + ids)
+        }
+        Command::SendMessage { view, message } => {
+            let text = message.text.as_slice();
+            let ids = id_len(*view) + id_len(message.number);
+            let arguments = number_len(message.w) + number_len(message.l);
+            match text_len(text) {
+                Some(len) => within_limit(4 + ids + arguments + 3 + len),
+                None => None,
+            }
+        }
+        Command::Expect { value } => within_limit(6 + number_len(*value)),
+    }
+}

@@ -1,0 +1,67 @@
+//! Scripts, listed as text.
+
+ghost use Rattle.std.specs.Prelude.{◌≡◌, ◌∷◌, [], pos, Ok, IfOk, MatchResult};
+ghost use Rattle.ed_types.specs.declared.script.Command.TheVariants.{SendMessage};
+ghost use Rattle.ed_types.specs.declared.script.ScriptFault.TheVariants.{OutOfMemory};
+ghost use Rattle.ed_model.specs.Listing.{listed_command, ended_line, listing};
+ghost use Rattle.ed_model.specs.Reading.{reading};
+ghost use Rattle.macro_script.specs.Appending.{Appends};
+
+use crate::appending::append_line;
+use crate::script::Script;
+use ed_types::{Command, Message, ScriptFault};
+use std::alloc::{AllocError, Global};
+
+/// The numbers of a message that is sent, in the order of its line.
+fn send_numbers(view: u32, message: &Message) -> [i64; 4]
+    ensures { result ≡ pos view ∷ pos message.now.number ∷ message.now.w ∷ message.now.l ∷ [] }
+{
+    [
+        i64::from(view),
+        i64::from(message.number),
+        message.w,
+        message.l,
+    ]
+}
+
+/// Appends the line of a message that is sent.
+fn append_send(out: &mut Vec<u8>, view: u32, message: &Message) -> Result<(), AllocError>
+    ensures { Appends (ended_line (listed_command (SendMessage view message.now))) out.old.items out.new.items result }
+{
+    let numbers = send_numbers(view, message);
+    append_line(out, b"send", &numbers, Some(message.text.as_slice()))
+}
+
+/// Appends a command's line.
+fn append_command(out: &mut Vec<u8>, command: &Command) -> Result<(), AllocError>
+    ensures { Appends (ended_line (listed_command command.now)) out.old.items out.new.items result }
+{
+    match command {
+        Command::OpenView => append_line(out, b"open", &[], None),
+        Command::CloseView { view } => append_line(out, b"close", &[i64::from(*view)], None),
+        Command::LoadFile { view, file } => {
+            append_line(out, b"load", &[i64::from(*view), i64::from(*file)], None)
+        }
+        Command::SendMessage { view, message } => append_send(out, *view, message),
+        Command::Expect { value } => append_line(out, b"expect", &[*value], None),
+    }
+}
+
+/// The listing of a script, in version 2; or want of memory. `assemble` reads it as the script.
+pub fn list(alloc: Global, script: &Script) -> Result<Vec<u8>, ScriptFault>
+    ensures read_back { IfOk result (λ text. reading text.items ≡ Ok script.now) }
+    ensures listed { MatchResult result (λ text. text.items ≡ listing 2 script.now) (λ fault. fault ≡ OutOfMemory) }
+{
+    let Ok(mut text) = Vec::with_capacity(alloc, script.listed_len()) else {
+        return Err(ScriptFault::OutOfMemory);
+    };
+    let Ok(()) = text.extend_from_slice(b"sci 2\n") else {
+        return Err(ScriptFault::OutOfMemory);
+    };
+    for command in script.commands() {
+        let Ok(()) = append_command(&mut text, command) else {
+            return Err(ScriptFault::OutOfMemory);
+        };
+    }
+    Ok(text)
+}

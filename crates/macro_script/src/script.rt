@@ -1,0 +1,93 @@
+//! Scripts.
+
+ghost use Rattle.std.specs.Prelude.{◌≡◌, ◌⊎◌, ◌↔◌, ◌++◌, ◌∷◌, [], length, OnOk, OnErr, IfErr, Ok, Err, false};
+ghost use Rattle.ed_types.specs.declared.script.ScriptFault.TheVariants.{TooLong, OutOfMemory};
+ghost use Rattle.ed_model.specs.Listing.{keeps_limits, listing};
+ghost use Rattle.ed_model.specs.ScriptLaws.{IsScript};
+ghost use Rattle.macro_script.specs.Scripts.{IsProper};
+
+use crate::lengths::line_len;
+use ed_types::{Command, ScriptFault};
+use std::alloc::Global;
+use std::marker::Model;
+
+/// The greatest length of a script's listing, in bytes.
+pub const SCRIPT_LIMIT: usize = 16_777_216;
+
+/// The length of a listing's first line, with its LF.
+const FIRST_LINE: usize = 6;
+
+/// A list of commands whose listing keeps the limits of a line and of a script.
+#[derive(Debug, Drop)]
+pub struct Script {
+    commands: Vec<Command>,
+    listed: usize,
+}
+
+impl Model for Script {
+    ghost use Rattle.std.specs.Prelude.{List};
+    ghost use Rattle.ed_types.specs.declared.script.Command.{Command};
+    ghost use Rattle.macro_script.specs.Scripts.{IsProper};
+
+    ghost Value = { List Command };
+
+    ghost view = { λ script. script.commands.items };
+
+    ghost invariant = { λ script. IsProper script.commands.items script.listed };
+}
+
+impl Script {
+    /// A script of no commands. Takes no memory.
+    pub fn new(alloc: Global) -> Self
+        ensures { result ≡ [] }
+    {
+        Script {
+            commands: Vec::new(alloc),
+            listed: FIRST_LINE,
+        }
+    }
+
+    /// A script of commands whose listing has this length.
+    pub(crate) fn of_listing(commands: Vec<Command>, listed: usize) -> Self
+        requires { IsProper commands.items listed }
+        ensures { result ≡ commands.items }
+    {
+        Script { commands, listed }
+    }
+
+    /// The length of the listing, in bytes.
+    pub(crate) fn listed_len(&self) -> usize
+        ensures { result ≡ length (listing 2 self.now) }
+    {
+        self.listed
+    }
+
+    /// The commands, lent. Takes no memory.
+    pub fn commands(&self) -> &[Command]
+        ensures commands { result.now ≡ self.now }
+        ensures within { IsScript 2 self.now }
+    {
+        self.commands.as_slice()
+    }
+
+    /// Adds a command at the end. `TooLong` where its line or the whole would pass its limit in the listing; then, and where memory
+    /// runs out, the script stays as it was.
+    pub fn push(&mut self, command: Command) -> Result<(), ScriptFault>
+        ensures too_long { (result ≡ Err TooLong) ↔ (keeps_limits (self.old ++ command ∷ []) ≡ false) }
+        ensures refused { IfErr result (λ fault. (fault ≡ TooLong) ⊎ (fault ≡ OutOfMemory)) }
+        ensures added { OnOk result (self.new ≡ self.old ++ command ∷ []) }
+        ensures kept { OnErr result (self.new ≡ self.old) }
+    {
+        let Some(len) = line_len(&command) else {
+            return Err(ScriptFault::TooLong);
+        };
+        if len >= SCRIPT_LIMIT - self.listed {
+            return Err(ScriptFault::TooLong);
+        }
+        let Ok(()) = self.commands.push(command) else {
+            return Err(ScriptFault::OutOfMemory);
+        };
+        self.listed += len + 1;
+        Ok(())
+    }
+}

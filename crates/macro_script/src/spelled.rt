@@ -1,0 +1,43 @@
+//! How bytes are spelled in texts.
+
+ghost use Rattle.std.specs.Prelude.{◌≡◌, ℕ, ◌<◌, ◌≤◌, ◌∷◌, [], length, take, slice_index};
+ghost use Rattle.ed_model.specs.Spelling.{hex_digit as hex_digit_of, spelled_byte};
+
+/// The digit that stands for a number below 16.
+fn hex_digit(value: u8) -> u8
+    requires { value < 16 }
+    ensures { result ≡ hex_digit_of value }
+{
+    if value < 10 {
+        b'0' + value
+    } else {
+        b'a' - 10 + value
+    }
+}
+
+/// The spelling of a byte, and its length, 1 to 4 bytes.
+pub fn spell_byte(byte: u8) -> ([u8; 4], usize)
+    ensures spelling { take result.1 result.0 ≡ spelled_byte byte }
+    ensures len { result.1 ≡ length (spelled_byte byte) }
+    ensures some { 0 < result.1 }
+    ensures within { result.1 ≤ 4 }
+{
+    match byte {
+        b'"' | b'\\' => ([b'\\', byte, 0, 0], 2),
+        0x20..=0x7E => ([byte, 0, 0, 0], 1),
+        _ => ([b'\\', b'x', hex_digit(byte / 16), hex_digit(byte % 16)], 4),
+    }
+}
+
+/// How many bytes at the front stand for themselves.
+pub fn plain_len(text: &[u8]) -> usize
+    ensures within { result ≤ length text.now }
+    ensures plain { (k : ℕ) → k < result → spelled_byte (slice_index text.now k) ≡ slice_index text.now k ∷ [] }
+{
+    for (i, byte) in text.iter().enumerate() {
+        if *byte < 0x20 || *byte > 0x7E || *byte == b'"' || *byte == b'\\' {
+            return i;
+        }
+    }
+    text.len()
+}

@@ -1,0 +1,204 @@
+//! Tests of what no clause says: that memory suffices, and values from outside.
+
+use crate::printing::{append_integer, append_number, append_outcome, append_text};
+use crate::{Cause, Command, Script, ScriptFault, assemble, list};
+use ed_types::{Bytes, Message, Note, Outcome, Refusal, Reply};
+use std::alloc::{AllocError, Global};
+
+/// The script of an insertion's notes, 95 bytes.
+const INSERTION: &[u8] =
+    b"sci 1\nopen\nsend 1 2003 0 0 \"ab\\x0a\"\nsend 1 2182 0 0 \"\"\nsend 1 2003 9 0 \"z\"\nsend 1 2007 -1 0 \"\"\n";
+
+/// Every command and every kind of byte, as version 2 lists them.
+const EVERY_KIND: &[u8] =
+    b"sci 2\nopen\nload 1 4294967295\nsend 1 2282 4 -9223372036854775808 \"\\\"\\\\\\x00\\x80 ~\"\nexpect -1\nclose 1\n";
+
+#[test]
+fn lists_what_it_assembles(rt: HostRuntime) {
+    for text in [INSERTION, EVERY_KIND] {
+        let script = assemble(rt.alloc(), text).expect(&rt, "a script");
+        let listed = list(rt.alloc(), &script).expect(&rt, "memory");
+        assert!(rt; listed.starts_with(b"sci 2\n"));
+        assert!(rt; text.ends_with(&listed[5..]));
+        assert_eq!(rt; listed.len(), text.len());
+    }
+}
+
+#[test]
+fn pushes_what_it_assembles(rt: HostRuntime) {
+    let text = Vec::from_slice(rt.alloc(), b"\"\\\x00\x80 ~").expect(&rt, "memory");
+    let message = Message {
+        number: 2282,
+        w: 4,
+        l: i64::MIN,
+        text: Bytes::new(text),
+    };
+    let mut script = Script::new(rt.alloc());
+    script.push(Command::OpenView).expect(&rt, "open");
+    script
+        .push(Command::LoadFile {
+            view: 1,
+            file: u32::MAX,
+        })
+        .expect(&rt, "load");
+    script
+        .push(Command::SendMessage { view: 1, message })
+        .expect(&rt, "send");
+    script
+        .push(Command::Expect { value: -1 })
+        .expect(&rt, "expect");
+    script
+        .push(Command::CloseView { view: 1 })
+        .expect(&rt, "close");
+    assert_eq!(rt; script.commands().len(), 5);
+    let listed = list(rt.alloc(), &script).expect(&rt, "memory");
+    assert!(rt; listed.as_slice() == EVERY_KIND);
+}
+
+#[test]
+fn names_the_first_fault(rt: HostRuntime) {
+    let faults: [(&[u8], u64, Cause); 7] = [
+        (b"", 1, Cause::NoLineEnd),
+        (b"sci 3\n", 1, Cause::BadVersion),
+        (b"sci 1\nopen\nexpect 0\n", 3, Cause::UnknownCommand),
+        (b"sci 2\nopen\nclose  1\n", 3, Cause::BadShape),
+        (b"sci 2\nclose +5\n", 2, Cause::BadNumber),
+        (b"sci 2\nsend 1 2003 0 0 \"\\x41\"\n", 2, Cause::BadText),
+        (b"sci 2\nopen", 2, Cause::NoLineEnd),
+    ];
+    for (text, line, cause) in faults {
+        let fault = assemble(rt.alloc(), text).err().expect(&rt, "a fault");
+        assert!(rt; fault == ScriptFault::BadLine { line, cause });
+    }
+}
+
+/// A text of so many bytes.
+fn repeated(alloc: Global, len: usize) -> Result<Vec<u8>, AllocError> {
+    let mut text = Vec::new(alloc);
+    for _ in 0..len {
+        text.push(b'a')?;
+    }
+    Ok(text)
+}
+
+/// A script of one line with a text of so many bytes.
+fn long_line(alloc: Global, len: usize) -> Result<Vec<u8>, AllocError> {
+    let mut text = Vec::from_slice(alloc, b"sci 1\nsend 1 2003 0 0 \"")?;
+    text.extend_from_slice(&repeated(alloc, len)?)?;
+    text.extend_from_slice(b"\"\n")?;
+    Ok(text)
+}
+
+#[test]
+fn takes_the_longest_line(rt: HostRuntime) {
+    let longest = long_line(rt.alloc(), 65_518).expect(&rt, "memory");
+    assert_eq!(rt; longest.len(), 65_536 + 7);
+    assert!(rt; assemble(rt.alloc(), &longest).is_ok());
+    let longer = long_line(rt.alloc(), 65_519).expect(&rt, "memory");
+    let fault = assemble(rt.alloc(), &longer).err().expect(&rt, "a fault");
+    let cause = Cause::LineTooLong;
+    assert!(rt; fault == ScriptFault::BadLine { line: 2, cause });
+}
+
+#[test]
+fn takes_the_longest_script(rt: HostRuntime) {
+    let mut text = Vec::new(rt.alloc());
+    for _ in 0..16_777_216u32 {
+        text.push(b'\n').ok().expect(&rt, "memory");
+    }
+    let fault = assemble(rt.alloc(), &text).err().expect(&rt, "a fault");
+    let cause = Cause::BadVersion;
+    assert!(rt; fault == ScriptFault::BadLine { line: 1, cause });
+    text.push(b'\n').ok().expect(&rt, "memory");
+    let fault = assemble(rt.alloc(), &text).err().expect(&rt, "a fault");
+    assert!(rt; fault == ScriptFault::TooLong);
+}
+
+/// A message with a text of so many bytes.
+fn long_message(alloc: Global, len: usize) -> Result<Command, AllocError> {
+    let message = Message {
+        number: 2003,
+        w: 0,
+        l: 0,
+        text: Bytes::new(repeated(alloc, len)?),
+    };
+    Ok(Command::SendMessage { view: 1, message })
+}
+
+#[test]
+fn pushes_up_to_the_limits(rt: HostRuntime) {
+    let mut script = Script::new(rt.alloc());
+    assert!(rt;
+        script.push(long_message(rt.alloc(), 65_519).expect(&rt, "memory"))
+            == Err(ScriptFault::TooLong)
+    );
+    // 255 lines of 65,537 bytes, and one that fills the script up to its limit.
+    for _ in 0..255u32 {
+        assert!(rt;
+            script
+                .push(long_message(rt.alloc(), 65_518).expect(&rt, "memory"))
+                .is_ok()
+        );
+    }
+    assert!(rt;
+        script.push(long_message(rt.alloc(), 65_257).expect(&rt, "memory"))
+            == Err(ScriptFault::TooLong)
+    );
+    assert!(rt;
+        script
+            .push(long_message(rt.alloc(), 65_256).expect(&rt, "memory"))
+            .is_ok()
+    );
+    assert!(rt; script.push(Command::OpenView) == Err(ScriptFault::TooLong));
+    let listed = list(rt.alloc(), &script).expect(&rt, "memory");
+    assert_eq!(rt; listed.len(), 16_777_216);
+    let again = assemble(rt.alloc(), &listed).expect(&rt, "a script");
+    assert_eq!(rt; again.commands().len(), 256);
+}
+
+#[test]
+fn prints_outcomes(rt: HostRuntime) {
+    let pool = Bytes::new(Vec::from_slice(rt.alloc(), b"ab\n").expect(&rt, "memory"));
+    let mut notes = Vec::new(rt.alloc());
+    let note = Note {
+        view: 1,
+        code: 2008,
+        kind: 8209,
+        position: 0,
+        length: 3,
+        lines: 1,
+        line: 0,
+        now: 0,
+        prev: 0,
+        token: -7,
+        message: 0,
+        w: 0,
+        l: 0,
+        text: 0..3,
+    };
+    notes.push(note).ok().expect(&rt, "memory");
+    let reply = Reply::new(5, Bytes::empty(rt.alloc()), notes, pool);
+    let mut out = Vec::new(rt.alloc());
+    for outcome in [
+        Outcome::Opened(1),
+        Outcome::Closed,
+        Outcome::Replied(reply),
+        Outcome::Refused(Refusal::BadArgument),
+        Outcome::Expected {
+            met: true,
+            value: 1,
+        },
+        Outcome::Expected {
+            met: false,
+            value: -3,
+        },
+    ] {
+        append_outcome(&mut out, &outcome).expect(&rt, "memory");
+    }
+    append_number(&mut out, 256).expect(&rt, "memory");
+    append_integer(&mut out, -1).expect(&rt, "memory");
+    append_text(&mut out, b"\r").expect(&rt, "memory");
+    let want =
+        b"= 1 \"\"\n= 0 \"\"\n= 5 \"\"\n@ 1 2008 8209 0 3 1 0 0 0 -7 0 0 0 \"ab\\x0a\"\n! 6\n+ 1\n- -3\n256-1\"\\x0d\"";
+    assert!(rt; out.as_slice() == want.as_slice());
+}

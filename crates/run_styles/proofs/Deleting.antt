@@ -1,0 +1,122 @@
+-- A run that is taken away: what the containers ask, and what the two steps leave.
+use Rattle.std.proofs.Common.{◌≡◌, ℕ, ◌+◌, ◌-◌, ◌<◌, ◌≤◌, zero, suc, max, List, [], ◌∷◌, ◌++◌, length, get_or, take, drop, map, refl, sym, ap, ◌∙◌, arith, subst, ⊎_elim, take-append-drop, drop-drop, take_at}
+use Rattle.std.proofs.Math.Seq.{drop-append-add}
+use Rattle.std.proofs.lemmas.List.{length-take-le, get_or_default, get_or_past, get_or-append_right, get_or-drop}
+use Rattle.std.proofs.lemmas.List.Edits.{length-remove, get_or-remove_below, get_or-remove_above}
+use Rattle.std.proofs.lemmas.Bool.{cases_lt}
+use Rattle.std.specs.Prelude.{remove}
+use Rattle.partitioning.specs.Partitions.{CanLose}
+use Rattle.run_styles.specs.Expansion.{expansion, Rise, IsTable}
+use Rattle.run_styles.specs.Runs.{deleted}
+use Rattle.run_styles.proofs.Tables.{rise_lt, rise_within, head-map_sub}
+use Rattle.run_styles.proofs.Steps.{Stands}
+use Rattle.run_styles.proofs.ByIndex.{empty_stands}
+
+-- the starts, once one is removed and its run's text taken out of the run before, or of the first
+pub lowered-drop : (S : List ℕ) (end i j n : ℕ) → j ≡ max i 1 → i < length S → 1 < length S → get_or S 0 1 ≡ 0 → get_or S i 0 + n ≡ get_or S (i + 1) end
+    → take (j - 1 + 1) (remove S j) ++ map (λ s. s - n) (drop (j - 1 + 1) (remove S j)) ≡ take i S ++ map (λ s. s - n) (drop (i + 1) S)
+lowered-drop [] end i j n m h more z whole = absurd (omega (arith, h))
+lowered-drop (s ∷ []) end i j n m h more z whole = absurd (omega (arith, more))
+lowered-drop (s ∷ s' ∷ S) end zero j n m h more z whole =
+    let e : j ≡ 1 = omega (arith, m) in
+    let first : s ≡ s' - n = omega (arith, z, whole) in
+    rw e (ap (λ x. x ∷ map (λ t. t - n) S) first)
+lowered-drop (s ∷ s' ∷ S) end (suc i) j n m h more z whole =
+    let e : j ≡ suc i = omega (arith, m) in
+    let k : suc i - 1 + 1 ≡ suc i = omega arith in
+    let k' : suc i + 1 ≡ suc (suc i) = omega arith in
+    let len : length (take (suc i) (s ∷ s' ∷ S)) ≡ suc i = length-take-le (suc i) (s ∷ s' ∷ S) (omega (arith, h)) in
+    let front : take (suc i) (remove (s ∷ s' ∷ S) (suc i)) ≡ take (suc i) (s ∷ s' ∷ S) = take_at (take (suc i) (s ∷ s' ∷ S)) (drop (suc (suc i)) (s ∷ s' ∷ S)) (suc i) len in
+    let len' : length (take (suc i) (s ∷ s' ∷ S)) + 0 ≡ suc i = omega (arith, len) in
+    let back : drop (suc i) (remove (s ∷ s' ∷ S) (suc i)) ≡ drop (suc (suc i)) (s ∷ s' ∷ S) = ap (λ q. drop q (remove (s ∷ s' ∷ S) (suc i))) (sym len') ∙ drop-append-add (take (suc i) (s ∷ s' ∷ S)) (drop (suc (suc i)) (s ∷ s' ∷ S)) 0 in
+    ap (λ q. take (q - 1 + 1) (remove (s ∷ s' ∷ S) q) ++ map (λ t. t - n) (drop (q - 1 + 1) (remove (s ∷ s' ∷ S) q))) e
+    ∙ ap (λ q. take q (remove (s ∷ s' ∷ S) (suc i)) ++ map (λ t. t - n) (drop q (remove (s ∷ s' ∷ S) (suc i)))) k
+    ∙ ap (λ l. l ++ map (λ t. t - n) (drop (suc i) (remove (s ∷ s' ∷ S) (suc i)))) front
+    ∙ ap (λ l. take (suc i) (s ∷ s' ∷ S) ++ map (λ t. t - n) l) (back ∙ ap (λ q. drop q (s ∷ s' ∷ S)) (sym k'))
+
+-- that text is there, and something stays
+pub can_lose_run : (S : List ℕ) (end i j n : ℕ) → Rise S end → j ≡ max i 1 → i < length S → 1 < length S → get_or S 0 1 ≡ 0 → get_or S i 0 + n ≡ get_or S (i + 1) end → CanLose (remove S j) end (j - 1) n
+can_lose_run S end i j n rise m h more z whole =
+    let here : j < length S = omega arith in
+    let size : length (remove S j) + 1 ≡ length S = length-remove S j here in
+    let before : get_or (remove S j) (j - 1) 0 ≡ get_or S (j - 1) 0 = get_or-remove_below S j 0 (j - 1) (omega arith) here in
+    let top : get_or S (i + 1) end ≤ end = rise_within S end (i + 1) rise in
+    let k : j - 1 + 1 ≡ j = omega arith in
+    let next : get_or (remove S j) (j - 1 + 1) 0 ≡ get_or S (j + 1) 0 = ap (λ q. get_or (remove S j) q 0) k ∙ get_or-remove_above S j 0 j (omega arith) here in
+    ⊎_elim
+    (λ later.
+    let e : j ≡ i = omega arith in
+    let lower : get_or S (i - 1) 0 < get_or S i end = rise_lt S end (i - 1) i (omega arith) (omega arith) rise in
+    let same : get_or S i end ≡ get_or S i 0 = get_or_default S i end 0 h in
+    let e' : get_or S (j - 1) 0 ≡ get_or S (i - 1) 0 = ap (λ q. get_or S (q - 1) 0) e in
+    record {
+      before_next = λ lt.
+          let there : get_or S (j + 1) 0 ≡ get_or S (i + 1) end = ap (λ q. get_or S (q + 1) 0) e ∙ get_or_default S (i + 1) 0 end (omega arith) in
+          omega arith;
+      before_end = omega arith;
+    })
+    (λ first.
+    let e : j ≡ 1 = omega arith in
+    let z0 : i ≡ 0 = omega arith in
+    let e' : get_or S (j - 1) 0 ≡ get_or S i 0 = ap (λ q. get_or S (q - 1) 0) e ∙ ap (λ q. get_or S q 0) (sym z0) in
+    record {
+      before_next = λ lt.
+          let there : get_or S (j + 1) 0 ≡ get_or S (i + 1 + 1) end = ap (λ q. get_or S (q + 1) 0) e ∙ ap (λ q. get_or S (q + 2) 0) (sym z0) ∙ ap (λ q. get_or S q 0) (omega arith) ∙ get_or_default S (i + 1 + 1) 0 end (omega arith) in
+          let lower : get_or S (i + 1) 0 < get_or S (i + 1 + 1) end = rise_lt S end (i + 1) (i + 1 + 1) (omega arith) (omega arith) rise in
+          let same : get_or S (i + 1) end ≡ get_or S (i + 1) 0 = get_or_default S (i + 1) end 0 (omega arith) in
+          omega arith;
+      before_end = omega arith;
+    })
+    (cases_lt 0 i)
+
+-- a part of a run can be taken out of it
+pub can_lose_part : (S : List ℕ) (end i n : ℕ) → Rise S end → i < length S → get_or S i 0 + n < get_or S (i + 1) end → CanLose S end i n
+can_lose_part S end i n rise h part =
+    let top : get_or S (i + 1) end ≤ end = rise_within S end (i + 1) rise in
+    record {
+      before_next = λ lt. let same : get_or S (i + 1) end ≡ get_or S (i + 1) 0 = get_or_default S (i + 1) end 0 lt in omega arith;
+      before_end = omega arith;
+    }
+
+-- a run that ends below the end is there
+pub index_within : (S : List ℕ) (end i left : ℕ) → get_or S i end + left ≤ end → 0 < left → i < length S
+index_within S end i left h some = ⊎_elim (λ o. o) (λ past. let e = get_or_past S i end past in absurd (omega arith)) (cases_lt i (length S))
+
+module _ {V : Type 0} where
+  pub deleted-none : (xs : List V) (p : ℕ) → deleted xs p 0 ≡ xs
+  deleted-none xs p = let n : p + 0 ≡ p = omega arith in rw n (take-append-drop p xs)
+
+  pub deleted-deleted : (xs : List V) (p a b : ℕ) → p ≤ length xs → deleted (deleted xs p a) p b ≡ deleted xs p (a + b)
+  deleted-deleted xs p a b h =
+      let len : length (take p xs) ≡ p = length-take-le p xs h in
+      let len' : p + b ≡ length (take p xs) + b = omega arith in
+      let n : (p + a) + b ≡ p + (a + b) = omega arith in
+      let front : take p (deleted xs p a) ≡ take p xs = take_at (take p xs) (drop (p + a) xs) p len in
+      let back : drop (p + b) (deleted xs p a) ≡ drop (p + (a + b)) xs = ap (λ q. drop q (deleted xs p a)) len' ∙ drop-append-add (take p xs) (drop (p + a) xs) b ∙ drop-drop b (p + a) xs ∙ ap (λ q. drop q xs) n in
+      rw (front, back) refl
+
+  -- the only run, emptied
+  pub emptied : (S : List ℕ) (W : List V) (end end' i k : ℕ) → IsTable S W end → length S ≡ 1 → i < length S → get_or S i 0 + k ≤ get_or S (i + 1) end → get_or S (i + 1) end - get_or S i 0 ≤ k → end' + k ≡ end
+      → Stands (take (0 + 1) S ++ map (λ s. s - k) (drop (0 + 1) S)) W end' (deleted (expansion S W end) (get_or S i 0) k)
+  emptied S W end end' i k t one h part whole e =
+      let zero_first : get_or S 0 1 ≡ 0 = t.from_zero in
+      let z : i ≡ 0 = omega arith in
+      let past : get_or S (i + 1) end ≡ end = get_or_past S (i + 1) end (omega arith) in
+      let at_zero : get_or S i 0 ≡ 0 = ap (λ q. get_or S q 0) z ∙ get_or_default S 0 0 1 (omega arith) ∙ zero_first in
+      let all : end ≡ k = omega arith in
+      let P : ℕ → Type 0 = λ n. Stands (take (0 + 1) S ++ map (λ s. s - n) (drop (0 + 1) S)) W end' (deleted (expansion S W end) 0 n) in
+      let Q : ℕ → Type 0 = λ n. Stands (take (0 + 1) S ++ map (λ s. s - k) (drop (0 + 1) S)) W end' (deleted (expansion S W end) n k) in
+      subst Q (sym at_zero) (subst P all (empty_stands S W end end' t one (omega arith)))
+
+-- where the next run starts once text was taken out of a run
+pub next_shrunk : (S : List ℕ) (end end' i k : ℕ) → i < length S → end' + k ≡ end → get_or (take (i + 1) S ++ map (λ s. s - k) (drop (i + 1) S)) (i + 1) end' ≡ get_or S (i + 1) end - k
+next_shrunk S end end' i k h e =
+    let len : length (take (i + 1) S) ≡ i + 1 = length-take-le (i + 1) S (omega arith) in
+    let none : (i + 1) - (i + 1) ≡ 0 = omega arith in
+    let none' : (i + 1) + 0 ≡ i + 1 = omega arith in
+    let top : end' ≡ end - k = omega arith in
+    get_or-append_right (take (i + 1) S) (map (λ s. s - k) (drop (i + 1) S)) (i + 1) (i + 1) end' len (omega arith)
+    ∙ ap (λ q. get_or (map (λ s. s - k) (drop (i + 1) S)) q end') none
+    ∙ ap (λ d. get_or (map (λ s. s - k) (drop (i + 1) S)) 0 d) top
+    ∙ head-map_sub (drop (i + 1) S) end k
+    ∙ ap (λ x. x - k) (get_or-drop (i + 1) S 0 end ∙ ap (λ q. get_or S q end) none')

@@ -1,0 +1,9 @@
+pub mod ByIndex
+pub mod Deleting
+pub mod Filling
+pub mod Inserting
+pub mod Neighbours
+pub mod Pieces
+pub mod Reading
+pub mod Steps
+pub mod Tables

@@ -1,0 +1,21 @@
+use Rattle.std.proofs.Common.{arith}
+use Rattle.run_styles.specs.Expansion.{expansion}
+use Rattle.run_styles.proofs.ByIndex.{length-table}
+use Rattle.run_styles.proofs.Filling.{changed_is}
+use Rattle.run_styles.proofs.styles.RunStyles.fill.Goals as goal
+
+pub changed_range-requires-clause-within : goal.changed_range-requires-clause-within
+changed_range-requires-clause-within g c =
+    let within = rw (← c.self.view_is) at c.requires.within in
+    omega (arith, within, length-table c.self.inside.starts.starts c.self.inside.values.items c.self.inside.starts.length c.self.invariant.table)
+
+pub overwrite-requires-clause-range : goal.overwrite-requires-clause-range
+overwrite-requires-clause-range g c =
+    let full = length-table c.self.inside.starts.starts c.self.inside.values.items c.self.inside.starts.length c.self.invariant.table in
+    let trimmed = c.in-Some.ensures.some in
+    (trimmed.some, omega (arith, full, trimmed.within))
+
+pub returns-clause-changed : goal.returns-clause-changed
+returns-clause-changed g c =
+    rw (← c.self.view_is, c.overwrite.ensures.list)
+    (changed_is (expansion c.self.inside.starts.starts c.self.inside.values.items c.self.inside.starts.length) c.args.place c.args.count c.in-Some.low c.in-Some.high c.args.value c.in-Some.ensures.some)

@@ -1,0 +1,21 @@
+use Rattle.std.proofs.Common.{◌≡◌, ◌≤◌, ◌+◌, ◌-◌, length, take, drop, get_or}
+use Rattle.run_styles.specs.Expansion.{expansion, IsTable, NeighboursDiffer}
+use Rattle.run_styles.specs.Runs.{deleted}
+use Rattle.run_styles.proofs.table.delete_runs.Given as goal
+
+abbrev pub invariant-loop-left : goal.invariant-loop-left
+invariant-loop-left g l = record {
+  left : l.left ≤ l.count;
+  table : IsTable l.starts.starts l.values.items l.starts.length;
+  list : expansion l.starts.starts l.values.items l.starts.length ≡ deleted (expansion l.fn.starts.starts l.fn.values.items l.fn.starts.length) (get_or l.fn.starts.starts l.index l.fn.starts.length) (l.count - l.left);
+  at : get_or l.starts.starts l.index l.starts.length ≡ get_or l.fn.starts.starts l.index l.fn.starts.length;
+  index : l.index ≤ length l.values.items;
+  front : take l.index l.values.items ≡ take l.index l.fn.values.items;
+  behind : NeighboursDiffer (drop l.index l.values.items);
+  length : l.starts.length + (l.count - l.left) ≡ l.fn.starts.length;
+  room : l.fn.starts.room ≤ l.starts.room;
+  spare : l.fn.values.spare ≤ l.values.spare;
+}
+
+abbrev pub decreases-loop-left : goal.decreases-loop-left
+decreases-loop-left g l = l.left

@@ -1,0 +1,11 @@
+use Rattle.std.proofs.Common.{◌∙◌, ap, arith}
+use Rattle.std.specs.Prelude.{remove}
+use Rattle.run_styles.proofs.ByIndex.{remove-seam}
+use Rattle.run_styles.proofs.table.join_runs.Goals as goal
+
+pub loop-preserved : goal.loop-preserved
+loop-preserved g c = record {
+  starts = c.remove.ensures.starts ∙ ap (λ l. remove l c.args.from) c.loop.invariant.starts ∙ remove-seam c.args.starts.now.starts c.args.from c.loop.counter (omega arith) (omega arith);
+  length = c.remove.ensures.length ∙ c.loop.invariant.length;
+  room = omega arith;
+}

@@ -1,0 +1,61 @@
+-- What a contract sees of a `RunStyles`, and what its calls do to the list.
+use Rattle.std.specs.Prelude.{◌≡◌, ◌≢◌, ℕ, ◌+◌, ◌-◌, ◌<◌, ◌≤◌, Bool, ◌||◌, ◌==◌, if◌then◌else◌, List, [], ◌∷◌, ◌++◌, length, take, drop, replicate, slice_get, slice_index_or, refl}
+use Rattle.std.specs.Coded.{Coded, code_by, coded×, coded_list, coded_ℕ}
+
+-- the default value, the value at each place, and how many more runs fit in without more memory
+pub record Runs (V : Type 0) : Type 0 where
+  pub default : V
+  pub values : List V
+  pub room : ℕ
+
+module _ {V : Type 0} where
+  abbrev pub runs : V → List V → ℕ → Runs V
+  runs value values room = record { default = value; values = values; room = room }
+
+  abbrev pub runs_code : Coded V → Coded (Runs V)
+  runs_code c = code_by (V × (List V × ℕ)) (coded× c (coded× (coded_list c) coded_ℕ)) (λ r. (r.default, (r.values, r.room))) (λ p. runs p.0 p.1.0 p.1.1) (λ _. refl)
+
+  -- xs with count places put in before the place, each with the value x
+  abbrev pub inserted : List V → ℕ → ℕ → V → List V
+  inserted xs place count x = take place xs ++ (replicate count x ++ drop place xs)
+
+  -- xs without the count places from the place on
+  abbrev pub deleted : List V → ℕ → ℕ → List V
+  deleted xs place count = take place xs ++ drop (place + count) xs
+
+  -- xs with the value x at the count places from the place on
+  abbrev pub filled : List V → ℕ → ℕ → V → List V
+  filled xs place count x = take place xs ++ (replicate count x ++ drop (place + count) xs)
+
+  -- what inserted places get: the default at both ends and where the value there is the default, else the value before
+  abbrev pub inserted_value : (V → V → Bool) → V → List V → ℕ → V
+  inserted_value eq d xs place =
+      if place == 0 || (place == length xs || eq (slice_index_or xs place d) d) then d else slice_index_or xs (place - 1) d
+
+  -- how many runs of one value xs has; an empty list is one run
+  abbrev pub run_count : (V → V → Bool) → List V → ℕ
+  run_count eq [] = 1
+  run_count eq (x ∷ []) = 1
+  run_count eq (x ∷ y ∷ ys) = if eq x y then run_count eq (y ∷ ys) else run_count eq (y ∷ ys) + 1
+
+  -- from the start up to the place there is one value, and before the start another
+  pub record IsRunStart (xs : List V) (place start : ℕ) : Type 0 where
+    pub from : start ≤ place
+    pub one_value : (k : ℕ) → start ≤ k → k ≤ place → slice_get xs k ≡ slice_get xs place
+    pub longest : 0 < start → slice_get xs (start - 1) ≢ slice_get xs place
+
+  -- from the place up to the end there is one value, and at the end another, or the list is over
+  pub record IsRunEnd (xs : List V) (place end : ℕ) : Type 0 where
+    pub behind : place < end
+    pub within : end ≤ length xs
+    pub one_value : (k : ℕ) → place ≤ k → k < end → slice_get xs k ≡ slice_get xs place
+    pub longest : slice_get xs end ≢ slice_get xs place
+
+  -- the smallest range, as a place and a length, that holds each place where old and new differ
+  pub record IsChangedRange (old new : List V) (range : ℕ × ℕ) : Type 0 where
+    pub some : 0 < range.1
+    pub within : range.0 + range.1 ≤ length old
+    pub before : take range.0 new ≡ take range.0 old
+    pub behind : drop (range.0 + range.1) new ≡ drop (range.0 + range.1) old
+    pub first : slice_get new range.0 ≢ slice_get old range.0
+    pub last : slice_get new (range.0 + range.1 - 1) ≢ slice_get old (range.0 + range.1 - 1)

@@ -1,0 +1,151 @@
+//! The steps of an insertion and of a deletion, over the two fields of `RunStyles`.
+ghost use Rattle.std.specs.Prelude.{◌≡◌, ◌≤◌, ◌<◌, ◌+◌, length};
+ghost use Rattle.run_styles.specs.Expansion.{expansion, IsTable, IsExact, NeighboursDiffer};
+ghost use Rattle.run_styles.specs.Runs.{inserted, deleted, inserted_value};
+
+use crate::table::{delete_runs, end_of, insert_first, insert_last, join_at, run_of};
+use partitioning::{Partitioning, Place};
+use split_vector::SplitVector;
+use std::alloc::Allocator;
+
+/// Puts places in before the first of a list that is not empty, where they get the default.
+fn insert_at_start<P: Place, V: Copy + Eq, A: Allocator>(
+    starts: &mut Partitioning<P, A>,
+    values: &mut SplitVector<V, A>,
+    count: usize,
+    default: V,
+)
+    requires exact { IsExact V.eq }
+    requires table { IsTable starts.old.starts values.old.items starts.old.length }
+    requires differ { NeighboursDiffer values.old.items }
+    requires some { (0 < count) × (0 < starts.old.length) }
+    requires fits { starts.old.length + count ≤ P.GREATEST }
+    requires room { (0 < starts.old.room) × (0 < values.old.spare) }
+    ensures table { IsTable starts.new.starts values.new.items starts.new.length }
+    ensures list { expansion starts.new.starts values.new.items starts.new.length ≡ inserted (expansion starts.old.starts values.old.items starts.old.length) 0 count default }
+    ensures differ { NeighboursDiffer values.new.items }
+    ensures room { starts.old.room ≤ starts.new.room + 1 }
+    ensures spare { values.old.spare ≤ values.new.spare + 1 }
+{
+    if values.get(0) == default {
+        starts.insert_text(0, count);
+    } else {
+        insert_first(starts, values, count, default);
+    }
+}
+
+/// Puts places in behind the last of a list that is not empty, where they get the default.
+fn insert_at_end<P: Place, V: Copy + Eq, A: Allocator>(
+    starts: &mut Partitioning<P, A>,
+    values: &mut SplitVector<V, A>,
+    count: usize,
+    default: V,
+)
+    requires exact { IsExact V.eq }
+    requires table { IsTable starts.old.starts values.old.items starts.old.length }
+    requires differ { NeighboursDiffer values.old.items }
+    requires some { (0 < count) × (0 < starts.old.length) }
+    requires fits { starts.old.length + count ≤ P.GREATEST }
+    requires room { (0 < starts.old.room) × (0 < values.old.spare) }
+    ensures table { IsTable starts.new.starts values.new.items starts.new.length }
+    ensures list { expansion starts.new.starts values.new.items starts.new.length ≡ inserted (expansion starts.old.starts values.old.items starts.old.length) starts.old.length count default }
+    ensures differ { NeighboursDiffer values.new.items }
+    ensures room { starts.old.room ≤ starts.new.room + 1 }
+    ensures spare { values.old.spare ≤ values.new.spare + 1 }
+{
+    let last = starts.count() - 1;
+    if values.get(last) == default {
+        starts.insert_text(last, count);
+    } else {
+        insert_last(starts, values, count, default);
+    }
+}
+
+/// Puts places in between two others, where they join one of their runs.
+fn insert_inside<P: Place, V: Copy + Eq, A: Allocator>(
+    starts: &mut Partitioning<P, A>,
+    values: &SplitVector<V, A>,
+    place: usize,
+    count: usize,
+    default: V,
+)
+    requires exact { IsExact V.eq }
+    requires table { IsTable starts.old.starts values.now.items starts.old.length }
+    requires inside { (0 < count) × (0 < place) × (place < starts.old.length) }
+    requires fits { starts.old.length + count ≤ P.GREATEST }
+    ensures table { IsTable starts.new.starts values.now.items starts.new.length }
+    ensures list { expansion starts.new.starts values.now.items starts.new.length ≡ inserted (expansion starts.old.starts values.now.items starts.old.length) place count (inserted_value V.eq default (expansion starts.old.starts values.now.items starts.old.length) place) }
+    ensures room { starts.new.room ≡ starts.old.room }
+{
+    let run = run_of(starts, place);
+    if starts.start_of(run) == place && values.get(run) != default {
+        starts.insert_text(run - 1, count);
+    } else {
+        starts.insert_text(run, count);
+    }
+}
+
+/// Puts places in by the rule for inserted values.
+pub(crate) fn insert_default<P: Place, V: Copy + Eq, A: Allocator>(
+    starts: &mut Partitioning<P, A>,
+    values: &mut SplitVector<V, A>,
+    place: usize,
+    count: usize,
+    default: V,
+)
+    requires exact { IsExact V.eq }
+    requires table { IsTable starts.old.starts values.old.items starts.old.length }
+    requires differ { NeighboursDiffer values.old.items }
+    requires some { 0 < count }
+    requires within { place ≤ length (expansion starts.old.starts values.old.items starts.old.length) }
+    requires fits { length (expansion starts.old.starts values.old.items starts.old.length) + count ≤ P.GREATEST }
+    requires room { (0 < starts.old.room) × (0 < values.old.spare) }
+    ensures table { IsTable starts.new.starts values.new.items starts.new.length }
+    ensures list { expansion starts.new.starts values.new.items starts.new.length ≡ inserted (expansion starts.old.starts values.old.items starts.old.length) place count (inserted_value V.eq default (expansion starts.old.starts values.old.items starts.old.length) place) }
+    ensures differ { NeighboursDiffer values.new.items }
+    ensures room { starts.old.room ≤ starts.new.room + 1 }
+    ensures spare { values.old.spare ≤ values.new.spare + 1 }
+{
+    let length = starts.length();
+    if length == 0 {
+        values.set(0, default);
+        starts.insert_text(0, count);
+    } else if place == 0 {
+        insert_at_start(starts, values, count, default);
+    } else if place == length {
+        insert_at_end(starts, values, count, default);
+    } else {
+        insert_inside(starts, values, place, count, default);
+    }
+}
+
+/// Takes places away.
+pub(crate) fn delete_places<P: Place, V: Copy + Eq, A: Allocator>(
+    starts: &mut Partitioning<P, A>,
+    values: &mut SplitVector<V, A>,
+    place: usize,
+    count: usize,
+)
+    requires exact { IsExact V.eq }
+    requires table { IsTable starts.old.starts values.old.items starts.old.length }
+    requires differ { NeighboursDiffer values.old.items }
+    requires within { (0 < count) × (place + count ≤ length (expansion starts.old.starts values.old.items starts.old.length)) }
+    ensures table { IsTable starts.new.starts values.new.items starts.new.length }
+    ensures list { expansion starts.new.starts values.new.items starts.new.length ≡ deleted (expansion starts.old.starts values.old.items starts.old.length) place count }
+    ensures differ { NeighboursDiffer values.new.items }
+    ensures room { starts.old.room ≤ starts.new.room }
+    ensures spare { values.old.spare ≤ values.new.spare }
+{
+    let run = run_of(starts, place);
+    if starts.start_of(run) == place {
+        delete_runs(starts, values, run, count);
+        join_at(starts, values, run);
+        return;
+    }
+    let cut = count.min(end_of(starts, run) - place);
+    starts.delete_text(run, cut);
+    if cut < count {
+        delete_runs(starts, values, run + 1, count - cut);
+        join_at(starts, values, run + 1);
+    }
+}

@@ -1,0 +1,14 @@
+//! `RunStyles`: a list of values kept as runs, so that a call costs a look-up and the runs that it touches, however
+//! long the list is. Two neighbouring runs never have one value.
+//!
+//! A run is a start in a `Partitioning` and a value in a `SplitVector`. Room for runs is reserved first, and the calls
+//! that may add a run ask for it: `fill` and `insert_value` for two, `insert_space` for one.
+#![tactic(auto)]
+
+mod edits;
+mod styles;
+mod table;
+#[cfg(test)]
+mod tests;
+
+pub use styles::RunStyles;

@@ -1,0 +1,200 @@
+//! `RunStyles` and its calls. A clause sees it as its default value, its list of values and its room for runs.
+ghost use Rattle.std.specs.Prelude.{◌≡◌, ◌≤◌, ◌<◌, ◌+◌, ◌↔◌, [], length, slice_get, Some, All, IsTrue, IfOk, IfNone, IfSome, OnOk, OnErr, IsOk};
+ghost use Rattle.run_styles.specs.Expansion.{IsExact};
+ghost use Rattle.run_styles.specs.Runs.{runs, inserted, deleted, filled, inserted_value, run_count, IsRunStart, IsRunEnd, IsChangedRange};
+
+use crate::edits::{delete_places, insert_default};
+use crate::table::{changed_range, end_of, overwrite, run_at, run_of};
+use partitioning::{Partitioning, Place};
+use split_vector::SplitVector;
+use std::alloc::{AllocError, Allocator, Global};
+use std::marker::Model;
+
+/// A list of values kept as runs.
+///
+/// `P` is how places are kept, and bounds the length. Values are equal by `==`, which has to tell all values apart.
+#[derive(Drop)]
+pub struct RunStyles<P: Place, V: Copy + Eq, A: Allocator = Global> {
+    starts: Partitioning<P, A>,
+    values: SplitVector<V, A>,
+    default: V,
+    // How many more runs fit in, as reserved. What joined runs give back is not counted.
+    room: usize,
+}
+
+impl<P: Place, V: Copy + Eq, A: Allocator> Model for RunStyles<P, V, A> {
+    ghost use Rattle.run_styles.specs.Runs.{Runs, runs, runs_code};
+
+    ghost Value = { Runs V };
+
+    ghost coded = { runs_code V.code };
+
+    ghost use Rattle.run_styles.specs.Expansion.{expansion, AreRuns};
+
+    ghost view = { λ s. runs s.default (expansion s.starts.starts s.values.items s.starts.length) s.room };
+
+    ghost invariant = { λ s. AreRuns V.eq s.starts.starts s.starts.length s.starts.room s.values.items s.values.spare s.room };
+}
+
+impl<P: Place, V: Copy + Eq, A: Allocator + Copy> RunStyles<P, V, A> {
+    /// Returns an empty list, whose places will have the value `default` where a call names none.
+    ///
+    /// # Errors
+    ///
+    /// `AllocError` where the memory for the one run of an empty list is refused.
+    pub fn new(alloc: A, default: V) -> Result<Self, AllocError>
+        requires exact { IsExact V.eq }
+        ensures { IfOk result (λ s. s ≡ runs default [] 0) }
+    {
+        let starts = Partitioning::new(alloc)?;
+        let mut values = SplitVector::new(alloc);
+        values.reserve(1)?;
+        values.insert_reserved(0, default);
+        Ok(RunStyles {
+            starts,
+            values,
+            default,
+            room: 0,
+        })
+    }
+}
+
+impl<P: Place, V: Copy + Eq, A: Allocator> RunStyles<P, V, A> {
+    /// Returns the number of places.
+    pub fn length(&self) -> usize
+        ensures length { result ≡ length self.now.values }
+        ensures within { length self.now.values ≤ P.GREATEST }
+    {
+        self.starts.length()
+    }
+
+    /// Returns the value at a place.
+    pub fn value_at(&self, place: usize) -> V
+        requires { place < length self.now.values }
+        ensures { slice_get self.now.values place ≡ Some result }
+    {
+        self.values.get(run_of(&self.starts, place))
+    }
+
+    /// Returns where the run of one value begins that holds a place.
+    pub fn start_run(&self, place: usize) -> usize
+        requires { place < length self.now.values }
+        ensures { IsRunStart self.now.values place result }
+    {
+        self.starts.start_of(run_of(&self.starts, place))
+    }
+
+    /// Returns where the run of one value ends that holds a place: the first place behind it.
+    pub fn end_run(&self, place: usize) -> usize
+        requires { place < length self.now.values }
+        ensures { IsRunEnd self.now.values place result }
+    {
+        end_of(&self.starts, run_of(&self.starts, place))
+    }
+
+    /// Returns how many runs there are: 1 where the list is empty.
+    pub fn runs(&self) -> usize
+        ensures { result ≡ run_count V.eq self.now.values }
+    {
+        self.starts.count()
+    }
+
+    /// Returns whether each place has the value.
+    pub fn is_all(&self, value: V) -> bool
+        ensures { IsTrue result ↔ All (λ x. x ≡ value) self.now.values }
+    {
+        self.starts.length() == 0 || self.starts.count() == 1 && self.values.get(0) == value
+    }
+
+    /// Makes room for `count` more runs.
+    ///
+    /// # Errors
+    ///
+    /// `AllocError` where the memory is refused. All is then as it was.
+    pub fn reserve(&mut self, count: usize) -> Result<(), AllocError>
+        ensures ok { OnOk result ((count ≤ self.new.room) × (self.new ≡ record self.old { room = self.new.room })) }
+        ensures room_is_there { count ≤ self.old.room → IsOk result × (self.new ≡ self.old) }
+        ensures err { OnErr result (self.new ≡ self.old) }
+    {
+        if count <= self.room {
+            return Ok(());
+        }
+        self.starts.reserve(count)?;
+        self.values.reserve(count)?;
+        self.room = count;
+        Ok(())
+    }
+
+    /// Sets `count` places from `place` on to a value. Returns the smallest range that holds all places that changed, as
+    /// its first place and its length, or `None` where none did. It takes at most two runs of room.
+    pub fn fill(&mut self, place: usize, count: usize, value: V) -> Option<(usize, usize)>
+        requires within { place + count ≤ length self.old.values }
+        requires room { 2 ≤ self.old.room }
+        ensures values { self.new.values ≡ filled self.old.values place count value }
+        ensures default { self.new.default ≡ self.old.default }
+        ensures room { self.old.room ≤ self.new.room + 2 }
+        ensures none { IfNone result (self.new.values ≡ self.old.values) }
+        ensures changed { IfSome result (IsChangedRange self.old.values self.new.values) }
+    {
+        let Some((low, high)) = changed_range(&self.starts, &self.values, place, count, value)
+        else {
+            return None;
+        };
+        overwrite(&mut self.starts, &mut self.values, low, high, value);
+        self.room -= 2;
+        Some((low, high - low))
+    }
+
+    /// Puts `count` places in before `place`. They get the default at both ends of the list and where the value there is
+    /// the default, and else the value before. It takes at most one run of room.
+    pub fn insert_space(&mut self, place: usize, count: usize)
+        requires within { place ≤ length self.old.values }
+        requires fits { length self.old.values + count ≤ P.GREATEST }
+        requires room { 1 ≤ self.old.room }
+        ensures values { self.new.values ≡ inserted self.old.values place count (inserted_value V.eq self.old.default self.old.values place) }
+        ensures default { self.new.default ≡ self.old.default }
+        ensures room { self.old.room ≤ self.new.room + 1 }
+    {
+        if count == 0 {
+            return;
+        }
+        insert_default(
+            &mut self.starts,
+            &mut self.values,
+            place,
+            count,
+            self.default,
+        );
+        self.room -= 1;
+    }
+
+    /// Puts `count` places with a value in before `place`. It takes at most two runs of room.
+    pub fn insert_value(&mut self, place: usize, count: usize, value: V)
+        requires within { place ≤ length self.old.values }
+        requires fits { length self.old.values + count ≤ P.GREATEST }
+        requires room { 2 ≤ self.old.room }
+        ensures values { self.new.values ≡ inserted self.old.values place count value }
+        ensures default { self.new.default ≡ self.old.default }
+        ensures room { self.old.room ≤ self.new.room + 2 }
+    {
+        if count == 0 {
+            return;
+        }
+        let run = run_at(&self.starts, place);
+        self.starts.insert_text(run, count);
+        let _ = self.fill(place, count, value);
+    }
+
+    /// Takes `count` places away, from `place` on. It takes no room.
+    pub fn delete_range(&mut self, place: usize, count: usize)
+        requires { place + count ≤ length self.old.values }
+        ensures values { self.new.values ≡ deleted self.old.values place count }
+        ensures default { self.new.default ≡ self.old.default }
+        ensures room { self.old.room ≤ self.new.room }
+    {
+        if count == 0 {
+            return;
+        }
+        delete_places(&mut self.starts, &mut self.values, place, count);
+    }
+}

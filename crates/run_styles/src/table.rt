@@ -1,0 +1,466 @@
+//! The steps that the calls of `RunStyles` consist of, over its two fields: the starts of the runs, and their values.
+//! Between the steps two neighbouring runs may have one value.
+ghost use Rattle.std.specs.Prelude.{ℕ, ◌≡◌, ◌≢◌, ◌⊎◌, ◌≤◌, ◌<◌, ◌+◌, ◌-◌, ◌^◌, [], ◌∷◌, ◌++◌, Some, length, take, drop, map, slice_get, slice_index, slice_index_or, insert, remove, IfNone, IfSome};
+ghost use Rattle.run_styles.specs.Expansion.{expansion, IsTable, IsExact, NeighboursDiffer};
+ghost use Rattle.run_styles.specs.Runs.{filled, deleted, inserted};
+ghost use Rattle.run_styles.specs.Changes.{IsTrimmed};
+
+use partitioning::{Partitioning, Place, Probes};
+use split_vector::SplitVector;
+use std::alloc::Allocator;
+
+/// Returns where a run ends.
+pub(crate) fn end_of<P: Place, A: Allocator>(starts: &Partitioning<P, A>, index: usize) -> usize
+    requires { index < length starts.now.starts }
+    ensures { result ≡ slice_index_or starts.now.starts (index + 1) starts.now.length }
+{
+    let count = starts.count();
+    if index + 1 < count {
+        starts.start_of(index + 1)
+    } else {
+        starts.length()
+    }
+}
+
+/// Returns the run that holds a place.
+pub(crate) fn run_of<P: Place, A: Allocator>(starts: &Partitioning<P, A>, place: usize) -> usize
+    requires { place < starts.now.length }
+    ensures within { (result < length starts.now.starts) × (length starts.now.starts < 2 ^ 63) }
+    ensures from { slice_index starts.now.starts result ≤ place }
+    ensures to { place < slice_index_or starts.now.starts (result + 1) starts.now.length }
+{
+    // The count bounds each index, so that one more than an index is a `usize`.
+    let _count = starts.count();
+    let mut probes = Probes::new();
+    starts.partition_of(place, &mut probes)
+}
+
+/// Returns a run that a place lies in or at the end of.
+pub(crate) fn run_at<P: Place, A: Allocator>(starts: &Partitioning<P, A>, place: usize) -> usize
+    requires { place ≤ starts.now.length }
+    ensures within { result < length starts.now.starts }
+    ensures from { slice_index starts.now.starts result ≤ place }
+    ensures to { place ≤ slice_index_or starts.now.starts (result + 1) starts.now.length }
+{
+    if place == starts.length() {
+        starts.count() - 1
+    } else {
+        run_of(starts, place)
+    }
+}
+
+/// Joins the runs from `from` up to `to` with the one before them.
+pub(crate) fn join_runs<P: Place, V: Copy, A: Allocator>(
+    starts: &mut Partitioning<P, A>,
+    values: &mut SplitVector<V, A>,
+    from: usize,
+    to: usize,
+)
+    requires paired { length starts.old.starts ≡ length values.old.items }
+    requires range { (0 < from) × (from ≤ to) × (to ≤ length starts.old.starts) }
+    ensures starts { starts.new.starts ≡ take from starts.old.starts ++ drop to starts.old.starts }
+    ensures values { values.new.items ≡ take from values.old.items ++ drop to values.old.items }
+    ensures length { starts.new.length ≡ starts.old.length }
+    ensures room { starts.old.room ≤ starts.new.room }
+    ensures spare { values.old.spare ≤ values.new.spare }
+{
+    for _ in from..to {
+        starts.remove(from);
+    }
+    values.delete(from, to - from);
+}
+
+/// Cuts a run in two at a place inside it.
+pub(crate) fn split_run<P: Place, V: Copy, A: Allocator>(
+    starts: &mut Partitioning<P, A>,
+    values: &mut SplitVector<V, A>,
+    index: usize,
+    place: usize,
+)
+    requires table { IsTable starts.old.starts values.old.items starts.old.length }
+    requires inside { (index < length starts.old.starts) × (slice_index starts.old.starts index < place) × (place < slice_index_or starts.old.starts (index + 1) starts.old.length) × (place < starts.old.length) }
+    requires room { (0 < starts.old.room) × (0 < values.old.spare) }
+    ensures table { IsTable starts.new.starts values.new.items starts.new.length }
+    ensures list { expansion starts.new.starts values.new.items starts.new.length ≡ expansion starts.old.starts values.old.items starts.old.length }
+    ensures starts { starts.new.starts ≡ insert starts.old.starts (index + 1) place }
+    ensures values { values.new.items ≡ take (index + 1) values.old.items ++ drop index values.old.items }
+    ensures length { starts.new.length ≡ starts.old.length }
+    ensures room { starts.new.room + 1 ≡ starts.old.room }
+    ensures spare { values.new.spare + 1 ≡ values.old.spare }
+{
+    let _count = starts.count();
+    let value = values.get(index);
+    starts.insert_reserved(index + 1, place);
+    values.insert_reserved(index + 1, value);
+}
+
+/// Makes a run end at a place inside it or at its end.
+pub(crate) fn end_at<P: Place, V: Copy, A: Allocator>(
+    starts: &mut Partitioning<P, A>,
+    values: &mut SplitVector<V, A>,
+    index: usize,
+    place: usize,
+)
+    requires table { IsTable starts.old.starts values.old.items starts.old.length }
+    requires inside { (index < length starts.old.starts) × (slice_index starts.old.starts index < place) × (place ≤ slice_index_or starts.old.starts (index + 1) starts.old.length) × (place ≤ starts.old.length) }
+    requires differ { NeighboursDiffer values.old.items }
+    requires room { (0 < starts.old.room) × (0 < values.old.spare) }
+    ensures table { IsTable starts.new.starts values.new.items starts.new.length }
+    ensures list { expansion starts.new.starts values.new.items starts.new.length ≡ expansion starts.old.starts values.old.items starts.old.length }
+    ensures ends { (index < length starts.new.starts) × (slice_index_or starts.new.starts (index + 1) starts.new.length ≡ place) }
+    ensures front { take (index + 1) values.new.items ≡ take (index + 1) values.old.items }
+    ensures behind { NeighboursDiffer (drop (index + 1) values.new.items) }
+    ensures length { starts.new.length ≡ starts.old.length }
+    ensures room { starts.old.room ≤ starts.new.room + 1 }
+    ensures spare { values.old.spare ≤ values.new.spare + 1 }
+{
+    if place < end_of(starts, index) {
+        split_run(starts, values, index, place);
+    }
+}
+
+/// Makes a run start at a place that run `index` holds, and returns that run.
+pub(crate) fn start_at<P: Place, V: Copy, A: Allocator>(
+    starts: &mut Partitioning<P, A>,
+    values: &mut SplitVector<V, A>,
+    index: usize,
+    place: usize,
+) -> usize
+    requires table { IsTable starts.old.starts values.old.items starts.old.length }
+    requires inside { (index < length starts.old.starts) × (slice_index starts.old.starts index ≤ place) × (place < slice_index_or starts.old.starts (index + 1) starts.old.length) × (place < starts.old.length) }
+    requires few { length starts.old.starts < 2 ^ 63 }
+    requires room { (0 < starts.old.room) × (0 < values.old.spare) }
+    ensures table { IsTable starts.new.starts values.new.items starts.new.length }
+    ensures list { expansion starts.new.starts values.new.items starts.new.length ≡ expansion starts.old.starts values.old.items starts.old.length }
+    ensures starts { (result < length starts.new.starts) × (slice_index starts.new.starts result ≡ place) }
+    ensures shifted { (index ≤ result) × (result ≤ index + 1) }
+    ensures front { NeighboursDiffer (take (index + 1) values.old.items) → NeighboursDiffer (take result values.new.items) }
+    ensures starts_behind { drop (result + 1) starts.new.starts ≡ drop (index + 1) starts.old.starts }
+    ensures values_behind { drop (result + 1) values.new.items ≡ drop (index + 1) values.old.items }
+    ensures length { starts.new.length ≡ starts.old.length }
+    ensures room { starts.old.room ≤ starts.new.room + 1 }
+    ensures spare { values.old.spare ≤ values.new.spare + 1 }
+{
+    if starts.start_of(index) == place {
+        return index;
+    }
+    split_run(starts, values, index, place);
+    index + 1
+}
+
+/// Returns the first run of a new run that begins with run `first`: the run before it, if that has the new run's value.
+pub(crate) fn widened_start<V: Copy + Eq, A: Allocator>(
+    values: &SplitVector<V, A>,
+    first: usize,
+    value: V,
+) -> usize
+    requires exact { IsExact V.eq }
+    requires within { first < length values.now.items }
+    requires differ { NeighboursDiffer (take first values.now.items) }
+    ensures near { (result ≡ first) ⊎ ((result + 1 ≡ first) × (slice_get values.now.items result ≡ Some value)) }
+    ensures longest { 0 < result → slice_get values.now.items (result - 1) ≢ Some value }
+{
+    if first > 0 && values.get(first - 1) == value {
+        first - 1
+    } else {
+        first
+    }
+}
+
+/// Returns the end of a new run that ends before run `end`: behind that run, if it has the new run's value.
+pub(crate) fn widened_end<V: Copy + Eq, A: Allocator>(
+    values: &SplitVector<V, A>,
+    end: usize,
+    value: V,
+) -> usize
+    requires exact { IsExact V.eq }
+    requires within { end ≤ length values.now.items }
+    requires differ { NeighboursDiffer (drop end values.now.items) }
+    ensures near { (result ≡ end) ⊎ ((result ≡ end + 1) × (slice_get values.now.items end ≡ Some value)) }
+    ensures longest { slice_get values.now.items result ≢ Some value }
+    ensures within { result ≤ length values.now.items }
+{
+    if end < values.len() && values.get(end) == value {
+        end + 1
+    } else {
+        end
+    }
+}
+
+/// Puts one run in the place of those from `first` up to `end`, joined with the neighbours that have its value.
+pub(crate) fn replace_runs<P: Place, V: Copy + Eq, A: Allocator>(
+    starts: &mut Partitioning<P, A>,
+    values: &mut SplitVector<V, A>,
+    first: usize,
+    end: usize,
+    value: V,
+)
+    requires exact { IsExact V.eq }
+    requires table { IsTable starts.old.starts values.old.items starts.old.length }
+    requires range { (first < end) × (end ≤ length starts.old.starts) × (0 < starts.old.length) }
+    requires few { length starts.old.starts < 2 ^ 63 }
+    requires front { NeighboursDiffer (take first values.old.items) }
+    requires behind { NeighboursDiffer (drop end values.old.items) }
+    ensures table { IsTable starts.new.starts values.new.items starts.new.length }
+    ensures list { expansion starts.new.starts values.new.items starts.new.length ≡ filled (expansion starts.old.starts values.old.items starts.old.length) (slice_index starts.old.starts first) (slice_index_or starts.old.starts end starts.old.length - slice_index starts.old.starts first) value }
+    ensures differ { NeighboursDiffer values.new.items }
+    ensures length { starts.new.length ≡ starts.old.length }
+    ensures room { starts.old.room ≤ starts.new.room }
+    ensures spare { values.old.spare ≤ values.new.spare }
+{
+    let from = widened_start(values, first, value);
+    let to = widened_end(values, end, value);
+    values.set(from, value);
+    join_runs(starts, values, from + 1, to);
+}
+
+/// Sets a range that is not empty to a value.
+pub(crate) fn overwrite<P: Place, V: Copy + Eq, A: Allocator>(
+    starts: &mut Partitioning<P, A>,
+    values: &mut SplitVector<V, A>,
+    low: usize,
+    high: usize,
+    value: V,
+)
+    requires exact { IsExact V.eq }
+    requires table { IsTable starts.old.starts values.old.items starts.old.length }
+    requires differ { NeighboursDiffer values.old.items }
+    requires range { (low < high) × (high ≤ starts.old.length) }
+    requires room { (2 ≤ starts.old.room) × (2 ≤ values.old.spare) }
+    ensures table { IsTable starts.new.starts values.new.items starts.new.length }
+    ensures list { expansion starts.new.starts values.new.items starts.new.length ≡ filled (expansion starts.old.starts values.old.items starts.old.length) low (high - low) value }
+    ensures differ { NeighboursDiffer values.new.items }
+    ensures length { starts.new.length ≡ starts.old.length }
+    ensures room { starts.old.room ≤ starts.new.room + 2 }
+    ensures spare { values.old.spare ≤ values.new.spare + 2 }
+{
+    let last = run_of(starts, high - 1);
+    end_at(starts, values, last, high);
+    let run = run_of(starts, low);
+    let first = start_at(starts, values, run, low);
+    let _count = starts.count();
+    replace_runs(starts, values, first, last + 1 + (first - run), value);
+}
+
+/// Returns the first place from `place` on that has another value than this one, or the length.
+fn next_other<P: Place, V: Copy + Eq, A: Allocator>(
+    starts: &Partitioning<P, A>,
+    values: &SplitVector<V, A>,
+    place: usize,
+    value: V,
+) -> usize
+    requires exact { IsExact V.eq }
+    requires table { IsTable starts.now.starts values.now.items starts.now.length }
+    requires differ { NeighboursDiffer values.now.items }
+    requires within { place < starts.now.length }
+    ensures from { place ≤ result }
+    ensures same { (k : ℕ) → place ≤ k → k < result → slice_get (expansion starts.now.starts values.now.items starts.now.length) k ≡ Some value }
+    ensures other { slice_get (expansion starts.now.starts values.now.items starts.now.length) result ≢ Some value }
+{
+    let run = run_of(starts, place);
+    if values.get(run) == value {
+        end_of(starts, run)
+    } else {
+        place
+    }
+}
+
+/// Returns the place behind the last one before `end` that has another value than this one, or 0.
+fn last_other<P: Place, V: Copy + Eq, A: Allocator>(
+    starts: &Partitioning<P, A>,
+    values: &SplitVector<V, A>,
+    end: usize,
+    value: V,
+) -> usize
+    requires exact { IsExact V.eq }
+    requires table { IsTable starts.now.starts values.now.items starts.now.length }
+    requires differ { NeighboursDiffer values.now.items }
+    requires within { (0 < end) × (end ≤ starts.now.length) }
+    ensures to { result ≤ end }
+    ensures same { (k : ℕ) → result ≤ k → k < end → slice_get (expansion starts.now.starts values.now.items starts.now.length) k ≡ Some value }
+    ensures other { 0 < result → slice_get (expansion starts.now.starts values.now.items starts.now.length) (result - 1) ≢ Some value }
+{
+    let run = run_of(starts, end - 1);
+    if values.get(run) == value {
+        starts.start_of(run)
+    } else {
+        end
+    }
+}
+
+/// Returns the ends of the smallest range that holds each place where setting `count` places to a value changes one.
+pub(crate) fn changed_range<P: Place, V: Copy + Eq, A: Allocator>(
+    starts: &Partitioning<P, A>,
+    values: &SplitVector<V, A>,
+    place: usize,
+    count: usize,
+    value: V,
+) -> Option<(usize, usize)>
+    requires exact { IsExact V.eq }
+    requires table { IsTable starts.now.starts values.now.items starts.now.length }
+    requires differ { NeighboursDiffer values.now.items }
+    requires within { place + count ≤ starts.now.length }
+    ensures none { IfNone result (filled (expansion starts.now.starts values.now.items starts.now.length) place count value ≡ expansion starts.now.starts values.now.items starts.now.length) }
+    ensures some { IfSome result (IsTrimmed (expansion starts.now.starts values.now.items starts.now.length) place count value) }
+{
+    if count == 0 {
+        return None;
+    }
+    let _length = starts.length();
+    let end = place + count;
+    let low = next_other(starts, values, place, value);
+    if end <= low {
+        return None;
+    }
+    let high = last_other(starts, values, end, value);
+    Some((low, high))
+}
+
+/// Joins a run with the one before it, if both have one value.
+pub(crate) fn join_at<P: Place, V: Copy + Eq, A: Allocator>(
+    starts: &mut Partitioning<P, A>,
+    values: &mut SplitVector<V, A>,
+    index: usize,
+)
+    requires exact { IsExact V.eq }
+    requires table { IsTable starts.old.starts values.old.items starts.old.length }
+    requires index { index ≤ length values.old.items }
+    requires front { NeighboursDiffer (take index values.old.items) }
+    requires behind { NeighboursDiffer (drop index values.old.items) }
+    ensures table { IsTable starts.new.starts values.new.items starts.new.length }
+    ensures list { expansion starts.new.starts values.new.items starts.new.length ≡ expansion starts.old.starts values.old.items starts.old.length }
+    ensures differ { NeighboursDiffer values.new.items }
+    ensures length { starts.new.length ≡ starts.old.length }
+    ensures room { starts.old.room ≤ starts.new.room }
+    ensures spare { values.old.spare ≤ values.new.spare }
+{
+    let count = starts.count();
+    if 0 < index && index < count && values.get(index - 1) == values.get(index) {
+        join_runs(starts, values, index, index + 1);
+    }
+}
+
+/// Takes a run away with its text, where there is another.
+pub(crate) fn drop_run<P: Place, V: Copy, A: Allocator>(
+    starts: &mut Partitioning<P, A>,
+    values: &mut SplitVector<V, A>,
+    index: usize,
+    count: usize,
+)
+    requires table { IsTable starts.old.starts values.old.items starts.old.length }
+    requires range { (index < length starts.old.starts) × (1 < length starts.old.starts) × (0 < starts.old.length) }
+    requires whole { slice_index starts.old.starts index + count ≡ slice_index_or starts.old.starts (index + 1) starts.old.length }
+    ensures starts { starts.new.starts ≡ take index starts.old.starts ++ map (λ s. s - count) (drop (index + 1) starts.old.starts) }
+    ensures values { values.new.items ≡ take index values.old.items ++ drop (index + 1) values.old.items }
+    ensures length { starts.new.length + count ≡ starts.old.length }
+    ensures room { starts.old.room ≤ starts.new.room }
+    ensures spare { values.old.spare ≤ values.new.spare }
+{
+    // The run before it, or the first, takes its places in, and then loses as many.
+    let joined = index.max(1);
+    starts.remove(joined);
+    starts.delete_text(joined - 1, count);
+    values.delete(index, 1);
+}
+
+/// Takes the first places of a run away, and the run with them if it has no more, unless it is the only one.
+pub(crate) fn take_from<P: Place, V: Copy, A: Allocator>(
+    starts: &mut Partitioning<P, A>,
+    values: &mut SplitVector<V, A>,
+    index: usize,
+    count: usize,
+)
+    requires table { IsTable starts.old.starts values.old.items starts.old.length }
+    requires range { (index < length starts.old.starts) × (0 < count) × (slice_index starts.old.starts index + count ≤ slice_index_or starts.old.starts (index + 1) starts.old.length) × (0 < starts.old.length) }
+    ensures table { IsTable starts.new.starts values.new.items starts.new.length }
+    ensures list { expansion starts.new.starts values.new.items starts.new.length ≡ deleted (expansion starts.old.starts values.old.items starts.old.length) (slice_index starts.old.starts index) count }
+    ensures at { (index ≤ length values.new.items) × (slice_index_or starts.new.starts index starts.new.length ≡ slice_index starts.old.starts index) }
+    ensures front { take index values.new.items ≡ take index values.old.items }
+    ensures behind { NeighboursDiffer (drop index values.old.items) → NeighboursDiffer (drop index values.new.items) }
+    ensures length { starts.new.length + count ≡ starts.old.length }
+    ensures room { starts.old.room ≤ starts.new.room }
+    ensures spare { values.old.spare ≤ values.new.spare }
+{
+    let whole = end_of(starts, index) - starts.start_of(index);
+    if count < whole {
+        starts.delete_text(index, count);
+    } else if starts.count() == 1 {
+        // The only run stays, with no place.
+        starts.delete_text(0, count);
+    } else {
+        drop_run(starts, values, index, count);
+    }
+}
+
+/// Takes `count` places away, from the start of a run on.
+pub(crate) fn delete_runs<P: Place, V: Copy, A: Allocator>(
+    starts: &mut Partitioning<P, A>,
+    values: &mut SplitVector<V, A>,
+    index: usize,
+    count: usize,
+)
+    requires table { IsTable starts.old.starts values.old.items starts.old.length }
+    requires range { (index ≤ length starts.old.starts) × (slice_index_or starts.old.starts index starts.old.length + count ≤ starts.old.length) }
+    requires behind { NeighboursDiffer (drop index values.old.items) }
+    ensures table { IsTable starts.new.starts values.new.items starts.new.length }
+    ensures list { expansion starts.new.starts values.new.items starts.new.length ≡ deleted (expansion starts.old.starts values.old.items starts.old.length) (slice_index_or starts.old.starts index starts.old.length) count }
+    ensures index { index ≤ length values.new.items }
+    ensures front { take index values.new.items ≡ take index values.old.items }
+    ensures behind { NeighboursDiffer (drop index values.new.items) }
+    ensures room { starts.old.room ≤ starts.new.room }
+    ensures spare { values.old.spare ≤ values.new.spare }
+{
+    let mut left = count;
+    while left > 0 {
+        let whole = end_of(starts, index) - starts.start_of(index);
+        let taken = left.min(whole);
+        take_from(starts, values, index, taken);
+        left -= taken;
+    }
+}
+
+/// Puts a run of `count` places in before the first.
+pub(crate) fn insert_first<P: Place, V: Copy, A: Allocator>(
+    starts: &mut Partitioning<P, A>,
+    values: &mut SplitVector<V, A>,
+    count: usize,
+    value: V,
+)
+    requires table { IsTable starts.old.starts values.old.items starts.old.length }
+    requires some { (0 < count) × (0 < starts.old.length) }
+    requires fits { starts.old.length + count ≤ P.GREATEST }
+    requires room { (0 < starts.old.room) × (0 < values.old.spare) }
+    ensures table { IsTable starts.new.starts values.new.items starts.new.length }
+    ensures list { expansion starts.new.starts values.new.items starts.new.length ≡ inserted (expansion starts.old.starts values.old.items starts.old.length) 0 count value }
+    ensures values { values.new.items ≡ value ∷ values.old.items }
+    ensures room { starts.old.room ≤ starts.new.room + 1 }
+    ensures spare { values.old.spare ≤ values.new.spare + 1 }
+{
+    starts.insert_text(0, count);
+    starts.insert_reserved(1, count);
+    values.insert_reserved(0, value);
+}
+
+/// Puts a run of `count` places in behind the last.
+pub(crate) fn insert_last<P: Place, V: Copy, A: Allocator>(
+    starts: &mut Partitioning<P, A>,
+    values: &mut SplitVector<V, A>,
+    count: usize,
+    value: V,
+)
+    requires table { IsTable starts.old.starts values.old.items starts.old.length }
+    requires some { (0 < count) × (0 < starts.old.length) }
+    requires fits { starts.old.length + count ≤ P.GREATEST }
+    requires room { (0 < starts.old.room) × (0 < values.old.spare) }
+    ensures table { IsTable starts.new.starts values.new.items starts.new.length }
+    ensures list { expansion starts.new.starts values.new.items starts.new.length ≡ inserted (expansion starts.old.starts values.old.items starts.old.length) starts.old.length count value }
+    ensures values { values.new.items ≡ values.old.items ++ value ∷ [] }
+    ensures room { starts.old.room ≤ starts.new.room + 1 }
+    ensures spare { values.old.spare ≤ values.new.spare + 1 }
+{
+    let place = starts.length();
+    let index = starts.count();
+    starts.insert_text(index - 1, count);
+    starts.insert_reserved(index, place);
+    values.insert_reserved(index, value);
+}

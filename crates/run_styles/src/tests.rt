@@ -1,0 +1,234 @@
+//! Rows of calls, at each kind of place and at several kinds of values. Each helper tests what its call asks for.
+ghost use Rattle.run_styles.specs.Expansion.{IsExact};
+
+use crate::RunStyles;
+use partitioning::Place;
+use std::alloc::{AllocError, Global};
+use std::process::Abort;
+use std::test::Fail;
+
+fn put_space<P: Place, V: Copy + Eq>(
+    rt: &impl Abort,
+    styles: &mut RunStyles<P, V>,
+    place: usize,
+    count: usize,
+) -> Result<(), AllocError> {
+    styles.reserve(1)?;
+    let length = styles.length();
+    assert!(rt; place <= length && count <= P::GREATEST - length);
+    styles.insert_space(place, count);
+    Ok(())
+}
+
+fn put_value<P: Place, V: Copy + Eq>(
+    rt: &impl Abort,
+    styles: &mut RunStyles<P, V>,
+    place: usize,
+    count: usize,
+    value: V,
+) -> Result<(), AllocError> {
+    styles.reserve(2)?;
+    let length = styles.length();
+    assert!(rt; place <= length && count <= P::GREATEST - length);
+    styles.insert_value(place, count, value);
+    Ok(())
+}
+
+fn set<P: Place, V: Copy + Eq>(
+    rt: &impl Abort,
+    styles: &mut RunStyles<P, V>,
+    place: usize,
+    count: usize,
+    value: V,
+) -> Result<Option<(usize, usize)>, AllocError> {
+    styles.reserve(2)?;
+    let length = styles.length();
+    assert!(rt; place <= length && count <= length - place);
+    Ok(styles.fill(place, count, value))
+}
+
+fn take_out<P: Place, V: Copy + Eq>(
+    rt: &impl Abort,
+    styles: &mut RunStyles<P, V>,
+    place: usize,
+    count: usize,
+) {
+    let length = styles.length();
+    assert!(rt; place <= length && count <= length - place);
+    styles.delete_range(place, count);
+}
+
+// At each place the value is the default or the other, as `others` says, and the runs end where it changes.
+fn assert_values<P: Place, V: Copy + Eq>(
+    rt: &impl Abort,
+    styles: &RunStyles<P, V>,
+    others: &[bool],
+    default: V,
+    other: V,
+) {
+    let length = styles.length();
+    assert_eq!(rt; length, others.len());
+    let mut runs = 1;
+    for place in 0..length {
+        let want = if others[place] { other } else { default };
+        assert!(rt; styles.value_at(place) == want);
+        if place > 0 && others[place - 1] != others[place] {
+            assert_eq!(rt; styles.start_run(place), place);
+            assert_eq!(rt; styles.end_run(place - 1), place);
+            assert!(rt; runs < length);
+            runs += 1;
+        }
+    }
+    assert_eq!(rt; styles.runs(), runs);
+}
+
+fn four_defaults<P: Place, V: Copy + Eq>(
+    rt: &impl Abort,
+    alloc: Global,
+    default: V,
+) -> Result<RunStyles<P, V>, AllocError>
+    requires { IsExact V.eq }
+{
+    let mut styles: RunStyles<P, V> = RunStyles::new(alloc, default)?;
+    put_space(rt, &mut styles, 0, 4)?;
+    Ok(styles)
+}
+
+fn row_of_fills<P: Place, V: Copy + Eq>(
+    rt: &impl Abort,
+    alloc: Global,
+    default: V,
+    other: V,
+) -> Result<(), Fail>
+    requires { IsExact V.eq }
+{
+    let mut styles: RunStyles<P, V> = four_defaults(rt, alloc, default)?;
+    assert!(rt; styles.is_all(default) && !styles.is_all(other));
+    assert_eq!(rt; set(rt, &mut styles, 1, 2, other)?, Some((1, 2)));
+    assert_values(rt, &styles, &[false, true, true, false], default, other);
+    assert_eq!(rt; set(rt, &mut styles, 0, 3, other)?, Some((0, 1)));
+    assert_eq!(rt; set(rt, &mut styles, 0, 3, other)?, None);
+    assert_values(rt, &styles, &[true, true, true, false], default, other);
+    assert_eq!(rt; set(rt, &mut styles, 2, 2, other)?, Some((3, 1)));
+    assert!(rt; styles.is_all(other) && !styles.is_all(default));
+    assert_eq!(rt; set(rt, &mut styles, 2, 0, default)?, None);
+    assert_eq!(rt; set(rt, &mut styles, 1, 2, default)?, Some((1, 2)));
+    assert_values(rt, &styles, &[true, false, false, true], default, other);
+    assert!(rt; !styles.is_all(other));
+    Ok(())
+}
+
+fn row_of_insertions<P: Place, V: Copy + Eq>(
+    rt: &impl Abort,
+    alloc: Global,
+    default: V,
+    other: V,
+) -> Result<(), Fail>
+    requires { IsExact V.eq }
+{
+    for place in 0..5 {
+        let mut styles: RunStyles<P, V> = four_defaults(rt, alloc, default)?;
+        let _ = set(rt, &mut styles, 1, 2, other)?;
+        put_space(rt, &mut styles, place, 1)?;
+        assert!(rt; place < styles.length());
+        let want = if place == 2 { other } else { default };
+        assert!(rt; styles.value_at(place) == want);
+    }
+    let mut styles: RunStyles<P, V> = RunStyles::new(alloc, default)?;
+    assert_eq!(rt; styles.runs(), 1);
+    assert!(rt; styles.is_all(default) && styles.is_all(other));
+    put_value(rt, &mut styles, 0, 2, other)?;
+    put_space(rt, &mut styles, 0, 1)?;
+    put_space(rt, &mut styles, 3, 1)?;
+    assert_values(rt, &styles, &[false, true, true, false], default, other);
+    put_value(rt, &mut styles, 2, 1, default)?;
+    put_value(rt, &mut styles, 5, 1, other)?;
+    assert_values(
+        rt,
+        &styles,
+        &[false, true, false, true, false, true],
+        default,
+        other,
+    );
+    Ok(())
+}
+
+fn row_of_deletions<P: Place, V: Copy + Eq>(
+    rt: &impl Abort,
+    alloc: Global,
+    default: V,
+    other: V,
+) -> Result<(), Fail>
+    requires { IsExact V.eq }
+{
+    let mut styles: RunStyles<P, V> = four_defaults(rt, alloc, default)?;
+    let _ = set(rt, &mut styles, 1, 2, other)?;
+    take_out(rt, &mut styles, 1, 1);
+    assert_values(rt, &styles, &[false, true, false], default, other);
+    take_out(rt, &mut styles, 1, 1);
+    assert_values(rt, &styles, &[false, false], default, other);
+    let _ = set(rt, &mut styles, 1, 1, other)?;
+    take_out(rt, &mut styles, 0, 2);
+    assert_values(rt, &styles, &[], default, other);
+    put_space(rt, &mut styles, 0, 3)?;
+    let _ = set(rt, &mut styles, 1, 1, other)?;
+    take_out(rt, &mut styles, 0, 2);
+    assert_values(rt, &styles, &[false], default, other);
+    Ok(())
+}
+
+// A body that keeps a plain list of values cannot run this.
+fn long_list<P: Place, V: Copy + Eq>(
+    rt: &impl Abort,
+    alloc: Global,
+    size: usize,
+    default: V,
+    other: V,
+) -> Result<(), Fail>
+    requires { IsExact V.eq }
+{
+    let mut styles: RunStyles<P, V> = RunStyles::new(alloc, default)?;
+    styles.reserve(4)?;
+    assert!(rt; size <= P::GREATEST && 4 <= size);
+    assert_eq!(rt; styles.length(), 0);
+    styles.insert_space(0, size);
+    let half = size / 2;
+    assert!(rt; 1 + half <= styles.length());
+    assert_eq!(rt; styles.fill(1, half, other), Some((1, half)));
+    assert!(rt; half < styles.length());
+    assert_eq!(rt; styles.start_run(half), 1);
+    assert_eq!(rt; styles.end_run(half), half + 1);
+    take_out(rt, &mut styles, 2, half);
+    assert_eq!(rt; styles.length(), size - half);
+    assert_eq!(rt; styles.runs(), 3);
+    Ok(())
+}
+
+#[test]
+fn fills(rt: HostRuntime) -> Result<(), Fail> {
+    let alloc = rt.alloc();
+    row_of_fills::<u32, u8>(&rt, alloc, 0, 8)?;
+    row_of_fills::<u64, u8>(&rt, alloc, 0, 8)?;
+    row_of_fills::<u32, bool>(&rt, alloc, true, false)
+}
+
+#[test]
+fn insertions(rt: HostRuntime) -> Result<(), Fail> {
+    let alloc = rt.alloc();
+    row_of_insertions::<u32, u8>(&rt, alloc, 0, 1)?;
+    row_of_insertions::<u64, bool>(&rt, alloc, false, true)
+}
+
+#[test]
+fn deletions(rt: HostRuntime) -> Result<(), Fail> {
+    let alloc = rt.alloc();
+    row_of_deletions::<u32, bool>(&rt, alloc, false, true)?;
+    row_of_deletions::<u64, u8>(&rt, alloc, 0, 1)
+}
+
+#[test]
+fn long_lists(rt: HostRuntime) -> Result<(), Fail> {
+    let alloc = rt.alloc();
+    long_list::<u64, u8>(&rt, alloc, 1 << 40, 0, 8)?;
+    long_list::<u32, bool>(&rt, alloc, 1 << 31, true, false)
+}

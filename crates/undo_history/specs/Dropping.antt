@@ -1,0 +1,7 @@
+-- A history without what was undone.
+use Rattle.std.specs.Prelude.{[], length}
+use Rattle.ed_model.specs.History.{History, reachable}
+
+-- the first half of an append: the future dropped, and a save point that only the future had
+abbrev pub without_future : History → History
+without_future h = record h { future = []; save_point = reachable (length h.past) h.save_point }

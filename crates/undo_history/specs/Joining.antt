@@ -1,0 +1,35 @@
+-- Which steps join, as the code tells it: by where steps were and how many bytes they have.
+use Rattle.std.specs.Prelude.{ℕ, ◌+◌, ◌==◌, nat_le, ◌&&◌, ◌||◌, Bool, true, false, length, Option, Some, None}
+use Rattle.ed_model.specs.Steps as model
+use Rattle.undo_history.specs.declared.records.StepKind.{StepKind}
+use Rattle.undo_history.specs.declared.records.StepKind.TheVariants.{Insert, Delete}
+use Rattle.undo_history.specs.declared.records.ChangeKind.{ChangeKind}
+use Rattle.undo_history.specs.declared.records.ChangeKind.TheVariants.{Text, Container}
+use Rattle.undo_history.specs.declared.records.StepOutline.{StepOutline}
+
+abbrev pub outline : StepKind → ℕ → ℕ → StepOutline
+outline kind place count = record { kind = kind; place = place; count = count }
+
+abbrev pub outline_of : model.Step → StepOutline
+outline_of (model.Insert place bytes) = outline Insert place (length bytes)
+outline_of (model.Delete place bytes) = outline Delete place (length bytes)
+
+abbrev pub outline_if_any : Option model.Step → Option StepOutline
+outline_if_any None = None
+outline_if_any (Some step) = Some (outline_of step)
+
+abbrev pub by_kinds : StepKind → StepKind → StepOutline → StepOutline → Bool
+by_kinds Insert Insert step earlier = step.place == earlier.place + earlier.count
+by_kinds Insert Delete step earlier = false
+by_kinds Delete Insert step earlier = false
+by_kinds Delete Delete step earlier = nat_le step.count 2 && (step.place + step.count == earlier.place || step.place == earlier.place)
+
+-- whether the step goes on with the earlier one
+abbrev pub steps_go_on : StepOutline → StepOutline → Bool
+steps_go_on step earlier = by_kinds step.kind earlier.kind step earlier
+
+-- whether the change belongs to a transaction by its kind, if this is the latest step of the text there
+abbrev pub belongs_after : ChangeKind → ℕ → Option StepOutline → Bool
+belongs_after kind count None = true
+belongs_after (Text kind place) count (Some earlier) = steps_go_on (outline kind place count) earlier
+belongs_after (Container token coalesce) count (Some earlier) = coalesce

@@ -1,0 +1,16 @@
+-- What a contract sees of an `UndoHistory`.
+use Rattle.std.specs.Prelude.{◌≡◌, ◌≤◌, ℕ, true}
+use Rattle.ed_model.specs.History.{History}
+
+-- the history, and how many more steps and bytes are sure to fit
+pub record Kept : Type 0 where
+  pub history : History
+  pub step_room : ℕ
+  pub byte_room : ℕ
+
+abbrev pub kept : History → ℕ → ℕ → Kept
+kept history steps bytes = record { history = history; step_room = steps; byte_room = bytes }
+
+-- room for so many more steps, with so many bytes in all; a history that does not collect needs none
+abbrev pub HasRoom : Kept → ℕ → ℕ → Type 0
+HasRoom k steps bytes = k.history.collecting ≡ true → (steps ≤ k.step_room) × (bytes ≤ k.byte_room)

@@ -1,0 +1,6 @@
+-- Definitions that the contracts cite, and how the records of a history are read.
+pub mod Kept
+pub mod Steps
+pub mod Records
+pub mod Dropping
+pub mod Joining
