@@ -1,0 +1,32 @@
+use Rattle.std.proofs.Common.{rules, ◌≡◌, Some, None, Ok, Err, pos, OnOk, ◌∙◌}
+use Rattle.ed_types.specs.declared.script.Command.TheVariants.{OpenView, SendMessage}
+use Rattle.ed_types.specs.Notices.{Response}
+use Rattle.ed_model.specs.Table.{table, opened}
+use Rattle.editor_session.specs.Known.{is_known}
+use Rattle.editor_session.specs.Answers.{AnswersBy, quieted}
+use Rattle.editor_session.proofs.RunLemmas.{opened_state, refused_state, refused_outcome}
+use Rattle.editor_session.proofs.run.Run.step.Goals as goal
+
+pub returns-in-Ok-clause-state : goal.returns-in-Ok-clause-state
+returns-in-Ok-clause-state c =
+    let command : c.args.command.now ≡ OpenView = search rules in
+    let made : opened c.args.self.now.session ≡ Ok (c.new_view.new.self, c.in-Ok.view) = search rules in
+    let state : c.done.new.self ≡ record { session = c.new_view.new.self; value = Some (pos c.in-Ok.view) } = search rules in
+    rw command (state ∙ opened_state c.args.files.now c.args.self.now c.new_view.new.self c.in-Ok.view made)
+
+pub returns-in-Err-send-clause-state : goal.returns-in-Err-send-clause-state
+returns-in-Err-send-clause-state c =
+    let p = c.in-SendMessage in
+    let run = c.args.self.now in
+    let command : c.args.command.now ≡ SendMessage p.view p.message = search rules in
+    let answer : AnswersBy {R = Response} (quieted (table is_known run.session p.view p.message)) run.session c.send.new.self (Err c.in-Err-send.refusal) = search rules in
+    let state : OnOk c.refused-in-Err-send.result (c.refused-in-Err-send.new.self ≡ record { session = c.send.new.self; value = None }) = search rules in
+    rw command (refused_state c.args.files.now run c.refused-in-Err-send.new.self p.view p.message c.send.new.self c.in-Err-send.refusal c.refused-in-Err-send.result answer c.refused-in-Err-send.ensures.memory state)
+
+pub returns-in-Err-send-clause-outcome : goal.returns-in-Err-send-clause-outcome
+returns-in-Err-send-clause-outcome c =
+    let p = c.in-SendMessage in
+    let run = c.args.self.now in
+    let command : c.args.command.now ≡ SendMessage p.view p.message = search rules in
+    let answer : AnswersBy {R = Response} (quieted (table is_known run.session p.view p.message)) run.session c.send.new.self (Err c.in-Err-send.refusal) = search rules in
+    rw command (refused_outcome c.args.files.now run p.view p.message c.send.new.self c.in-Err-send.refusal c.refused-in-Err-send.result answer c.refused-in-Err-send.ensures.memory c.refused-in-Err-send.ensures.outcome)

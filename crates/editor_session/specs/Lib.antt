@@ -1,0 +1,6 @@
+-- Definitions that the contracts cite.
+pub mod Known
+pub mod Answers
+pub mod Views
+pub mod Plans
+pub mod Kept

@@ -1,0 +1,141 @@
+//! Runs of commands.
+
+ghost use Rattle.std.specs.Prelude.{◌≡◌, ◌↔◌, IfOk, IsErr, OnOk, OnErr, Some, None, Err};
+ghost use Rattle.ed_types.specs.declared.refusal.Refusal.TheVariants.{OutOfMemory};
+ghost use Rattle.ed_types.specs.declared.script.Outcome.TheVariants.{Refused};
+ghost use Rattle.ed_model.specs.Session.{view_at};
+ghost use Rattle.ed_model.specs.Run.{starting, after_command, outcomes, run_to, loaded, file_at};
+ghost use Rattle.editor_session.specs.Known.{is_known};
+ghost use Rattle.editor_session.specs.Answers.{quiet_outcome, quiet_outcomes, StopsWithin};
+
+use crate::session::Session;
+use ed_types::{Bytes, Command, Outcome, Refusal};
+use std::alloc::{AllocError, Global};
+use std::marker::Model;
+
+/// A run: a session, and the value of the last command that is no `Expect`, if it has one.
+#[derive(Drop)]
+pub struct Run {
+    session: Session,
+    value: Option<i64>,
+}
+
+impl Model for Run {
+    ghost use Rattle.ed_model.specs.Run.{Running};
+
+    ghost Value = { Running };
+
+    ghost view = { λ r. record { session = r.session; value = r.value } };
+}
+
+impl Run {
+    /// A run from a session. Takes no memory.
+    pub fn new(session: Session) -> Self
+        ensures { result ≡ starting session }
+    {
+        Run {
+            session,
+            value: None,
+        }
+    }
+
+    /// The session as it stands.
+    pub fn session(&self) -> &Session
+        ensures { result.now ≡ self.now.session }
+    {
+        &self.session
+    }
+
+    /// Does one command, and answers what came of it. `load` takes its file from `files`, where the first is 1.
+    ///
+    /// # Errors
+    ///
+    /// `AllocError` where the command was refused for want of memory; the run is then as it was.
+    pub fn step(&mut self, files: &[Bytes], command: &Command) -> Result<Outcome, AllocError>
+        ensures state { OnOk result (self.new ≡ (after_command is_known files.now command.now self.old).0) }
+        ensures outcome { IfOk result (λ outcome. outcome ≡ quiet_outcome (after_command is_known files.now command.now self.old).1) }
+        ensures err { OnErr result (self.new ≡ self.old) }
+    {
+        match command {
+            Command::OpenView => match self.session.new_view() {
+                Ok(view) => Ok(self.done(i64::from(view), Outcome::Opened(view))),
+                Err(refusal) => self.refused(refusal),
+            },
+            Command::CloseView { view } => match self.session.close_view(*view) {
+                Ok(()) => Ok(self.done(0, Outcome::Closed)),
+                Err(refusal) => self.refused(refusal),
+            },
+            Command::LoadFile { view, file } => {
+                let refusal = self.load(files, *view, *file);
+                self.refused(refusal)
+            }
+            Command::SendMessage { view, message } => match self.session.send(*view, message) {
+                Ok(reply) => Ok(self.done(reply.value(), Outcome::Replied(reply))),
+                Err(refusal) => self.refused(refusal),
+            },
+            Command::Expect { value } => Ok(Outcome::Expected {
+                met: self.value == Some(*value),
+                value: *value,
+            }),
+        }
+    }
+
+    /// Does commands in order, and answers what came of each.
+    ///
+    /// # Errors
+    ///
+    /// `AllocError` where memory is refused; the run then stands behind the commands that were done.
+    pub fn run(
+        &mut self,
+        alloc: Global,
+        files: &[Bytes],
+        commands: &[Command],
+    ) -> Result<Vec<Outcome>, AllocError>
+        ensures state { OnOk result (self.new ≡ run_to is_known files.now commands.now self.old) }
+        ensures outcomes { IfOk result (λ done. done.items ≡ quiet_outcomes (outcomes is_known files.now commands.now self.old)) }
+        ensures err { OnErr result (StopsWithin files.now commands.now self.old self.new) }
+    {
+        let mut done = Vec::with_capacity(alloc, commands.len())?;
+        for command in commands {
+            let outcome = self.step(files, command)?;
+            done.push_reserved(outcome);
+        }
+        Ok(done)
+    }
+
+    /// The outcome of a command that was done, whose value is kept.
+    fn done(&mut self, value: i64, outcome: Outcome) -> Outcome
+        ensures run { self.new ≡ record self.old { value = Some value } }
+        ensures outcome { result ≡ outcome }
+    {
+        self.value = Some(value);
+        outcome
+    }
+
+    /// The outcome of a command that was refused, after which there is no value.
+    fn refused(&mut self, refusal: Refusal) -> Result<Outcome, AllocError>
+        ensures outcome { IfOk result (λ outcome. outcome ≡ Refused refusal) }
+        ensures memory { IsErr result ↔ (refusal ≡ OutOfMemory) }
+        ensures ok { OnOk result (self.new ≡ record self.old { value = None }) }
+        ensures err { OnErr result (self.new ≡ self.old) }
+    {
+        if refusal == Refusal::OutOfMemory {
+            return Err(AllocError);
+        }
+        self.value = None;
+        Ok(Outcome::Refused(refusal))
+    }
+
+    /// Why a file is not loaded: loading sets the text, and there is no such message yet.
+    fn load(&self, files: &[Bytes], view: u32, file: u32) -> Refusal
+        ensures { loaded is_known self.now.session view (view_at self.now.session.views view) (file_at files.now file) ≡ Err result }
+    {
+        if !self.session.has_view(view) {
+            return Refusal::NoSuchView;
+        }
+        if file == 0 || file as usize > files.len() {
+            return Refusal::BadArgument;
+        }
+        Refusal::UnknownMessage
+    }
+}

@@ -1,0 +1,145 @@
+//! Each call that takes memory on its happy path, limits, and refusals in their order.
+use crate::{Run, Session};
+use ed_types::{Bytes, Command, Limits, Message, Outcome, Refusal};
+use std::alloc::{AllocError, Global};
+use std::test::Fail;
+
+fn message(alloc: Global, number: u32, w: i64, l: i64, text: &[u8]) -> Result<Message, AllocError> {
+    let mut bytes = Vec::with_capacity(alloc, text.len())?;
+    bytes.extend_from_slice(text)?;
+    Ok(Message {
+        number,
+        w,
+        l,
+        text: Bytes::new(bytes),
+    })
+}
+
+/// The value that a message answers, or the number of its refusal below 0.
+fn sent(
+    session: &mut Session,
+    view: u32,
+    number: u32,
+    w: i64,
+    l: i64,
+    text: &[u8],
+    alloc: Global,
+) -> Result<i64, AllocError> {
+    let m = message(alloc, number, w, l, text)?;
+    match session.send(view, &m) {
+        Ok(reply) => Ok(reply.value()),
+        Err(refusal) => Ok(-i64::from(refusal as u8)),
+    }
+}
+
+fn limits(doc_bytes: u64, views: u64) -> Limits {
+    Limits {
+        doc_bytes,
+        views,
+        ..Limits::GREATEST
+    }
+}
+
+#[test]
+fn text_goes_in_and_out(rt: HostRuntime) -> Result<(), Fail> {
+    let alloc = rt.alloc();
+    let mut session = Session::new(alloc);
+    assert_eq!(rt; session.new_view(), Ok(1));
+    assert_eq!(rt; session.new_view(), Ok(2));
+    assert_eq!(rt; sent(&mut session, 1, 2003, 0, 0, b"ab\n", alloc)?, 0);
+    assert_eq!(rt; sent(&mut session, 1, 2006, 0, 0, b"", alloc)?, 3);
+    assert_eq!(rt; sent(&mut session, 1, 2007, 1, 0, b"", alloc)?, 98);
+    assert_eq!(rt; sent(&mut session, 1, 2007, 3, 0, b"", alloc)?, 0);
+    assert_eq!(rt; sent(&mut session, 1, 2007, -1, 0, b"", alloc)?, 0);
+    // The other view's document is another one.
+    assert_eq!(rt; sent(&mut session, 2, 2006, 0, 0, b"", alloc)?, 0);
+    // -1 is the caret, which stays before the text that is put in there.
+    assert_eq!(rt; sent(&mut session, 1, 2003, -1, 0, b"xy", alloc)?, 0);
+    assert_eq!(rt; sent(&mut session, 1, 2003, -1, 0, b"z", alloc)?, 0);
+    let all = message(alloc, 2182, 0, 0, b"")?;
+    match session.send(1, &all) {
+        Ok(reply) => {
+            assert_eq!(rt; reply.value(), 6);
+            assert!(rt; reply.text() == b"zxyab\n".as_slice());
+        }
+        Err(_) => assert!(rt; false),
+    }
+    assert_eq!(rt; session.close_view(1), Ok(()));
+    assert_eq!(rt; session.close_view(1), Err(Refusal::NoSuchView));
+    assert_eq!(rt; session.new_view(), Ok(3));
+    Ok(())
+}
+
+#[test]
+fn limits_are_kept(rt: HostRuntime) -> Result<(), Fail> {
+    let alloc = rt.alloc();
+    let Ok(mut session) = Session::with_limits(alloc, limits(4, 1)) else {
+        assert!(rt; false);
+        return Ok(());
+    };
+    assert_eq!(rt; session.new_view(), Ok(1));
+    assert_eq!(rt; session.new_view(), Err(Refusal::TooMany));
+    assert_eq!(rt; sent(&mut session, 1, 2003, 0, 0, b"abcd", alloc)?, 0);
+    assert_eq!(rt; sent(&mut session, 1, 2003, 4, 0, b"e", alloc)?, -5);
+    assert_eq!(rt; sent(&mut session, 1, 2645, 1, 4, b"", alloc)?, -6);
+    assert_eq!(rt; sent(&mut session, 1, 2645, 1, 2, b"", alloc)?, 0);
+    assert_eq!(rt; sent(&mut session, 1, 2007, 0, 0, b"", alloc)?, 97);
+    assert_eq!(rt; sent(&mut session, 1, 2007, 1, 0, b"", alloc)?, 100);
+    assert_eq!(rt; sent(&mut session, 1, 2006, 0, 0, b"", alloc)?, 2);
+    assert_eq!(rt; sent(&mut session, 1, 9999, 0, 0, b"", alloc)?, -3);
+    assert_eq!(rt; sent(&mut session, 2, 9999, 0, 0, b"", alloc)?, -2);
+    assert!(rt; Session::with_limits(alloc, limits(4, 0)).is_err());
+    Ok(())
+}
+
+#[test]
+fn commands_run(rt: HostRuntime) -> Result<(), Fail> {
+    let alloc = rt.alloc();
+    let mut commands = Vec::new(alloc);
+    commands.push(Command::OpenView)?;
+    commands.push(Command::Expect { value: 1 })?;
+    commands.push(Command::SendMessage {
+        view: 1,
+        message: message(alloc, 2006, 0, 0, b"")?,
+    })?;
+    commands.push(Command::Expect { value: 3 })?;
+    commands.push(Command::LoadFile { view: 9, file: 1 })?;
+    commands.push(Command::LoadFile { view: 1, file: 1 })?;
+    commands.push(Command::CloseView { view: 1 })?;
+    commands.push(Command::Expect { value: 0 })?;
+    let mut run = Run::new(Session::new(alloc));
+    let done = run.run(alloc, &[], &commands)?;
+    assert_eq!(rt; done.len(), 8);
+    assert!(rt; matches!(done[0], Outcome::Opened(1)));
+    assert!(rt;
+        matches!(
+            done[1],
+            Outcome::Expected {
+                met: true,
+                value: 1
+            }
+        )
+    );
+    assert!(rt;
+        matches!(
+            done[3],
+            Outcome::Expected {
+                met: false,
+                value: 3
+            }
+        )
+    );
+    assert!(rt; matches!(done[4], Outcome::Refused(Refusal::NoSuchView)));
+    assert!(rt; matches!(done[5], Outcome::Refused(Refusal::BadArgument)));
+    assert!(rt; matches!(done[6], Outcome::Closed));
+    assert!(rt;
+        matches!(
+            done[7],
+            Outcome::Expected {
+                met: true,
+                value: 0
+            }
+        )
+    );
+    Ok(())
+}
