@@ -105,7 +105,8 @@ impl UndoHistory {
         self.depth // the open groups
     }
 
-    /// Makes room for so many more steps, with so many bytes in all. A history that does not collect takes none.
+    /// Makes room for so many more steps, with so many bytes in all, and gives none back. A history that does not collect
+    /// takes none.
     ///
     /// # Errors
     ///
@@ -114,6 +115,7 @@ impl UndoHistory {
         ensures same { self.new.history ≡ self.old.history }
         ensures ok { OnOk result (HasRoom self.new steps bytes) }
         ensures room_is_there { HasRoom self.old steps bytes → IsOk result }
+        ensures room_stays { (self.old.step_room ≤ self.new.step_room) × (self.old.byte_room ≤ self.new.byte_room) }
         ensures err { OnErr result (self.new ≡ self.old) }
     {
         if !self.is_collecting || (steps <= self.step_room && bytes <= self.byte_room) {
