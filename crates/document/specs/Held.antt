@@ -1,5 +1,5 @@
 -- A document whose rows are all fresh, with the room that it has.
-use Rattle.std.specs.Prelude.{◌≡◌, ℕ, ◌≤◌, Bool, true, false, List, replicate, length}
+use Rattle.std.specs.Prelude.{◌≡◌, ℕ, ◌+◌, ◌≤◌, Bool, true, false, List, replicate, length}
 use Rattle.ed_model.specs.declared.plan.LineEnd.TheVariants.{Lf}
 use Rattle.ed_model.specs.declared.plan.LineEndTypes.TheVariants.{Default}
 use Rattle.ed_model.specs.Text.{Cell, bytes_of}
@@ -51,3 +51,7 @@ step_on later step d = let after = document_after step d in record after { histo
 -- collect needs none
 abbrev pub HasRoom : Held → ℕ → ℕ → ℕ → Type 0
 HasRoom h text steps bytes = (text ≤ h.text_room) × (h.history.collecting ≡ true → (steps ≤ h.step_room) × (bytes ≤ h.byte_room))
+
+-- from old to new no more room was taken than for so many bytes of text, and in the history for so many steps with so many bytes
+abbrev pub TakesRoom : Held → Held → ℕ → ℕ → ℕ → Type 0
+TakesRoom old new text steps bytes = (old.text_room ≤ new.text_room + text) × (old.step_room ≤ new.step_room + steps) × (old.byte_room ≤ new.byte_room + bytes)

@@ -4,7 +4,7 @@ ghost use Rattle.std.specs.Prelude.{◌≡◌, ◌≤◌, ◌<◌, ◌+◌, ◌^
 ghost use Rattle.ed_model.specs.Text.{bytes_of};
 ghost use Rattle.ed_model.specs.Steps.{Insert, Delete};
 ghost use Rattle.ed_model.specs.Session.{new_document, without};
-ghost use Rattle.document.specs.Held.{document_of, step_on, HasRoom};
+ghost use Rattle.document.specs.Held.{document_of, step_on, HasRoom, TakesRoom};
 
 use cell_buffer::Cells;
 use std::alloc::{AllocError, Global};
@@ -85,6 +85,7 @@ impl Document {
     ) -> Result<(), AllocError>
         requires { start + count ≤ length self.now.cells }
         ensures ok { OnOk result (target.new.items ≡ target.old.items ++ slice_range (bytes_of self.now.cells) start (start + count)) }
+        ensures room_is_there { vec_len target.old + count ≤ vec_capacity target.old → IsOk result }
         ensures err { OnErr result (target.new.items ≡ target.old.items) }
     {
         self.cells.append_text_to(start, count, target)
@@ -126,6 +127,8 @@ impl Document {
         ensures id { self.new.id ≡ self.old.id }
         ensures same { document_of self.new ≡ document_of self.old }
         ensures ok { OnOk result (HasRoom self.new text steps bytes) }
+        ensures room_is_there { HasRoom self.old text steps bytes → IsOk result }
+        ensures room_stays { TakesRoom self.old self.new 0 0 0 }
     {
         self.cells.reserve(text)?;
         self.history.reserve(steps, bytes)?;
@@ -133,13 +136,14 @@ impl Document {
     }
 
     /// Puts bytes in at a place, as a step that is appended to the history; `later` says that it is a later step of its
-    /// message. There must be room for it.
+    /// message. There must be room for it, and it takes no more, so that room can be made for several steps at once.
     #[tactic(auto, using(crate::proofs::PlainLemmas::plain_step))]
     pub fn insert_reserved(&mut self, later: bool, place: usize, bytes: &[u8])
         requires place { place ≤ length self.old.cells }
         requires room { HasRoom self.old (length bytes.now) 1 (length bytes.now) }
         ensures id { self.new.id ≡ self.old.id }
         ensures document { document_of self.new ≡ step_on later (Insert place bytes.now) (document_of self.old) }
+        ensures room_left { TakesRoom self.old self.new (length bytes.now) 1 (length bytes.now) }
     {
         self.history
             .append_reserved(later, StepKind::Insert, place, bytes);
@@ -147,13 +151,14 @@ impl Document {
     }
 
     /// Deletes `count` bytes from a place on, as a step that is appended to the history; `later` says that it is a later
-    /// step of its message. There must be room for it in the history.
+    /// step of its message. There must be room for it in the history, and it takes no more.
     #[tactic(auto, using(crate::proofs::PlainLemmas::plain_step))]
     pub fn delete_reserved(&mut self, later: bool, place: usize, count: usize)
         requires place { place + count ≤ length self.old.cells }
         requires room { HasRoom self.old 0 1 count }
         ensures id { self.new.id ≡ self.old.id }
         ensures document { document_of self.new ≡ step_on later (Delete place (slice_range (bytes_of self.old.cells) place (place + count))) (document_of self.old) }
+        ensures room_left { TakesRoom self.old self.new 0 1 count }
     {
         let deleted = self.cells.lend(place, count);
         self.history

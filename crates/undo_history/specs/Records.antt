@@ -37,6 +37,11 @@ abbrev pub change_of : ChangeKind → List ℕ → Change
 change_of (Text kind place) bytes = TextStep (step_of kind place bytes)
 change_of (Container token coalesce) bytes = ContainerStep token coalesce
 
+-- a container's step has no bytes
+abbrev pub HasItsBytes : ChangeKind → List ℕ → Type 0
+HasItsBytes (Text kind place) bytes = Unit {0}
+HasItsBytes (Container token coalesce) bytes = bytes ≡ []
+
 abbrev pub change_in : ChangeRecord → List ℕ → Change
 change_in r bytes = change_of r.kind bytes
 

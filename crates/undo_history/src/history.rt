@@ -5,7 +5,7 @@ ghost use Rattle.ed_model.specs.History.{fresh_history, at_save_point, can_undo,
 ghost use Rattle.undo_history.specs.Kept.{kept, HasRoom};
 ghost use Rattle.undo_history.specs.Steps.{step_of};
 ghost use Rattle.undo_history.specs.Dropping.{without_future};
-ghost use Rattle.undo_history.specs.Records.{last_end, changes_end, bytes_end, change_of, with_sealed, changes_in, EndsInOrder};
+ghost use Rattle.undo_history.specs.Records.{last_end, changes_end, bytes_end, change_of, HasItsBytes, with_sealed, changes_in, EndsInOrder};
 
 use crate::joining::{belongs, find_latest_step};
 use crate::records::{
@@ -254,7 +254,8 @@ impl UndoHistory {
     /// bytes of that step; a container's step has none.
     pub fn change_to_undo(&self, index: usize) -> (ChangeKind, &[u8])
         requires { index < length (undo_changes self.now.history) }
-        ensures { slice_get (undo_changes self.now.history) index ≡ Some (inverse_change (change_of result.0 result.1.now)) }
+        ensures change { slice_get (undo_changes self.now.history) index ≡ Some (inverse_change (change_of result.0 result.1.now)) }
+        ensures bytes { HasItsBytes result.0 result.1.now }
     {
         let last = self.transactions[self.past - 1];
         change_at(&self.changes, &self.bytes, last.changes_end - 1 - index)
@@ -275,7 +276,8 @@ impl UndoHistory {
     /// step; a container's step has none.
     pub fn change_to_redo(&self, index: usize) -> (ChangeKind, &[u8])
         requires { index < length (redo_changes self.now.history) }
-        ensures { slice_get (redo_changes self.now.history) index ≡ Some (change_of result.0 result.1.now) }
+        ensures change { slice_get (redo_changes self.now.history) index ≡ Some (change_of result.0 result.1.now) }
+        ensures bytes { HasItsBytes result.0 result.1.now }
     {
         let start = changes_before(&self.transactions, self.past);
         change_at(&self.changes, &self.bytes, start + index)
@@ -393,11 +395,27 @@ impl UndoHistory {
 fn change_at<'a>(changes: &[ChangeRecord], bytes: &'a [u8], index: usize) -> (ChangeKind, &'a [u8])
     requires there { index < length changes.now }
     requires in_order { EndsInOrder bytes_end 0 changes.now (length bytes.now) }
-    ensures { slice_get (changes_in changes.now bytes.now) index ≡ Some (change_of result.0 result.1.now) }
+    ensures change { slice_get (changes_in changes.now bytes.now) index ≡ Some (change_of result.0 result.1.now) }
+    ensures bytes { HasItsBytes result.0 result.1.now }
 {
     let start = bytes_before(changes, index);
     let change = changes[index];
-    (change.kind, &bytes[start..change.bytes_end])
+    let part = &bytes[start..change.bytes_end];
+    (change.kind, bytes_by_kind(change.kind, part))
+}
+
+// The bytes of a change of a kind, of those that are stored with it: a container's step has none.
+fn bytes_by_kind(kind: ChangeKind, stored: &[u8]) -> &[u8]
+    ensures change { change_of kind result.now ≡ change_of kind stored.now }
+    ensures bytes { HasItsBytes kind result.now }
+{
+    match kind {
+        ChangeKind::Text { kind: _, place: _ } => stored,
+        ChangeKind::Container {
+            token: _,
+            coalesce: _,
+        } => &stored[..0],
+    }
 }
 
 // Stores a change and its bytes behind the others. There must be room for them.

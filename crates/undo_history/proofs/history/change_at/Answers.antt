@@ -11,30 +11,31 @@ use Rattle.undo_history.proofs.history.change_at.Goals as goal
 abbrev none : ChangeRecord
 none = record { kind = Text Insert 0; bytes_end = 0 }
 
-pub slice_bounds-result-count : goal.slice_bounds-result-count
-slice_bounds-result-count c =
+pub slice_bounds-part-count : goal.slice_bounds-part-count
+slice_bounds-part-count c =
     let cs = c.args.changes.now in
     let r : ChangeRecord = get_or cs c.args.index none in
     let range = bytes_range cs (length c.args.bytes.now) c.args.index r c.requires.in_order c.requires.there (get_or_default cs c.args.index none r c.requires.there) in
     omega (arith, range.0, c.bytes_before-start.ensures)
 
-pub slice_bounds-result-start : goal.slice_bounds-result-start
-slice_bounds-result-start c =
+pub slice_bounds-part-start : goal.slice_bounds-part-start
+slice_bounds-part-start c =
     let cs = c.args.changes.now in
     let r : ChangeRecord = get_or cs c.args.index none in
     let range = bytes_range cs (length c.args.bytes.now) c.args.index r c.requires.in_order c.requires.there (get_or_default cs c.args.index none r c.requires.there) in
     omega (arith, range.0, c.bytes_before-start.ensures)
 
-pub slice_bounds-result-end : goal.slice_bounds-result-end
-slice_bounds-result-end c =
+pub slice_bounds-part-end : goal.slice_bounds-part-end
+slice_bounds-part-end c =
     let cs = c.args.changes.now in
     let r : ChangeRecord = get_or cs c.args.index none in
     let range = bytes_range cs (length c.args.bytes.now) c.args.index r c.requires.in_order c.requires.there (get_or_default cs c.args.index none r c.requires.there) in
     omega (arith, range.1)
 
-pub returns : goal.returns
-returns c =
+pub returns-clause-change : goal.returns-clause-change
+returns-clause-change c =
     let cs = c.args.changes.now in
     let r : ChangeRecord = get_or cs c.args.index none in
     change_read cs c.args.bytes.now c.args.index r c.requires.there (get_or_default cs c.args.index none r c.requires.there)
     ∙ ap (λ s. Some (change_of r.kind (slice_range c.args.bytes.now s r.bytes_end))) (sym c.bytes_before-start.ensures)
+    ∙ ap (λ x. Some x) (sym c.bytes_by_kind.ensures.change)

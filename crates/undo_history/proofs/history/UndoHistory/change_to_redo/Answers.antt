@@ -41,8 +41,8 @@ change_at-requires-clause-there c =
     c.changes_before-start.ensures ∙ ap (λ q. last_end changes_end 0 (take i.past q)) c.deref.ensures.value in
     omega (arith, place.1, place.2, start, ap length c.deref-2.ensures.value)
 
-pub returns : goal.returns
-returns c =
+pub returns-clause-change : goal.returns-clause-change
+returns-clause-change c =
     let i = c.self.inside in
     let ts = i.transactions.items in
     let all = recorded ts i.changes.items i.bytes.items in
@@ -59,7 +59,7 @@ returns c =
     ap (λ s. slice_get (changes_in i.changes.items i.bytes.items) (s + c.args.index)) (sym start)
     ∙ ap (λ cs. slice_get (changes_in cs i.bytes.items) (c.changes_before-start.result + c.args.index)) (sym c.deref-2.ensures.value)
     ∙ ap (λ b. slice_get (changes_in c.deref-2.result.now b) (c.changes_before-start.result + c.args.index)) (sym c.deref-3.ensures.value)
-    ∙ c.change_at.ensures in
+    ∙ c.change_at.ensures.change in
     ap (λ k. slice_get (redo_changes k.history) c.args.index) (sym c.self.view_is)
     ∙ ap (λ cs. slice_get cs c.args.index) (changes_to_redo ts i.changes.items i.bytes.items i.past i.depth t i.save_point i.is_collecting some read_t)
     ∙ redo_read ts i.changes.items i.bytes.items i.past c.args.index t x c.self.invariant.in_order some read_t place.1 read
