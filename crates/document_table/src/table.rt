@@ -1,11 +1,11 @@
 //! `DocumentTable` and its calls.
 
-ghost use Rattle.std.specs.Prelude.{◌≡◌, ◌≤◌, ◌<◌, ◌+◌, ◌^◌, ◌∷◌, ◌++◌, [], length, map, slice_range, OnOk, OnErr, IfOk, IfSome, IsSome, IsSomeAnd, IsTrue, IsFalse, option_copied, option_map};
+ghost use Rattle.std.specs.Prelude.{◌≡◌, ◌≤◌, ◌<◌, ◌+◌, ◌^◌, ◌∷◌, ◌++◌, [], length, map, slice_range, OnOk, OnErr, IfOk, IfSome, IsOk, IsSome, IsSomeAnd, IsTrue, IsFalse, option_copied, option_map};
 ghost use Rattle.ed_model.specs.Text.{bytes_of};
 ghost use Rattle.ed_model.specs.Steps.{Insert, Delete};
 ghost use Rattle.ed_model.specs.Session.{new_document, document_at, with_document, living, left_by};
 ghost use Rattle.ed_model.specs.SoundLaws.{Rise};
-ghost use Rattle.document.specs.Held.{document_of, step_on, HasRoom};
+ghost use Rattle.document.specs.Held.{document_of, step_on, HasRoom, TakesRoom};
 ghost use Rattle.document_table.specs.Documents.{held_at, documents_of};
 ghost use Rattle.document_table.specs.Order.{key_at, Stays, Goes};
 
@@ -163,6 +163,8 @@ impl DocumentTable {
         ensures same { documents_of self.new.held ≡ documents_of self.old.held }
         ensures next { self.new.next ≡ self.old.next }
         ensures ok { OnOk result (IsSomeAnd (held_at self.new.held id) (λ h. HasRoom h text steps bytes)) }
+        ensures room_is_there { IsSomeAnd (held_at self.old.held id) (λ h. HasRoom h text steps bytes) → IsOk result }
+        ensures room_stays { IfSome (held_at self.old.held id) (λ h. IsSomeAnd (held_at self.new.held id) (λ left. TakesRoom h left 0 0 0)) }
     {
         let Some(key) = key_of(&self.order, id) else {
             unreachable!()
@@ -178,6 +180,7 @@ impl DocumentTable {
         requires room { IsSomeAnd (held_at self.old.held id) (λ h. HasRoom h (length bytes.now) 1 (length bytes.now)) }
         ensures documents { IfSome (document_at (documents_of self.old.held) id) (λ d. documents_of self.new.held ≡ with_document (step_on later (Insert place bytes.now) d) (documents_of self.old.held)) }
         ensures next { self.new.next ≡ self.old.next }
+        ensures room_left { IfSome (held_at self.old.held id) (λ h. IsSomeAnd (held_at self.new.held id) (λ left. TakesRoom h left (length bytes.now) 1 (length bytes.now))) }
     {
         let Some(key) = key_of(&self.order, id) else {
             unreachable!()
@@ -193,6 +196,7 @@ impl DocumentTable {
         requires room { IsSomeAnd (held_at self.old.held id) (λ h. HasRoom h 0 1 count) }
         ensures documents { IfSome (document_at (documents_of self.old.held) id) (λ d. documents_of self.new.held ≡ with_document (step_on later (Delete place (slice_range (bytes_of d.cells) place (place + count))) d) (documents_of self.old.held)) }
         ensures next { self.new.next ≡ self.old.next }
+        ensures room_left { IfSome (held_at self.old.held id) (λ h. IsSomeAnd (held_at self.new.held id) (λ left. TakesRoom h left 0 1 count)) }
     {
         let Some(key) = key_of(&self.order, id) else {
             unreachable!()

@@ -18,3 +18,9 @@ returns-clause-documents c =
     let e = edited c.self.inside.slab c.self.inside.order.items c.self.inside.next c.args.id c.in-Some.key c.index_mut.result.now c.delete_reserved.new.self c.self.invariant k c.index_mut.ensures.value c.delete_reserved.ensures.id in
     rw (← c.self.view_is, document_found (held_by c.self.inside.slab c.self.inside.order.items) c.args.id, found_key c.self.inside.slab c.self.inside.order.items c.self.inside.next c.args.id c.in-Some.key c.self.invariant k, c.index_mut.ensures.value)
     (e.documents ∙ ap (λ (d : Document). with_document d (documents_of (held_by c.self.inside.slab c.self.inside.order.items))) c.delete_reserved.ensures.document)
+
+pub returns-clause-room_left : goal.returns-clause-room_left
+returns-clause-room_left c =
+    let k : key_at c.self.inside.order.items c.args.id ≡ Some c.in-Some.key = cc in
+    let e = edited c.self.inside.slab c.self.inside.order.items c.self.inside.next c.args.id c.in-Some.key c.index_mut.result.now c.delete_reserved.new.self c.self.invariant k c.index_mut.ensures.value c.delete_reserved.ensures.id in
+    rw (← c.self.view_is, found_key c.self.inside.slab c.self.inside.order.items c.self.inside.next c.args.id c.in-Some.key c.self.invariant k, c.index_mut.ensures.value, e.found) c.delete_reserved.ensures.room_left
