@@ -53,5 +53,8 @@ abbrev pub HasRoom : Held → ℕ → ℕ → ℕ → Type 0
 HasRoom h text steps bytes = (text ≤ h.text_room) × (h.history.collecting ≡ true → (steps ≤ h.step_room) × (bytes ≤ h.byte_room))
 
 -- from old to new no more room was taken than for so many bytes of text, and in the history for so many steps with so many bytes
-abbrev pub TakesRoom : Held → Held → ℕ → ℕ → ℕ → Type 0
-TakesRoom old new text steps bytes = (old.text_room ≤ new.text_room + text) × (old.step_room ≤ new.step_room + steps) × (old.byte_room ≤ new.byte_room + bytes)
+pub record TakesRoom (old new : Held) (text steps bytes : ℕ) : Type 0 where
+  pub collects : new.history.collecting ≡ old.history.collecting
+  pub text_left : old.text_room ≤ new.text_room + text
+  pub steps_left : old.step_room ≤ new.step_room + steps
+  pub bytes_left : old.byte_room ≤ new.byte_room + bytes

@@ -5,5 +5,7 @@
 #![tactic(auto)]
 
 mod held;
+#[cfg(test)]
+mod tests;
 
 pub use held::Document;

@@ -62,3 +62,16 @@ fn an_id_is_not_given_again(rt: HostRuntime) -> Result<(), Fail> {
     assert_eq!(rt; len_of(&table, 2), Some(1));
     Ok(())
 }
+
+#[test]
+fn room_for_two_steps(rt: HostRuntime) -> Result<(), Fail> {
+    let mut table = DocumentTable::new(rt.alloc());
+    let id = table.create(7)?;
+    assert!(rt; table.get(id).is_some());
+    table.reserve(id, 5, 2, 5)?;
+    table.insert_reserved(id, false, 0, b"cde");
+    assert!(rt; table.get(id).is_some());
+    table.insert_reserved(id, true, 0, b"ab");
+    assert_eq!(rt; len_of(&table, id), Some(5));
+    Ok(())
+}
