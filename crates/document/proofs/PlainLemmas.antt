@@ -1,16 +1,15 @@
 -- A step on a document with fresh rows leaves fresh rows, and one on indicators of zeros leaves zeros.
-use Rattle.std.proofs.Common.{◌≡◌, ℕ, zero, suc, ◌+◌, ◌-◌, ◌<◌, ◌≤◌, ◌==◌, ◌||◌, Bool, true, false, cond, if◌then◌else◌, List, [], ◌∷◌, ◌++◌, length, take, drop, map, filter, flat_map, min, replicate, slice_index, get_or, refl, ap, sym, ◌∙◌, arith, length-append, length-take, length-drop, append_assoc}
+use Rattle.std.proofs.Common.{◌≡◌, ℕ, zero, suc, ◌+◌, ◌-◌, ◌==◌, ◌||◌, Bool, true, false, cond, List, [], ◌∷◌, ◌++◌, length, take, drop, map, filter, flat_map, min, replicate, slice_index, refl, ap, sym, ◌∙◌, arith, length-append, length-take, length-drop}
 use Rattle.std.proofs.lemmas.List.{length-replicate, length-map}
 use Rattle.std.specs.List.{zip, range_with_len}
 use Rattle.ed_model.specs.declared.plan.LineEndTypes.{LineEndTypes}
 use Rattle.ed_model.specs.declared.plan.LineEndTypes.TheVariants.{Default}
-use Rattle.ed_model.specs.Text.{Cell, bytes_of, plain_cells, plain_cell}
+use Rattle.ed_model.specs.Text.{Cell, bytes_of}
 use Rattle.ed_model.specs.Lines.{line_starts, line_of, line_count}
 use Rattle.ed_model.specs.Steps.{Step, Insert, Delete, edited, edited_cells, moved_start, place_of}
 use Rattle.ed_model.specs.Carry.{carried, carried_by, carried_unless_empty, rows_on}
-use Rattle.ed_model.specs.Rows.{Row, Flags, fresh_row, fresh_flags, rows_together, flags_together}
+use Rattle.ed_model.specs.Rows.{Row, fresh_row, fresh_flags, rows_together, flags_together}
 use Rattle.ed_model.specs.History.{History, TextStep, appended}
-use Rattle.ed_model.specs.Session.{Document}
 use Rattle.ed_model.proofs.StepLemmas.{bytes_of_edited_cells}
 use Rattle.document.specs.Held.{plain_document, step_on}
 use Rattle.ed_model.specs.Indicators.{inserted_value, indicator_after, indicators_after}

@@ -1,5 +1,5 @@
 -- The cells and the history change as a step changes them.
-use Rattle.std.proofs.Common.{◌≡◌, ap}
+use Rattle.std.proofs.Common.{ap}
 use Rattle.ed_model.specs.Steps.{Insert}
 use Rattle.document.specs.Held.{document_of}
 use Rattle.document.proofs.PlainStep.{stepped_parts}
