@@ -4,9 +4,11 @@
 //!     ed_bench split ITEMS FAR NEAR
 //!     ed_bench partitions STARTS LOOK_UPS EDITS
 //!     ed_bench script BYTES
+//!     ed_bench lines BYTES TYPED
 //!     ed_bench all                                  (each part, tiny)
 #![tactic(auto)]
 
+mod lines;
 mod partitions;
 mod scripts;
 mod split;
@@ -46,11 +48,13 @@ fn main(rt: HostRuntime) -> io::Result<()> {
         "all" => {
             split::run(&rt, 1000, 10, 100)?;
             partitions::run(&rt, 100, 100, 10)?;
-            scripts::run(&rt, 1000)
+            scripts::run(&rt, 1000)?;
+            lines::run(&rt, 400, 100)
         }
         "split" => split::run(&rt, first, second, third),
         "script" => scripts::run(&rt, first),
+        "lines" => lines::run(&rt, first, second),
         "partitions" => partitions::run(&rt, first, second, third),
-        _ => eprintln!(&rt; "ed_bench split|partitions|script|all SIZES.."),
+        _ => eprintln!(&rt; "ed_bench split|partitions|script|lines|all SIZES.."),
     }
 }

@@ -1,0 +1,138 @@
+-- How many lines a step adds at most.
+use Rattle.std.proofs.Common.{◌≡◌, ℕ, zero, suc, ◌+◌, ◌-◌, ◌<◌, ◌≤◌, min, max, Bool, true, false, cond, List, [], ◌∷◌, ◌++◌, length, take, drop, filter, slice_get, refl, sym, ap, ◌∙◌, inl, inr, arith, append_assoc, append-nil, length-append}
+use Rattle.std.specs.List.{range_with_len}
+use Rattle.std.proofs.lemmas.Bool.{cases_lt}
+use Rattle.std.proofs.lemmas.List.{length-take-le, length-map}
+use Rattle.ed_model.specs.declared.plan.LineEndTypes.{LineEndTypes}
+use Rattle.ed_model.specs.Lines.{is_line_start, line_starts, line_count, line_of}
+use Rattle.ed_model.specs.Steps.{Insert, edited}
+use Rattle.ed_model.proofs.LineLemmas.{moved_start_test, some_line}
+use Rattle.ed_model.proofs.RisingLemmas.{filter_range_moved}
+use Rattle.ed_model.proofs.NeighbourLemmas.{slice_get_append_left, slice_get_append_right}
+use Rattle.line_index.specs.Index.{Index, WasInserted, index, starts_within}
+use Rattle.line_index.specs.RoomLaws.{InsertionAddsFewLines, DeletionAddsFewLines}
+use Rattle.line_index.proofs.StartLists.{starts_apart, one_start, no_starts, one_more}
+use Rattle.line_index.proofs.StepLists.{Deletion, deletion_of, range_about, counted_about, found_in, found_out, longer}
+
+-- no more numbers pass a test than there are
+few_pass : (p : ℕ → Bool) (a n : ℕ) → length (filter p (range_with_len a n)) ≤ n
+few_pass p a zero = omega arith
+few_pass p a (suc n) = one_passes (p a) a n (filter p (range_with_len (a + 1) n)) (few_pass p (a + 1) n)
+  where
+    one_passes : (b : Bool) (a n : ℕ) (rest : List ℕ) → length rest ≤ n → length (cond b (a ∷ rest) rest) ≤ suc n
+    one_passes true a n rest h = omega arith
+    one_passes false a n rest h = omega arith
+
+few_starts : (types : LineEndTypes) (text : List ℕ) (from to : ℕ) → length (starts_within types text from to) ≤ to - from
+few_starts types text from to = few_pass (is_line_start types text) from (to - from)
+
+-- the starts within the bytes that came
+same_bytes : (place k : ℕ) (bytes text : List ℕ) → place ≤ length text → k < length bytes → slice_get (edited (Insert place bytes) text) (place + k) ≡ slice_get bytes k
+same_bytes place k bytes text h l =
+    let size : length (take place text) ≡ place = length-take-le place text h in
+    rw append_assoc (slice_get_append_right (take place text) (bytes ++ drop place text) k (place + k) (omega arith) ∙ slice_get_append_left bytes (drop place text) k l)
+
+inner_starts :
+    (types : LineEndTypes) (place : ℕ) (bytes text : List ℕ) → place ≤ length text → 3 ≤ length bytes
+    → length (starts_within types (edited (Insert place bytes) text) (place + 3) (place + length bytes)) ≡ length (starts_within types bytes 3 (length bytes))
+inner_starts types place bytes text h l =
+    let n : ℕ = length bytes - 3 in
+    let e : place + length bytes - (place + 3) ≡ n = omega arith in
+    ap (λ m. length (filter (is_line_start types (edited (Insert place bytes) text)) (range_with_len (place + 3) m))) e
+    ∙ ap length (filter_range_moved (is_line_start types bytes) (is_line_start types (edited (Insert place bytes) text)) (λ s. place + s) 3 (place + 3) n
+    (λ k m. (
+      inner_start k m,
+      omega arith,
+    )))
+    ∙ length-map (starts_within types bytes 3 (length bytes)) (λ s. place + s)
+  where
+    inner_start : (k : ℕ) → k < length bytes - 3 → is_line_start types bytes (3 + k) ≡ is_line_start types (edited (Insert place bytes) text) (place + 3 + k)
+    inner_start k m =
+        let a : 3 + k ≡ k + 3 = omega arith in
+        let b : place + 3 + k ≡ place + k + 3 = omega arith in
+        rw (a, b) (sym (moved_start_test types (edited (Insert place bytes) text) bytes (place + k) k
+        (λ r u. let f : place + k + r ≡ place + (k + r) = omega arith in rw f (same_bytes place (k + r) bytes text h (omega arith)))))
+
+own_starts : (types : LineEndTypes) (bytes : List ℕ) → 3 ≤ length bytes → length (starts_within types bytes 3 (length bytes)) + 1 ≤ line_count types bytes
+own_starts types bytes l =
+    let e : length bytes + 1 - 0 ≡ length bytes + 1 = omega arith in
+    let whole : line_count types bytes ≡ length (starts_within types bytes 0 (length bytes + 1)) = ap (λ n. length (filter (is_line_start types bytes) (range_with_len 0 n))) (sym e) in
+    let a = starts_apart types bytes 0 (0 + 1) (length bytes + 1) (omega arith) (omega arith) in
+    let b = starts_apart types bytes (0 + 1) 3 (length bytes + 1) (omega arith) (omega arith) in
+    let c = starts_apart types bytes 3 (length bytes) (length bytes + 1) l (omega arith) in
+    omega (
+      arith,
+      whole,
+      ap length a,
+      ap length b,
+      ap length c,
+      ap length (one_start types bytes 0 refl),
+      length-append (starts_within types bytes 0 (0 + 1)) (starts_within types bytes (0 + 1) (length bytes + 1)),
+      length-append (starts_within types bytes (0 + 1) 3) (starts_within types bytes 3 (length bytes + 1)),
+      length-append (starts_within types bytes 3 (length bytes)) (starts_within types bytes (length bytes) (length bytes + 1)),
+    )
+
+pub few_inserted : InsertionAddsFewLines
+few_inserted types place bytes text h =
+    let new : List ℕ = edited (Insert place bytes) text in
+    let w : WasInserted place (length bytes) new (index types (line_starts types text) (length text) 0) =
+    record { old = text; bytes = bytes; counted = refl; within = h; index = record { starts = refl; length = refl }; edited = refl } in
+    let starts : List ℕ = line_starts types text in
+    let i : ℕ = line_of starts (place - 1) + 1 in
+    let j : ℕ = line_of starts (place + 2) + 1 in
+    let from : ℕ = max place 1 in
+    let to : ℕ = min (place + length bytes + 3) (length new + 1) in
+    let within = range_about types text starts place place i j refl (omega arith) refl refl in
+    let found = found_in types place (length bytes) (length text) 0 new starts w i j from to refl refl refl refl in
+    let size = counted_about (λ s. s + length bytes) starts (starts_within types new from to) (line_starts types new) i j (omega (arith, within)) (omega (arith, within)) found in
+    let long : length new ≡ length text + length bytes = longer types place (length bytes) (length text) 0 new starts w in
+    elim (cases_lt (length bytes) 3) [
+      | inl short ↦ omega (arith, size, few_starts types new from to, some_line types bytes)
+      | inr more ↦
+          let a = starts_apart types new from (place + 3) to (omega arith) (omega arith) in
+          let b = starts_apart types new (place + 3) (place + length bytes) to (omega arith) (omega arith) in
+          omega (
+            arith,
+            size,
+            ap length a,
+            ap length b,
+            few_starts types new from (place + 3),
+            few_starts types new (place + length bytes) to,
+            inner_starts types place bytes text h more,
+            own_starts types bytes more,
+            length-append (starts_within types new from (place + 3)) (starts_within types new (place + 3) to),
+            length-append (starts_within types new (place + 3) (place + length bytes)) (starts_within types new (place + length bytes) to),
+          )
+    ]
+
+pub few_deleted : DeletionAddsFewLines
+few_deleted types place count text h =
+    let new : List ℕ = take place text ++ drop (place + count) text in
+    let starts : List ℕ = line_starts types text in
+    let old : Index = index types starts (length text) 0 in
+    let w : Deletion place count new old =
+    deletion_of place count new old record { old = text; within = h; index = record { starts = refl; length = refl }; deleted = refl } in
+    let i : ℕ = line_of starts (place - 1) + 1 in
+    let j : ℕ = line_of starts (place + count + 2) + 1 in
+    let within = range_about types text starts place (place + count) i j refl (omega arith) refl refl in
+    let found = found_out types place count (length text) 0 new starts w i j (max place 1) (min (place + 3) (length new + 1)) refl refl refl refl in
+    let size = counted_about (λ s. s - count) starts (starts_within types new (max place 1) (min (place + 3) (length new + 1))) (line_starts types new) i j (omega (arith, within)) (omega (arith, within)) found in
+    omega (arith, size, few_starts types new (max place 1) (min (place + 3) (length new + 1)))
+
+-- the lines of bytes, counted one start after another
+
+pub counted_first : (types : LineEndTypes) (bytes : List ℕ) (place : ℕ) → 1 ≤ place → ((k : ℕ) → 1 ≤ k → k < place → is_line_start types bytes k ≡ false) → 1 ≡ length (starts_within types bytes 0 place)
+counted_first types bytes place h none =
+    sym (ap length (one_more types bytes 0 0 place (omega arith) (omega arith) refl none) ∙ ap (λ (l : List ℕ). length (l ++ 0 ∷ [])) (no_starts types bytes 0 0 (λ k a b. absurd (omega arith))))
+
+pub counted_next :
+    (types : LineEndTypes) (bytes : List ℕ) (place next lines : ℕ) → place < next → is_line_start types bytes place ≡ true
+    → ((k : ℕ) → place + 1 ≤ k → k < next → is_line_start types bytes k ≡ false) → lines ≡ length (starts_within types bytes 0 place)
+    → lines + 1 ≡ length (starts_within types bytes 0 next)
+counted_next types bytes place next lines l here none e =
+    omega (arith, ap length (one_more types bytes 0 place next (omega arith) l here none), length-append (starts_within types bytes 0 place) (place ∷ []))
+
+pub counted_all : (types : LineEndTypes) (bytes : List ℕ) (lines end : ℕ) → end ≡ length bytes + 1 → lines ≡ length (starts_within types (bytes ++ []) 0 end) → lines ≡ line_count types bytes
+counted_all types bytes lines end e h =
+    let same : end - 0 ≡ length bytes + 1 = omega arith in
+    h ∙ rw (append-nil bytes, same) refl

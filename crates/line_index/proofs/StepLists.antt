@@ -1,0 +1,305 @@
+-- Line starts about a step: which stay, which are taken away, and that the ones found in the new text are those that were
+-- missing.
+use Rattle.std.proofs.Common.{◌≡◌, ℕ, zero, suc, ◌+◌, ◌-◌, ◌<◌, ◌≤◌, ◌==◌, if◌then◌else◌, min, max, List, [], ◌∷◌, ◌++◌, length, get_or, take, drop, slice_range, map, filter, ltb, refl, sym, ap, subst, ◌∙◌, inl, inr, arith, append_assoc, length-append, length-drop, append-nil}
+use Rattle.std.specs.List.{range_with_len}
+use Rattle.std.proofs.lemmas.Bool.{cases_lt, cases_eq, lt-ltb, le-ltb, ne_eqb}
+use Rattle.std.proofs.lemmas.List.{length-take, length-take-le, length-map, get_or-take, get_or-drop, get_or-map, get_or-append-add}
+use Rattle.std.proofs.Math.ListN.{get_or-append}
+use Rattle.ed_model.specs.declared.plan.LineEndTypes.{LineEndTypes}
+use Rattle.ed_model.specs.Lines.{is_line_start, line_starts, line_of, line_count}
+use Rattle.ed_model.specs.Steps.{Step, Insert, Delete, place_of, edited}
+use Rattle.ed_model.specs.NeighbourLaws.{starts_before, starts_from, starts_about, count_before}
+use Rattle.ed_model.specs.MergeLaws.{end_of}
+use Rattle.ed_model.proofs.RisingLemmas.{count-cons}
+use Rattle.ed_model.proofs.LineLemmas.{no_start_past, first_line_start, some_line, line_of_monotone, line_of_lt, line_of_last_start}
+use Rattle.ed_model.proofs.StepLemmas.{length-inserted, length-deleted_within}
+use Rattle.ed_model.proofs.NeighbourLemmas.{starts_after_insertion, starts_after_deletion, starts_about_insertion, starts_about_deletion, starts_before_first, starts_from_others}
+use Rattle.ed_model.proofs.NearLemmas.{first_line_about_is, first_line_behind_is}
+use Rattle.partitioning.specs.Partitions.{CanLose, map_from}
+use Rattle.line_index.specs.Index.{Index, IsFree, IsIndexOf, WasInserted, WasDeleted, index, starts_within}
+use Rattle.line_index.proofs.StartLists.{starts_apart, no_starts, one_start}
+
+-- starts up to a place's line lie at the place or before it, and the others behind it
+
+pub at_most : (types : LineEndTypes) (text : List ℕ) (p k : ℕ) → k < line_count types text → k ≤ line_of (line_starts types text) p → get_or (line_starts types text) k 0 ≤ p
+at_most types text p k h l = (line_of_last_start types text p k h).0 l
+
+pub behind : (types : LineEndTypes) (text : List ℕ) (p k : ℕ) → k < line_count types text → line_of (line_starts types text) p < k → p < get_or (line_starts types text) k 0
+behind types text p k h l =
+    elim (cases_lt p (get_or (line_starts types text) k 0)) [
+      | inl past ↦ past
+      | inr upto ↦ absurd (omega (arith, (line_of_last_start types text p k h).1 upto))
+    ]
+
+-- a list cut at a place
+
+front_of : (i : ℕ) (xs ys : List ℕ) → i ≤ length xs → take i (take i xs ++ ys) ≡ take i xs
+front_of zero xs ys h = refl
+front_of (suc i) [] ys h = absurd (omega arith)
+front_of (suc i) (x ∷ xs) ys h = ap (λ l. x ∷ l) (front_of i xs ys (omega arith))
+
+rest_of : (i : ℕ) (xs ys : List ℕ) → i ≤ length xs → drop i (take i xs ++ ys) ≡ ys
+rest_of zero xs ys h = refl
+rest_of (suc i) [] ys h = absurd (omega arith)
+rest_of (suc i) (x ∷ xs) ys h = rest_of i xs ys (omega arith)
+
+-- the starts behind the first i are moved
+pub moved_behind : (f : ℕ → ℕ) (i n : ℕ) (xs ys : List ℕ) → n ≡ i → i ≤ length xs → map_from f n (take i xs ++ ys) ≡ take i xs ++ map f ys
+moved_behind f i n xs ys e h = rw (e, front_of i xs ys h, rest_of i xs ys h) refl
+
+-- .. and others are put in between
+pub put_between : (i : ℕ) (xs mid ys : List ℕ) → i ≤ length xs → take i (take i xs ++ ys) ++ mid ++ drop i (take i xs ++ ys) ≡ take i xs ++ mid ++ ys
+put_between i xs mid ys h = rw (front_of i xs ys h, rest_of i xs ys h) refl
+
+map_same : (xs : List ℕ) → map (λ s. s) xs ≡ xs
+map_same [] = refl
+map_same (x ∷ xs) = ap (λ l. x ∷ l) (map_same xs)
+
+-- About a step that ends at e, in the old text: i is the line behind that of the byte before the step, and j the line behind
+-- that of the third byte behind it.
+module _ (types : LineEndTypes) (text : List ℕ) (p e i j : ℕ) (o : p ≤ e)
+    (a : i ≡ line_of (line_starts types text) (p - 1) + 1) (b : j ≡ line_of (line_starts types text) (e + 2) + 1) where
+  abbrev starts : List ℕ
+  starts = line_starts types text
+
+  pub range : (0 < i) × (i ≤ j) × (j ≤ length starts)
+  range =
+      (omega arith, omega (arith, line_of_monotone starts (p - 1) (e + 2) (omega arith)), omega (arith, line_of_lt starts (e + 2) (some_line types text)))
+
+  -- the starts that stay, and those that move by f
+  abbrev kept : (ℕ → ℕ) → List ℕ
+  kept f = take i starts ++ map f (drop j starts)
+
+  front_size : length (take i starts) ≡ i
+  front_size = length-take-le i starts (omega (arith, range))
+
+  pub kept_front : (f : ℕ → ℕ) (k : ℕ) → k < i → get_or (kept f) k 0 ≡ get_or starts k 0
+  kept_front f k l =
+      let m : k < length (take i starts) = omega (arith, front_size) in
+      get_or-append (take i starts) (map f (drop j starts)) 0 k m ∙ get_or-take i starts k 0 l
+
+  kept_back : (f : ℕ → ℕ) (n : ℕ) → j + n < length starts → get_or (kept f) (i + n) 0 ≡ f (get_or starts (j + n) 0)
+  kept_back f n l =
+      let at : i + n ≡ length (take i starts) + n = omega (arith, front_size) in
+      let m : n < length (drop j starts) = omega (arith, length-drop j starts) in
+      rw (at, get_or-append-add (take i starts) (map f (drop j starts)) n 0, get_or-map f (drop j starts) n 0 0 m, get_or-drop j starts n 0) refl
+
+  -- so the places between are free
+  free : (f : ℕ → ℕ) (from to end : ℕ) → ((s : ℕ) → e + 3 ≤ s → to ≤ f s) → from ≡ max p 1 → from ≤ to → to ≤ end + 1 → IsFree (kept f) end from to i
+  free f from to end moves c d g =
+      let size = length-append (take i starts) (map f (drop j starts)) in
+      let moved = length-map (drop j starts) f in
+      let rest = length-drop j starts in
+      record {
+        not_first = range.0;
+        within = omega (arith, size, front_size);
+        below = λ k l. rw (kept_front f k l) (omega (arith, at_most types text (p - 1) k (omega (arith, range)) (omega arith)));
+        above = λ k l m.
+            let n : ℕ = k - i in
+            let at : k ≡ i + n = omega arith in
+            let w : j + n < length starts = omega (arith, size, moved, rest, front_size, range) in
+            rw (at, kept_back f n w) (moves (get_or starts (j + n) 0) (omega (arith, behind types text (e + 2) (j + n) w (omega arith))));
+        order = d;
+        to_end = g;
+      }
+
+  -- something stays of the partition in which the step is, whatever is taken out up to e
+  loses : (count end : ℕ) → p + count ≡ e → e ≤ end → CanLose (take i starts ++ drop j starts) end (i - 1) count
+  loses count end c d =
+      let same : ℕ → ℕ = λ s. s in
+      let last : i - 1 < i = omega (arith, range) in
+      let first : i - 1 + 1 ≡ i + 0 = omega (arith, range) in
+      let size = length-append (take i starts) (drop j starts) in
+      let rest = length-drop j starts in
+      let near : get_or starts (i - 1) 0 ≤ p - 1 = at_most types text (p - 1) (i - 1) (omega (arith, range)) (omega arith) in
+      let here : get_or (take i starts ++ drop j starts) (i - 1) 0 ≤ p - 1 = rw (← (map_same (drop j starts)), kept_front same (i - 1) last) near in
+      record {
+        before_next = λ l.
+            let w : j + 0 < length starts = omega (arith, size, rest, front_size, range) in
+            let next : e + 2 < get_or (take i starts ++ drop j starts) (i + 0) 0 =
+            rw (← (map_same (drop j starts)), kept_back same 0 w) (behind types text (e + 2) (j + 0) w (omega arith)) in
+            rw first (omega (arith, next, here));
+        before_end = omega (arith, here);
+      }
+
+some_before : (p : ℕ) (xs : List ℕ) → 0 < length xs → get_or xs 0 0 ≡ 0 → 0 < p → 0 < count_before p xs
+some_before p [] h e l = absurd (omega arith)
+some_before p (x ∷ xs) h e l = rw (count-cons (λ s. ltb s p) x xs, lt-ltb x p (omega arith)) (omega arith)
+
+pub none_below_zero : (xs : List ℕ) → count_before 0 xs ≡ 0
+none_below_zero [] = refl
+none_below_zero (x ∷ xs) = rw (count-cons (λ s. ltb s 0) x xs, le-ltb x 0 (omega arith), none_below_zero xs) refl
+
+take_one : (xs : List ℕ) → 0 < length xs → get_or xs 0 0 ≡ 0 → take 1 xs ≡ 0 ∷ []
+take_one [] h e = absurd (omega arith)
+take_one (x ∷ xs) h e = ap (λ y. y ∷ []) e
+
+-- how many starts lie before a step
+pub lines_before_some : (types : LineEndTypes) (step : Step) (text : List ℕ) (i : ℕ) → i ≡ line_of (line_starts types text) (place_of step - 1) + 1 → 0 < place_of step → count_before (place_of step) (line_starts types text) ≡ i
+lines_before_some types step text i a h =
+    omega (arith, first_line_about_is types step text, some_before (place_of step) (line_starts types text) (some_line types text) (first_line_start types text) h)
+
+first_line_is : (types : LineEndTypes) (text : List ℕ) (p : ℕ) → p ≡ 0 → line_of (line_starts types text) (p - 1) ≡ 0
+first_line_is types text p e =
+    let z : p - 1 ≡ 0 = omega arith in
+    rw z (sym (first_line_about_is types (Insert 0 []) text) ∙ ap (λ n. n - 1) (none_below_zero (line_starts types text)))
+
+-- .. by the line of the byte before it
+pub lines_before_is : (types : LineEndTypes) (step : Step) (text : List ℕ) (i : ℕ) → i ≡ line_of (line_starts types text) (place_of step - 1) + 1 → count_before (place_of step) (line_starts types text) ≡ (if place_of step == 0 then 0 else i)
+lines_before_is types step text i a =
+    elim (cases_eq (place_of step) 0) [
+      | inl none ↦ rw none (none_below_zero (line_starts types text))
+      | inr some ↦ rw (ne_eqb (place_of step) 0 some) (lines_before_some types step text i a (omega arith))
+    ]
+
+-- the first starts of the new text: those before the step, and 0 where the step is there
+front_starts :
+    (types : LineEndTypes) (step : Step) (text new : List ℕ) (i from : ℕ) → i ≡ line_of (line_starts types text) (place_of step - 1) + 1 → from ≡ max (place_of step) 1
+    → starts_before (place_of step) (line_starts types text) ++ starts_within types new (place_of step) from ≡ take i (line_starts types text)
+front_starts types step text new i from a c =
+    let starts : List ℕ = line_starts types text in
+    let p : ℕ = place_of step in
+    elim (cases_eq p 0) [
+      | inl none ↦
+          let one : i ≡ 1 = omega (arith, first_line_is types text p none) in
+          let z : from ≡ 0 + 1 = omega arith in
+          rw (starts_before_first types p text, none, none_below_zero starts, z, one_start types new 0 refl, one) (sym (take_one starts (some_line types text) (first_line_start types text)))
+      | inr some ↦
+          let same : from ≡ p = omega arith in
+          rw (starts_before_first types p text, lines_before_some types step text i a (omega arith), same, no_starts types new p p (λ k l m. absurd (omega arith))) (append-nil (take i starts))
+    ]
+
+-- Where the law of the step says that the new starts are those before it, those about it and the moved ones behind it, they are the
+-- starts that were kept, with the ones that were found between them.
+pub found_all :
+    (types : LineEndTypes) (step : Step) (text new mid : List ℕ) (f : ℕ → ℕ) (n i j from to : ℕ)
+    → line_starts types new ≡ starts_before (place_of step) (line_starts types text) ++ mid ++ map f (starts_from (end_of step + 3) (line_starts types text))
+    → mid ≡ filter (is_line_start types new) (range_with_len (place_of step) (n + 3))
+    → i ≡ line_of (line_starts types text) (place_of step - 1) + 1 → j ≡ line_of (line_starts types text) (end_of step + 2) + 1
+    → from ≡ max (place_of step) 1 → to ≡ min (place_of step + n + 3) (length new + 1) → from ≤ to
+    → take i (line_starts types text) ++ starts_within types new from to ++ map f (drop j (line_starts types text)) ≡ line_starts types new
+found_all types step text new mid f n i j from to law about a b c d g =
+    let starts : List ℕ = line_starts types text in
+    let p : ℕ = place_of step in
+    let whole : mid ≡ starts_within types new p (p + n + 3) = about ∙ ap (λ m. filter (is_line_start types new) (range_with_len p m)) (let e : n + 3 ≡ p + n + 3 - p = omega arith in e) in
+    let past : starts_within types new to (p + n + 3) ≡ [] = no_starts types new to (p + n + 3) (λ k l m. no_start_past types new k (omega arith)) in
+    let cut : mid ≡ starts_within types new p from ++ starts_within types new from to =
+    whole ∙ starts_apart types new p from (p + n + 3) (omega arith) (omega arith)
+    ∙ ap (λ l. starts_within types new p from ++ l) (starts_apart types new from to (p + n + 3) g (omega arith) ∙ rw past (append-nil (starts_within types new from to))) in
+    let last : starts_from (end_of step + 3) starts ≡ drop j starts =
+    starts_from_others types (end_of step + 3) text ∙ ap (λ k. drop k starts) (first_line_behind_is types step text ∙ sym b) in
+    sym (law ∙ rw (cut, last, ← (append_assoc (starts_before p starts) (starts_within types new p from) (starts_within types new from to)), front_starts types step text new i from a c) refl)
+
+-- The same for a list that is that of the old text's line starts.
+
+pub range_about :
+    (types : LineEndTypes) (text starts : List ℕ) (p e i j : ℕ) → starts ≡ line_starts types text → p ≤ e
+    → i ≡ line_of starts (p - 1) + 1 → j ≡ line_of starts (e + 2) + 1 → (0 < i) × (i ≤ j) × (j ≤ length starts)
+range_about types text starts p e i j s o a b = rw s (range types text p e i j o (rw s at a) (rw s at b))
+
+pub free_about :
+    (types : LineEndTypes) (text starts : List ℕ) (f : ℕ → ℕ) (p e i j from to end : ℕ) → starts ≡ line_starts types text → p ≤ e
+    → i ≡ line_of starts (p - 1) + 1 → j ≡ line_of starts (e + 2) + 1 → ((s : ℕ) → e + 3 ≤ s → to ≤ f s)
+    → from ≡ max p 1 → from ≤ to → to ≤ end + 1 → IsFree (take i starts ++ map f (drop j starts)) end from to i
+free_about types text starts f p e i j from to end s o a b = rw s (free types text p e i j o (rw s at a) (rw s at b) f from to end)
+
+pub loses_about :
+    (types : LineEndTypes) (text starts : List ℕ) (p e i j count end : ℕ) → starts ≡ line_starts types text → p ≤ e
+    → i ≡ line_of starts (p - 1) + 1 → j ≡ line_of starts (e + 2) + 1 → p + count ≡ e → e ≤ end → CanLose (take i starts ++ drop j starts) end (i - 1) count
+loses_about types text starts p e i j count end s o a b = rw s (loses types text p e i j o (rw s at a) (rw s at b) count end)
+
+pub counted_about : (f : ℕ → ℕ) (starts found new : List ℕ) (i j : ℕ) → i ≤ j → j ≤ length starts → take i starts ++ found ++ map f (drop j starts) ≡ new → length new + (j - i) ≡ length starts + length found
+counted_about f starts found new i j a b e =
+    omega (arith, ap length e, length-append (take i starts ++ found) (map f (drop j starts)), length-append (take i starts) found, length-map (drop j starts) f, length-drop j starts, length-take-le i starts (omega arith))
+
+-- what was found takes no more room than the lines of the new text
+pub fits_about :
+    (f : ℕ → ℕ) (starts found new : List ℕ) (i j room : ℕ) → i ≤ j → j ≤ length starts → take i starts ++ found ++ map f (drop j starts) ≡ new
+    → length new ≤ length starts + room → length found ≤ room + (j - i)
+fits_about f starts found new i j room a b e h = omega (arith, counted_about f starts found new i j a b e)
+
+-- .. and what is left of the room is as much less
+pub left_about :
+    (f : ℕ → ℕ) (starts found new : List ℕ) (i j room left : ℕ) → i ≤ j → j ≤ length starts → take i starts ++ found ++ map f (drop j starts) ≡ new
+    → left + length found ≡ room + (j - i) → left + length new ≡ room + length starts
+left_about f starts found new i j room left a b e h = omega (arith, counted_about f starts found new i j a b e)
+
+-- the new starts, where the index was that of a text to which bytes came
+module _ (types : LineEndTypes) (place count end room : ℕ) (text starts : List ℕ) (w : WasInserted place count text (index types starts end room)) where
+  pub longer : length text ≡ end + count
+  longer = omega (arith, ap length w.edited, length-inserted place w.bytes w.old, w.counted, w.index.length)
+
+  law_in : line_starts types text ≡ starts_before place (line_starts types w.old) ++ starts_about types place place w.bytes w.old ++ map (λ s. s + count) (starts_from (place + 3) (line_starts types w.old))
+  law_in =
+      let Says : ℕ → Type 0 =
+      λ n. line_starts types text ≡ starts_before place (line_starts types w.old) ++ starts_about types place place w.bytes w.old ++ map (λ s. s + n) (starts_from (place + 3) (line_starts types w.old)) in
+      let law : Says (length w.bytes) = rw w.edited at (starts_after_insertion types place w.bytes w.old w.within) in
+      subst Says w.counted law
+
+  about_in : starts_about types place place w.bytes w.old ≡ filter (is_line_start types text) (range_with_len place (count + 3))
+  about_in =
+      let Says : ℕ → Type 0 = λ n. starts_about types place place w.bytes w.old ≡ filter (is_line_start types text) (range_with_len place (n + 3)) in
+      let law : Says (length w.bytes) = rw w.edited at (starts_about_insertion types place w.bytes w.old w.within) in
+      subst Says w.counted law
+
+  pub found_in :
+      (i j from to : ℕ) → i ≡ line_of starts (place - 1) + 1 → j ≡ line_of starts (place + 2) + 1 → from ≡ max place 1
+      → to ≡ min (place + count + 3) (length text + 1)
+      → take i starts ++ starts_within types text from to ++ map (λ s. s + count) (drop j starts) ≡ line_starts types text
+  found_in i j from to a b c d =
+      rw w.index.starts
+      (found_all types (Insert place w.bytes) w.old text (starts_about types place place w.bytes w.old) (λ s. s + count) count i j from to law_in about_in
+      (rw w.index.starts at a) (rw w.index.starts at b) c d (omega (arith, longer, w.within, w.index.length)))
+
+  pub before_in : (i : ℕ) → i ≡ line_of starts (place - 1) + 1 → count_before place starts ≡ (if place == 0 then 0 else i)
+  before_in i a = rw w.index.starts (lines_before_is types (Insert place w.bytes) w.old i (rw w.index.starts at a))
+
+-- A deletion, with the bytes that went.
+pub record Deletion (place count : ℕ) (text : List ℕ) (i : Index) : Type 0 where
+  pub old : List ℕ
+  pub bytes : List ℕ
+  pub counted : length bytes ≡ count
+  pub within : place + count ≤ length old
+  pub index : IsIndexOf old i
+  pub edited : edited (Delete place bytes) old ≡ text
+
+pub deletion_of : (place count : ℕ) (text : List ℕ) (i : Index) → WasDeleted place count text i → Deletion place count text i
+deletion_of place count text i w =
+    let bytes : List ℕ = slice_range w.old place (place + count) in
+    let size : length bytes ≡ min (place + count - place) (length w.old - place) = simp (length-take, length-drop) in
+    let counted : length bytes ≡ count = omega (arith, w.within) in
+    record { old = w.old; bytes = bytes; counted = counted; within = w.within; index = w.index; edited = rw counted w.deleted }
+
+-- .. and where it was that of a text from which some went
+module _ (types : LineEndTypes) (place count end room : ℕ) (text starts : List ℕ) (w : Deletion place count text (index types starts end room)) where
+  pub shorter : length text + count ≡ end
+  shorter = omega (arith, ap length w.edited, length-deleted_within place w.bytes w.old (omega (arith, w.within, w.counted)), w.counted, w.index.length, w.within)
+
+  law_out :
+      line_starts types text
+      ≡ starts_before place (line_starts types w.old) ++ starts_about types place (place + length w.bytes) [] w.old ++ map (λ s. s - length w.bytes) (starts_from (place + length w.bytes + 3) (line_starts types w.old))
+  law_out = rw w.edited at (starts_after_deletion types place w.bytes w.old (omega (arith, w.within)))
+
+  about_out : starts_about types place (place + length w.bytes) [] w.old ≡ filter (is_line_start types text) (range_with_len place (0 + 3))
+  about_out = rw w.edited at (starts_about_deletion types place w.bytes w.old (omega (arith, w.within)))
+
+  found_out_bytes :
+      (i j from to : ℕ) → i ≡ line_of (line_starts types w.old) (place - 1) + 1 → j ≡ line_of (line_starts types w.old) (place + length w.bytes + 2) + 1 → from ≡ max place 1
+      → to ≡ min (place + 3) (length text + 1)
+      → take i (line_starts types w.old) ++ starts_within types text from to ++ map (λ s. s - length w.bytes) (drop j (line_starts types w.old)) ≡ line_starts types text
+  found_out_bytes i j from to a b c d =
+      found_all types (Delete place w.bytes) w.old text (starts_about types place (place + length w.bytes) [] w.old) (λ s. s - length w.bytes) 0 i j from to law_out about_out a b c
+      (omega arith) (omega (arith, shorter, w.within, w.index.length))
+
+  pub found_out :
+      (i j from to : ℕ) → i ≡ line_of starts (place - 1) + 1 → j ≡ line_of starts (place + count + 2) + 1 → from ≡ max place 1
+      → to ≡ min (place + 3) (length text + 1)
+      → take i starts ++ starts_within types text from to ++ map (λ s. s - count) (drop j starts) ≡ line_starts types text
+  found_out i j from to a b c d =
+      let Says : ℕ → Type 0 =
+      λ n. j ≡ line_of (line_starts types w.old) (place + n + 2) + 1 → take i (line_starts types w.old) ++ starts_within types text from to ++ map (λ s. s - n) (drop j (line_starts types w.old)) ≡ line_starts types text in
+      let says : Says (length w.bytes) = λ e. found_out_bytes i j from to (rw w.index.starts at a) e c d in
+      rw w.index.starts (subst Says w.counted says (rw w.index.starts at b))
+
+  pub before_out : (i : ℕ) → i ≡ line_of starts (place - 1) + 1 → count_before place starts ≡ (if place == 0 then 0 else i)
+  before_out i a = rw w.index.starts (lines_before_is types (Delete place w.bytes) w.old i (rw w.index.starts at a))

@@ -1,0 +1,127 @@
+-- Bytes of a text in two halves.
+use Rattle.std.proofs.Common.{◌≡◌, ℕ, zero, suc, ◌+◌, ◌-◌, ◌<◌, ◌≤◌, Bool, true, false, ◌==◌, ◌||◌, ◌&&◌, not, take, drop, List, [], ◌∷◌, ◌++◌, length, get_or, slice_range, min, inl, inr, refl, ap, ◌∙◌, arith, length-append}
+use Rattle.std.proofs.lemmas.Option.{slice_get_past}
+use Rattle.std.proofs.lemmas.Bool.{ne_eqb, true≢false, cases_lt, cases_order}
+use Rattle.std.proofs.lemmas.List.{length-take, length-drop, get_or-take, get_or-drop, get_or-append-add}
+use Rattle.std.proofs.Math.ListN.{get_or-append}
+use Rattle.ed_model.specs.declared.plan.LineEndTypes.{LineEndTypes}
+use Rattle.ed_model.specs.Numbers.{is_number}
+use Rattle.ed_model.specs.Text.{stands}
+use Rattle.ed_model.specs.Lines.{is_line_start, knows_unicode}
+use Rattle.line_index.specs.Ends.{may_end}
+use Rattle.ed_model.proofs.NeighbourLemmas.{slice_get_append_left, slice_get_append_right}
+
+stands_within : (byte : ℕ) (xs : List ℕ) (p : ℕ) → p < length xs → stands byte xs p ≡ (get_or xs p 0 == byte)
+stands_within byte [] p h = absurd (omega arith)
+stands_within byte (x ∷ xs) zero h = refl
+stands_within byte (x ∷ xs) (suc p) h = stands_within byte xs p (omega arith)
+
+-- in the first half
+pub stands_in_front : (byte : ℕ) (xs ys : List ℕ) (p : ℕ) → p < length xs → stands byte (xs ++ ys) p ≡ (get_or xs p 0 == byte)
+stands_in_front byte xs ys p h = ap (is_number byte) (slice_get_append_left xs ys p h) ∙ stands_within byte xs p h
+
+-- in the second half
+pub stands_behind : (byte : ℕ) (xs ys : List ℕ) (p i : ℕ) → length xs ≤ p → i ≡ p - length xs → i < length ys → stands byte (xs ++ ys) p ≡ (get_or ys i 0 == byte)
+stands_behind byte xs ys p i h e l =
+    ap (is_number byte) (slice_get_append_right xs ys i p (omega arith)) ∙ stands_within byte ys i l
+
+-- past the end
+pub stands_nowhere : (byte : ℕ) (xs ys : List ℕ) (p i : ℕ) → length xs ≤ p → i ≡ p - length xs → length ys ≤ i → stands byte (xs ++ ys) p ≡ false
+stands_nowhere byte xs ys p i h e l = ap (is_number byte) (slice_get_past (xs ++ ys) p (omega (arith, length-append xs ys)))
+
+-- places that no line end stands in front of
+
+no_end_of : (a b u c d e n f g h : Bool) → (a || b || (u && (c || d || e))) ≡ false → (a || (b && n) || (u && ((c && f) || ((d || e) && g && h)))) ≡ false
+no_end_of true b u c d e n f g h none = absurd (true≢false none)
+no_end_of false true u c d e n f g h none = absurd (true≢false none)
+no_end_of false false false c d e n f g h none = refl
+no_end_of false false true true d e n f g h none = absurd (true≢false none)
+no_end_of false false true false true e n f g h none = absurd (true≢false none)
+no_end_of false false true false false true n f g h none = absurd (true≢false none)
+no_end_of false false true false false false n f g h none = refl
+
+-- a line starts behind the last byte of a line end only
+pub no_start_behind : (types : LineEndTypes) (text : List ℕ) (p q : ℕ) → q ≡ p + 1 → p < length text → may_end types (get_or text p 0) ≡ false → is_line_start types text q ≡ false
+no_start_behind types text p q e h none =
+    let one : q - 1 ≡ p = omega arith in
+    let some : (q == 0) ≡ false = ne_eqb q 0 (λ z. omega arith) in
+    rw (some, one, stands_within 10 text p h, stands_within 13 text p h, stands_within 0x85 text p h, stands_within 0xA8 text p h, stands_within 0xA9 text p h)
+    (no_end_of (get_or text p 0 == 10) (get_or text p 0 == 13) (knows_unicode types) (get_or text p 0 == 0x85) (get_or text p 0 == 0xA8) (get_or text p 0 == 0xA9)
+    (not (stands 10 text q)) (stands 0xC2 text (q - 2)) (stands 0x80 text (q - 2)) (stands 0xE2 text (q - 3)) none)
+
+-- no byte of the text from one place up to another is the last of a line end
+abbrev pub Quiet : LineEndTypes → List ℕ → ℕ → ℕ → Type 0
+Quiet types text from to = (k : ℕ) → from ≤ k → k < to → may_end types (get_or text k 0) ≡ false
+
+-- no line starts from one place up to another
+abbrev pub NoStart : LineEndTypes → List ℕ → ℕ → ℕ → Type 0
+NoStart types text from to = (k : ℕ) → from ≤ k → k < to → is_line_start types text k ≡ false
+
+none_in_quiet : (types : LineEndTypes) (text : List ℕ) (from to : ℕ) → to ≤ length text → Quiet types text from to → (k : ℕ) → from < k → k < to + 1 → is_line_start types text k ≡ false
+none_in_quiet types text from to w quiet k a b =
+    no_start_behind types text (k - 1) k (omega arith) (omega arith) (quiet (k - 1) (omega arith) (omega arith))
+
+within_part : (xs : List ℕ) (from to k : ℕ) → k < length (slice_range xs from to) → (k < to - from) × (from + k < length xs)
+within_part xs from to k h =
+    let size : length (slice_range xs from to) ≡ min (to - from) (length xs - from) = simp (length-take, length-drop) in
+    (omega arith, omega arith)
+
+read_part : (xs : List ℕ) (from to k : ℕ) → k < length (slice_range xs from to) → get_or (slice_range xs from to) k 0 ≡ get_or xs (from + k) 0
+read_part xs from to k h = get_or-take (to - from) (drop from xs) k 0 (within_part xs from to k h).0 ∙ get_or-drop from xs k 0
+
+-- what stands in a part of one half stands in the text
+in_first : (types : LineEndTypes) (xs ys : List ℕ) (from to c : ℕ) → c ≤ length (slice_range xs from to) → ((k : ℕ) → k < c → may_end types (get_or (slice_range xs from to) k 0) ≡ false) → Quiet types (xs ++ ys) from (from + c)
+in_first types xs ys from to c l quiet k a b =
+    let i : ℕ = k - from in
+    let e : k ≡ from + i = omega arith in
+    let w : i < length (slice_range xs from to) = omega arith in
+    rw (e, get_or-append xs ys 0 (from + i) (within_part xs from to i w).1, ← (read_part xs from to i w)) (quiet i (omega arith))
+
+in_second : (types : LineEndTypes) (xs ys : List ℕ) (from to c place : ℕ) → place ≡ length xs + from → c ≤ length (slice_range ys from to) → ((k : ℕ) → k < c → may_end types (get_or (slice_range ys from to) k 0) ≡ false) → Quiet types (xs ++ ys) place (place + c)
+in_second types xs ys from to c place p l quiet k a b =
+    let i : ℕ = k - place in
+    let e : k ≡ length xs + (from + i) = omega arith in
+    let w : i < length (slice_range ys from to) = omega arith in
+    rw (e, get_or-append-add xs ys (from + i) 0, ← (read_part ys from to i w)) (quiet i (omega arith))
+
+-- so no line starts behind the bytes of a part of the first half, ..
+pub none_in_first : (types : LineEndTypes) (xs ys : List ℕ) (from to c : ℕ) → c ≤ length (slice_range xs from to) → ((k : ℕ) → k < c → may_end types (get_or (slice_range xs from to) k 0) ≡ false) → (k : ℕ) → from < k → k < from + c + 1 → is_line_start types (xs ++ ys) k ≡ false
+none_in_first types xs ys from to c l quiet k a b =
+    elim (cases_lt 0 c) [
+      | inl some ↦
+          let w = within_part xs from to (c - 1) (omega arith) in
+          none_in_quiet types (xs ++ ys) from (from + c) (omega (arith, w.1, length-append xs ys)) (in_first types xs ys from to c l quiet) k a b
+      | inr none ↦ absurd (omega arith)
+    ]
+
+-- .. of the second, ..
+pub none_in_second : (types : LineEndTypes) (xs ys : List ℕ) (from to c place : ℕ) → place ≡ length xs + from → c ≤ length (slice_range ys from to) → ((k : ℕ) → k < c → may_end types (get_or (slice_range ys from to) k 0) ≡ false) → (k : ℕ) → place < k → k < place + c + 1 → is_line_start types (xs ++ ys) k ≡ false
+none_in_second types xs ys from to c place p l quiet k a b =
+    elim (cases_lt 0 c) [
+      | inl some ↦
+          let w = within_part ys from to (c - 1) (omega arith) in
+          none_in_quiet types (xs ++ ys) place (place + c) (omega (arith, w.1, length-append xs ys)) (in_second types xs ys from to c place p l quiet) k a b
+      | inr none ↦ absurd (omega arith)
+    ]
+
+-- .. and of what is left of the first and a part of the second
+pub none_across :
+    (types : LineEndTypes) (xs ys : List ℕ) (from c to d : ℕ) → from ≤ length xs → c ≤ length (slice_range xs from (length xs)) → length xs ≤ from + c
+    → ((k : ℕ) → k < c → may_end types (get_or (slice_range xs from (length xs)) k 0) ≡ false)
+    → d ≤ length (take to ys) → ((k : ℕ) → k < d → may_end types (get_or (take to ys) k 0) ≡ false)
+    → (k : ℕ) → from < k → k < length xs + d + 1 → is_line_start types (xs ++ ys) k ≡ false
+none_across types xs ys from c to d f l e quiet m later k a b =
+    let whole : slice_range ys 0 to ≡ take to ys = ap (λ n. take n ys) (let e : to - 0 ≡ to = omega arith in e) in
+    elim (cases_lt (length xs) k) [
+      | inl past ↦ none_in_second types xs ys 0 to d (length xs) (omega arith) (rw whole m) (rw whole later) k past b
+      | inr here ↦ none_in_first types xs ys from (length xs) c l quiet k a (omega arith)
+    ]
+
+-- one more part in which no line starts
+pub none_on : (types : LineEndTypes) (text : List ℕ) (from place next : ℕ) → NoStart types text from place → is_line_start types text place ≡ false → ((k : ℕ) → place < k → k < next → is_line_start types text k ≡ false) → NoStart types text from next
+none_on types text from place next front here behind k a b =
+    elim (cases_order k place) [
+      | inl same ↦ rw same here
+      | inr (inl below) ↦ front k a below
+      | inr (inr above) ↦ behind k above b
+    ]

@@ -1,0 +1,34 @@
+-- What a step does to lines: which new line each old one comes to.
+use Rattle.std.specs.Prelude.{◌≡◌, ℕ, ◌+◌, ◌-◌, ◌<◌, nat_lt, nat_le, if◌then◌else◌, List, length, slice_index}
+use Rattle.ed_model.specs.Lines.{line_of}
+use Rattle.ed_model.specs.NeighbourLaws.{count_before}
+use Rattle.line_index.specs.declared.change.NearLines.{NearLines}
+use Rattle.line_index.specs.declared.change.LineChange.{LineChange}
+
+-- the lines of a place and of the two places behind it
+abbrev pub near_lines : List ℕ → ℕ → NearLines
+near_lines starts place =
+    record { at = line_of starts place; one_behind = line_of starts (place + 1); two_behind = line_of starts (place + 2) }
+
+-- what a step at `place` leaves, which put text that ends at `new_end` in the place of what ended at `old_end`
+abbrev pub change_about : ℕ → ℕ → ℕ → List ℕ → List ℕ → LineChange
+change_about place old_end new_end old new =
+    record { before = count_before place old; old_lines = near_lines old old_end; new_lines = near_lines new new_end }
+
+-- the new line that an old one comes to
+abbrev pub line_after : LineChange → ℕ → ℕ
+line_after change line =
+    if nat_lt line change.before then line
+    else (if nat_le line change.old_lines.at then change.new_lines.at
+    else (if nat_le line change.old_lines.one_behind then change.new_lines.one_behind
+    else (if nat_le line change.old_lines.two_behind then change.new_lines.two_behind
+    else line - change.old_lines.two_behind + change.new_lines.two_behind)))
+
+-- an insertion of `count` bytes moves a start at the place, or behind it, on
+abbrev pub moved_on : ℕ → ℕ → ℕ → ℕ
+moved_on place count start = if nat_lt start place then start else start + count
+
+-- each old line comes to the new line on which its start, moved, lies
+abbrev pub MovesLines : (ℕ → ℕ) → List ℕ → List ℕ → LineChange → Type 0
+MovesLines moved old new change =
+    (line : ℕ) → line < length old → line_after change line ≡ line_of new (moved (slice_index old line))

@@ -1,0 +1,4 @@
+pub mod Index
+pub mod Change
+pub mod Ends
+pub mod RoomLaws

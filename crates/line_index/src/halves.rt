@@ -1,0 +1,161 @@
+//! Reading a text that is handed in as two slices: single bytes, line ends, and the next line start.
+
+ghost use Rattle.std.specs.Prelude.{◌≡◌, ℕ, ◌+◌, ◌≤◌, ◌<◌, ◌++◌, true, false, length, slice_index};
+ghost use Rattle.ed_model.specs.Text.{stands};
+ghost use Rattle.ed_model.specs.Lines.{is_line_start, line_end_before, unicode_end_before, line_end_length, knows_unicode};
+ghost use Rattle.line_index.specs.Ends.{may_end};
+
+use ed_model::LineEndTypes;
+use memchr::memchr2;
+
+// Whether this byte stands at the place.
+#[tactic(auto, using(crate::proofs::TextBytes::stands_in_front, crate::proofs::TextBytes::stands_behind, crate::proofs::TextBytes::stands_nowhere))]
+fn is_at(byte: u8, before: &[u8], after: &[u8], place: usize) -> bool
+    ensures { result ≡ stands byte (before.now ++ after.now) place }
+{
+    if place < before.len() {
+        return before[place] == byte;
+    }
+    let behind = place - before.len();
+    behind < after.len() && after[behind] == byte
+}
+
+// Whether line ends of Unicode count.
+fn counts_unicode(types: LineEndTypes) -> bool
+    ensures { result ≡ knows_unicode types }
+{
+    match types {
+        LineEndTypes::Default => false,
+        LineEndTypes::Unicode => true,
+    }
+}
+
+// Whether U+0085, U+2028 or U+2029 ends in front of the place.
+fn unicode_ends(before: &[u8], after: &[u8], place: usize) -> bool
+    ensures { result ≡ unicode_end_before (before.now ++ after.now) place }
+{
+    let one = place.saturating_sub(1);
+    let two = place.saturating_sub(2);
+    let three = place.saturating_sub(3);
+    if is_at(0x85, before, after, one) && is_at(0xC2, before, after, two) {
+        return true;
+    }
+    (is_at(0xA8, before, after, one) || is_at(0xA9, before, after, one))
+        && is_at(0x80, before, after, two)
+        && is_at(0xE2, before, after, three)
+}
+
+// Whether a line end stands in front of the place.
+fn line_ends(types: LineEndTypes, before: &[u8], after: &[u8], place: usize) -> bool
+    ensures { result ≡ line_end_before types (before.now ++ after.now) place }
+{
+    let one = place.saturating_sub(1);
+    if is_at(b'\n', before, after, one) {
+        return true;
+    }
+    if is_at(b'\r', before, after, one) && !is_at(b'\n', before, after, place) {
+        return true;
+    }
+    counts_unicode(types) && unicode_ends(before, after, place)
+}
+
+// Whether a line starts at the place.
+fn starts_at(types: LineEndTypes, before: &[u8], after: &[u8], place: usize) -> bool
+    ensures { result ≡ is_line_start types (before.now ++ after.now) place }
+{
+    place == 0 || line_ends(types, before, after, place)
+}
+
+/// How long the line end is that stands in front of a line's start, in bytes.
+pub(crate) fn end_length(before: &[u8], after: &[u8], start: usize) -> usize
+    ensures { result ≡ line_end_length (before.now ++ after.now) start }
+{
+    let one = start.saturating_sub(1);
+    if is_at(b'\n', before, after, one) {
+        let two = start.saturating_sub(2);
+        return if is_at(b'\r', before, after, two) {
+            2
+        } else {
+            1
+        };
+    }
+    if is_at(b'\r', before, after, one) {
+        return 1;
+    }
+    if is_at(0x85, before, after, one) {
+        2
+    } else {
+        3
+    }
+}
+
+// How many bytes from the first on cannot be the last one of a line end.
+fn quiet_bytes(types: LineEndTypes, bytes: &[u8]) -> usize
+    ensures within { result ≤ length bytes.now }
+    ensures quiet { (k : ℕ) → k < result → may_end types (slice_index bytes.now k) ≡ false }
+{
+    match types {
+        LineEndTypes::Default => match memchr2(b'\n', b'\r', bytes) {
+            Some(end) => end,
+            None => bytes.len(),
+        },
+        LineEndTypes::Unicode => quiet_in_unicode(bytes),
+    }
+}
+
+// The same where line ends of Unicode count, which have five last bytes.
+fn quiet_in_unicode(bytes: &[u8]) -> usize
+    ensures within { result ≤ length bytes.now }
+    ensures quiet { (k : ℕ) → k < result → may_end LineEndTypes.Unicode (slice_index bytes.now k) ≡ false }
+{
+    for (count, byte) in bytes.iter().enumerate() {
+        if matches!(*byte, b'\n' | b'\r' | 0x85 | 0xA8 | 0xA9) {
+            return count;
+        }
+    }
+    bytes.len()
+}
+
+// The first place behind `place`, up to `to`, where a line may start: none starts between.
+fn next_place(types: LineEndTypes, before: &[u8], after: &[u8], place: usize, to: usize) -> usize
+    requires { (place < to) × (to ≤ length before.now + length after.now + 1) }
+    ensures within { (place < result) × (result ≤ to) }
+    ensures none { (k : ℕ) → place < k → k < result → is_line_start types (before.now ++ after.now) k ≡ false }
+{
+    let middle = before.len();
+    let last = to - 1;
+    if last <= middle {
+        return place + quiet_bytes(types, &before[place..last]) + 1;
+    }
+    if place < middle {
+        let quiet = quiet_bytes(types, &before[place..]);
+        if place + quiet < middle {
+            return place + quiet + 1;
+        }
+        return middle + quiet_bytes(types, &after[..last - middle]) + 1;
+    }
+    place + quiet_bytes(types, &after[place - middle..last - middle]) + 1
+}
+
+/// The first place from `from` up to `to` where a line starts, or `to`.
+pub(crate) fn next_start(
+    types: LineEndTypes,
+    before: &[u8],
+    after: &[u8],
+    from: usize,
+    to: usize,
+) -> usize
+    requires { (from ≤ to) × (to ≤ length before.now + length after.now + 1) }
+    ensures within { (from ≤ result) × (result ≤ to) }
+    ensures none { (k : ℕ) → from ≤ k → k < result → is_line_start types (before.now ++ after.now) k ≡ false }
+    ensures start { result < to → is_line_start types (before.now ++ after.now) result ≡ true }
+{
+    let mut place = from;
+    'looking: while place < to {
+        if starts_at(types, before, after, place) {
+            return place;
+        }
+        place = next_place(types, before, after, place, to);
+    }
+    to
+}

@@ -1,0 +1,116 @@
+//! `LineIndex`: how it is made and read, and its room.
+
+ghost use Rattle.std.specs.Prelude.{◌≡◌, ℕ, ◌+◌, ◌^◌, ◌≤◌, ◌<◌, ◌++◌, [], length, slice_index, IfOk, OnOk, OnErr, IsOk};
+ghost use Rattle.ed_model.specs.Lines.{line_starts, line_of, end_of_line};
+ghost use Rattle.partitioning.specs.Partitions.{IsFloorLog};
+ghost use Rattle.line_index.specs.Index.{IsIndexOf};
+
+use crate::halves::end_length;
+use crate::starts::line_at;
+use ed_model::LineEndTypes;
+use partitioning::{Partitioning, Place, Probes};
+use std::alloc::{AllocError, Global};
+use std::marker::Model;
+
+/// Where the lines of a text start.
+///
+/// The starts are the partitions of the text: those behind a step move with it at no cost of their own.
+#[derive(Drop)]
+pub struct LineIndex<P: Place> {
+    pub(crate) starts: Partitioning<P>,
+    pub(crate) types: LineEndTypes,
+}
+
+impl<P: Place> Model for LineIndex<P> {
+    ghost use Rattle.line_index.specs.Index.{Index, index};
+
+    ghost Value = { Index };
+
+    ghost view = { λ t. index t.types t.starts.starts t.starts.length t.starts.room };
+}
+
+impl<P: Place> LineIndex<P> {
+    /// Returns the index of the empty text, which has one line.
+    ///
+    /// # Errors
+    ///
+    /// `AllocError` where the memory for its start is refused.
+    pub fn new(alloc: Global, types: LineEndTypes) -> Result<Self, AllocError>
+        ensures { IfOk result (λ t. (t.types ≡ types) × IsIndexOf [] t) }
+    {
+        let starts = Partitioning::new(alloc)?;
+        Ok(LineIndex { starts, types })
+    }
+
+    /// Returns which line ends count.
+    pub fn types(&self) -> LineEndTypes
+        ensures { result ≡ self.now.types }
+    {
+        self.types
+    }
+
+    /// Returns the number of lines, which is at least 1.
+    pub fn count(&self) -> usize
+        ensures count { result ≡ length self.now.starts }
+        ensures some { 0 < length self.now.starts }
+        ensures within { length self.now.starts + self.now.room < 2 ^ 63 }
+    {
+        self.starts.count()
+    }
+
+    /// Returns the length of the text, in bytes.
+    pub fn length(&self) -> usize
+        ensures length { result ≡ self.now.length }
+        ensures within { self.now.length ≤ P.GREATEST }
+    {
+        self.starts.length()
+    }
+
+    /// Returns where the line starts.
+    pub fn start(&self, line: usize) -> usize
+        requires { line < length self.now.starts }
+        ensures start { result ≡ slice_index self.now.starts line }
+        ensures within { result ≤ self.now.length }
+    {
+        self.starts.start_of(line)
+    }
+
+    /// Returns where the end of the line begins, or for the last line the end of the text. `before` and `after` are the
+    /// halves of the text, of which at most two bytes are read.
+    pub fn end(&self, line: usize, before: &[u8], after: &[u8]) -> usize
+        requires line { line < length self.now.starts }
+        requires text { IsIndexOf (before.now ++ after.now) self.now }
+        ensures { result ≡ end_of_line self.now.types (before.now ++ after.now) line }
+    {
+        let count = self.count();
+        if line + 1 < count {
+            let next = self.start(line + 1);
+            return next.saturating_sub(end_length(before, after, next));
+        }
+        self.length()
+    }
+
+    /// Returns the line that holds the place: the last that starts there or before it, and the last of all for a place
+    /// past the end. Each start that it reads is counted in `probes`.
+    pub fn line_of(&self, place: usize, probes: &mut Probes) -> usize
+        ensures line { result ≡ line_of self.now.starts place }
+        ensures within { result < length self.now.starts }
+        ensures counted { probes.old ≤ probes.new }
+        ensures few { (k : ℕ) → IsFloorLog k (length self.now.starts) → probes.new ≤ probes.old + (2 + k) }
+    {
+        line_at(&self.starts, place, probes)
+    }
+
+    /// Makes room for `count` more lines.
+    ///
+    /// # Errors
+    ///
+    /// `AllocError` where the memory is refused. All is then as it was.
+    pub fn reserve(&mut self, count: usize) -> Result<(), AllocError>
+        ensures ok { OnOk result ((count ≤ self.new.room) × (self.new ≡ record self.old { room = self.new.room })) }
+        ensures room_is_there { count ≤ self.old.room → IsOk result × (self.new ≡ self.old) }
+        ensures err { OnErr result (self.new ≡ self.old) }
+    {
+        self.starts.reserve(count)
+    }
+}

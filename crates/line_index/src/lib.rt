@@ -1,0 +1,27 @@
+//! Where the lines of a text start, kept up to date by the bytes about each step alone.
+//!
+//! ```text
+//! text     a CR LF b CR c LF d        four lines
+//! starts   0       3    5    7        length 8
+//! ```
+//!
+//! Whether a line starts at a place is told by the three bytes in front of it and the one behind it. So a step asks only
+//! about the places from where it is to three bytes behind it; the starts in front stay, and those behind move with the
+//! text. The text itself is kept elsewhere, and handed in as two slices, as a gap buffer has it.
+//!
+//! Contracts see the kind of line ends, the starts, the length, and for how many more lines there is room. What the
+//! starts have to be is said by `ed_model`: `line_starts` of the text.
+#![tactic(auto)]
+
+mod change;
+mod halves;
+mod index;
+mod room;
+mod starts;
+mod steps;
+#[cfg(test)]
+mod tests;
+
+pub use change::{LineChange, NearLines};
+pub use index::LineIndex;
+pub use room::{lines_in, room_for_steps};

@@ -1,0 +1,184 @@
+//! Small texts, edited step by step. Each helper makes the new text, and hands it in cut in two.
+ghost use Rattle.std.specs.Prelude.{◌≡◌, ◌+◌, ◌≤◌, length, IfOk};
+ghost use Rattle.line_index.specs.Index.{IsIndexOf};
+
+use crate::{LineChange, LineIndex, lines_in, room_for_steps};
+use ed_model::LineEndTypes;
+use partitioning::{Place, Probes};
+use std::alloc::{AllocError, Global};
+use std::process::Abort;
+use std::test::Fail;
+
+fn insert<P: Place>(
+    rt: &impl Abort,
+    alloc: Global,
+    index: &mut LineIndex<P>,
+    old: &[u8],
+    place: usize,
+    bytes: &[u8],
+    cut: usize,
+) -> Result<(Vec<u8>, LineChange), AllocError>
+    requires { IsIndexOf old.now index.old }
+    ensures { IfOk result (λ r. IsIndexOf r.0.items index.new) }
+{
+    assert!(rt; place <= old.len());
+    let mut new: Vec<u8> = Vec::new(alloc);
+    new.extend_from_slice(&old[..place])?;
+    new.extend_from_slice(bytes)?;
+    new.extend_from_slice(&old[place..])?;
+    let types = index.types();
+    room_for_steps();
+    index.reserve(lines_in(types, bytes) + 5)?;
+    let text = new.as_slice();
+    assert!(rt; text.len() <= P::GREATEST);
+    assert!(rt; cut <= text.len());
+    let (before, after) = text.split_at(cut);
+    let change = index.inserted(place, bytes.len(), before, after);
+    Ok((new, change))
+}
+
+fn delete<P: Place>(
+    rt: &impl Abort,
+    alloc: Global,
+    index: &mut LineIndex<P>,
+    old: &[u8],
+    place: usize,
+    count: usize,
+    cut: usize,
+) -> Result<(Vec<u8>, LineChange), AllocError>
+    requires { IsIndexOf old.now index.old }
+    ensures { IfOk result (λ r. IsIndexOf r.0.items index.new) }
+{
+    assert!(rt; place <= old.len());
+    assert!(rt; count <= old.len() - place);
+    let mut new: Vec<u8> = Vec::new(alloc);
+    new.extend_from_slice(&old[..place])?;
+    new.extend_from_slice(&old[place + count..])?;
+    room_for_steps();
+    index.reserve(3)?;
+    let text = new.as_slice();
+    assert!(rt; cut <= text.len());
+    let (before, after) = text.split_at(cut);
+    let change = index.deleted(place, count, before, after);
+    Ok((new, change))
+}
+
+// The lines start so.
+fn assert_starts<P: Place>(rt: &impl Abort, index: &LineIndex<P>, starts: &[usize], length: usize) {
+    let count = index.count();
+    assert_eq!(rt; count, starts.len());
+    for line in 0..count {
+        assert_eq!(rt; index.start(line), starts[line]);
+    }
+    assert_eq!(rt; index.length(), length);
+}
+
+fn row_of_edits<P: Place>(rt: &impl Abort, alloc: Global) -> Result<(), Fail> {
+    let mut index: LineIndex<P> = LineIndex::new(alloc, LineEndTypes::Default)?;
+    assert_starts(rt, &index, &[0], 0);
+    let (text, _) = insert(rt, alloc, &mut index, b"", 0, b"a\r\nb\rc\nd", 3)?;
+    assert_starts(rt, &index, &[0, 3, 5, 7], 8);
+    let mut probes = Probes::new();
+    assert_eq!(rt; index.line_of(2, &mut probes), 0);
+    assert_eq!(rt; index.line_of(3, &mut probes), 1);
+    assert_eq!(rt; index.line_of(usize::MAX, &mut probes), 3);
+    let (text, change) = delete(rt, alloc, &mut index, text.as_slice(), 2, 3, 1)?;
+    assert_eq!(rt; text.as_slice(), b"a\rc\nd".as_slice());
+    assert_starts(rt, &index, &[0, 2, 4], 5);
+    Ok(())
+}
+
+#[test]
+fn small_places(rt: HostRuntime) -> Result<(), Fail> {
+    row_of_edits::<u32>(&rt, rt.alloc())
+}
+
+#[test]
+fn large_places(rt: HostRuntime) -> Result<(), Fail> {
+    row_of_edits::<u64>(&rt, rt.alloc())
+}
+
+#[test]
+fn a_line_end_split_and_joined(rt: HostRuntime) -> Result<(), Fail> {
+    let alloc = rt.alloc();
+    let mut index: LineIndex<u32> = LineIndex::new(alloc, LineEndTypes::Default)?;
+    let (text, _) = insert(&rt, alloc, &mut index, b"", 0, b"x\r\na", 2)?;
+    assert_starts(&rt, &index, &[0, 3], 4);
+    let (text, _) = insert(&rt, alloc, &mut index, text.as_slice(), 2, b"z", 3)?;
+    assert_starts(&rt, &index, &[0, 2, 4], 5);
+    let (_, _) = delete(&rt, alloc, &mut index, text.as_slice(), 2, 1, 2)?;
+    assert_starts(&rt, &index, &[0, 3], 4);
+    Ok(())
+}
+
+#[test]
+fn line_ends_of_unicode(rt: HostRuntime) -> Result<(), Fail> {
+    let alloc = rt.alloc();
+    let mut index: LineIndex<u32> = LineIndex::new(alloc, LineEndTypes::Unicode)?;
+    let (text, _) = insert(&rt, alloc, &mut index, b"", 0, b"\xE2\x80", 0)?;
+    assert_starts(&rt, &index, &[0], 2);
+    let (text, _) = insert(&rt, alloc, &mut index, text.as_slice(), 2, b"\xA8", 1)?;
+    assert_starts(&rt, &index, &[0, 3], 3);
+    let (text, _) = delete(&rt, alloc, &mut index, text.as_slice(), 0, 3, 0)?;
+    assert_starts(&rt, &index, &[0], 0);
+    let bytes = b"a\xC2\x85b\xE2\x80\xA8c";
+    let (text, _) = insert(&rt, alloc, &mut index, text.as_slice(), 0, bytes, 5)?;
+    assert_starts(&rt, &index, &[0, 3, 7], 8);
+    let (text, _) = insert(&rt, alloc, &mut index, text.as_slice(), 2, b"x", 2)?;
+    assert_starts(&rt, &index, &[0, 8], 9);
+    let (_, _) = delete(&rt, alloc, &mut index, text.as_slice(), 2, 1, 2)?;
+    assert_starts(&rt, &index, &[0, 3, 7], 8);
+    Ok(())
+}
+
+// The old lines come to these new ones.
+fn assert_moves(rt: &impl Abort, change: &LineChange, lines: &[usize]) {
+    for (line, new) in lines.iter().enumerate() {
+        assert!(rt; line <= usize::MAX - change.new_lines.two_behind);
+        assert_eq!(rt; change.line_after(line), *new);
+    }
+}
+
+#[test]
+fn lines_come_to_lines(rt: HostRuntime) -> Result<(), Fail> {
+    let alloc = rt.alloc();
+    let mut index: LineIndex<u32> = LineIndex::new(alloc, LineEndTypes::Default)?;
+    let (text, change) = insert(&rt, alloc, &mut index, b"", 0, b"x\ry", 1)?;
+    assert_moves(&rt, &change, &[1]);
+    let (text, change) = insert(&rt, alloc, &mut index, text.as_slice(), 2, b"\n", 1)?;
+    assert_starts(&rt, &index, &[0, 3], 4);
+    assert_moves(&rt, &change, &[0, 1]);
+    let (text, change) = insert(&rt, alloc, &mut index, text.as_slice(), 3, b"1\n2\n", 4)?;
+    assert_starts(&rt, &index, &[0, 3, 5, 7], 8);
+    assert_moves(&rt, &change, &[0, 3]);
+    let (_, change) = delete(&rt, alloc, &mut index, text.as_slice(), 1, 5, 2)?;
+    assert_starts(&rt, &index, &[0, 2], 3);
+    assert_moves(&rt, &change, &[0, 0, 0, 1]);
+    Ok(())
+}
+
+#[test]
+fn ends_of_lines(rt: HostRuntime) -> Result<(), Fail> {
+    let alloc = rt.alloc();
+    let mut index: LineIndex<u32> = LineIndex::new(alloc, LineEndTypes::Unicode)?;
+    let bytes = b"a\r\nb\rc\xE2\x80\xA9d";
+    let (text, _) = insert(&rt, alloc, &mut index, b"", 0, bytes, 4)?;
+    let text = text.as_slice();
+    assert!(rt; text.len() >= 2);
+    let (before, after) = text.split_at(2);
+    let count = index.count();
+    assert_eq!(rt; count, 4);
+    assert_eq!(rt; index.end(0, before, after), 1);
+    assert_eq!(rt; index.end(1, before, after), 4);
+    assert_eq!(rt; index.end(2, before, after), 6);
+    assert_eq!(rt; index.end(3, before, after), 10);
+    Ok(())
+}
+
+#[test]
+fn a_refused_growth_changes_nothing(rt: HostRuntime) -> Result<(), Fail> {
+    let mut index: LineIndex<u32> = LineIndex::new(rt.alloc(), LineEndTypes::Default)?;
+    assert!(rt; index.reserve(usize::MAX).is_err());
+    assert_starts(&rt, &index, &[0], 0);
+    Ok(())
+}
