@@ -1,0 +1,172 @@
+//! Tests of what no clause says: that memory suffices, values from outside, and each call that fails.
+
+ghost use Rattle.std.specs.Prelude.{◌≡◌, false};
+
+use crate::fault::{RunFault, status_of};
+use crate::memory::{MemorySink, MemorySource};
+use crate::reading::read_file;
+use crate::running::{check_script, list_script, run_script};
+use crate::words::{Job, WordFault, read_words};
+use ed_types::{Cause, ScriptFault};
+use std::alloc::Global;
+
+/// A script, what it prints without notes, and how many expects are not met.
+#[derive(Clone, Copy)]
+struct Example {
+    script: &'static [u8],
+    printed: &'static [u8],
+    unmet: u64,
+}
+
+const INSERTION: Example = Example {
+    script: b"sci 1\nopen\nsend 1 2003 0 0 \"ab\\x0a\"\nsend 1 2182 0 0 \"\"\nsend 1 2003 9 0 \"z\"\nsend 1 2007 -1 0 \"\"\n",
+    printed: b"= 1 \"\"\n= 0 \"\"\n= 3 \"ab\\x0a\"\n! 6\n= 0 \"\"\n",
+    unmet: 0,
+};
+
+const HELLO: Example = Example {
+    script: b"sci 1\nopen\nsend 1 2003 0 0 \"hello\"\nsend 1 2006 0 0 \"\"\nsend 1 2182 0 0 \"\"\n",
+    printed: b"= 1 \"\"\n= 0 \"\"\n= 5 \"\"\n= 5 \"hello\"\n",
+    unmet: 0,
+};
+
+/// The listing of `HELLO`.
+const HELLO_LISTING: &[u8] =
+    b"sci 2\nopen\nsend 1 2003 0 0 \"hello\"\nsend 1 2006 0 0 \"\"\nsend 1 2182 0 0 \"\"\n";
+
+const EXPECTS: Example = Example {
+    script: b"sci 2\nopen\nexpect 1\nexpect 1\nsend 1 2006 0 0 \"\"\nexpect 3\nsend 9 2006 0 0 \"\"\nexpect 0\n",
+    printed: b"= 1 \"\"\n+ 1\n+ 1\n= 0 \"\"\n- 3\n! 2\n- 0\n",
+    unmet: 2,
+};
+
+const ONE_UNMET: Example = Example {
+    script: b"sci 2\nopen\nexpect 1\nsend 1 2006 0 0 \"\"\nexpect 3\n",
+    printed: b"= 1 \"\"\n+ 1\n= 0 \"\"\n- 3\n",
+    unmet: 1,
+};
+
+/// What a run from memory to memory answers, a few bytes at a time.
+fn run(
+    alloc: Global,
+    script: &[u8],
+    good_reads: usize,
+    sink: &mut MemorySink,
+) -> Result<u64, RunFault>
+    requires { sink.old.failed ≡ false }
+{
+    let mut source = MemorySource::new(script, 7, good_reads);
+    run_script(alloc, &mut source, Vec::new(alloc), sink)
+}
+
+#[test]
+fn runs_the_examples(rt: HostRuntime) {
+    for example in [INSERTION, HELLO, EXPECTS, ONE_UNMET] {
+        let mut sink = MemorySink::new(rt.alloc(), 5, 1000, false);
+        let answer = run(rt.alloc(), example.script, 1000, &mut sink);
+        assert!(rt; answer == Ok(example.unmet));
+        assert!(rt; sink.bytes() == example.printed);
+        assert_eq!(rt; status_of(&answer), if example.unmet == 0 { 0 } else { 4 });
+    }
+}
+
+#[test]
+fn refuses_what_is_no_script(rt: HostRuntime) {
+    let bad_version = ScriptFault::BadLine {
+        line: 1,
+        cause: Cause::BadVersion,
+    };
+    let unknown = ScriptFault::BadLine {
+        line: 2,
+        cause: Cause::UnknownCommand,
+    };
+    for (script, fault) in [
+        (b"sci 3\n".as_slice(), bad_version),
+        (b"sci 1\nexpect 0\n".as_slice(), unknown),
+    ] {
+        let mut sink = MemorySink::new(rt.alloc(), 5, 1000, false);
+        let answer = run(rt.alloc(), script, 1000, &mut sink);
+        assert!(rt; answer == Err(RunFault::Script(fault)));
+        assert!(rt; sink.bytes().is_empty());
+        assert_eq!(rt; status_of(&answer), 1);
+    }
+}
+
+#[test]
+fn stops_where_a_read_fails(rt: HostRuntime) {
+    for good in 0..6usize {
+        let mut sink = MemorySink::new(rt.alloc(), 5, 1000, false);
+        let answer = run(rt.alloc(), HELLO.script, good, &mut sink);
+        assert!(rt; answer == Err(RunFault::Read));
+        assert!(rt; sink.bytes().is_empty());
+        assert_eq!(rt; status_of(&answer), 3);
+    }
+}
+
+#[test]
+fn stops_where_a_write_fails(rt: HostRuntime) {
+    for stalls in [false, true] {
+        for good in 0..4usize {
+            let mut sink = MemorySink::new(rt.alloc(), 10, good, stalls);
+            let answer = run(rt.alloc(), HELLO.script, 1000, &mut sink);
+            assert!(rt; answer == Err(RunFault::Write));
+            assert_eq!(rt; sink.bytes().len(), 10 * good);
+            assert!(rt; HELLO.printed.starts_with(sink.bytes()));
+            assert_eq!(rt; status_of(&answer), 3);
+        }
+    }
+}
+
+#[test]
+fn lists_and_checks(rt: HostRuntime) {
+    let mut sink = MemorySink::new(rt.alloc(), 5, 1000, false);
+    let mut source = MemorySource::new(HELLO.script, 7, 1000);
+    let answer = list_script(rt.alloc(), &mut source, &mut sink);
+    assert!(rt; answer == Ok(0));
+    assert!(rt; sink.bytes() == HELLO_LISTING);
+    let mut sink = MemorySink::new(rt.alloc(), 5, 1000, false);
+    let mut source = MemorySource::new(HELLO.script, 7, 1000);
+    let answer = check_script(rt.alloc(), &mut source, &mut sink);
+    assert!(rt; answer == Ok(0));
+    assert!(rt; sink.bytes() == b"ok 4\n".as_slice());
+    let mut source = MemorySource::new(HELLO.script, 7, 1000);
+    let file = read_file(rt.alloc(), &mut source).expect(&rt, "a file");
+    assert!(rt; file.as_slice() == HELLO.script);
+}
+
+/// Reads words.
+fn job(alloc: Global, words: &[&str]) -> Result<Job, WordFault> {
+    let mut copies = Vec::new(alloc);
+    for word in words {
+        copies.push(String::from_str(alloc, word)?)?;
+    }
+    read_words(alloc, &copies)
+}
+
+fn is_usage_fault(job: &Result<Job, WordFault>) -> bool {
+    matches!(job, Err(WordFault::Usage(_)))
+}
+
+#[test]
+fn reads_words(rt: HostRuntime) {
+    let run = job(rt.alloc(), &["run", "-", "f"]);
+    assert!(rt;
+        matches!(&run, Ok(Job::Run { script, files })
+        if script.as_str() == "-" && files.as_slice().len() == 1 && files.as_slice()[0].as_str() == "f")
+    );
+    let run = job(rt.alloc(), &["run", "s", "f", "g"]);
+    assert!(rt;
+        matches!(&run, Ok(Job::Run { script, files })
+        if script.as_str() == "s" && files.as_slice().len() == 2 && files.as_slice()[1].as_str() == "g")
+    );
+    let list = job(rt.alloc(), &["list", "s"]);
+    assert!(rt; matches!(&list, Ok(Job::List { script }) if script.as_str() == "s"));
+    let check = job(rt.alloc(), &["check", "-"]);
+    assert!(rt; matches!(&check, Ok(Job::Check { script }) if script.as_str() == "-"));
+    assert!(rt; is_usage_fault(&job(rt.alloc(), &[])));
+    assert!(rt; is_usage_fault(&job(rt.alloc(), &["run"])));
+    assert!(rt; is_usage_fault(&job(rt.alloc(), &["list", "a", "b"])));
+    assert!(rt; is_usage_fault(&job(rt.alloc(), &["go", "a"])));
+    assert!(rt; is_usage_fault(&job(rt.alloc(), &["--help"])));
+    assert!(rt; is_usage_fault(&job(rt.alloc(), &["run", "--wrong"])));
+}
