@@ -1,3 +1,4 @@
 -- Lemmas.
 pub mod PlainLemmas
 pub mod PlainStep
+pub mod LineSteps

@@ -9,6 +9,7 @@ use Rattle.ed_model.specs.Steps.{Step}
 use Rattle.ed_model.specs.History.{History, TextStep, appended}
 use Rattle.ed_model.specs.Session.{Document}
 use Rattle.ed_model.specs.Performing.{document_after}
+use Rattle.line_index.specs.Index.{Index, IsIndexOf}
 
 -- a document without markers, levels, states, styles and indicators, with these cells, this history and these views
 abbrev pub plain_document : ℕ → List Cell → History → List ℕ → Document
@@ -28,14 +29,15 @@ plain_document id cells history views = record {
   held = 0;
 }
 
--- What a `Document` keeps: its cells, its history and the views attached to it; and how many bytes fit in, and how many steps, with
--- how many bytes in all, its history has room for.
+-- What a `Document` keeps: its cells, its history and the views attached to it; and how many bytes and lines fit in, and how many
+-- steps, with how many bytes in all, its history has room for.
 pub record Held : Type 0 where
   pub id : ℕ
   pub cells : List Cell
   pub history : History
   pub views : List ℕ
   pub text_room : ℕ
+  pub line_room : ℕ
   pub step_room : ℕ
   pub byte_room : ℕ
 
@@ -47,14 +49,22 @@ document_of h = plain_document h.id h.cells h.history h.views
 abbrev pub step_on : Bool → Step → Document → Document
 step_on later step d = let after = document_after step d in record after { history = appended later (TextStep step) d.history }
 
--- room for so many bytes of text, and in the history for so many steps with so many bytes in all; a history that does not
--- collect needs none
-abbrev pub HasRoom : Held → ℕ → ℕ → ℕ → Type 0
-HasRoom h text steps bytes = (text ≤ h.text_room) × (h.history.collecting ≡ true → (steps ≤ h.step_room) × (bytes ≤ h.byte_room))
+-- room for so many bytes of text and so many lines, and in the history for so many steps with so many bytes in all; a history that
+-- does not collect needs none
+abbrev pub HasRoom : Held → ℕ → ℕ → ℕ → ℕ → Type 0
+HasRoom h text lines steps bytes =
+    (text ≤ h.text_room) × (lines ≤ h.line_room) × (h.history.collecting ≡ true → (steps ≤ h.step_room) × (bytes ≤ h.byte_room))
 
--- from old to new no more room was taken than for so many bytes of text, and in the history for so many steps with so many bytes
-pub record TakesRoom (old new : Held) (text steps bytes : ℕ) : Type 0 where
+-- from old to new no more room was taken than for so many bytes of text and so many lines, and in the history for so many steps with
+-- so many bytes
+pub record TakesRoom (old new : Held) (text lines steps bytes : ℕ) : Type 0 where
   pub collects : new.history.collecting ≡ old.history.collecting
   pub text_left : old.text_room ≤ new.text_room + text
+  pub lines_left : old.line_room ≤ new.line_room + lines
   pub steps_left : old.step_room ≤ new.step_room + steps
   pub bytes_left : old.byte_room ≤ new.byte_room + bytes
+
+-- the index has the lines of these cells' bytes, which CR LF, CR and LF end; no public clause cites this
+pub record HasLinesOf (cells : List Cell) (lines : Index) : Type 0 where
+  pub types : lines.types ≡ Default
+  pub index : IsIndexOf (bytes_of cells) lines

@@ -1,12 +1,15 @@
 //! `Document` and its calls.
 
-ghost use Rattle.std.specs.Prelude.{◌≡◌, ◌≤◌, ◌<◌, ◌+◌, ◌^◌, ◌∷◌, ◌++◌, [], length, slice_get, slice_range, vec_len, vec_capacity, OnOk, OnErr, IsOk, Some, nat_lt};
+ghost use Rattle.std.specs.Prelude.{◌≡◌, ◌≤◌, ◌<◌, ◌+◌, ◌^◌, ◌∷◌, ◌++◌, [], length, slice_get, slice_range, vec_len, vec_capacity, OnOk, OnErr, IsOk, IfOk, Some, nat_lt};
 ghost use Rattle.ed_model.specs.Text.{bytes_of};
+ghost use Rattle.ed_model.specs.Lines.{line_count};
 ghost use Rattle.ed_model.specs.Steps.{Insert, Delete};
 ghost use Rattle.ed_model.specs.Session.{new_document, without};
 ghost use Rattle.document.specs.Held.{document_of, step_on, HasRoom, TakesRoom};
 
 use cell_buffer::Cells;
+use ed_model::LineEndTypes;
+use line_index::{LineIndex, room_for_steps};
 use std::alloc::{AllocError, Global};
 use std::marker::Model;
 use undo_history::{StepKind, UndoHistory};
@@ -15,17 +18,20 @@ use undo_history::{StepKind, UndoHistory};
 #[derive(Drop)]
 pub struct Document {
     id: u32,
-    cells: Cells,
+    pub(crate) cells: Cells,
+    pub(crate) lines: LineIndex<u64>,
     history: UndoHistory,
     views: Vec<u32>,
 }
 
 impl Model for Document {
-    ghost use Rattle.document.specs.Held.{Held};
+    ghost use Rattle.document.specs.Held.{Held, HasLinesOf};
 
     ghost Value = { Held };
 
-    ghost view = { λ d. record { id = d.id; cells = d.cells.cells; history = d.history.history; views = d.views.items; text_room = d.cells.room; step_room = d.history.step_room; byte_room = d.history.byte_room } };
+    ghost view = { λ d. record { id = d.id; cells = d.cells.cells; history = d.history.history; views = d.views.items; text_room = d.cells.room; line_room = d.lines.room; step_room = d.history.step_room; byte_room = d.history.byte_room } };
+
+    ghost invariant = { λ d. HasLinesOf d.cells.cells d.lines };
 }
 
 /// Takes every copy of the view out of the list.
@@ -36,17 +42,23 @@ fn leave(views: &mut Vec<u32>, view: u32)
 }
 
 impl Document {
-    /// A document without text, to which no view is attached. Takes no memory.
-    pub fn new(alloc: Global, id: u32) -> Self
-        ensures id { result.id ≡ id }
-        ensures document { document_of result ≡ new_document id 0 }
+    /// A document without text, to which no view is attached.
+    ///
+    /// # Errors
+    ///
+    /// `AllocError` where the memory for the start of its one line is refused.
+    pub fn new(alloc: Global, id: u32) -> Result<Self, AllocError>
+        ensures id { IfOk result (λ d. d.id ≡ id) }
+        ensures document { IfOk result (λ d. document_of d ≡ new_document id 0) }
     {
-        Document {
+        let lines = LineIndex::new(alloc, LineEndTypes::Default)?;
+        Ok(Document {
             id,
             cells: Cells::new(alloc),
+            lines,
             history: UndoHistory::new(alloc),
             views: Vec::new(alloc),
-        }
+        })
     }
 
     /// Its id in the session.
@@ -118,51 +130,67 @@ impl Document {
         !self.views.is_empty()
     }
 
-    /// Makes room for `text` more bytes, and in the history for `steps` more steps with `bytes` bytes in all.
+    /// Makes room for `text` more bytes and `lines` more lines, and in the history for `steps` more steps with `bytes` bytes
+    /// in all.
     ///
     /// # Errors
     ///
     /// `AllocError` where memory is refused; the document is then as it was.
-    pub fn reserve(&mut self, text: usize, steps: usize, bytes: usize) -> Result<(), AllocError>
+    pub fn reserve(
+        &mut self,
+        text: usize,
+        lines: usize,
+        steps: usize,
+        bytes: usize,
+    ) -> Result<(), AllocError>
         ensures id { self.new.id ≡ self.old.id }
         ensures same { document_of self.new ≡ document_of self.old }
-        ensures ok { OnOk result (HasRoom self.new text steps bytes) }
-        ensures room_is_there { HasRoom self.old text steps bytes → IsOk result }
-        ensures room_stays { TakesRoom self.old self.new 0 0 0 }
+        ensures ok { OnOk result (HasRoom self.new text lines steps bytes) }
+        ensures room_is_there { HasRoom self.old text lines steps bytes → IsOk result }
+        ensures room_stays { TakesRoom self.old self.new 0 0 0 0 }
     {
         self.cells.reserve(text)?;
+        self.lines.reserve(lines)?;
         self.history.reserve(steps, bytes)?;
         Ok(())
     }
 
     /// Puts bytes in at a place, as a step that is appended to the history; `later` says that it is a later step of its
-    /// message. There must be room for it, and it takes no more, so that room can be made for several steps at once.
+    /// message. There must be room for it, that is for its bytes, for five more lines than they have by themselves, and in
+    /// the history. It takes no more, so that room can be made for several steps at once.
     #[tactic(auto, using(crate::proofs::PlainLemmas::plain_step))]
     pub fn insert_reserved(&mut self, later: bool, place: usize, bytes: &[u8])
         requires place { place ≤ length self.old.cells }
-        requires room { HasRoom self.old (length bytes.now) 1 (length bytes.now) }
+        requires room { HasRoom self.old (length bytes.now) (line_count LineEndTypes.Default bytes.now + 5) 1 (length bytes.now) }
         ensures id { self.new.id ≡ self.old.id }
         ensures document { document_of self.new ≡ step_on later (Insert place bytes.now) (document_of self.old) }
-        ensures room_left { TakesRoom self.old self.new (length bytes.now) 1 (length bytes.now) }
+        ensures room_left { TakesRoom self.old self.new (length bytes.now) (line_count LineEndTypes.Default bytes.now + 5) 1 (length bytes.now) }
     {
         self.history
             .append_reserved(later, StepKind::Insert, place, bytes);
         self.cells.insert_reserved(place, bytes);
+        room_for_steps();
+        let _ = self.cells.len(); // it says that the text is not too long
+        let (before, after) = self.cells.halves();
+        self.lines.inserted(place, bytes.len(), before, after);
     }
 
     /// Deletes `count` bytes from a place on, as a step that is appended to the history; `later` says that it is a later
-    /// step of its message. There must be room for it in the history, and it takes no more.
+    /// step of its message. There must be room for it in the history, and for three more lines. It takes no more.
     #[tactic(auto, using(crate::proofs::PlainLemmas::plain_step))]
     pub fn delete_reserved(&mut self, later: bool, place: usize, count: usize)
         requires place { place + count ≤ length self.old.cells }
-        requires room { HasRoom self.old 0 1 count }
+        requires room { HasRoom self.old 0 3 1 count }
         ensures id { self.new.id ≡ self.old.id }
         ensures document { document_of self.new ≡ step_on later (Delete place (slice_range (bytes_of self.old.cells) place (place + count))) (document_of self.old) }
-        ensures room_left { TakesRoom self.old self.new 0 1 count }
+        ensures room_left { TakesRoom self.old self.new 0 3 1 count }
     {
         let deleted = self.cells.lend(place, count);
         self.history
             .append_reserved(later, StepKind::Delete, place, deleted);
         self.cells.delete(place, count);
+        room_for_steps();
+        let (before, after) = self.cells.halves();
+        self.lines.deleted(place, count, before, after);
     }
 }

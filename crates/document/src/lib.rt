@@ -1,11 +1,13 @@
-//! A document under a step: its text, its undo history, and the views attached to it.
+//! A document under a step: its text and where its lines start, its undo history, and the views attached to it.
 //!
 //! Rows of lines, indicators and options are as in a new document as long as no message sets them, so nothing is kept of
 //! them yet: what a contract sees of them is made from the text.
 #![tactic(auto)]
 
 mod held;
+mod lines;
 #[cfg(test)]
 mod tests;
 
 pub use held::Document;
+pub use lines::lines_in;

@@ -127,6 +127,17 @@ edited_at slab es next id key before after (Some e) q t k b i =
 pub edited : (slab : Slab Held) (es : List Entry) (next id key : ℕ) (before after : Held) → IsTable slab es next → key_at es id ≡ Some key → get slab key ≡ Some before → after.id ≡ before.id → Edited slab (with_value slab key after) es next id before after
 edited slab es next id key before after t k b i = edited_at slab es next id key before after (entry_at es id) refl t k b i
 
+-- A document lends its bytes, and is then as it was.
+
+set_same : (slots : List (Option Held)) (key : ℕ) (h : Held) → slice_index_or slots key None ≡ Some h → slice_set slots key (Some h) ≡ slots
+set_same [] key h q = cc
+set_same (s ∷ ss) zero h q = ap (λ (o : Option Held). o ∷ ss) (sym q)
+set_same (s ∷ ss) (suc key) h q = ap (λ (os : List (Option Held)). s ∷ os) (set_same ss key h q)
+
+pub lent_back : (slab : Slab Held) (key : ℕ) (before after : Held) → get slab key ≡ Some before → after ≡ before → with_value slab key after ≡ slab
+lent_back slab key before after q same =
+    rw same (ap (λ (slots : List (Option Held)). let s : Slab Held = record slab { slots = slots } in s) (set_same slab.slots key before q))
+
 -- A new document comes.
 
 ordered_kept : (old new : Slab Held) (floor next : ℕ) (es : List Entry) → new.slots ≡ old.slots → InOrder old floor next es → InOrder new floor next es
@@ -137,6 +148,9 @@ ordered_kept old new floor next (f ∷ es) q p =
 -- room for more
 pub table_kept : (old new : Slab Held) (es : List Entry) (next : ℕ) → new.slots ≡ old.slots → IsTable old es next → IsTable new es next
 table_kept old new es next q t = record { ordered = ordered_kept old new 0 next es q t.ordered }
+
+pub held_kept : (old new : Slab Held) (es : List Entry) → new.slots ≡ old.slots → held_by new es ≡ held_by old es
+held_kept old new es q = ap (λ (slots : List (Option Held)). filter_map (λ (f : Entry). slice_index_or slots f.key None) es) q
 
 -- the document that a view is attached to first
 pub first_attached : (d h : Held) (id view : ℕ) → h ≡ record d { views = d.views ++ view ∷ [] } → document_of d ≡ new_document id 0 → document_of h ≡ record (new_document id 0) { views = view ∷ [] }
@@ -157,7 +171,7 @@ pub created : (base old new : Slab Held) (es : List Entry) (next key : ℕ) (h :
 created base old new es next key h q t ad i =
     let e : Entry = record { id = next; key = key } in
     let kept : IsTable old es next = table_kept base old es next q t in
-    let same : held_by old es ≡ held_by base es = ap (λ (slots : List (Option Held)). filter_map (λ (f : Entry). slice_index_or slots f.key None) es) q in
+    let same : held_by old es ≡ held_by base es = held_kept base old es q in
     record {
       table = record { ordered = added_ordered old new key h e 0 next es ad refl refl i kept.ordered };
       documents = ap documents_of (added old new key h e 0 next es ad refl kept.ordered ∙ ap (λ (hs : List Held). hs ++ h ∷ []) same) ∙ documents_push (held_by base es) h;

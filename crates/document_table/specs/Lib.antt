@@ -1,2 +1,3 @@
 pub mod Documents
+pub mod Lends
 pub mod Order

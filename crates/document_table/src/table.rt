@@ -2,6 +2,7 @@
 
 ghost use Rattle.std.specs.Prelude.{◌≡◌, ◌≤◌, ◌<◌, ◌+◌, ◌^◌, ◌∷◌, ◌++◌, [], length, map, slice_range, OnOk, OnErr, IfOk, IfSome, IsOk, IsSome, IsSomeAnd, IsTrue, IsFalse, option_copied, option_map};
 ghost use Rattle.ed_model.specs.Text.{bytes_of};
+ghost use Rattle.ed_model.specs.Lines.{line_count};
 ghost use Rattle.ed_model.specs.Steps.{Insert, Delete};
 ghost use Rattle.ed_model.specs.Session.{new_document, document_at, with_document, living, left_by};
 ghost use Rattle.ed_model.specs.SoundLaws.{Rise};
@@ -10,6 +11,7 @@ ghost use Rattle.document_table.specs.Documents.{held_at, documents_of};
 ghost use Rattle.document_table.specs.Order.{key_at, Stays, Goes};
 
 use document::Document;
+use ed_model::LineEndTypes;
 use slab::Slab;
 use std::alloc::{AllocError, Global};
 use std::marker::Model;
@@ -53,6 +55,9 @@ fn key_of(order: &[Entry], id: u32) -> Option<usize>
 }
 
 impl DocumentTable {
+    ghost use Rattle.std.specs.Borrow.{sem};
+    ghost use Rattle.document_table.specs.Lends.{lent_and_back};
+
     /// No document. Takes no memory.
     pub fn new(alloc: Global) -> Self
         ensures { result ≡ record { held = []; next = 1 } }
@@ -98,7 +103,7 @@ impl DocumentTable {
         self.slab.reserve(1)?;
         self.order.reserve(1)?;
         let id = self.next;
-        let mut document = Document::new(self.alloc, id);
+        let mut document = Document::new(self.alloc, id)?;
         document.attach(view)?;
         let key = self.slab.insert_reserved(document);
         self.order.push_reserved(Entry { id, key });
@@ -146,7 +151,8 @@ impl DocumentTable {
         }
     }
 
-    /// Makes room in a document for `text` more bytes, and in its history for `steps` more steps with `bytes` bytes in all.
+    /// Makes room in a document for `text` more bytes and `lines` more lines, and in its history for `steps` more steps with
+    /// `bytes` bytes in all.
     ///
     /// # Errors
     ///
@@ -156,31 +162,33 @@ impl DocumentTable {
         &mut self,
         id: u32,
         text: usize,
+        lines: usize,
         steps: usize,
         bytes: usize,
     ) -> Result<(), AllocError>
         requires { IsSome (document_at (documents_of self.old.held) id) }
         ensures same { documents_of self.new.held ≡ documents_of self.old.held }
         ensures next { self.new.next ≡ self.old.next }
-        ensures ok { OnOk result (IsSomeAnd (held_at self.new.held id) (λ h. HasRoom h text steps bytes)) }
-        ensures room_is_there { IsSomeAnd (held_at self.old.held id) (λ h. HasRoom h text steps bytes) → IsOk result }
-        ensures room_stays { IfSome (held_at self.old.held id) (λ h. IsSomeAnd (held_at self.new.held id) (λ left. TakesRoom h left 0 0 0)) }
+        ensures ok { OnOk result (IsSomeAnd (held_at self.new.held id) (λ h. HasRoom h text lines steps bytes)) }
+        ensures room_is_there { IsSomeAnd (held_at self.old.held id) (λ h. HasRoom h text lines steps bytes) → IsOk result }
+        ensures room_stays { IfSome (held_at self.old.held id) (λ h. IsSomeAnd (held_at self.new.held id) (λ left. TakesRoom h left 0 0 0 0)) }
     {
         let Some(key) = key_of(&self.order, id) else {
             unreachable!()
         };
-        self.slab[key].reserve(text, steps, bytes)
+        self.slab[key].reserve(text, lines, steps, bytes)
     }
 
     /// Puts bytes into a document at a place, as a step that is appended to its history; `later` says that it is a later
-    /// step of its message. There must be room for it.
+    /// step of its message. There must be room for it, that is for its bytes, for five more lines than they have by
+    /// themselves, and in the history.
     #[tactic(auto, using(crate::proofs::OrderLemmas::found_key, crate::proofs::OrderLemmas::found_none, crate::proofs::DocumentLemmas::document_found))]
     pub fn insert_reserved(&mut self, id: u32, later: bool, place: usize, bytes: &[u8])
         requires place { IsSomeAnd (document_at (documents_of self.old.held) id) (λ d. place ≤ length d.cells) }
-        requires room { IsSomeAnd (held_at self.old.held id) (λ h. HasRoom h (length bytes.now) 1 (length bytes.now)) }
+        requires room { IsSomeAnd (held_at self.old.held id) (λ h. HasRoom h (length bytes.now) (line_count LineEndTypes.Default bytes.now + 5) 1 (length bytes.now)) }
         ensures documents { IfSome (document_at (documents_of self.old.held) id) (λ d. documents_of self.new.held ≡ with_document (step_on later (Insert place bytes.now) d) (documents_of self.old.held)) }
         ensures next { self.new.next ≡ self.old.next }
-        ensures room_left { IfSome (held_at self.old.held id) (λ h. IsSomeAnd (held_at self.new.held id) (λ left. TakesRoom h left (length bytes.now) 1 (length bytes.now))) }
+        ensures room_left { IfSome (held_at self.old.held id) (λ h. IsSomeAnd (held_at self.new.held id) (λ left. TakesRoom h left (length bytes.now) (line_count LineEndTypes.Default bytes.now + 5) 1 (length bytes.now))) }
     {
         let Some(key) = key_of(&self.order, id) else {
             unreachable!()
@@ -189,18 +197,32 @@ impl DocumentTable {
     }
 
     /// Deletes `count` bytes of a document from a place on, as a step that is appended to its history; `later` says that it
-    /// is a later step of its message. There must be room for it in the history.
+    /// is a later step of its message. There must be room for it in the history, and for three more lines.
     #[tactic(auto, using(crate::proofs::OrderLemmas::found_key, crate::proofs::OrderLemmas::found_none, crate::proofs::DocumentLemmas::document_found))]
     pub fn delete_reserved(&mut self, id: u32, later: bool, place: usize, count: usize)
         requires place { IsSomeAnd (document_at (documents_of self.old.held) id) (λ d. place + count ≤ length d.cells) }
-        requires room { IsSomeAnd (held_at self.old.held id) (λ h. HasRoom h 0 1 count) }
+        requires room { IsSomeAnd (held_at self.old.held id) (λ h. HasRoom h 0 3 1 count) }
         ensures documents { IfSome (document_at (documents_of self.old.held) id) (λ d. documents_of self.new.held ≡ with_document (step_on later (Delete place (slice_range (bytes_of d.cells) place (place + count))) d) (documents_of self.old.held)) }
         ensures next { self.new.next ≡ self.old.next }
-        ensures room_left { IfSome (held_at self.old.held id) (λ h. IsSomeAnd (held_at self.new.held id) (λ left. TakesRoom h left 0 1 count)) }
+        ensures room_left { IfSome (held_at self.old.held id) (λ h. IsSomeAnd (held_at self.new.held id) (λ left. TakesRoom h left 0 3 1 count)) }
     {
         let Some(key) = key_of(&self.order, id) else {
             unreachable!()
         };
         self.slab[key].delete_reserved(later, place, count);
+    }
+
+    /// Lends the `count` bytes of a document from `start` on as one slice, which is not copied. All documents stay as they
+    /// are.
+    #[tactic(auto, using(crate::proofs::OrderLemmas::found_key, crate::proofs::OrderLemmas::found_none, crate::proofs::DocumentLemmas::document_found))]
+    pub fn lend(&mut self, id: u32, start: usize, count: usize) -> &[u8]
+        requires { IsSomeAnd (document_at (documents_of self.old.held) id) (λ d. start + count ≤ length d.cells) }
+        ensures* back { sem 𝓛 (lent_and_back self.entry) }
+        ensures value { IfSome (document_at (documents_of self.old.held) id) (λ d. result.now ≡ slice_range (bytes_of d.cells) start (start + count)) }
+    {
+        let Some(key) = key_of(&self.order, id) else {
+            unreachable!()
+        };
+        self.slab[key].lend(start, count)
     }
 }

@@ -1,5 +1,6 @@
 //! Each call that takes memory once on its happy path.
 use crate::DocumentTable;
+use document::lines_in;
 use std::alloc::AllocError;
 use std::test::Fail;
 
@@ -8,7 +9,7 @@ fn put(table: &mut DocumentTable, id: u32, bytes: &[u8]) -> Result<bool, AllocEr
     if table.get(id).is_none() {
         return Ok(false);
     }
-    table.reserve(id, bytes.len(), 1, bytes.len())?;
+    table.reserve(id, bytes.len(), lines_in(bytes) + 5, 1, bytes.len())?;
     table.insert_reserved(id, false, 0, bytes);
     Ok(true)
 }
@@ -22,9 +23,18 @@ fn cut(table: &mut DocumentTable, id: u32, count: usize) -> Result<bool, AllocEr
     if len < count {
         return Ok(false);
     }
-    table.reserve(id, 0, 1, count)?;
+    table.reserve(id, 0, 3, 1, count)?;
     table.delete_reserved(id, false, 0, count);
     Ok(true)
+}
+
+/// Whether these are the first bytes of a document.
+fn starts_with(table: &mut DocumentTable, id: u32, bytes: &[u8]) -> bool {
+    match table.get(id) {
+        Some(document) if bytes.len() <= document.len() => (),
+        _ => return false,
+    }
+    table.lend(id, 0, bytes.len()) == bytes
 }
 
 fn len_of(table: &DocumentTable, id: u32) -> Option<usize> {
@@ -42,6 +52,8 @@ fn documents_come_and_go(rt: HostRuntime) -> Result<(), Fail> {
     assert!(rt; put(&mut table, 2, b"held")?);
     assert_eq!(rt; len_of(&table, 1), Some(0));
     assert_eq!(rt; len_of(&table, 2), Some(4));
+    assert!(rt; starts_with(&mut table, 2, b"hel"));
+    assert!(rt; !starts_with(&mut table, 2, b"hill"));
     table.detach(7);
     assert_eq!(rt; len_of(&table, 1), None);
     assert_eq!(rt; len_of(&table, 2), Some(4));
@@ -68,7 +80,7 @@ fn room_for_two_steps(rt: HostRuntime) -> Result<(), Fail> {
     let mut table = DocumentTable::new(rt.alloc());
     let id = table.create(7)?;
     assert!(rt; table.get(id).is_some());
-    table.reserve(id, 5, 2, 5)?;
+    table.reserve(id, 5, lines_in(b"cde") + lines_in(b"ab") + 10, 2, 5)?;
     table.insert_reserved(id, false, 0, b"cde");
     assert!(rt; table.get(id).is_some());
     table.insert_reserved(id, true, 0, b"ab");

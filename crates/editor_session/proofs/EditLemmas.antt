@@ -7,9 +7,9 @@ use Rattle.std.proofs.lemmas.Bool.Decides.{nat_tests}
 use Rattle.ed_types.specs.declared.limits.Limits.{Limits}
 use Rattle.ed_model.specs.Text.{Cell, bytes_of}
 use Rattle.ed_model.specs.Steps.{Step, Insert, Delete, insertion, deletion}
-use Rattle.ed_model.specs.Session.{Session, Document, document_at, with_document, is_allowed, limit_of, is_large}
+use Rattle.ed_model.specs.Session.{Session, Document, document_at, with_document, is_allowed, limit_of, is_large, View, view_at}
 use Rattle.ed_model.specs.SoundLaws.{IsSound, Rise, IsSoundView}
-use Rattle.ed_model.proofs.SoundFinding.{document_sound}
+use Rattle.ed_model.proofs.SoundFinding.{document_sound, found_all}
 use Rattle.document.specs.Held.{step_on}
 use Rattle.document_table.specs.Documents.{Documents, documents_of}
 use Rattle.editor_session.specs.declared.view.OpenView.{OpenView}
@@ -178,6 +178,11 @@ modest_view s v sound allowed h =
     let anchor : v.anchor ≤ length d.cells = h.stands.anchor in
     let caret : v.caret ≤ length d.cells = h.stands.caret in
     record { anchor = omega arith; caret = omega arith }
+
+-- so are those of a view that is found
+pub found_is_modest : (s : Session) (id : ℕ) (v : OpenView) → IsSound s → is_allowed s.limits ≡ true → view_at s.views id ≡ Some (plain_view s.documents v) → IsModestView v
+found_is_modest s id v sound allowed found =
+    modest_view s v sound allowed (found_all (IsSoundView s.documents) (λ (w : View). w.id == id) s.views (plain_view s.documents v) sound.views found).0
 
 modest : (s : Session) (views : List OpenView) → IsSound s → is_allowed s.limits ≡ true → AllByRecursion (IsSoundView s.documents) (map (plain_view s.documents) views) → AllByRecursion IsModestView views
 modest s [] sound allowed all = tt

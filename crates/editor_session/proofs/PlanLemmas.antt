@@ -3,7 +3,7 @@ use Rattle.std.proofs.Common.{◌≡◌, ℕ, suc, ◌+◌, ◌-◌, ◌≤◌, 
 use Rattle.std.proofs.lemmas.List.{length-map, append-nil}
 use Rattle.std.proofs.lemmas.Bool.Decides.{nat_tests}
 use Rattle.ed_types.specs.declared.message.Message.{Message}
-use Rattle.ed_types.specs.declared.kind.Kind.TheVariants.{InsertText, GetLength, GetCharAt, GetText, DeleteRange}
+use Rattle.ed_types.specs.declared.kind.Kind.TheVariants.{InsertText, DeleteRange, GetLength, GetTextLength, GetCharAt, GetText, GetTextRange, GetLineCount, GetLine, GetCurLine, LineLength, GetLineEndPosition, LineFromPosition, PositionFromLine}
 use Rattle.ed_model.specs.declared.plan.Source.{Source}
 use Rattle.ed_model.specs.declared.plan.Source.TheVariants as source
 use Rattle.ed_model.specs.declared.plan.Edit.TheVariants as edit
@@ -11,19 +11,22 @@ use Rattle.ed_model.specs.declared.plan.Follow.TheVariants as follow
 use Rattle.ed_model.specs.declared.plan.Plan.TheVariants as plan
 use Rattle.ed_model.specs.Text.{Cell}
 use Rattle.ed_model.specs.Steps.{deletion, insertion, replacement}
-use Rattle.ed_model.specs.Numbers.{within}
-use Rattle.ed_model.specs.Requests.{Planned, with_argument, argument, text, size}
+use Rattle.ed_model.specs.Numbers.{within, line_among}
+use Rattle.ed_model.specs.Requests.{Request, line_at, selection_start, Planned, with_argument, argument, with_line, answer, end_or_size, lines, text, size}
 use Rattle.std.proofs.Math.Bool.{and-true}
 use Rattle.ed_types.specs.declared.refusal.Refusal.TheVariants.{TooLong}
 use Rattle.ed_model.specs.declared.plan.Plan.{Plan}
 use Rattle.ed_model.specs.Edits.{replace_plan, edit_of_steps}
-use Rattle.ed_model.specs.TextPlans.{insert_text, delete_range}
+use Rattle.ed_model.specs.TextPlans.{insert_text, delete_range, line_start, start_of_line_at}
+use Rattle.std.specs.Prelude.{int_lt}
 use Rattle.ed_model.specs.Table.{plan_of, request}
 use Rattle.ed_model.specs.Session.{Session, View, Document}
 use Rattle.document.specs.Held.{Held, document_of}
 use Rattle.ed_types.specs.declared.kind.Kind.{Kind}
 use Rattle.editor_session.specs.Known.{IsThere, takes_no_memory}
-use Rattle.editor_session.specs.Plans.{insertion_plan, deletion_plan, replace_within, place_of_insertion, early_plan, planned_at, IsEarlyPlan, is_answer}
+use Rattle.editor_session.specs.Plans.{insertion_plan, deletion_plan, replace_within, place_of_insertion, plain_request, early_plan, planned_at, IsEarlyPlan, is_answer}
+use Rattle.editor_session.specs.declared.view.OpenView.{OpenView}
+use Rattle.editor_session.specs.Views.{plain_view}
 
 nothing_between : (p : ℕ) (xs : List ℕ) → slice_range xs p (p + 0) ≡ []
 nothing_between p xs = let e : p + 0 - p ≡ 0 = omega arith in rw e
@@ -104,18 +107,27 @@ deletion_planned s v h m =
     ∙ deleted_or_not s v h m done start count (slice_range (text r) start (start + count)) (length-slice (text r) start count in_text)))
 
 -- A fact of each message that there is.
-each_kind : (P : Kind → Type 0) → P InsertText → P GetLength → P GetCharAt → P GetText → P DeleteRange → (kind : Kind) → IsThere kind → P kind
-each_kind P insert size byte text delete kind (inl e) = subst P (sym e) insert
-each_kind P insert size byte text delete kind (inr (inl e)) = subst P (sym e) size
-each_kind P insert size byte text delete kind (inr (inr (inl e))) = subst P (sym e) byte
-each_kind P insert size byte text delete kind (inr (inr (inr (inl e)))) = subst P (sym e) text
-each_kind P insert size byte text delete kind (inr (inr (inr (inr e)))) = subst P (sym e) delete
+each_kind : (P : Kind → Type 0) → P InsertText → P DeleteRange → P GetLength → P GetTextLength → P GetCharAt → P GetText → P GetTextRange → P GetLineCount → P GetLine → P GetCurLine → P LineLength → P GetLineEndPosition → P LineFromPosition → P PositionFromLine → (kind : Kind) → IsThere kind → P kind
+each_kind P insert delete size text_size byte text range count line current long end at start kind (inl e) = subst P (sym e) insert
+each_kind P insert delete size text_size byte text range count line current long end at start kind (inr (inl e)) = subst P (sym e) delete
+each_kind P insert delete size text_size byte text range count line current long end at start kind (inr (inr (inl e))) = subst P (sym e) size
+each_kind P insert delete size text_size byte text range count line current long end at start kind (inr (inr (inr (inl e)))) = subst P (sym e) text_size
+each_kind P insert delete size text_size byte text range count line current long end at start kind (inr (inr (inr (inr (inl e))))) = subst P (sym e) byte
+each_kind P insert delete size text_size byte text range count line current long end at start kind (inr (inr (inr (inr (inr (inl e)))))) = subst P (sym e) text
+each_kind P insert delete size text_size byte text range count line current long end at start kind (inr (inr (inr (inr (inr (inr (inl e))))))) = subst P (sym e) range
+each_kind P insert delete size text_size byte text range count line current long end at start kind (inr (inr (inr (inr (inr (inr (inr (inl e)))))))) = subst P (sym e) count
+each_kind P insert delete size text_size byte text range count line current long end at start kind (inr (inr (inr (inr (inr (inr (inr (inr (inl e))))))))) = subst P (sym e) line
+each_kind P insert delete size text_size byte text range count line current long end at start kind (inr (inr (inr (inr (inr (inr (inr (inr (inr (inl e)))))))))) = subst P (sym e) current
+each_kind P insert delete size text_size byte text range count line current long end at start kind (inr (inr (inr (inr (inr (inr (inr (inr (inr (inr (inl e))))))))))) = subst P (sym e) long
+each_kind P insert delete size text_size byte text range count line current long end at start kind (inr (inr (inr (inr (inr (inr (inr (inr (inr (inr (inr (inl e)))))))))))) = subst P (sym e) end
+each_kind P insert delete size text_size byte text range count line current long end at start kind (inr (inr (inr (inr (inr (inr (inr (inr (inr (inr (inr (inr (inl e))))))))))))) = subst P (sym e) at
+each_kind P insert delete size text_size byte text range count line current long end at start kind (inr (inr (inr (inr (inr (inr (inr (inr (inr (inr (inr (inr (inr e))))))))))))) = subst P (sym e) start
 
-early_planned : (kind : Kind) (s : Session) (v : View) (h : Held) (m : Message) → IsThere kind →
-    plan_of kind (request s v (document_of h) m) ≡ early_plan kind v.caret h.cells s.limits.doc_bytes m
-early_planned kind s v h m there =
-    each_kind (λ k. plan_of k (request s v (document_of h) m) ≡ early_plan k v.caret h.cells s.limits.doc_bytes m)
-    (insertion_planned s v h m) refl refl refl (deletion_planned s v h m) kind there
+early_planned : (kind : Kind) (s : Session) (ds : List Document) (v : OpenView) (h : Held) (m : Message) → IsThere kind →
+    plan_of kind (request s (plain_view ds v) (document_of h) m) ≡ early_plan kind s.limits.doc_bytes v h m
+early_planned kind s ds v h m there =
+    each_kind (λ k. plan_of k (request s (plain_view ds v) (document_of h) m) ≡ early_plan k s.limits.doc_bytes v h m)
+    (insertion_planned s (plain_view ds v) h m) (deletion_planned s (plain_view ds v) h m) refl refl refl refl refl refl refl refl refl refl refl refl kind there
 
 -- Such a plan is one of this stage.
 
@@ -127,26 +139,46 @@ argument_is_early : {A : Type 0} (m : Message) (o : Option A) (act : A → Plann
 argument_is_early m None act h = tt
 argument_is_early m (Some a) act h = h a
 
-pub plan_is_early : (kind : Kind) (caret : ℕ) (cells : List Cell) (limit : ℕ) (m : Message) → IsThere kind → IfOk (early_plan kind caret cells limit m) (IsEarlyPlan m)
-plan_is_early kind caret cells limit m there =
-    each_kind (λ k. IfOk (early_plan k caret cells limit m) (IsEarlyPlan m))
-    (argument_is_early m (place_of_insertion caret (length cells) m.w) _ (λ place.
-    replace_is_early m (length m.text == 0 || nat_le (length cells + length m.text) limit) place 0 (source.MessageText (length m.text)) (refl, refl)))
-    tt tt tt
-    (argument_is_early m (within 0 (length cells) m.w) _ (λ start. argument_is_early m (within 0 (length cells - start) m.l) _ (λ count.
-    replace_is_early m (count == 0 || nat_le (length cells - count) limit) start count source.Nothing tt)))
-    kind there
+line_is_early : (m : Message) (o : Option ℕ) (act : ℕ → Planned) → ((a : ℕ) → IfOk (act a) (IsEarlyPlan m)) → IfOk (with_line o (answer (pos 0)) act) (IsEarlyPlan m)
+line_is_early m None act h = tt
+line_is_early m (Some a) act h = h a
+
+pub plan_is_early : (kind : Kind) (limit : ℕ) (v : OpenView) (h : Held) (m : Message) → IsThere kind → IfOk (early_plan kind limit v h m) (IsEarlyPlan m)
+plan_is_early kind limit v h m there =
+    let n = length h.cells in
+    each_kind (λ k. IfOk (early_plan k limit v h m) (IsEarlyPlan m))
+    (argument_is_early m (place_of_insertion v.caret n m.w) _ (λ place.
+    replace_is_early m (length m.text == 0 || nat_le (n + length m.text) limit) place 0 (source.MessageText (length m.text)) (refl, refl)))
+    (argument_is_early m (within 0 n m.w) _ (λ start. argument_is_early m (within 0 (n - start) m.l) _ (λ count.
+    replace_is_early m (count == 0 || nat_le (n - count) limit) start count source.Nothing tt)))
+    tt tt tt tt
+    (argument_is_early m (within 0 n m.w) _ (λ start. argument_is_early m (within start n (end_or_size n m.l)) _ (λ past. tt)))
+    tt
+    (line_is_early m (line_among (lines (plain_request v h m)) m.w) _ (λ line. tt))
+    tt
+    (line_is_early m (line_among (lines (plain_request v h m)) m.w) _ (λ line. tt))
+    tt tt tt kind there
 
 -- and a message that takes no memory is only answered
-pub plan_is_answer : (kind : Kind) (caret : ℕ) (cells : List Cell) (limit : ℕ) (m : Message) → IsThere kind → takes_no_memory (Some kind) ≡ true → IfOk (early_plan kind caret cells limit m) (λ p. is_answer p ≡ true)
-plan_is_answer kind caret cells limit m there =
-    each_kind (λ k. takes_no_memory (Some k) ≡ true → IfOk (early_plan k caret cells limit m) (λ p. is_answer p ≡ true))
-    (λ h. absurd (cc)) (λ h. refl) (λ h. refl) (λ h. absurd (cc)) (λ h. absurd (cc)) kind there
+line_is_answer : (o : Option ℕ) (act : ℕ → Planned) → ((a : ℕ) → IfOk (act a) (λ p. is_answer p ≡ true)) → IfOk (with_line o (answer (pos 0)) act) (λ p. is_answer p ≡ true)
+line_is_answer None act h = refl
+line_is_answer (Some a) act h = h a
+
+pub plan_is_answer : (kind : Kind) (limit : ℕ) (v : OpenView) (h : Held) (m : Message) → IsThere kind → takes_no_memory (Some kind) ≡ true → IfOk (early_plan kind limit v h m) (λ p. is_answer p ≡ true)
+plan_is_answer kind limit v h m there =
+    each_kind (λ k. takes_no_memory (Some k) ≡ true → IfOk (early_plan k limit v h m) (λ p. is_answer p ≡ true))
+    (λ e. absurd (cc)) (λ e. absurd (cc)) (λ e. refl) (λ e. refl) (λ e. refl) (λ e. absurd (cc)) (λ e. absurd (cc)) (λ e. refl) (λ e. absurd (cc)) (λ e. absurd (cc))
+    (λ e. line_is_answer (line_among (lines (plain_request v h m)) m.w) _ (λ line. refl)) (λ e. refl) (λ e. refl) (λ e. refl) kind there
 
 -- As a session sees it.
 
-pub planned_for : (s : Session) (v : View) (kind : Kind) (m : Message) (h : Held) (found : Option Held) (there : Option Document) → IsThere kind →
-    found ≡ Some h → option_map document_of found ≡ there → early_plan kind v.caret h.cells s.limits.doc_bytes m ≡ planned_at s v kind m there
-planned_for s v kind m h found there known is same =
+pub planned_for : (s : Session) (ds : List Document) (v : OpenView) (kind : Kind) (m : Message) (h : Held) (found : Option Held) (there : Option Document) → IsThere kind →
+    found ≡ Some h → option_map document_of found ≡ there → early_plan kind s.limits.doc_bytes v h m ≡ planned_at s (plain_view ds v) kind m there
+planned_for s ds v kind m h found there known is same =
     let here : Some (document_of h) ≡ there = sym (ap (option_map document_of) is) ∙ same in
-    sym (early_planned kind s v h m known) ∙ ap (planned_at s v kind m) here
+    sym (early_planned kind s ds v h m known) ∙ ap (planned_at s (plain_view ds v) kind m) here
+
+-- A negative line is that of the selection.
+pub start_at_negative : (r : Request) (w : ℤ) (n : ℕ) → int_lt w (pos 0) ≡ true → n ≡ line_start r (line_at r (selection_start r)) → pos n ≡ start_of_line_at r w
+start_at_negative r (pos k) n h e = absurd (grind (arith, nat_tests))
+start_at_negative r (negsuc k) n h e = ap pos e

@@ -5,6 +5,7 @@
 #![tactic(auto)]
 
 mod argument;
+mod lines;
 mod movement;
 mod plan;
 mod run;

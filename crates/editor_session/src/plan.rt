@@ -5,8 +5,12 @@ ghost use Rattle.ed_model.specs.Text.{bytes_of};
 ghost use Rattle.ed_model.specs.TextPlans.{at_place};
 ghost use Rattle.editor_session.specs.Known.{is_known, IsThere};
 ghost use Rattle.editor_session.specs.Plans.{replace_within, place_of_insertion, insertion_plan, deletion_plan, early_plan};
+ghost use Rattle.editor_session.specs.Views.{IsModestView};
 
 use crate::argument::{is_minus_one, place_within};
+use crate::lines;
+use crate::lines::hand_out;
+use crate::view::OpenView;
 use document::Document;
 use ed_model::{Edit, Follow, Plan, Planned, Source};
 use ed_types::{Kind, Message, Refusal};
@@ -94,33 +98,53 @@ pub(crate) fn is_known(kind: Kind) -> bool
 {
     matches!(
         kind,
-        Kind::InsertText | Kind::GetLength | Kind::GetCharAt | Kind::GetText | Kind::DeleteRange
+        Kind::InsertText
+            | Kind::DeleteRange
+            | Kind::GetLength
+            | Kind::GetTextLength
+            | Kind::GetCharAt
+            | Kind::GetText
+            | Kind::GetTextRange
+            | Kind::GetLineCount
+            | Kind::GetLine
+            | Kind::GetCurLine
+            | Kind::LineLength
+            | Kind::GetLineEndPosition
+            | Kind::LineFromPosition
+            | Kind::PositionFromLine
     )
 }
 
-/// The plan of a message to a view with this caret.
+/// The plan of a message to a view on this document.
 pub(crate) fn plan_of(
     kind: Kind,
-    caret: usize,
+    view: OpenView,
     document: &Document,
     limit: u64,
     m: &Message,
 ) -> Planned
-    ensures { result ≡ early_plan kind caret document.now.cells limit m.now }
+    requires { IsModestView view }
+    ensures { result ≡ early_plan kind limit view document.now m.now }
 {
     let size = document.len();
     match kind {
-        Kind::InsertText => plan_insertion(caret, size, limit, m),
+        Kind::InsertText => plan_insertion(view.caret, size, limit, m),
         Kind::DeleteRange => plan_deletion(size, limit, m),
-        Kind::GetLength => Ok(Plan::Answer { value: size as i64 }),
+        Kind::GetLength | Kind::GetTextLength => Ok(Plan::Answer { value: size as i64 }),
         Kind::GetCharAt => Ok(Plan::Answer {
             value: i64::from(byte_at(document, m.w)),
         }),
-        Kind::GetText => Ok(Plan::HandOut {
-            value: size as i64,
-            start: 0,
-            count: size,
+        Kind::GetText => hand_out(0, size),
+        Kind::GetTextRange => lines::text_range(size, m),
+        Kind::GetLineCount => Ok(Plan::Answer {
+            value: document.line_count() as i64,
         }),
+        Kind::GetLine => lines::line(view, document, m),
+        Kind::GetCurLine => lines::current_line(view, document, m),
+        Kind::LineLength => lines::line_length(view, document, m),
+        Kind::GetLineEndPosition => lines::line_end_position(view, document, m),
+        Kind::LineFromPosition => lines::line_from_position(view, document, m),
+        Kind::PositionFromLine => lines::position_from_line(view, document, m),
         _ => Err(Refusal::UnknownMessage),
     }
 }

@@ -11,22 +11,24 @@ ghost use Rattle.ed_model.specs.PlansFit.{IsFitPlan};
 ghost use Rattle.ed_model.specs.Table.{table, opened, closed, request};
 ghost use Rattle.editor_session.specs.Known.{is_known, IsThere, takes_no_memory};
 ghost use Rattle.editor_session.specs.Answers.{AnswersBy, quieted};
-ghost use Rattle.editor_session.specs.Views.{plain_view, edited_session};
+ghost use Rattle.editor_session.specs.Views.{plain_view, edited_session, IsModestView};
 ghost use Rattle.editor_session.specs.Plans.{planned_at, Does, IsEarlyPlan, IsEarlySource, early_steps, is_answer};
 
 use crate::movement::Movement;
 use crate::plan::{is_known, plan_of};
 use crate::view::{OpenView, move_views, view_among};
+use document::lines_in;
 use document_table::DocumentTable;
 use ed_model::{Edit, Follow, Plan, Planned, Source};
 use ed_types::{Bytes, Kind, Limits, Message, Refusal, Reply};
 use std::alloc::{AllocError, Global};
 use std::marker::Model;
 
-/// What an edit needs: so many bytes of text, and in the history so many steps with so many bytes in all.
+/// What an edit needs: so many bytes of text and lines, and in the history so many steps with so many bytes in all.
 #[derive(Clone, Copy, Debug)]
 struct Need {
     text: usize,
+    lines: usize,
     steps: usize,
     bytes: usize,
 }
@@ -157,12 +159,13 @@ impl State {
     /// What the message is going to do, or why it is refused.
     fn plan(&self, kind: Kind, view: OpenView, m: &Message) -> Planned
         requires there { IsThere kind }
+        requires modest { IsModestView view }
         ensures plan { result ≡ planned_at self.now (plain_view self.now.documents view) kind m.now (document_at self.now.documents view.document) }
         ensures early { IfOk result (λ plan. IsEarlyPlan m.now plan) }
         ensures free { takes_no_memory (Some kind) ≡ true → IfOk result (λ plan. is_answer plan ≡ true) }
     {
         match self.documents.get(view.document) {
-            Some(document) => plan_of(kind, view.caret, document, self.limits.doc_bytes, m),
+            Some(document) => plan_of(kind, view, document, self.limits.doc_bytes, m),
             None => Err(Refusal::NoSuchDocument),
         }
     }
@@ -258,11 +261,12 @@ impl State {
         }
         let need = Need {
             text: count,
+            lines: lines_in(bytes) + 5,
             steps: 1,
             bytes: count,
         };
         self.documents
-            .reserve(document, need.text, need.steps, need.bytes)?;
+            .reserve(document, need.text, need.lines, need.steps, need.bytes)?;
         self.documents
             .insert_reserved(document, false, place, bytes);
         move_views(
@@ -287,11 +291,12 @@ impl State {
         }
         let need = Need {
             text: 0,
+            lines: 3,
             steps: 1,
             bytes: count,
         };
         self.documents
-            .reserve(document, need.text, need.steps, need.bytes)?;
+            .reserve(document, need.text, need.lines, need.steps, need.bytes)?;
         self.documents
             .delete_reserved(document, false, start, count);
         move_views(

@@ -143,3 +143,28 @@ fn commands_run(rt: HostRuntime) -> Result<(), Fail> {
     );
     Ok(())
 }
+
+#[test]
+fn lines_follow_the_text(rt: HostRuntime) -> Result<(), Fail> {
+    let alloc = rt.alloc();
+    let mut session = Session::new(alloc);
+    assert_eq!(rt; session.new_view(), Ok(1));
+    assert_eq!(rt; sent(&mut session, 1, 2154, 0, 0, b"", alloc)?, 1);
+    assert_eq!(rt; sent(&mut session, 1, 2003, 0, 0, b"x\r\na", alloc)?, 0);
+    assert_eq!(rt; sent(&mut session, 1, 2154, 0, 0, b"", alloc)?, 2);
+    // Between CR and LF, and taken out again.
+    assert_eq!(rt; sent(&mut session, 1, 2003, 2, 0, b"z", alloc)?, 0);
+    assert_eq!(rt; sent(&mut session, 1, 2154, 0, 0, b"", alloc)?, 3);
+    assert_eq!(rt; sent(&mut session, 1, 2645, 2, 1, b"", alloc)?, 0);
+    assert_eq!(rt; sent(&mut session, 1, 2154, 0, 0, b"", alloc)?, 2);
+    assert_eq!(rt; sent(&mut session, 1, 2183, 0, 0, b"", alloc)?, 4);
+    assert_eq!(rt; sent(&mut session, 1, 2166, 99, 0, b"", alloc)?, 1);
+    assert_eq!(rt; sent(&mut session, 1, 2350, 0, 0, b"", alloc)?, 3);
+    assert_eq!(rt; sent(&mut session, 1, 2350, 2, 0, b"", alloc)?, 0);
+    let range = message(alloc, 2162, 1, -1, b"")?;
+    match session.send(1, &range) {
+        Ok(reply) => assert!(rt; reply.text() == b"\r\na".as_slice()),
+        Err(_) => assert!(rt; false),
+    }
+    Ok(())
+}

@@ -8,6 +8,8 @@
 #![tactic(auto)]
 
 mod ends;
+#[cfg(test)]
+mod examples;
 mod fault;
 #[cfg(test)]
 mod memory;

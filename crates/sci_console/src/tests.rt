@@ -2,6 +2,7 @@
 
 ghost use Rattle.std.specs.Prelude.{◌≡◌, false};
 
+use crate::examples::{EXAMPLES, HELLO};
 use crate::fault::{RunFault, status_of};
 use crate::memory::{MemorySink, MemorySource};
 use crate::reading::read_file;
@@ -10,41 +11,9 @@ use crate::words::{Job, WordFault, read_words};
 use ed_types::{Cause, ScriptFault};
 use std::alloc::Global;
 
-/// A script, what it prints without notes, and how many expects are not met.
-#[derive(Clone, Copy)]
-struct Example {
-    script: &'static [u8],
-    printed: &'static [u8],
-    unmet: u64,
-}
-
-const INSERTION: Example = Example {
-    script: b"sci 1\nopen\nsend 1 2003 0 0 \"ab\\x0a\"\nsend 1 2182 0 0 \"\"\nsend 1 2003 9 0 \"z\"\nsend 1 2007 -1 0 \"\"\n",
-    printed: b"= 1 \"\"\n= 0 \"\"\n= 3 \"ab\\x0a\"\n! 6\n= 0 \"\"\n",
-    unmet: 0,
-};
-
-const HELLO: Example = Example {
-    script: b"sci 1\nopen\nsend 1 2003 0 0 \"hello\"\nsend 1 2006 0 0 \"\"\nsend 1 2182 0 0 \"\"\n",
-    printed: b"= 1 \"\"\n= 0 \"\"\n= 5 \"\"\n= 5 \"hello\"\n",
-    unmet: 0,
-};
-
 /// The listing of `HELLO`.
 const HELLO_LISTING: &[u8] =
     b"sci 2\nopen\nsend 1 2003 0 0 \"hello\"\nsend 1 2006 0 0 \"\"\nsend 1 2182 0 0 \"\"\n";
-
-const EXPECTS: Example = Example {
-    script: b"sci 2\nopen\nexpect 1\nexpect 1\nsend 1 2006 0 0 \"\"\nexpect 3\nsend 9 2006 0 0 \"\"\nexpect 0\n",
-    printed: b"= 1 \"\"\n+ 1\n+ 1\n= 0 \"\"\n- 3\n! 2\n- 0\n",
-    unmet: 2,
-};
-
-const ONE_UNMET: Example = Example {
-    script: b"sci 2\nopen\nexpect 1\nsend 1 2006 0 0 \"\"\nexpect 3\n",
-    printed: b"= 1 \"\"\n+ 1\n= 0 \"\"\n- 3\n",
-    unmet: 1,
-};
 
 /// What a run from memory to memory answers, a few bytes at a time.
 fn run(
@@ -61,7 +30,7 @@ fn run(
 
 #[test]
 fn runs_the_examples(rt: HostRuntime) {
-    for example in [INSERTION, HELLO, EXPECTS, ONE_UNMET] {
+    for example in EXAMPLES {
         let mut sink = MemorySink::new(rt.alloc(), 5, 1000, false);
         let answer = run(rt.alloc(), example.script, 1000, &mut sink);
         assert!(rt; answer == Ok(example.unmet));

@@ -1,11 +1,12 @@
--- The cells and the history change as a step changes them; lending the deleted bytes changed neither.
-use Rattle.std.proofs.Common.{◌≡◌, ◌+◌, ◌≤◌, List, ◌++◌, length, take, drop, slice_range, ap, ◌∙◌, arith}
+-- The cells and the history change as a step changes them, and the lines are told of it; lending the deleted bytes changed none.
+use Rattle.std.proofs.Common.{rules, ◌≡◌, ◌+◌, ◌≤◌, List, ◌++◌, length, take, drop, slice_range, ap, sym, subst, ◌∙◌, arith}
 use Rattle.cell_buffer.specs.Buffer.{Buffer}
 use Rattle.ed_model.specs.Text.{Cell, bytes_of}
 use Rattle.ed_model.specs.Steps.{Delete}
 use Rattle.ed_model.specs.History.{TextStep, appended}
 use Rattle.document.specs.Held.{Held, document_of, step_on}
 use Rattle.document.proofs.PlainStep.{stepped_parts, deleted_cells}
+use Rattle.document.proofs.LineSteps.{told_of_deletion, deletion_fits, deletion_takes, deleted_count}
 use Rattle.document.proofs.held.Document.delete_reserved.Goals as goal
 
 pub returns-clause-document : goal.returns-clause-document
@@ -21,3 +22,32 @@ returns-clause-document c =
     stepped_parts c.args.later (Delete place bytes) c.args.self.now c.self.inside.id cells c.delete.new.self.cells c.self.inside.history.history
     c.append_reserved.new.self.history c.self.inside.views.items (ap document_of c.self.view_is) (deleted_cells cells c.delete.new.self.cells place count inside left) history
     ∙ ap (λ (cs : List Cell). step_on c.args.later (Delete place (slice_range (bytes_of cs) place (place + count))) (document_of c.args.self.now)) same
+
+pub deleted-requires-clause-was : goal.deleted-requires-clause-was
+deleted-requires-clause-was c =
+    let place = c.args.place in
+    let count = c.args.count in
+    let within : place + count ≤ length c.self.inside.cells.cells = subst (λ (h : Held). place + count ≤ length h.cells) (sym c.self.view_is) c.requires.place in
+    let left = c.delete.ensures.cells ∙ ap (λ (b : Buffer). take place b.cells ++ drop (place + count) b.cells) c.lend-deleted.follows.holds-at-none in
+    told_of_deletion c.self.inside.cells.cells c.delete.new.self.cells c.self.inside.lines place count _ c.self.invariant within left c.halves.ensures.joined
+
+pub deleted-requires-clause-room : goal.deleted-requires-clause-room
+deleted-requires-clause-room c =
+    let place = c.args.place in
+    let count = c.args.count in
+    let within : place + count ≤ length c.self.inside.cells.cells = subst (λ (h : Held). place + count ≤ length h.cells) (sym c.self.view_is) c.requires.place in
+    let room : 3 ≤ c.self.inside.lines.room = subst (λ (h : Held). 3 ≤ h.line_room) (sym c.self.view_is) c.requires.room.1 in
+    let left = c.delete.ensures.cells ∙ ap (λ (b : Buffer). take place b.cells ++ drop (place + count) b.cells) c.lend-deleted.follows.holds-at-none in
+    deletion_fits c.self.inside.cells.cells c.delete.new.self.cells c.self.inside.lines place count _ c.room_for_steps.ensures.deletion c.self.invariant within room left c.halves.ensures.joined
+
+pub returns-clause-room_left : goal.returns-clause-room_left
+returns-clause-room_left c =
+    let place = c.args.place in
+    let count = c.args.count in
+    let within : place + count ≤ length c.self.inside.cells.cells = subst (λ (h : Held). place + count ≤ length h.cells) (sym c.self.view_is) c.requires.place in
+    let left = c.delete.ensures.cells ∙ ap (λ (b : Buffer). take place b.cells ++ drop (place + count) b.cells) c.lend-deleted.follows.holds-at-none in
+    let taken = deletion_takes c.self.inside.cells.cells c.delete.new.self.cells c.self.inside.lines c.deleted.new.self place count _ c.room_for_steps.ensures.deletion c.self.invariant within
+    left c.halves.ensures.joined c.deleted.ensures.index c.deleted.ensures.types c.deleted.ensures.room in
+    let counted = ap length c.lend-deleted.ensures.value ∙ deleted_count c.self.inside.cells.cells place count within in
+    let bytes_left : c.self.inside.history.byte_room ≤ c.append_reserved.new.self.byte_room + count = omega (arith, c.append_reserved.ensures.bytes_left, counted) in
+    rw (← c.self.view_is) (record { collects = search rules; text_left = search rules; lines_left = taken; steps_left = search rules; bytes_left = bytes_left })

@@ -1,0 +1,112 @@
+-- The index of a document's lines, before a step and after it: what an index is told of a step, and the room that it needs.
+use Rattle.std.proofs.Common.{◌≡◌, ℕ, zero, suc, ◌+◌, ◌-◌, ◌≤◌, Bool, true, false, cond, List, [], ◌∷◌, ◌++◌, length, take, drop, All, slice_get, slice_range, length-take, length-drop, refl, ap, sym, ◌∙◌, arith, nat_lt}
+use Rattle.std.specs.Prelude.{unwrap_or}
+use Rattle.std.proofs.lemmas.List.{length-map, map-append, take-map, drop-map}
+use Rattle.ed_model.specs.declared.plan.LineEndTypes.{LineEndTypes}
+use Rattle.ed_model.specs.declared.plan.LineEndTypes.TheVariants.{Default}
+use Rattle.ed_model.specs.Text.{Cell, bytes_of}
+use Rattle.ed_model.specs.Lines.{line_starts, line_count, line_end_length, start_after_line, end_of_line}
+use Rattle.ed_model.specs.Steps.{Insert, edited, edited_cells}
+use Rattle.ed_model.proofs.LineLemmas.{line_starts_in_range}
+use Rattle.ed_model.proofs.StepLemmas.{bytes_of_edited_cells}
+use Rattle.line_index.specs.Index.{Index, IsIndexOf, WasInserted, WasDeleted}
+use Rattle.line_index.specs.RoomLaws.{InsertionAddsFewLines, DeletionAddsFewLines}
+use Rattle.document.specs.Held.{HasLinesOf}
+
+-- The end of a line lies in the text.
+
+start_or_end : (starts : List ℕ) (end : ℕ) → All (λ s. s ≤ end) starts → (k : ℕ) → unwrap_or (slice_get starts k) end ≤ end
+start_or_end [] end a k = omega arith
+start_or_end (s ∷ ss) end a zero = a 0 0 (omega arith)
+start_or_end (s ∷ ss) end a (suc k) = start_or_end ss end (λ i d h. a (suc i) d (omega arith)) k
+
+before_or_at : (b : Bool) (next back end : ℕ) → next ≤ end → cond b (next - back) end ≤ end
+before_or_at true next back end h = omega arith
+before_or_at false next back end h = omega arith
+
+end_in_text : (types : LineEndTypes) (text : List ℕ) (line : ℕ) → end_of_line types text line ≤ length text
+end_in_text types text line =
+    let next : ℕ = start_after_line types text line in
+    before_or_at (nat_lt (line + 1) (line_count types text)) next (line_end_length text next) (length text)
+    (start_or_end (line_starts types text) (length text) (line_starts_in_range types text) (line + 1))
+
+pub end_in_cells : (cells : List Cell) (types : LineEndTypes) (text : List ℕ) (line : ℕ) → text ≡ bytes_of cells → end_of_line types text line ≤ length cells
+end_in_cells cells types text line read = omega (arith, end_in_text types text line, ap length read, length-map cells (λ (c : Cell). c.byte))
+
+-- An insertion.
+
+bytes_inserted : (cells new : List Cell) (place : ℕ) (bytes text : List ℕ) → new ≡ edited_cells (Insert place bytes) cells → text ≡ bytes_of new → edited (Insert place bytes) (bytes_of cells) ≡ text
+bytes_inserted cells new place bytes text is read = sym (bytes_of_edited_cells (Insert place bytes) cells) ∙ sym (ap bytes_of is) ∙ sym read
+
+place_in_bytes : (cells : List Cell) (place : ℕ) → place ≤ length cells → place ≤ length (bytes_of cells)
+place_in_bytes cells place h = omega (arith, length-map cells (λ (c : Cell). c.byte))
+
+pub told_of_insertion : (cells new : List Cell) (lines : Index) (place : ℕ) (bytes text : List ℕ) → HasLinesOf cells lines → place ≤ length cells →
+    new ≡ edited_cells (Insert place bytes) cells → text ≡ bytes_of new → WasInserted place (length bytes) text lines
+told_of_insertion cells new lines place bytes text has within is read = record {
+  old = bytes_of cells;
+  bytes = bytes;
+  counted = refl;
+  within = place_in_bytes cells place within;
+  index = has.index;
+  edited = bytes_inserted cells new place bytes text is read;
+}
+
+pub insertion_fits : (cells new : List Cell) (lines : Index) (place : ℕ) (bytes text : List ℕ) → InsertionAddsFewLines → HasLinesOf cells lines → place ≤ length cells →
+    line_count Default bytes + 5 ≤ lines.room → new ≡ edited_cells (Insert place bytes) cells → text ≡ bytes_of new → line_count lines.types text ≤ length lines.starts + lines.room
+insertion_fits cells new lines place bytes text few has within room is read =
+    let count : length lines.starts ≡ line_count Default (bytes_of cells) = ap length has.index.starts ∙ ap (λ t. line_count t (bytes_of cells)) has.types in
+    let after : line_count Default (edited (Insert place bytes) (bytes_of cells)) ≡ line_count lines.types text = ap (line_count Default) (bytes_inserted cells new place bytes text is read) ∙ ap (λ t. line_count t text) (sym has.types) in
+    omega (arith, count, after, few Default place bytes (bytes_of cells) (place_in_bytes cells place within))
+
+-- A deletion.
+
+bytes_deleted : (cells new : List Cell) (place count : ℕ) (text : List ℕ) → new ≡ take place cells ++ drop (place + count) cells → text ≡ bytes_of new →
+    take place (bytes_of cells) ++ drop (place + count) (bytes_of cells) ≡ text
+bytes_deleted cells new place count text is read =
+    let e : bytes_of (take place cells ++ drop (place + count) cells) ≡ take place (bytes_of cells) ++ drop (place + count) (bytes_of cells) = simp (map-append, take-map, drop-map) in
+    sym e ∙ sym (ap bytes_of is) ∙ sym read
+
+pub told_of_deletion : (cells new : List Cell) (lines : Index) (place count : ℕ) (text : List ℕ) → HasLinesOf cells lines → place + count ≤ length cells →
+    new ≡ take place cells ++ drop (place + count) cells → text ≡ bytes_of new → WasDeleted place count text lines
+told_of_deletion cells new lines place count text has within is read = record {
+  old = bytes_of cells;
+  within = place_in_bytes cells (place + count) within;
+  index = has.index;
+  deleted = bytes_deleted cells new place count text is read;
+}
+
+pub deletion_fits : (cells new : List Cell) (lines : Index) (place count : ℕ) (text : List ℕ) → DeletionAddsFewLines → HasLinesOf cells lines → place + count ≤ length cells →
+    3 ≤ lines.room → new ≡ take place cells ++ drop (place + count) cells → text ≡ bytes_of new → line_count lines.types text ≤ length lines.starts + lines.room
+deletion_fits cells new lines place count text few has within room is read =
+    let starts : length lines.starts ≡ line_count Default (bytes_of cells) = ap length has.index.starts ∙ ap (λ t. line_count t (bytes_of cells)) has.types in
+    let after : line_count Default (take place (bytes_of cells) ++ drop (place + count) (bytes_of cells)) ≡ line_count lines.types text = ap (line_count Default) (bytes_deleted cells new place count text is read) ∙ ap (λ t. line_count t text) (sym has.types) in
+    omega (arith, starts, after, few Default place count (bytes_of cells) (place_in_bytes cells (place + count) within))
+
+-- The room that a step takes.
+
+lines_of_index : (text : List ℕ) (i : Index) → IsIndexOf text i → i.types ≡ Default → length i.starts ≡ line_count Default text
+lines_of_index text i is types = ap length is.starts ∙ ap (λ t. line_count t text) types
+
+pub insertion_takes : (cells new : List Cell) (lines after : Index) (place : ℕ) (bytes text : List ℕ) → InsertionAddsFewLines → HasLinesOf cells lines → place ≤ length cells →
+    new ≡ edited_cells (Insert place bytes) cells → text ≡ bytes_of new → IsIndexOf text after → after.types ≡ lines.types → after.room + length after.starts ≡ lines.room + length lines.starts →
+    lines.room ≤ after.room + (line_count Default bytes + 5)
+insertion_takes cells new lines after place bytes text few has within is read index types sum =
+    let old = lines_of_index (bytes_of cells) lines has.index has.types in
+    let count = lines_of_index text after index (types ∙ has.types) in
+    let same : line_count Default (edited (Insert place bytes) (bytes_of cells)) ≡ line_count Default text = ap (line_count Default) (bytes_inserted cells new place bytes text is read) in
+    omega (arith, old, count, same, sum, few Default place bytes (bytes_of cells) (place_in_bytes cells place within))
+
+pub deletion_takes : (cells new : List Cell) (lines after : Index) (place count : ℕ) (text : List ℕ) → DeletionAddsFewLines → HasLinesOf cells lines → place + count ≤ length cells →
+    new ≡ take place cells ++ drop (place + count) cells → text ≡ bytes_of new → IsIndexOf text after → after.types ≡ lines.types → after.room + length after.starts ≡ lines.room + length lines.starts →
+    lines.room ≤ after.room + 3
+deletion_takes cells new lines after place count text few has within is read index types sum =
+    let old = lines_of_index (bytes_of cells) lines has.index has.types in
+    let lines_after = lines_of_index text after index (types ∙ has.types) in
+    let same : line_count Default (take place (bytes_of cells) ++ drop (place + count) (bytes_of cells)) ≡ line_count Default text = ap (line_count Default) (bytes_deleted cells new place count text is read) in
+    omega (arith, old, lines_after, same, sum, few Default place count (bytes_of cells) (place_in_bytes cells (place + count) within))
+
+pub deleted_count : (cells : List Cell) (place count : ℕ) → place + count ≤ length cells → length (slice_range (bytes_of cells) place (place + count)) ≡ count
+deleted_count cells place count h =
+    let long : length (bytes_of cells) ≡ length cells = length-map cells (λ (c : Cell). c.byte) in
+    simp (length-take, length-drop) (omega (arith, long))
