@@ -11,7 +11,6 @@ use Rattle.ed_model.specs.declared.plan.Follow.TheVariants as follow
 use Rattle.ed_model.specs.declared.plan.Plan.{Plan}
 use Rattle.ed_model.specs.declared.plan.Plan.TheVariants as plan
 use Rattle.ed_model.specs.Numbers.{within, is_minus_one}
-use Rattle.ed_model.specs.Text.{Cell}
 use Rattle.ed_model.specs.Steps.{Step, insertion, deletion}
 use Rattle.ed_types.specs.Notices.{Response}
 use Rattle.ed_model.specs.Session.{Session, View, Document, new_session, greatest_limits}

@@ -5,6 +5,8 @@
 #![tactic(auto)]
 
 mod argument;
+#[cfg(test)]
+mod lending_tests;
 mod lines;
 mod movement;
 mod plan;

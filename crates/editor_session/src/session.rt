@@ -7,6 +7,7 @@ ghost use Rattle.ed_model.specs.Session.{new_session, greatest_limits, is_betwee
 ghost use Rattle.ed_model.specs.Table.{table, limited, opened, closed};
 ghost use Rattle.editor_session.specs.Known.{is_known, takes_no_memory};
 ghost use Rattle.editor_session.specs.Answers.{AnswersBy, quieted};
+ghost use Rattle.editor_session.specs.Lent.{lent_range};
 
 use crate::state::State;
 use ed_types::{Limits, Message, Refusal, Reply};
@@ -51,6 +52,9 @@ fn is_allowed(limits: &Limits) -> bool
 }
 
 impl Session {
+    ghost use Rattle.std.specs.Borrow.{sem};
+    ghost use Rattle.editor_session.specs.Lends.{lent_and_back};
+
     /// No documents and no views, with the greatest limits. Takes no memory.
     pub fn new(alloc: Global) -> Self
         ensures { result ≡ new_session greatest_limits }
@@ -123,5 +127,20 @@ impl Session {
         ensures free { takes_no_memory (kind_of m.now.number) ≡ true → IfErr result (λ refusal. refusal ≢ OutOfMemory) }
     {
         self.state.send(view, m)
+    }
+
+    /// Lends the `count` bytes of the view's document from `start` on as one slice, which is not copied. The session stays as
+    /// it is. Takes no memory.
+    ///
+    /// # Errors
+    ///
+    /// `NoSuchView` where no view has this id now; `BadArgument` where `start + count` is past the end of the text.
+    pub fn lend_range(&mut self, view: u32, start: usize, count: usize) -> Result<&[u8], Refusal>
+        ensures* back { sem 𝓛 (lent_and_back self.entry) }
+        ensures lent { IfOk result (λ bytes. lent_range self.old view start count ≡ Ok bytes.now) }
+        ensures refused { IfErr result (λ refusal. lent_range self.old view start count ≡ Err refusal) }
+    {
+        let document = self.state.document_with(view, start, count)?;
+        Ok(self.state.lend(document, start, count))
     }
 }

@@ -1,6 +1,6 @@
 //! What a session keeps, and the one way of a message through it.
 
-ghost use Rattle.std.specs.Prelude.{◌≡◌, ◌≢◌, ◌≤◌, ◌+◌, true, length, slice_range, OnOk, OnErr, IfOk, IfErr, IfSome, IsOk, IsSomeAnd, is_some, option_map, Some, Err};
+ghost use Rattle.std.specs.Prelude.{◌≡◌, ◌≢◌, ◌≤◌, ◌+◌, true, length, slice_range, OnOk, OnErr, IfOk, IfErr, IfSome, IsOk, IsSomeAnd, is_some, option_map, Some, Ok, Err};
 ghost use Rattle.ed_types.specs.declared.refusal.Refusal.TheVariants.{OutOfMemory};
 ghost use Rattle.ed_types.specs.Messages.{kind_of};
 ghost use Rattle.ed_model.specs.Text.{bytes_of};
@@ -11,6 +11,7 @@ ghost use Rattle.ed_model.specs.PlansFit.{IsFitPlan};
 ghost use Rattle.ed_model.specs.Table.{table, opened, closed, request};
 ghost use Rattle.editor_session.specs.Known.{is_known, IsThere, takes_no_memory};
 ghost use Rattle.editor_session.specs.Answers.{AnswersBy, quieted};
+ghost use Rattle.editor_session.specs.Lent.{lent_range};
 ghost use Rattle.editor_session.specs.Views.{plain_view, edited_session, IsModestView};
 ghost use Rattle.editor_session.specs.Plans.{planned_at, Does, IsEarlyPlan, IsEarlySource, early_steps, is_answer};
 
@@ -54,6 +55,9 @@ impl Model for State {
 }
 
 impl State {
+    ghost use Rattle.std.specs.Borrow.{sem};
+    ghost use Rattle.editor_session.specs.StateLends.{lent_and_back};
+
     /// No documents and no views. Takes no memory.
     pub(crate) fn new(alloc: Global, limits: Limits) -> Self
         ensures { result ≡ new_session limits }
@@ -126,6 +130,40 @@ impl State {
         ensures { result ≡ is_some (view_at self.now.views view) }
     {
         self.find(view).is_some()
+    }
+
+    /// The id of a view's document, where so many bytes lie in its text from `start` on. Takes no memory.
+    pub(crate) fn document_with(
+        &self,
+        view: u32,
+        start: usize,
+        count: usize,
+    ) -> Result<u32, Refusal>
+        ensures range { IfOk result (λ document. IsSomeAnd (document_at self.now.documents document) (λ d. start + count ≤ length d.cells)) }
+        ensures bytes { IfOk result (λ document. IfSome (document_at self.now.documents document) (λ d. lent_range self.now view start count ≡ Ok (slice_range (text_of d) start (start + count)))) }
+        ensures refused { IfErr result (λ refusal. lent_range self.now view start count ≡ Err refusal) }
+    {
+        let Some(view) = self.find(view) else {
+            return Err(Refusal::NoSuchView);
+        };
+        let Some(document) = self.documents.get(view.document) else {
+            return Err(Refusal::NoSuchDocument);
+        };
+        let length = document.len();
+        if length < start || length - start < count {
+            return Err(Refusal::BadArgument);
+        }
+        Ok(view.document)
+    }
+
+    /// Lends the `count` bytes of a document from `start` on as one slice, which is not copied. All stays as it is. Takes no
+    /// memory.
+    pub(crate) fn lend(&mut self, document: u32, start: usize, count: usize) -> &[u8]
+        requires { IsSomeAnd (document_at self.old.documents document) (λ d. start + count ≤ length d.cells) }
+        ensures* back { sem 𝓛 (lent_and_back self.entry) }
+        ensures value { IfSome (document_at self.old.documents document) (λ d. result.now ≡ slice_range (text_of d) start (start + count)) }
+    {
+        self.documents.lend(document, start, count)
     }
 
     /// Sends a message to a view.

@@ -1,9 +1,9 @@
 -- The document that lent its bytes is as it was, and so is the table.
 use Rattle.std.proofs.Common.{◌≡◌, Some, refl, ap, ◌∙◌}
-use Rattle.slab.specs.Slab.{Slab, with_value}
+use Rattle.slab.specs.Slab.{Slab}
 use Rattle.document.specs.Held.{Held}
 use Rattle.document_table.specs.Documents.{Documents}
-use Rattle.document_table.specs.Order.{key_at, held_by, IsTable}
+use Rattle.document_table.specs.Order.{key_at, held_by}
 use Rattle.document_table.proofs.OrderLemmas.{found_key}
 use Rattle.document_table.proofs.DocumentLemmas.{document_found, lent_back}
 use Rattle.document_table.proofs.table.DocumentTable.lend.Goals as goal

@@ -1,4 +1,4 @@
-use Rattle.std.proofs.Common.{rules, ◌≡◌, true, IfOk, Some, sym, subst, ◌∙◌}
+use Rattle.std.proofs.Common.{rules, ◌≡◌, true, IfOk, sym, subst, ◌∙◌}
 use Rattle.editor_session.specs.Views.{session_kept}
 use Rattle.editor_session.specs.Plans.{IsEarlyPlan, is_answer}
 use Rattle.editor_session.proofs.PlanLemmas.{planned_for, plan_is_early, plan_is_answer}
