@@ -1,3 +1,4 @@
+pub mod Blocks
 pub mod DeletedLines
 pub mod Finding
 pub mod InsertedLines

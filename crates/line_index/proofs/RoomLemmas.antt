@@ -121,9 +121,20 @@ few_deleted types place count text h =
 
 -- the lines of bytes, counted one start after another
 
-pub counted_first : (types : LineEndTypes) (bytes : List ℕ) (place : ℕ) → 1 ≤ place → ((k : ℕ) → 1 ≤ k → k < place → is_line_start types bytes k ≡ false) → 1 ≡ length (starts_within types bytes 0 place)
-counted_first types bytes place h none =
-    sym (ap length (one_more types bytes 0 0 place (omega arith) (omega arith) refl none) ∙ ap (λ (l : List ℕ). length (l ++ 0 ∷ [])) (no_starts types bytes 0 0 (λ k a b. absurd (omega arith))))
+-- none starts up to the next place
+pub counted_on :
+    (types : LineEndTypes) (bytes : List ℕ) (place next lines : ℕ) → place + 1 ≤ next → ((k : ℕ) → place + 1 ≤ k → k < next → is_line_start types (bytes ++ []) k ≡ false)
+    → lines ≡ length (starts_within types bytes 0 (place + 1)) → lines ≡ length (starts_within types (bytes ++ []) 0 next)
+counted_on types bytes place next lines h none e =
+    let same : bytes ++ [] ≡ bytes = append-nil bytes in
+    omega (
+      arith,
+      e,
+      ap (λ t. length (starts_within types t 0 (place + 1))) same,
+      ap length (starts_apart types (bytes ++ []) 0 (place + 1) next (omega arith) h),
+      length-append (starts_within types (bytes ++ []) 0 (place + 1)) (starts_within types (bytes ++ []) (place + 1) next),
+      ap length (no_starts types (bytes ++ []) (place + 1) next none),
+    )
 
 pub counted_next :
     (types : LineEndTypes) (bytes : List ℕ) (place next lines : ℕ) → place < next → is_line_start types bytes place ≡ true

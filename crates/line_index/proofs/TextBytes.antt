@@ -11,7 +11,7 @@ use Rattle.ed_model.specs.Lines.{is_line_start, knows_unicode}
 use Rattle.line_index.specs.Ends.{may_end}
 use Rattle.ed_model.proofs.NeighbourLemmas.{slice_get_append_left, slice_get_append_right}
 
-stands_within : (byte : ℕ) (xs : List ℕ) (p : ℕ) → p < length xs → stands byte xs p ≡ (get_or xs p 0 == byte)
+pub stands_within : (byte : ℕ) (xs : List ℕ) (p : ℕ) → p < length xs → stands byte xs p ≡ (get_or xs p 0 == byte)
 stands_within byte [] p h = absurd (omega arith)
 stands_within byte (x ∷ xs) zero h = refl
 stands_within byte (x ∷ xs) (suc p) h = stands_within byte xs p (omega arith)

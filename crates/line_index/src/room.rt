@@ -1,11 +1,69 @@
 //! How much room steps need.
 
-ghost use Rattle.std.specs.Prelude.{◌≡◌, ◌≤◌, ◌+◌, length};
+ghost use Rattle.std.specs.Prelude.{◌≡◌, ◌≤◌, ◌<◌, ◌+◌, ◌==◌, ◌||◌, ◌&&◌, not, if◌then◌else◌, length};
 ghost use Rattle.ed_model.specs.Lines.{line_count};
+ghost use Rattle.ed_model.specs.Text.{carriage_return, line_feed};
+ghost use Rattle.line_index.specs.Index.{starts_within};
 ghost use Rattle.line_index.specs.RoomLaws.{DeletionAddsFewLines, InsertionAddsFewLines};
 
 use crate::halves::next_start;
 use ed_model::LineEndTypes;
+
+// How many bytes are tested at once: a counter of one byte holds how many lines start behind them, so that a vector has
+// many counters.
+const BLOCK: usize = 192;
+
+// How many lines end with the byte, where line ends of Unicode do not count: 1 or 0. No branch is taken, so that many
+// bytes are tested at once.
+fn ends_with(byte: u8, next: u8) -> u8
+    ensures { result ≡ (if byte == line_feed || (byte == carriage_return && not (next == line_feed)) then 1 else 0) }
+{
+    if (byte == b'\n') | ((byte == b'\r') & (next != b'\n')) {
+        1
+    } else {
+        0
+    }
+}
+
+// How many lines start behind the bytes of the block from `from` on, which another byte follows.
+fn lines_behind_block(bytes: &[u8], from: usize) -> usize
+    requires { from + 192 < length bytes.now }
+    ensures lines { result ≡ length (starts_within LineEndTypes.Default bytes.now (from + 1) (from + 192 + 1)) }
+    ensures few { result ≤ 192 }
+{
+    let mut lines = 0u8;
+    for place in from..from + BLOCK {
+        lines += ends_with(bytes[place], bytes[place + 1]);
+    }
+    lines as usize
+}
+
+// How many lines start at the bytes' beginning and behind those of whole blocks, and how many bytes these have.
+fn lines_behind_blocks(bytes: &[u8]) -> (usize, usize)
+    ensures lines { result.0 ≡ length (starts_within LineEndTypes.Default bytes.now 0 (result.1 + 1)) }
+    ensures few { result.0 ≤ result.1 + 1 }
+    ensures within { result.1 ≤ length bytes.now }
+{
+    let mut lines = 1;
+    let mut place = 0;
+    'adding: while bytes.len() - place > BLOCK {
+        lines += lines_behind_block(bytes, place);
+        place += BLOCK;
+    }
+    (lines, place)
+}
+
+// The same for each setting: where line ends of Unicode count, the blocks are none.
+fn lines_seen(types: LineEndTypes, bytes: &[u8]) -> (usize, usize)
+    ensures lines { result.0 ≡ length (starts_within types bytes.now 0 (result.1 + 1)) }
+    ensures few { result.0 ≤ result.1 + 1 }
+    ensures within { result.1 ≤ length bytes.now }
+{
+    match types {
+        LineEndTypes::Default => lines_behind_blocks(bytes),
+        LineEndTypes::Unicode => (1, 0),
+    }
+}
 
 /// Returns how many lines the bytes have by themselves.
 pub fn lines_in(types: LineEndTypes, bytes: &[u8]) -> usize
@@ -13,8 +71,9 @@ pub fn lines_in(types: LineEndTypes, bytes: &[u8]) -> usize
     ensures within { result ≤ length bytes.now + 1 }
 {
     let end = bytes.len() + 1;
-    let mut lines = 1;
-    let mut place = next_start(types, bytes, &[], 1, end);
+    let (seen, behind) = lines_seen(types, bytes);
+    let mut lines = seen;
+    let mut place = next_start(types, bytes, &[], behind + 1, end);
     'counting: while place < end {
         lines += 1;
         place = next_start(types, bytes, &[], place + 1, end);

@@ -1,14 +1,14 @@
 use Rattle.std.proofs.Common.{◌++◌, [], arith}
-use Rattle.line_index.proofs.RoomLemmas.{counted_first, counted_next, counted_all}
+use Rattle.line_index.proofs.RoomLemmas.{counted_on, counted_next, counted_all}
 use Rattle.line_index.proofs.room.lines_in.Goals as goal
 
 pub counting-init : goal.counting-init
 counting-init c =
     record {
-      lines = counted_first c.args.types (c.args.bytes.now ++ []) c.next_start-place.result c.next_start-place.ensures.within.0 c.next_start-place.ensures.none;
-      low = c.next_start-place.ensures.within.0;
+      lines = counted_on c.args.types c.args.bytes.now c.lines_seen-seen.result.1 c.next_start-place.result c.lines_seen-seen.result.0 c.next_start-place.ensures.within.0 c.next_start-place.ensures.none c.lines_seen-seen.ensures.lines;
+      low = omega (arith, c.next_start-place.ensures.within);
       high = c.next_start-place.ensures.within.1;
-      few = c.next_start-place.ensures.within.0;
+      few = omega (arith, c.next_start-place.ensures.within, c.lines_seen-seen.ensures.few);
       found = c.next_start-place.ensures.start;
     }
 

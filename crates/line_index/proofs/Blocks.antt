@@ -1,0 +1,66 @@
+-- Lines of many bytes, counted byte after byte.
+use Rattle.std.proofs.Common.{◌≡◌, ℕ, ◌+◌, ◌-◌, ◌<◌, ◌≤◌, Bool, true, false, cond, ◌==◌, ◌||◌, ◌&&◌, not, List, length, get_or, refl, ap, arith, length-append}
+use Rattle.std.proofs.lemmas.Bool.{ne_eqb}
+use Rattle.ed_model.specs.declared.plan.LineEndTypes.{LineEndTypes}
+use Rattle.ed_model.specs.declared.plan.LineEndTypes.TheVariants.{Default}
+use Rattle.ed_model.specs.Lines.{is_line_start}
+use Rattle.line_index.specs.Index.{starts_within}
+use Rattle.line_index.proofs.StartLists.{starts_apart, one_start, no_starts}
+use Rattle.line_index.proofs.TextBytes.{stands_within}
+
+-- one more place, at which a line starts or does not
+pub counted_at :
+    (types : LineEndTypes) (text : List ℕ) (from place lines : ℕ) (here : Bool) → from ≤ place → is_line_start types text place ≡ here
+    → lines ≡ length (starts_within types text from place) → lines + cond here 1 0 ≡ length (starts_within types text from (place + 1))
+counted_at types text from place lines here a e h =
+    omega (
+      arith,
+      ap length (starts_apart types text from place (place + 1) a (omega arith)),
+      length-append (starts_within types text from place) (starts_within types text place (place + 1)),
+      at_place here e,
+    )
+  where
+    at_place : (b : Bool) → is_line_start types text place ≡ b → length (starts_within types text place (place + 1)) ≡ cond b 1 0
+    at_place true e = ap length (one_start types text place e)
+    at_place false e = ap length (no_starts types text place (place + 1) (λ k l m. let same : k ≡ place = omega arith in rw same e))
+
+without_unicode : (a b n : Bool) → (a || (b && n) || false) ≡ (a || (b && n))
+without_unicode true b n = refl
+without_unicode false true true = refl
+without_unicode false true false = refl
+without_unicode false false n = refl
+
+-- a line starts behind a byte where a line ends with it
+pub starts_behind :
+    (text : List ℕ) (p : ℕ) → p + 1 < length text
+    → is_line_start Default text (p + 1) ≡ (get_or text p 0 == 10 || (get_or text p 0 == 13 && not (get_or text (p + 1) 0 == 10)))
+starts_behind text p h =
+    let one : p + 1 - 1 ≡ p = omega arith in
+    let some : (p + 1 == 0) ≡ false = ne_eqb (p + 1) 0 (λ z. omega arith) in
+    rw (some, one, stands_within 10 text p (omega arith), stands_within 13 text p (omega arith), stands_within 10 text (p + 1) h)
+    (without_unicode (get_or text p 0 == 10) (get_or text p 0 == 13) (not (get_or text (p + 1) 0 == 10)))
+
+-- so one more byte is counted
+pub one_counted :
+    (text : List ℕ) (from p lines more : ℕ) → from ≤ p → p + 1 < length text
+    → more ≡ cond (get_or text p 0 == 10 || (get_or text p 0 == 13 && not (get_or text (p + 1) 0 == 10))) 1 0
+    → lines ≡ length (starts_within Default text (from + 1) (p + 1)) → lines + more ≡ length (starts_within Default text (from + 1) (p + 1 + 1))
+one_counted text from p lines more a l e h =
+    rw e
+    (counted_at Default text (from + 1) (p + 1) lines (get_or text p 0 == 10 || (get_or text p 0 == 13 && not (get_or text (p + 1) 0 == 10)))
+    (omega arith) (starts_behind text p l) h)
+
+pub at_most_one : (here : Bool) (more : ℕ) → more ≡ cond here 1 0 → more ≤ 1
+at_most_one true more e = omega arith
+at_most_one false more e = omega arith
+
+-- the places of one more block
+pub block_counted :
+    (text : List ℕ) (place next lines more : ℕ) → place ≤ next → lines ≡ length (starts_within Default text 0 (place + 1))
+    → more ≡ length (starts_within Default text (place + 1) (next + 1)) → lines + more ≡ length (starts_within Default text 0 (next + 1))
+block_counted text place next lines more h a b =
+    omega (
+      arith,
+      ap length (starts_apart Default text 0 (place + 1) (next + 1) (omega arith) (omega arith)),
+      length-append (starts_within Default text 0 (place + 1)) (starts_within Default text (place + 1) (next + 1)),
+    )

@@ -1,0 +1,13 @@
+use Rattle.std.proofs.Common.{◌+◌, arith}
+use Rattle.line_index.proofs.Blocks.{block_counted}
+use Rattle.line_index.proofs.room.lines_behind_blocks.Goals as goal
+
+pub adding-preserved : goal.adding-preserved
+adding-preserved c =
+    let inv = c.adding.invariant in
+    let block = c.lines_behind_block-lines in
+    record {
+      lines = block_counted c.args.bytes.now c.adding.place (c.adding.place + 192) c.adding.lines block.result (omega arith) inv.lines block.ensures.lines;
+      few = omega (arith, inv.few, block.ensures.few);
+      within = omega arith;
+    }
