@@ -1,7 +1,9 @@
+pub mod Added
 pub mod Blocks
 pub mod DeletedLines
 pub mod Finding
 pub mod InsertedLines
+pub mod MarkedBytes
 pub mod MovedLines
 pub mod RoomLemmas
 pub mod StartLists

@@ -8,7 +8,9 @@ use Rattle.ed_model.specs.declared.plan.LineEndTypes.{LineEndTypes}
 use Rattle.ed_model.specs.Numbers.{is_number}
 use Rattle.ed_model.specs.Text.{stands}
 use Rattle.ed_model.specs.Lines.{is_line_start, knows_unicode}
+use Rattle.std.specs.Int.{bit_at}
 use Rattle.line_index.specs.Ends.{may_end}
+use Rattle.line_index.specs.Index.{MarkStarts}
 use Rattle.ed_model.proofs.NeighbourLemmas.{slice_get_append_left, slice_get_append_right}
 
 pub stands_within : (byte : ℕ) (xs : List ℕ) (p : ℕ) → p < length xs → stands byte xs p ≡ (get_or xs p 0 == byte)
@@ -125,3 +127,17 @@ none_on types text from place next front here behind k a b =
       | inr (inl below) ↦ front k a below
       | inr (inr above) ↦ behind k above b
     ]
+
+-- marks of bytes of the first half tell where no line starts behind them, ..
+pub marked_in_first :
+    (types : LineEndTypes) (xs ys : List ℕ) (at place marks : ℕ) → place ≡ at + 1 → at + 64 ≤ length xs
+    → ((k : ℕ) → k < 64 → bit_at marks k ≡ 0 → may_end types (get_or xs (at + k) 0) ≡ false) → MarkStarts types (xs ++ ys) place marks
+marked_in_first types xs ys at place marks e l unmarked k b clear =
+    no_start_behind types (xs ++ ys) (at + k) (place + k) (omega arith) (omega (arith, length-append xs ys)) (rw (get_or-append xs ys 0 (at + k) (omega arith)) (unmarked k b clear))
+
+-- .. and of the second
+pub marked_in_second :
+    (types : LineEndTypes) (xs ys : List ℕ) (at place marks : ℕ) → place ≡ length xs + at + 1 → at + 64 ≤ length ys
+    → ((k : ℕ) → k < 64 → bit_at marks k ≡ 0 → may_end types (get_or ys (at + k) 0) ≡ false) → MarkStarts types (xs ++ ys) place marks
+marked_in_second types xs ys at place marks e l unmarked k b clear =
+    no_start_behind types (xs ++ ys) (length xs + (at + k)) (place + k) (omega arith) (omega (arith, length-append xs ys)) (rw (get_or-append-add xs ys (at + k) 0) (unmarked k b clear))

@@ -1,9 +1,11 @@
 -- What a contract sees of a `LineIndex`.
-use Rattle.std.specs.Prelude.{◌≡◌, ℕ, ◌+◌, ◌-◌, ◌<◌, ◌≤◌, List, ◌++◌, length, take, drop, filter, slice_index}
+use Rattle.std.specs.Prelude.{◌≡◌, ℕ, ◌+◌, ◌-◌, ◌<◌, ◌≤◌, false, List, ◌++◌, length, take, drop, filter, slice_index}
 use Rattle.std.specs.List.{range_with_len}
+use Rattle.std.specs.Int.{bit_at}
 use Rattle.ed_model.specs.declared.plan.LineEndTypes.{LineEndTypes}
 use Rattle.ed_model.specs.Lines.{is_line_start, line_starts}
 use Rattle.ed_model.specs.Steps.{Insert, edited}
+use Rattle.partitioning.specs.Partitions.{Partitions}
 
 -- which line ends count, where the lines start, the length of the text, and how many more lines fit in
 pub record Index : Type 0 where
@@ -49,3 +51,21 @@ pub record IsFree (starts : List ℕ) (end from to at : ℕ) : Type 0 where
   pub above : (k : ℕ) → at ≤ k → k < length starts → to ≤ slice_index starts k
   pub order : from ≤ to
   pub to_end : to ≤ end + 1
+
+-- the line starts of the text from one place up to another can be put in before line `at`: none is there yet, and there
+-- is room for them
+pub record CanAdd (types : LineEndTypes) (text : List ℕ) (from to at : ℕ) (was : Partitions) : Type 0 where
+  pub free : IsFree was.starts was.length from to at
+  pub end : was.length ≡ length text
+  pub room : length (starts_within types text from to) ≤ was.room
+
+-- they were put in there, and `next` is the line behind them
+pub record WereAdded (types : LineEndTypes) (text : List ℕ) (from to at next : ℕ) (was now : Partitions) : Type 0 where
+  pub starts : now.starts ≡ take at was.starts ++ starts_within types text from to ++ drop at was.starts
+  pub end : now.length ≡ was.length
+  pub room : now.room + length (starts_within types text from to) ≡ was.room
+  pub line : next ≡ at + length (starts_within types text from to)
+
+-- of the 64 places from one on, a line can start at those alone whose bit is set
+abbrev pub MarkStarts : LineEndTypes → List ℕ → ℕ → ℕ → Type 0
+MarkStarts types text place marks = (k : ℕ) → k < 64 → bit_at marks k ≡ 0 → is_line_start types text (place + k) ≡ false

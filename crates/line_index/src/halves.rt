@@ -59,8 +59,8 @@ fn line_ends(types: LineEndTypes, before: &[u8], after: &[u8], place: usize) -> 
     counts_unicode(types) && unicode_ends(before, after, place)
 }
 
-// Whether a line starts at the place.
-fn starts_at(types: LineEndTypes, before: &[u8], after: &[u8], place: usize) -> bool
+/// Whether a line starts at the place.
+pub(crate) fn starts_at(types: LineEndTypes, before: &[u8], after: &[u8], place: usize) -> bool
     ensures { result ≡ is_line_start types (before.now ++ after.now) place }
 {
     place == 0 || line_ends(types, before, after, place)

@@ -13,9 +13,11 @@
 //! starts have to be is said by `ed_model`: `line_starts` of the text.
 #![tactic(auto)]
 
+mod adding;
 mod change;
 mod halves;
 mod index;
+mod marks;
 mod room;
 mod starts;
 mod steps;

@@ -6,8 +6,8 @@ ghost use Rattle.partitioning.specs.Partitions.{IsFloorLog};
 ghost use Rattle.line_index.specs.Index.{IsFree, starts_within};
 ghost use Rattle.line_index.specs.Change.{near_lines};
 
+use crate::adding::{add_at, add_marked, marks_near};
 use crate::change::NearLines;
-use crate::halves::next_start;
 use ed_model::LineEndTypes;
 use partitioning::{Partitioning, Place, Probes};
 
@@ -82,12 +82,15 @@ pub(crate) fn add_starts<P: Place>(
     ensures length { starts.new.length ≡ starts.old.length }
     ensures room { starts.new.room + length (starts_within types (before.now ++ after.now) from to) ≡ starts.old.room }
 {
-    let _ = starts.count(); // it says that the number of lines is small
     let mut line = first;
-    let mut place = next_start(types, before, after, from, to);
+    let mut place = from;
     'adding: while place < to {
-        starts.insert_reserved(line, place);
-        line += 1;
-        place = next_start(types, before, after, place + 1, to);
+        if let Some(marks) = marks_near(types, before, after, place, to) {
+            line = add_marked(starts, types, before, after, line, place, marks);
+            place += 64;
+        } else {
+            line = add_at(starts, types, before, after, line, place);
+            place += 1;
+        }
     }
 }

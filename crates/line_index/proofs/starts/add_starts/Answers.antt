@@ -1,56 +1,39 @@
-use Rattle.std.proofs.Common.{◌≡◌, ◌++◌, refl, [], ◌∷◌, ap, sym, ◌∙◌, take, length, arith, append-nil, length-append}
-use Rattle.std.proofs.lemmas.List.{take-append-drop}
-use Rattle.line_index.specs.Index.{starts_within}
-use Rattle.line_index.proofs.StartLists.{no_starts, one_more, can_start, put_next, room_for_one}
+use Rattle.std.proofs.Common.{◌+◌, ◌++◌, arith}
+use Rattle.line_index.proofs.Added.{can_all, can_go_on, added_both}
 use Rattle.line_index.proofs.starts.add_starts.Goals as goal
 
-pub adding-init : goal.adding-init
-adding-init g c =
+pub add_marked-line-requires-clause-can : goal.add_marked-line-requires-clause-can
+add_marked-line-requires-clause-can g c =
     let text = c.args.before.now ++ c.args.after.now in
-    let starts = c.args.starts.now.starts in
-    let none : starts_within c.args.types text c.args.from c.next_start-place.result ≡ [] =
-    no_starts c.args.types text c.args.from c.next_start-place.result c.next_start-place.ensures.none in
-    let size = ap length none in
+    let inv = c.adding.invariant in
+    can_go_on c.args.types text c.args.from c.adding.place (c.adding.place + 64) c.args.to c.args.first c.adding.line c.args.starts.now c.adding.starts
+    (can_all c.args.types c.args.before.now c.args.after.now c.args.from c.args.to c.args.first c.args.starts.now c.requires.free c.requires.text c.requires.room)
+    inv.added inv.low (omega arith) c.in-Some.ensures.0
+
+pub adding-preserved-in-Some : goal.adding-preserved-in-Some
+adding-preserved-in-Some g c =
+    let inv = c.adding.invariant in
     record {
-      starts = rw (none, append-nil (take c.args.first starts)) (sym (take-append-drop c.args.first starts));
-      end = refl;
-      room = omega (arith, size);
-      line = omega (arith, size);
-      low = c.next_start-place.ensures.within.0;
-      high = c.next_start-place.ensures.within.1;
-      found = c.next_start-place.ensures.start;
+      added = added_both c.args.types (c.args.before.now ++ c.args.after.now) c.args.from c.adding.place (c.adding.place + 64) c.args.first c.adding.line c.add_marked-line.result
+          c.args.starts.now c.adding.starts c.add_marked-line.new.starts c.requires.free.within inv.low (omega arith) inv.added c.add_marked-line.ensures;
+      low = omega (arith, inv.low);
+      high = c.in-Some.ensures.0;
     }
 
-pub insert_reserved-requires-clause-room : goal.insert_reserved-requires-clause-room
-insert_reserved-requires-clause-room g c =
+pub add_at-line-requires : goal.add_at-line-requires
+add_at-line-requires g c =
     let text = c.args.before.now ++ c.args.after.now in
     let inv = c.adding.invariant in
-    room_for_one c.args.types text c.args.from c.adding.place c.args.to c.args.starts.now.room c.adding.starts.room inv.low c.adding-test.true (inv.found c.adding-test.true)
-    c.requires.room inv.room
-
-pub insert_reserved-requires-clause-start : goal.insert_reserved-requires-clause-start
-insert_reserved-requires-clause-start g c =
-    let text = c.args.before.now ++ c.args.after.now in
-    let inv = c.adding.invariant in
-    rw inv.end (can_start c.args.types text c.args.starts.now.starts c.adding.starts.starts c.args.starts.now.length c.args.from c.args.to c.args.first c.adding.place c.adding.line
-    c.requires.free inv.low c.adding-test.true inv.line inv.starts)
+    can_go_on c.args.types text c.args.from c.adding.place (c.adding.place + 1) c.args.to c.args.first c.adding.line c.args.starts.now c.adding.starts
+    (can_all c.args.types c.args.before.now c.args.after.now c.args.from c.args.to c.args.first c.args.starts.now c.requires.free c.requires.text c.requires.room)
+    inv.added inv.low (omega arith) (omega arith)
 
 pub adding-preserved : goal.adding-preserved
 adding-preserved g c =
-    let text = c.args.before.now ++ c.args.after.now in
     let inv = c.adding.invariant in
-    let next = c.next_start-place-in-adding in
-    let more : starts_within c.args.types text c.args.from next.result ≡ starts_within c.args.types text c.args.from c.adding.place ++ c.adding.place ∷ [] =
-    one_more c.args.types text c.args.from c.adding.place next.result inv.low (omega (arith, next.ensures.within.0)) (inv.found c.adding-test.true) next.ensures.none in
-    let size = ap length more ∙ length-append (starts_within c.args.types text c.args.from c.adding.place) (c.adding.place ∷ []) in
     record {
-      starts = c.insert_reserved.ensures.starts
-          ∙ put_next c.args.types text c.args.starts.now.starts c.adding.starts.starts c.args.from c.args.first c.adding.place next.result c.adding.line
-          c.requires.free.within inv.line inv.starts more;
-      end = c.insert_reserved.ensures.length ∙ inv.end;
-      room = omega (arith, size, c.insert_reserved.ensures.room, inv.room);
-      line = omega (arith, size, inv.line);
-      low = omega (arith, inv.low, next.ensures.within.0);
-      high = next.ensures.within.1;
-      found = next.ensures.start;
+      added = added_both c.args.types (c.args.before.now ++ c.args.after.now) c.args.from c.adding.place (c.adding.place + 1) c.args.first c.adding.line c.add_at-line.result
+          c.args.starts.now c.adding.starts c.add_at-line.new.starts c.requires.free.within inv.low (omega arith) inv.added c.add_at-line.ensures;
+      low = omega (arith, inv.low);
+      high = omega arith;
     }

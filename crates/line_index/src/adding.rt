@@ -1,0 +1,79 @@
+//! Line starts of a text, put in among the partitions: those at one place, and those among 64.
+
+ghost use Rattle.std.specs.Prelude.{◌≡◌, ◌+◌, ◌≤◌, ◌<◌, ◌++◌, length, IfSome};
+ghost use Rattle.line_index.specs.Index.{CanAdd, MarkStarts, WereAdded};
+
+use crate::halves::starts_at;
+use crate::marks::{lowest, marks, without};
+use ed_model::LineEndTypes;
+use partitioning::{Partitioning, Place};
+
+/// Marks of the 64 places from `place` on, where they lie up to `to` and the bytes in front of them in one half.
+pub(crate) fn marks_near(
+    types: LineEndTypes,
+    before: &[u8],
+    after: &[u8],
+    place: usize,
+    to: usize,
+) -> Option<u64>
+    requires { (0 < place) × (place ≤ to) × (to ≤ length before.now + length after.now + 1) }
+    ensures { IfSome result (λ m. (place + 64 ≤ to) × MarkStarts types (before.now ++ after.now) place m) }
+{
+    if to - place < 64 {
+        return None;
+    }
+    let front = place - 1;
+    let middle = before.len();
+    if middle <= front {
+        return Some(marks(types, after, front - middle));
+    }
+    if middle - front < 64 {
+        return None;
+    }
+    Some(marks(types, before, front))
+}
+
+/// Puts the start of a line at `place` in before line `first`, if one starts there, and returns the line behind it.
+pub(crate) fn add_at<P: Place>(
+    starts: &mut Partitioning<P>,
+    types: LineEndTypes,
+    before: &[u8],
+    after: &[u8],
+    first: usize,
+    place: usize,
+) -> usize
+    requires { CanAdd types (before.now ++ after.now) place (place + 1) first starts.old }
+    ensures { WereAdded types (before.now ++ after.now) place (place + 1) first result starts.old starts.new }
+{
+    let _ = starts.count(); // it says that the number of lines is small
+    if starts_at(types, before, after, place) {
+        starts.insert_reserved(first, place);
+        return first + 1;
+    }
+    first
+}
+
+/// Puts the line starts among the 64 places from `place` on in before line `first`, and returns the line behind them.
+pub(crate) fn add_marked<P: Place>(
+    starts: &mut Partitioning<P>,
+    types: LineEndTypes,
+    before: &[u8],
+    after: &[u8],
+    first: usize,
+    place: usize,
+    marks: u64,
+) -> usize
+    requires can { CanAdd types (before.now ++ after.now) place (place + 64) first starts.old }
+    requires marked { MarkStarts types (before.now ++ after.now) place marks }
+    ensures { WereAdded types (before.now ++ after.now) place (place + 64) first result starts.old starts.new }
+{
+    let _ = starts.length(); // it says that the text is not too long
+    let mut line = first;
+    let mut left = marks;
+    'adding: while left != 0 {
+        let bit = lowest(left);
+        line = add_at(starts, types, before, after, line, place + bit);
+        left = without(left, bit);
+    }
+    line
+}
