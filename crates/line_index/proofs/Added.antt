@@ -1,5 +1,5 @@
 -- Line starts that are put in part after part.
-use Rattle.std.proofs.Common.{◌≡◌, ℕ, ◌+◌, ◌-◌, ◌<◌, ◌≤◌, true, false, List, [], ◌∷◌, ◌++◌, length, get_or, take, drop, insert, refl, sym, ap, ◌∙◌, inl, inr, arith, le_refl, append_assoc, append-nil, length-append, length-drop}
+use Rattle.std.proofs.Common.{◌≡◌, ℕ, ◌+◌, ◌-◌, ◌<◌, ◌≤◌, Bool, true, false, List, [], ◌∷◌, ◌++◌, length, get_or, take, drop, insert, refl, sym, ap, ◌∙◌, inl, inr, arith, append_assoc, append-nil, length-append, length-drop}
 use Rattle.std.specs.Int.{bit_at}
 use Rattle.std.proofs.lemmas.Bool.{cases_lt, cases_order}
 use Rattle.std.proofs.lemmas.Nat.Bits.{bit_at-zero}
@@ -8,7 +8,7 @@ use Rattle.std.proofs.Math.ListN.{get_or-append}
 use Rattle.std.proofs.Math.Seq.{take-append_seam, drop-append_seam}
 use Rattle.ed_model.specs.declared.plan.LineEndTypes.{LineEndTypes}
 use Rattle.ed_model.specs.Lines.{is_line_start}
-use Rattle.partitioning.specs.Partitions.{Partitions, CanStart}
+use Rattle.partitioning.specs.Partitions.{Partitions}
 use Rattle.line_index.specs.Index.{IsFree, CanAdd, WereAdded, MarkStarts, starts_within}
 use Rattle.line_index.proofs.StartLists.{starts_lie, starts_apart, no_starts, one_start}
 
@@ -120,29 +120,16 @@ added_nothing types text place at was = added_none types text place place at was
 
 -- at one place
 pub none_here :
-    (types : LineEndTypes) (text : List ℕ) (place at : ℕ) (was : Partitions) → is_line_start types text place ≡ false → WereAdded types text place (place + 1) at at was was
-none_here types text place at was here =
-    added_none types text place (place + 1) at was (λ k a b. let same : k ≡ place = omega arith in rw same here)
-
-pub room_here :
-    (types : LineEndTypes) (text : List ℕ) (place at : ℕ) (was : Partitions) → is_line_start types text place ≡ true → CanAdd types text place (place + 1) at was → 0 < was.room
-room_here types text place at was here can = omega (arith, can.room, ap length (one_start types text place here))
-
-pub start_here : (types : LineEndTypes) (text : List ℕ) (place at : ℕ) (was : Partitions) → CanAdd types text place (place + 1) at was → CanStart was.starts was.length at place
-start_here types text place at was can =
-    record {
-      not_first = can.free.not_first;
-      within = can.free.within;
-      behind = can.free.below (at - 1) (omega (arith, can.free.not_first));
-      before = λ l. omega (arith, can.free.above at (le_refl at) l);
-      at_most = omega (arith, can.free.to_end);
-    }
+    (types : LineEndTypes) (text : List ℕ) (place at : ℕ) (was : Partitions) (here : Bool) → here ≡ is_line_start types text place → here ≡ false
+    → WereAdded types text place (place + 1) at at was was
+none_here types text place at was here e off =
+    added_none types text place (place + 1) at was (λ k a b. let same : k ≡ place = omega arith in rw same (sym e ∙ off))
 
 pub added_here :
-    (types : LineEndTypes) (text : List ℕ) (place at : ℕ) (was now : Partitions) → is_line_start types text place ≡ true → now.starts ≡ insert was.starts at place
-    → now.length ≡ was.length → now.room + 1 ≡ was.room → WereAdded types text place (place + 1) at (at + 1) was now
-added_here types text place at was now here e f r =
-    let one : starts_within types text place (place + 1) ≡ place ∷ [] = one_start types text place here in
+    (types : LineEndTypes) (text : List ℕ) (place at : ℕ) (was now : Partitions) (here : Bool) → here ≡ is_line_start types text place → here ≡ true
+    → now.starts ≡ insert was.starts at place → now.length ≡ was.length → now.room + 1 ≡ was.room → WereAdded types text place (place + 1) at (at + 1) was now
+added_here types text place at was now here h on e f r =
+    let one : starts_within types text place (place + 1) ≡ place ∷ [] = one_start types text place (sym h ∙ on) in
     let size = ap length one in
     record {
       starts = e ∙ rw one (simp append_assoc);

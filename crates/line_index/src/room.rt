@@ -9,8 +9,8 @@ ghost use Rattle.line_index.specs.RoomLaws.{DeletionAddsFewLines, InsertionAddsF
 use crate::halves::next_start;
 use ed_model::LineEndTypes;
 
-// How many bytes are tested at once: a counter of one byte holds how many lines start behind them, so that a vector has
-// many counters.
+// How many bytes are tested at once: so few that a counter of one byte holds how many lines start behind them, since a
+// vector has many such counters.
 const BLOCK: usize = 192;
 
 // How many lines end with the byte, where line ends of Unicode do not count: 1 or 0. No branch is taken, so that many

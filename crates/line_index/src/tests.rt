@@ -175,6 +175,39 @@ fn ends_of_lines(rt: HostRuntime) -> Result<(), Fail> {
     Ok(())
 }
 
+// Lines of five letters, a CR and an LF, and at last one that a CR alone ends.
+fn long_text(alloc: Global) -> Result<Vec<u8>, AllocError> {
+    let mut text: Vec<u8> = Vec::new(alloc);
+    for place in 0..1000 {
+        text.push(match place % 7 {
+            5 => b'\r',
+            6 => b'\n',
+            _ => b'x',
+        })?;
+    }
+    Ok(text)
+}
+
+#[test]
+fn lines_of_a_long_text(rt: HostRuntime) -> Result<(), Fail> {
+    let alloc = rt.alloc();
+    let bytes = long_text(alloc)?;
+    for types in [LineEndTypes::Default, LineEndTypes::Unicode] {
+        assert_eq!(rt; lines_in(types, bytes.as_slice()), 144);
+        let mut index: LineIndex<u32> = LineIndex::new(alloc, types)?;
+        let (text, _) = insert(&rt, alloc, &mut index, b"", 0, bytes.as_slice(), 500)?;
+        assert_eq!(rt; index.count(), 144);
+        for line in 0..143 {
+            assert_eq!(rt; index.start(line), 7 * line);
+        }
+        assert_eq!(rt; index.start(143), 1000);
+        let (_, _) = insert(&rt, alloc, &mut index, text.as_slice(), 1000, b"\n", 0)?;
+        assert_eq!(rt; index.count(), 144);
+        assert_eq!(rt; index.start(143), 1001);
+    }
+    Ok(())
+}
+
 #[test]
 fn a_refused_growth_changes_nothing(rt: HostRuntime) -> Result<(), Fail> {
     let mut index: LineIndex<u32> = LineIndex::new(rt.alloc(), LineEndTypes::Default)?;
