@@ -1,8 +1,8 @@
 //! Line starts among the partitions: finding them, and taking some away and putting others in about a step.
 
-ghost use Rattle.std.specs.Prelude.{ℕ, ◌≡◌, ◌+◌, ◌-◌, ◌^◌, ◌≤◌, ◌<◌, ◌++◌, length, take, drop};
+ghost use Rattle.std.specs.Prelude.{ℕ, ◌≡◌, ◌+◌, ◌-◌, ◌^◌, ◌≤◌, ◌<◌, ◌++◌, IsTrue, length, take, drop};
 ghost use Rattle.ed_model.specs.Lines.{line_of};
-ghost use Rattle.partitioning.specs.Partitions.{IsFloorLog};
+ghost use Rattle.partitioning.specs.Partitions.{IsFloorLog, IsLastAtMost};
 ghost use Rattle.line_index.specs.Index.{IsFree, starts_within};
 ghost use Rattle.line_index.specs.Change.{near_lines};
 
@@ -26,28 +26,66 @@ pub(crate) fn line_at<P: Place>(
     starts.partition_of(place, probes)
 }
 
-// The line of the place that lies `behind` bytes behind another.
-pub(crate) fn line_behind<P: Place>(starts: &Partitioning<P>, place: usize, behind: usize) -> usize
+// Whether this line holds the place: it starts there or before it, and the next one behind it.
+#[tactic(auto, using(crate::proofs::Finding::last_of_all))]
+fn holds<P: Place>(starts: &Partitioning<P>, line: usize, place: usize) -> bool
+    ensures { IsTrue result → IsLastAtMost starts.now.starts place line }
+{
+    let count = starts.count();
+    if line >= count || place < starts.start_of(line) {
+        return false;
+    }
+    line + 1 == count || place < starts.start_of(line + 1)
+}
+
+// The line that holds the place. It is looked up only where it is neither the line that is likely nor the next one.
+fn line_from<P: Place>(starts: &Partitioning<P>, place: usize, likely: usize) -> usize
+    ensures { IsLastAtMost starts.now.starts place result }
+{
+    if holds(starts, likely, place) {
+        return likely;
+    }
+    let next = likely.saturating_add(1);
+    if holds(starts, next, place) {
+        return next;
+    }
+    let mut probes = Probes::new();
+    starts.partition_of(place, &mut probes)
+}
+
+// The line of the place that lies `behind` bytes behind another, which is likely this line or the next.
+pub(crate) fn line_behind<P: Place>(
+    starts: &Partitioning<P>,
+    place: usize,
+    behind: usize,
+    likely: usize,
+) -> usize
     ensures line { result ≡ line_of starts.now.starts (place + behind) }
     ensures within { result < length starts.now.starts }
     ensures small { length starts.now.starts + starts.now.room < 2 ^ 63 }
 {
-    let mut probes = Probes::new();
     let _ = starts.count();
     let _ = starts.length();
-    starts.partition_of(place.saturating_add(behind), &mut probes)
+    line_from(starts, place.saturating_add(behind), likely)
 }
 
-// The lines of a place and of the two behind it.
-pub(crate) fn lines_near<P: Place>(starts: &Partitioning<P>, place: usize) -> NearLines
+// The lines of a place and of the two behind it, of which the first is likely this line or the next.
+pub(crate) fn lines_near<P: Place>(
+    starts: &Partitioning<P>,
+    place: usize,
+    likely: usize,
+) -> NearLines
     ensures lines { result ≡ near_lines starts.now.starts place }
     ensures within { result.two_behind < length starts.now.starts }
     ensures small { length starts.now.starts + starts.now.room < 2 ^ 63 }
 {
+    let at = line_behind(starts, place, 0, likely);
+    let one_behind = line_behind(starts, place, 1, at);
+    let two_behind = line_behind(starts, place, 2, one_behind);
     NearLines {
-        at: line_behind(starts, place, 0),
-        one_behind: line_behind(starts, place, 1),
-        two_behind: line_behind(starts, place, 2),
+        at,
+        one_behind,
+        two_behind,
     }
 }
 

@@ -47,14 +47,15 @@ fn put_in<P: Place>(
     ensures moves { MovesLines (moved_on place count) starts.old.starts starts.new.starts result }
     ensures lines { (result.old_lines.two_behind < length starts.old.starts) × (result.new_lines.two_behind < length starts.new.starts) }
 {
-    let first = line_behind(starts, place.saturating_sub(1), 0) + 1;
-    let old_lines = lines_near(starts, place);
+    let edited = starts.step_at();
+    let first = line_behind(starts, place.saturating_sub(1), 0, edited) + 1;
+    let old_lines = lines_near(starts, place, first - 1);
     remove_starts(starts, first, old_lines.two_behind + 1);
     starts.insert_text(first - 1, count);
     let end = place + count;
     let to = look_to(end, before, after);
     add_starts(starts, types, before, after, first, place.max(1), to);
-    let new_lines = lines_near(starts, end);
+    let new_lines = lines_near(starts, end, first - 1);
     LineChange {
         before: lines_before(place, first),
         old_lines,
@@ -82,13 +83,14 @@ fn take_out<P: Place>(
     ensures lines { (result.old_lines.two_behind < length starts.old.starts) × (result.new_lines.two_behind < length starts.new.starts) }
 {
     let _ = starts.length(); // it says that the text is not too long
-    let first = line_behind(starts, place.saturating_sub(1), 0) + 1;
-    let old_lines = lines_near(starts, place + count);
+    let edited = starts.step_at();
+    let first = line_behind(starts, place.saturating_sub(1), 0, edited) + 1;
+    let old_lines = lines_near(starts, place + count, first - 1);
     remove_starts(starts, first, old_lines.two_behind + 1);
     starts.delete_text(first - 1, count);
     let to = look_to(place, before, after);
     add_starts(starts, types, before, after, first, place.max(1), to);
-    let new_lines = lines_near(starts, place);
+    let new_lines = lines_near(starts, place, first - 1);
     LineChange {
         before: lines_before(place, first),
         old_lines,

@@ -4,6 +4,7 @@ use crate::printing::{append_integer, append_number, append_outcome, append_text
 use crate::{Cause, Command, Script, ScriptFault, assemble, list};
 use ed_types::{Bytes, Message, Note, Outcome, Refusal, Reply};
 use std::alloc::{AllocError, Global};
+use std::test::Fail;
 
 /// The script of an insertion's notes, 95 bytes.
 const INSERTION: &[u8] =
@@ -14,19 +15,20 @@ const EVERY_KIND: &[u8] =
     b"sci 2\nopen\nload 1 4294967295\nsend 1 2282 4 -9223372036854775808 \"\\\"\\\\\\x00\\x80 ~\"\nexpect -1\nclose 1\n";
 
 #[test]
-fn lists_what_it_assembles(rt: HostRuntime) {
+fn lists_what_it_assembles(rt: HostRuntime) -> Result<(), Fail> {
     for text in [INSERTION, EVERY_KIND] {
-        let script = assemble(rt.alloc(), text).expect(&rt, "a script");
-        let listed = list(rt.alloc(), &script).expect(&rt, "memory");
+        let script = assemble(rt.alloc(), text)?;
+        let listed = list(rt.alloc(), &script)?;
         assert!(rt; listed.starts_with(b"sci 2\n"));
         assert!(rt; text.ends_with(&listed[5..]));
         assert_eq!(rt; listed.len(), text.len());
     }
+    Ok(())
 }
 
 #[test]
-fn pushes_what_it_assembles(rt: HostRuntime) {
-    let text = Vec::from_slice(rt.alloc(), b"\"\\\x00\x80 ~").expect(&rt, "memory");
+fn pushes_what_it_assembles(rt: HostRuntime) -> Result<(), Fail> {
+    let text = Vec::from_slice(rt.alloc(), b"\"\\\x00\x80 ~")?;
     let message = Message {
         number: 2282,
         w: 4,
@@ -34,29 +36,22 @@ fn pushes_what_it_assembles(rt: HostRuntime) {
         text: Bytes::new(text),
     };
     let mut script = Script::new(rt.alloc());
-    script.push(Command::OpenView).expect(&rt, "open");
-    script
-        .push(Command::LoadFile {
-            view: 1,
-            file: u32::MAX,
-        })
-        .expect(&rt, "load");
-    script
-        .push(Command::SendMessage { view: 1, message })
-        .expect(&rt, "send");
-    script
-        .push(Command::Expect { value: -1 })
-        .expect(&rt, "expect");
-    script
-        .push(Command::CloseView { view: 1 })
-        .expect(&rt, "close");
+    script.push(Command::OpenView)?;
+    script.push(Command::LoadFile {
+        view: 1,
+        file: u32::MAX,
+    })?;
+    script.push(Command::SendMessage { view: 1, message })?;
+    script.push(Command::Expect { value: -1 })?;
+    script.push(Command::CloseView { view: 1 })?;
     assert_eq!(rt; script.commands().len(), 5);
-    let listed = list(rt.alloc(), &script).expect(&rt, "memory");
+    let listed = list(rt.alloc(), &script)?;
     assert!(rt; listed.as_slice() == EVERY_KIND);
+    Ok(())
 }
 
 #[test]
-fn names_the_first_fault(rt: HostRuntime) {
+fn names_the_first_fault(rt: HostRuntime) -> Result<(), Fail> {
     let faults: [(&[u8], u64, Cause); 7] = [
         (b"", 1, Cause::NoLineEnd),
         (b"sci 3\n", 1, Cause::BadVersion),
@@ -70,6 +65,7 @@ fn names_the_first_fault(rt: HostRuntime) {
         let fault = assemble(rt.alloc(), text).err().expect(&rt, "a fault");
         assert!(rt; fault == ScriptFault::BadLine { line, cause });
     }
+    Ok(())
 }
 
 /// A text of so many bytes.
@@ -90,28 +86,30 @@ fn long_line(alloc: Global, len: usize) -> Result<Vec<u8>, AllocError> {
 }
 
 #[test]
-fn takes_the_longest_line(rt: HostRuntime) {
-    let longest = long_line(rt.alloc(), 65_518).expect(&rt, "memory");
+fn takes_the_longest_line(rt: HostRuntime) -> Result<(), Fail> {
+    let longest = long_line(rt.alloc(), 65_518)?;
     assert_eq!(rt; longest.len(), 65_536 + 7);
     assert!(rt; assemble(rt.alloc(), &longest).is_ok());
-    let longer = long_line(rt.alloc(), 65_519).expect(&rt, "memory");
+    let longer = long_line(rt.alloc(), 65_519)?;
     let fault = assemble(rt.alloc(), &longer).err().expect(&rt, "a fault");
     let cause = Cause::LineTooLong;
     assert!(rt; fault == ScriptFault::BadLine { line: 2, cause });
+    Ok(())
 }
 
 #[test]
-fn takes_the_longest_script(rt: HostRuntime) {
+fn takes_the_longest_script(rt: HostRuntime) -> Result<(), Fail> {
     let mut text = Vec::new(rt.alloc());
     for _ in 0..16_777_216u32 {
-        text.push(b'\n').ok().expect(&rt, "memory");
+        text.push(b'\n')?;
     }
     let fault = assemble(rt.alloc(), &text).err().expect(&rt, "a fault");
     let cause = Cause::BadVersion;
     assert!(rt; fault == ScriptFault::BadLine { line: 1, cause });
-    text.push(b'\n').ok().expect(&rt, "memory");
+    text.push(b'\n')?;
     let fault = assemble(rt.alloc(), &text).err().expect(&rt, "a fault");
     assert!(rt; fault == ScriptFault::TooLong);
+    Ok(())
 }
 
 /// A message with a text of so many bytes.
@@ -126,39 +124,26 @@ fn long_message(alloc: Global, len: usize) -> Result<Command, AllocError> {
 }
 
 #[test]
-fn pushes_up_to_the_limits(rt: HostRuntime) {
+fn pushes_up_to_the_limits(rt: HostRuntime) -> Result<(), Fail> {
     let mut script = Script::new(rt.alloc());
-    assert!(rt;
-        script.push(long_message(rt.alloc(), 65_519).expect(&rt, "memory"))
-            == Err(ScriptFault::TooLong)
-    );
+    assert!(rt; script.push(long_message(rt.alloc(), 65_519)?) == Err(ScriptFault::TooLong));
     // 255 lines of 65,537 bytes, and one that fills the script up to its limit.
     for _ in 0..255u32 {
-        assert!(rt;
-            script
-                .push(long_message(rt.alloc(), 65_518).expect(&rt, "memory"))
-                .is_ok()
-        );
+        assert!(rt; script.push(long_message(rt.alloc(), 65_518)?).is_ok());
     }
-    assert!(rt;
-        script.push(long_message(rt.alloc(), 65_257).expect(&rt, "memory"))
-            == Err(ScriptFault::TooLong)
-    );
-    assert!(rt;
-        script
-            .push(long_message(rt.alloc(), 65_256).expect(&rt, "memory"))
-            .is_ok()
-    );
+    assert!(rt; script.push(long_message(rt.alloc(), 65_257)?) == Err(ScriptFault::TooLong));
+    assert!(rt; script.push(long_message(rt.alloc(), 65_256)?).is_ok());
     assert!(rt; script.push(Command::OpenView) == Err(ScriptFault::TooLong));
-    let listed = list(rt.alloc(), &script).expect(&rt, "memory");
+    let listed = list(rt.alloc(), &script)?;
     assert_eq!(rt; listed.len(), 16_777_216);
-    let again = assemble(rt.alloc(), &listed).expect(&rt, "a script");
+    let again = assemble(rt.alloc(), &listed)?;
     assert_eq!(rt; again.commands().len(), 256);
+    Ok(())
 }
 
 #[test]
-fn prints_outcomes(rt: HostRuntime) {
-    let pool = Bytes::new(Vec::from_slice(rt.alloc(), b"ab\n").expect(&rt, "memory"));
+fn prints_outcomes(rt: HostRuntime) -> Result<(), Fail> {
+    let pool = Bytes::new(Vec::from_slice(rt.alloc(), b"ab\n")?);
     let mut notes = Vec::new(rt.alloc());
     let note = Note {
         view: 1,
@@ -176,7 +161,7 @@ fn prints_outcomes(rt: HostRuntime) {
         l: 0,
         text: 0..3,
     };
-    notes.push(note).ok().expect(&rt, "memory");
+    notes.push(note)?;
     let reply = Reply::new(5, Bytes::empty(rt.alloc()), notes, pool);
     let mut out = Vec::new(rt.alloc());
     for outcome in [
@@ -193,12 +178,13 @@ fn prints_outcomes(rt: HostRuntime) {
             value: -3,
         },
     ] {
-        append_outcome(&mut out, &outcome).expect(&rt, "memory");
+        append_outcome(&mut out, &outcome)?;
     }
-    append_number(&mut out, 256).expect(&rt, "memory");
-    append_integer(&mut out, -1).expect(&rt, "memory");
-    append_text(&mut out, b"\r").expect(&rt, "memory");
+    append_number(&mut out, 256)?;
+    append_integer(&mut out, -1)?;
+    append_text(&mut out, b"\r")?;
     let want =
         b"= 1 \"\"\n= 0 \"\"\n= 5 \"\"\n@ 1 2008 8209 0 3 1 0 0 0 -7 0 0 0 \"ab\\x0a\"\n! 6\n+ 1\n- -3\n256-1\"\\x0d\"";
     assert!(rt; out.as_slice() == want.as_slice());
+    Ok(())
 }

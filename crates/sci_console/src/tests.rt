@@ -10,6 +10,7 @@ use crate::running::{check_script, list_script, run_script};
 use crate::words::{Job, WordFault, read_words};
 use ed_types::{Cause, ScriptFault};
 use std::alloc::Global;
+use std::test::Fail;
 
 /// The listing of `HELLO`.
 const HELLO_LISTING: &[u8] =
@@ -87,7 +88,7 @@ fn stops_where_a_write_fails(rt: HostRuntime) {
 }
 
 #[test]
-fn lists_and_checks(rt: HostRuntime) {
+fn lists_and_checks(rt: HostRuntime) -> Result<(), Fail> {
     let mut sink = MemorySink::new(rt.alloc(), 5, 1000, false);
     let mut source = MemorySource::new(HELLO.script, 7, 1000);
     let answer = list_script(rt.alloc(), &mut source, &mut sink);
@@ -99,8 +100,9 @@ fn lists_and_checks(rt: HostRuntime) {
     assert!(rt; answer == Ok(0));
     assert!(rt; sink.bytes() == b"ok 4\n".as_slice());
     let mut source = MemorySource::new(HELLO.script, 7, 1000);
-    let file = read_file(rt.alloc(), &mut source).expect(&rt, "a file");
+    let file = read_file(rt.alloc(), &mut source)?;
     assert!(rt; file.as_slice() == HELLO.script);
+    Ok(())
 }
 
 /// Reads words.
