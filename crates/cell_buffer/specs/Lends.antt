@@ -9,4 +9,4 @@ use Rattle.cell_buffer.specs.contracts.cells.Cells.{the_row}
 -- all is as it was, but that the gap of the bytes lies outside the lent range
 abbrev pub lent_and_back : MutBor Buffer → ℕ → ℕ → Fml
 lent_and_back c start count =
-    follows_so the_row the_row c.ghost_name none (λ _ _. ⊤) (λ n. n ≡ buffer c.now.cells c.now.room (gap_beside start (start + count) c.now.gaps.0, c.now.gaps.1) c.now.moved)
+    follows_so the_row the_row c.ghost_name none (λ _ _. ⊤) (λ n. n ≡ buffer c.now.cells c.now.styled c.now.room (gap_beside start (start + count) c.now.gaps.0, c.now.gaps.1) c.now.moved)
