@@ -1,9 +1,10 @@
 //! Line starts of a text, put in among the partitions: those at one place, and those among 64.
 
-ghost use Rattle.std.specs.Prelude.{◌≡◌, ◌+◌, ◌≤◌, ◌<◌, ◌++◌, length, IfSome};
+ghost use Rattle.std.specs.Prelude.{◌≡◌, ℕ, ◌+◌, ◌≤◌, ◌<◌, ◌++◌, false, length, IfSome};
+ghost use Rattle.ed_model.specs.Lines.{is_line_start};
 ghost use Rattle.line_index.specs.Index.{CanAdd, MarkStarts, WereAdded};
 
-use crate::halves::starts_at;
+use crate::halves::{next_start, starts_at};
 use crate::marks::{lowest, marks, without};
 use ed_model::LineEndTypes;
 use partitioning::{Partitioning, Place};
@@ -31,6 +32,27 @@ pub(crate) fn marks_near(
         return None;
     }
     Some(marks(types, before, front))
+}
+
+/// The place behind the 64 that were marked, from `place` on, or where no mark was set, the first behind them where a line
+/// starts, up to `to`: a line end far away is searched for.
+pub(crate) fn place_behind(
+    types: LineEndTypes,
+    before: &[u8],
+    after: &[u8],
+    place: usize,
+    to: usize,
+    marks: u64,
+) -> usize
+    requires { (place + 64 ≤ to) × (to ≤ length before.now + length after.now + 1) }
+    ensures within { (place + 64 ≤ result) × (result ≤ to) }
+    ensures none { (k : ℕ) → place + 64 ≤ k → k < result → is_line_start types (before.now ++ after.now) k ≡ false }
+{
+    if marks == 0 {
+        next_start(types, before, after, place + 64, to)
+    } else {
+        place + 64
+    }
 }
 
 /// Puts the start of a line at `place` in before line `first`, if one starts there, and returns the line behind it.

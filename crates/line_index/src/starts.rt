@@ -6,7 +6,7 @@ ghost use Rattle.partitioning.specs.Partitions.{IsFloorLog, IsLastAtMost};
 ghost use Rattle.line_index.specs.Index.{IsFree, starts_within};
 ghost use Rattle.line_index.specs.Change.{near_lines};
 
-use crate::adding::{add_at, add_marked, marks_near};
+use crate::adding::{add_at, add_marked, marks_near, place_behind};
 use crate::change::NearLines;
 use ed_model::LineEndTypes;
 use partitioning::{Partitioning, Place, Probes};
@@ -125,7 +125,7 @@ pub(crate) fn add_starts<P: Place>(
     'adding: while place < to {
         if let Some(marks) = marks_near(types, before, after, place, to) {
             line = add_marked(starts, types, before, after, line, place, marks);
-            place += 64;
+            place = place_behind(types, before, after, place, to, marks);
         } else {
             line = add_at(starts, types, before, after, line, place);
             place += 1;
