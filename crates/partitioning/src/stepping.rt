@@ -39,6 +39,9 @@ impl<P: Place, A: Allocator> Partitioning<P, A> {
         ensures counted { self.old.stepped ≤ self.new.stepped }
         ensures stepped { let count = length self.old.starts in self.new.stepped ≡ counted self.old.stepped (apart (near_count index count) (near_count self.old.step_at count)) }
     {
+        if index == self.step_at {
+            return;
+        }
         let count = self.count();
         let near = near_starts(self.step_at, count);
         let wanted = near_starts(index, count);

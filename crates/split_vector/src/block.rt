@@ -113,6 +113,9 @@ impl<T, A: Allocator> Block<T, A> {
         requires { IsBlock self.old × (place ≤ self.old.len) }
         ensures { Has self.new (take place (block_items self.old)) self.old.spare (drop place (block_items self.old)) (counted self.old.moved (apart place self.old.gap)) }
     {
+        if place == self.gap {
+            return;
+        }
         let distance = if place < self.gap {
             self.gap - place
         } else {
