@@ -92,9 +92,8 @@ fn limits_are_kept(rt: HostRuntime) -> Result<(), Fail> {
     Ok(())
 }
 
-#[test]
-fn commands_run(rt: HostRuntime) -> Result<(), Fail> {
-    let alloc = rt.alloc();
+/// Every kind of command, with expects that are met and one that is not.
+fn commands(alloc: Global) -> Result<Vec<Command>, AllocError> {
     let mut commands = Vec::new(alloc);
     commands.push(Command::OpenView)?;
     commands.push(Command::Expect { value: 1 })?;
@@ -107,40 +106,31 @@ fn commands_run(rt: HostRuntime) -> Result<(), Fail> {
     commands.push(Command::LoadFile { view: 1, file: 1 })?;
     commands.push(Command::CloseView { view: 1 })?;
     commands.push(Command::Expect { value: 0 })?;
+    Ok(commands)
+}
+
+/// Whether an outcome is that of an expect of this value.
+fn is_expected(outcome: &Outcome, was_met: bool, wanted: i64) -> bool {
+    match outcome {
+        Outcome::Expected { met, value } => *met == was_met && *value == wanted,
+        _ => false,
+    }
+}
+
+#[test]
+fn commands_run(rt: HostRuntime) -> Result<(), Fail> {
+    let alloc = rt.alloc();
+    let commands = commands(alloc)?;
     let mut run = Run::new(Session::new(alloc));
     let done = run.run(alloc, &[], &commands)?;
     assert_eq!(rt; done.len(), 8);
     assert!(rt; matches!(done[0], Outcome::Opened(1)));
-    assert!(rt;
-        matches!(
-            done[1],
-            Outcome::Expected {
-                met: true,
-                value: 1
-            }
-        )
-    );
-    assert!(rt;
-        matches!(
-            done[3],
-            Outcome::Expected {
-                met: false,
-                value: 3
-            }
-        )
-    );
+    assert!(rt; is_expected(&done[1], true, 1));
+    assert!(rt; is_expected(&done[3], false, 3));
     assert!(rt; matches!(done[4], Outcome::Refused(Refusal::NoSuchView)));
     assert!(rt; matches!(done[5], Outcome::Refused(Refusal::BadArgument)));
     assert!(rt; matches!(done[6], Outcome::Closed));
-    assert!(rt;
-        matches!(
-            done[7],
-            Outcome::Expected {
-                met: true,
-                value: 0
-            }
-        )
-    );
+    assert!(rt; is_expected(&done[7], true, 0));
     Ok(())
 }
 
