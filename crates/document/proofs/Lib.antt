@@ -2,3 +2,4 @@
 pub mod PlainLemmas
 pub mod PlainStep
 pub mod LineSteps
+pub mod PieceLemmas

@@ -10,7 +10,7 @@ use Rattle.ed_model.specs.Steps.{Insert, edited, edited_cells}
 use Rattle.ed_model.proofs.LineLemmas.{line_starts_in_range}
 use Rattle.ed_model.proofs.StepLemmas.{bytes_of_edited_cells}
 use Rattle.line_index.specs.Index.{Index, IsIndexOf, WasInserted, WasDeleted}
-use Rattle.line_index.specs.RoomLaws.{InsertionAddsFewLines, DeletionAddsFewLines}
+use Rattle.line_index.specs.RoomLaws.{DeletionAddsFewLines}
 use Rattle.document.specs.Held.{HasLinesOf}
 
 -- The end of a line lies in the text.
@@ -52,13 +52,6 @@ told_of_insertion cells new lines place bytes text has within is read = record {
   edited = bytes_inserted cells new place bytes text is read;
 }
 
-pub insertion_fits : (cells new : List Cell) (lines : Index) (place : ℕ) (bytes text : List ℕ) → InsertionAddsFewLines → HasLinesOf cells lines → place ≤ length cells →
-    line_count Default bytes + 5 ≤ lines.room → new ≡ edited_cells (Insert place bytes) cells → text ≡ bytes_of new → line_count lines.types text ≤ length lines.starts + lines.room
-insertion_fits cells new lines place bytes text few has within room is read =
-    let count : length lines.starts ≡ line_count Default (bytes_of cells) = ap length has.index.starts ∙ ap (λ t. line_count t (bytes_of cells)) has.types in
-    let after : line_count Default (edited (Insert place bytes) (bytes_of cells)) ≡ line_count lines.types text = ap (line_count Default) (bytes_inserted cells new place bytes text is read) ∙ ap (λ t. line_count t text) (sym has.types) in
-    omega (arith, count, after, few Default place bytes (bytes_of cells) (place_in_bytes cells place within))
-
 -- A deletion.
 
 bytes_deleted : (cells new : List Cell) (place count : ℕ) (text : List ℕ) → new ≡ take place cells ++ drop (place + count) cells → text ≡ bytes_of new →
@@ -85,17 +78,8 @@ deletion_fits cells new lines place count text few has within room is read =
 
 -- The room that a step takes.
 
-lines_of_index : (text : List ℕ) (i : Index) → IsIndexOf text i → i.types ≡ Default → length i.starts ≡ line_count Default text
+pub lines_of_index : (text : List ℕ) (i : Index) → IsIndexOf text i → i.types ≡ Default → length i.starts ≡ line_count Default text
 lines_of_index text i is types = ap length is.starts ∙ ap (λ t. line_count t text) types
-
-pub insertion_takes : (cells new : List Cell) (lines after : Index) (place : ℕ) (bytes text : List ℕ) → InsertionAddsFewLines → HasLinesOf cells lines → place ≤ length cells →
-    new ≡ edited_cells (Insert place bytes) cells → text ≡ bytes_of new → IsIndexOf text after → after.types ≡ lines.types → after.room + length after.starts ≡ lines.room + length lines.starts →
-    lines.room ≤ after.room + (line_count Default bytes + 5)
-insertion_takes cells new lines after place bytes text few has within is read index types sum =
-    let old = lines_of_index (bytes_of cells) lines has.index has.types in
-    let count = lines_of_index text after index (types ∙ has.types) in
-    let same : line_count Default (edited (Insert place bytes) (bytes_of cells)) ≡ line_count Default text = ap (line_count Default) (bytes_inserted cells new place bytes text is read) in
-    omega (arith, old, count, same, sum, few Default place bytes (bytes_of cells) (place_in_bytes cells place within))
 
 pub deletion_takes : (cells new : List Cell) (lines after : Index) (place count : ℕ) (text : List ℕ) → DeletionAddsFewLines → HasLinesOf cells lines → place + count ≤ length cells →
     new ≡ take place cells ++ drop (place + count) cells → text ≡ bytes_of new → IsIndexOf text after → after.types ≡ lines.types → after.room + length after.starts ≡ lines.room + length lines.starts →

@@ -7,6 +7,7 @@ ghost use Rattle.ed_model.specs.Steps.{Insert, Delete};
 ghost use Rattle.ed_model.specs.Session.{new_document, without};
 ghost use Rattle.document.specs.Held.{document_of, step_on, HasRoom, TakesRoom};
 
+use crate::pieces::put_in;
 use cell_buffer::Cells;
 use ed_model::LineEndTypes;
 use line_index::{LineIndex, room_for_steps};
@@ -14,24 +15,28 @@ use std::alloc::{AllocError, Global};
 use std::marker::Model;
 use undo_history::{StepKind, UndoHistory};
 
+// The greatest length of a text, in bytes: its lines start at places of 32 bits.
+const GREATEST: usize = u32::MAX as usize;
+
 /// A document. It is edited in single steps, for which room is made before.
 #[derive(Drop)]
 pub struct Document {
     id: u32,
     pub(crate) cells: Cells,
-    pub(crate) lines: LineIndex<u64>,
+    pub(crate) lines: LineIndex<u32>,
     history: UndoHistory,
     views: Vec<u32>,
 }
 
 impl Model for Document {
+    ghost use Rattle.std.specs.Prelude.{◌<◌, ◌+◌, ◌^◌, length};
     ghost use Rattle.document.specs.Held.{Held, HasLinesOf};
 
     ghost Value = { Held };
 
     ghost view = { λ d. record { id = d.id; cells = d.cells.cells; history = d.history.history; views = d.views.items; text_room = d.cells.room; line_room = d.lines.room; step_room = d.history.step_room; byte_room = d.history.byte_room } };
 
-    ghost invariant = { λ d. HasLinesOf d.cells.cells d.lines };
+    ghost invariant = { λ d. record { lines : HasLinesOf d.cells.cells d.lines; fits : length d.cells.cells + d.cells.room < 2 ^ 32 } };
 }
 
 /// Takes every copy of the view out of the list.
@@ -135,7 +140,7 @@ impl Document {
     ///
     /// # Errors
     ///
-    /// `AllocError` where memory is refused; the document is then as it was.
+    /// `AllocError` where memory is refused, or where the text could pass 2^32 - 1 bytes; the document is then as it was.
     pub fn reserve(
         &mut self,
         text: usize,
@@ -149,6 +154,9 @@ impl Document {
         ensures room_is_there { HasRoom self.old text lines steps bytes → IsOk result }
         ensures room_stays { TakesRoom self.old self.new 0 0 0 0 }
     {
+        if text > GREATEST - self.cells.len() {
+            return Err(AllocError);
+        }
         self.cells.reserve(text)?;
         self.lines.reserve(lines)?;
         self.history.reserve(steps, bytes)?;
@@ -168,11 +176,7 @@ impl Document {
     {
         self.history
             .append_reserved(later, StepKind::Insert, place, bytes);
-        self.cells.insert_reserved(place, bytes);
-        room_for_steps();
-        let _ = self.cells.len(); // it says that the text is not too long
-        let (before, after) = self.cells.halves();
-        self.lines.inserted(place, bytes.len(), before, after);
+        put_in(&mut self.cells, &mut self.lines, place, bytes);
     }
 
     /// Deletes `count` bytes from a place on, as a step that is appended to the history; `later` says that it is a later

@@ -6,6 +6,7 @@
 
 mod held;
 mod lines;
+mod pieces;
 #[cfg(test)]
 mod tests;
 

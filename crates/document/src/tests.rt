@@ -72,6 +72,41 @@ fn a_byte_between_cr_and_lf(rt: HostRuntime) -> Result<(), Fail> {
     Ok(())
 }
 
+/// Sixteen bytes a line, of which CR LF are the last of one sixteen and the first of the next.
+fn byte_at(place: usize) -> u8 {
+    match place % 16 {
+        15 => b'\r',
+        0 if place > 0 => b'\n',
+        _ => b'x',
+    }
+}
+
+#[test]
+fn lines_across_pieces(rt: HostRuntime) -> Result<(), Fail> {
+    let mut text: Vec<u8> = Vec::new(rt.alloc());
+    for place in 0..70_001 {
+        text.push(byte_at(place))?;
+    }
+    let mut document = Document::new(rt.alloc(), 1)?;
+    put(&rt, &mut document, 0, b"ab")?;
+    put(&rt, &mut document, 1, text.as_slice())?;
+    assert_eq!(rt; document.len(), 70_003);
+    assert_eq!(rt; document.line_count(), 4_376);
+    assert_eq!(rt; start(&document, 4_096), Some(65_538));
+    assert_eq!(rt; start(&document, 4_375), Some(70_002));
+    Ok(())
+}
+
+#[test]
+fn no_text_past_places_of_32_bits(rt: HostRuntime) -> Result<(), Fail> {
+    let mut document = Document::new(rt.alloc(), 1)?;
+    put(&rt, &mut document, 0, b"a")?;
+    assert!(rt; document.reserve(1 << 32, 0, 0, 0).is_err());
+    assert!(rt; document.reserve(usize::MAX, 0, 0, 0).is_err());
+    document.reserve(1, 0, 0, 0)?;
+    Ok(())
+}
+
 #[test]
 fn views_and_text(rt: HostRuntime) -> Result<(), Fail> {
     let mut document = Document::new(rt.alloc(), 1)?;

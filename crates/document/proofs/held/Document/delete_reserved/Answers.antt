@@ -29,7 +29,7 @@ deleted-requires-clause-was c =
     let count = c.args.count in
     let within : place + count ≤ length c.self.inside.cells.cells = subst (λ (h : Held). place + count ≤ length h.cells) (sym c.self.view_is) c.requires.place in
     let left = c.delete.ensures.cells ∙ ap (λ (b : Buffer). take place b.cells ++ drop (place + count) b.cells) c.lend-deleted.follows.holds-at-none in
-    told_of_deletion c.self.inside.cells.cells c.delete.new.self.cells c.self.inside.lines place count _ c.self.invariant within left c.halves.ensures.joined
+    told_of_deletion c.self.inside.cells.cells c.delete.new.self.cells c.self.inside.lines place count _ c.self.invariant.lines within left c.halves.ensures.joined
 
 pub deleted-requires-clause-room : goal.deleted-requires-clause-room
 deleted-requires-clause-room c =
@@ -38,7 +38,7 @@ deleted-requires-clause-room c =
     let within : place + count ≤ length c.self.inside.cells.cells = subst (λ (h : Held). place + count ≤ length h.cells) (sym c.self.view_is) c.requires.place in
     let room : 3 ≤ c.self.inside.lines.room = subst (λ (h : Held). 3 ≤ h.line_room) (sym c.self.view_is) c.requires.room.1 in
     let left = c.delete.ensures.cells ∙ ap (λ (b : Buffer). take place b.cells ++ drop (place + count) b.cells) c.lend-deleted.follows.holds-at-none in
-    deletion_fits c.self.inside.cells.cells c.delete.new.self.cells c.self.inside.lines place count _ c.room_for_steps.ensures.deletion c.self.invariant within room left c.halves.ensures.joined
+    deletion_fits c.self.inside.cells.cells c.delete.new.self.cells c.self.inside.lines place count _ c.room_for_steps.ensures.deletion c.self.invariant.lines within room left c.halves.ensures.joined
 
 pub returns-clause-room_left : goal.returns-clause-room_left
 returns-clause-room_left c =
@@ -46,7 +46,7 @@ returns-clause-room_left c =
     let count = c.args.count in
     let within : place + count ≤ length c.self.inside.cells.cells = subst (λ (h : Held). place + count ≤ length h.cells) (sym c.self.view_is) c.requires.place in
     let left = c.delete.ensures.cells ∙ ap (λ (b : Buffer). take place b.cells ++ drop (place + count) b.cells) c.lend-deleted.follows.holds-at-none in
-    let taken = deletion_takes c.self.inside.cells.cells c.delete.new.self.cells c.self.inside.lines c.deleted.new.self place count _ c.room_for_steps.ensures.deletion c.self.invariant within
+    let taken = deletion_takes c.self.inside.cells.cells c.delete.new.self.cells c.self.inside.lines c.deleted.new.self place count _ c.room_for_steps.ensures.deletion c.self.invariant.lines within
     left c.halves.ensures.joined c.deleted.ensures.index c.deleted.ensures.types c.deleted.ensures.room in
     let counted = ap length c.lend-deleted.ensures.value ∙ deleted_count c.self.inside.cells.cells place count within in
     let bytes_left : c.self.inside.history.byte_room ≤ c.append_reserved.new.self.byte_room + count = omega (arith, c.append_reserved.ensures.bytes_left, counted) in

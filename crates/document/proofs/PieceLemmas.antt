@@ -1,0 +1,174 @@
+-- Bytes that are put in piece after piece: the text after each, and how many lines it has.
+use Rattle.std.proofs.Common.{◌≡◌, ℕ, zero, suc, ◌+◌, ◌-◌, ◌<◌, ◌≤◌, ◌==◌, Bool, true, false, List, [], ◌∷◌, ◌++◌, length, take, drop, slice_range, refl, ap, sym, ◌∙◌, inl, inr, arith, append_assoc, length-append}
+use Rattle.std.proofs.lemmas.Bool.{ne_eqb, true≢false, cases_lt}
+use Rattle.std.proofs.lemmas.List.{length-map, length-take-le, map-append}
+use Rattle.std.proofs.lemmas.Option.{slice_get_past}
+use Rattle.std.proofs.Math.Seq.{take-add, take-append_seam, drop-append_seam}
+use Rattle.ed_model.specs.declared.plan.LineEndTypes.{LineEndTypes}
+use Rattle.ed_model.specs.declared.plan.LineEndTypes.TheVariants.{Default}
+use Rattle.ed_model.specs.Numbers.{is_number}
+use Rattle.ed_model.specs.Text.{Cell, bytes_of, plain_cell, plain_cells, stands}
+use Rattle.ed_model.specs.Lines.{is_line_start, line_count}
+use Rattle.ed_model.specs.Steps.{Insert, edited_cells}
+use Rattle.ed_model.proofs.RisingLemmas.{filter_range_agree}
+use Rattle.ed_model.proofs.StepLemmas.{bytes_of_edited_cells}
+use Rattle.line_index.specs.Index.{Index, starts_within}
+use Rattle.line_index.specs.RoomLaws.{InsertionAddsFewLines}
+use Rattle.line_index.proofs.StartLists.{starts_apart, one_start, no_starts}
+use Rattle.document.specs.Held.{HasLinesOf}
+use Rattle.document.proofs.LineSteps.{lines_of_index}
+
+-- The first bytes of a text have no more lines than all.
+
+-- what stands in the first bytes
+stands_at_first : (byte : ℕ) (bytes : List ℕ) (n k : ℕ) → k < n → n ≤ length bytes → stands byte (take n bytes) k ≡ stands byte bytes k
+stands_at_first byte [] n k h l = absurd (omega arith)
+stands_at_first byte (b ∷ bytes) zero k h l = absurd (omega arith)
+stands_at_first byte (b ∷ bytes) (suc n) zero h l = refl
+stands_at_first byte (b ∷ bytes) (suc n) (suc k) h l = stands_at_first byte bytes n k (omega arith) (omega arith)
+
+-- a line starts at a place of both texts or of none, where the same bytes stand in front and an LF behind in both or in none
+alike : (types : LineEndTypes) (text other : List ℕ) (p : ℕ) → (0 < p → (byte k : ℕ) → k < p → stands byte text k ≡ stands byte other k) → stands 10 text p ≡ stands 10 other p
+    → is_line_start types text p ≡ is_line_start types other p
+alike types text other zero front here = refl
+alike types text other (suc q) front here =
+    let same : (byte k : ℕ) → k < suc q → stands byte text k ≡ stands byte other k = front (omega arith) in
+    let p : ℕ = suc q in
+    rw (
+      here,
+      same 10 (p - 1) (omega arith),
+      same 13 (p - 1) (omega arith),
+      same 0x85 (p - 1) (omega arith),
+      same 0xC2 (p - 2) (omega arith),
+      same 0xA8 (p - 1) (omega arith),
+      same 0xA9 (p - 1) (omega arith),
+      same 0x80 (p - 2) (omega arith),
+      same 0xE2 (p - 3) (omega arith),
+    )
+    refl
+
+-- in front of the end of the first bytes the same lines start
+same_in_front : (types : LineEndTypes) (bytes : List ℕ) (n : ℕ) → n ≤ length bytes → starts_within types (take n bytes) 0 n ≡ starts_within types bytes 0 n
+same_in_front types bytes n l =
+    filter_range_agree (is_line_start types bytes) (is_line_start types (take n bytes)) 0 (n - 0)
+    (λ k a b. sym (alike types (take n bytes) bytes k (λ some byte i h. stands_at_first byte bytes n i (omega arith) l) (stands_at_first 10 bytes n k (omega arith) l)))
+
+-- where a line starts between two places, there is one
+some_within : (types : LineEndTypes) (text : List ℕ) (from to k : ℕ) → from ≤ k → k < to → is_line_start types text k ≡ true → 1 ≤ length (starts_within types text from to)
+some_within types text from to k a b here =
+    omega (
+      arith,
+      ap length (starts_apart types text from k to a (omega arith)),
+      ap length (starts_apart types text k (k + 1) to (omega arith) (omega arith)),
+      ap length (one_start types text k here),
+      length-append (starts_within types text from k) (starts_within types text k to),
+      length-append (starts_within types text k (k + 1)) (starts_within types text (k + 1) to),
+    )
+
+behind_line_feed : (types : LineEndTypes) (text : List ℕ) (p : ℕ) → stands 10 text p ≡ true → is_line_start types text (p + 1) ≡ true
+behind_line_feed types text p e =
+    let one : p + 1 - 1 ≡ p = omega arith in
+    let some : (p + 1 == 0) ≡ false = ne_eqb (p + 1) 0 (λ z. omega arith) in
+    rw (some, one, e) refl
+
+stands_inside : (byte : ℕ) (text : List ℕ) (p : ℕ) → stands byte text p ≡ true → p < length text
+stands_inside byte text p e =
+    elim (cases_lt p (length text)) [
+      | inl inside ↦ inside
+      | inr past ↦ absurd (true≢false (sym e ∙ ap (is_number byte) (slice_get_past text p past)))
+    ]
+
+-- a line that starts at the end of the first bytes starts there in all of them too, or behind the LF that stands there
+some_at_end : (types : LineEndTypes) (bytes : List ℕ) (n : ℕ) → n ≤ length bytes → is_line_start types (take n bytes) n ≡ true → (b : Bool) → stands 10 bytes n ≡ b
+    → 1 ≤ length (starts_within types bytes n (length bytes + 1))
+some_at_end types bytes n l here true e =
+    some_within types bytes n (length bytes + 1) (n + 1) (omega arith) (omega (arith, stands_inside 10 bytes n e)) (behind_line_feed types bytes n e)
+some_at_end types bytes n l here false e =
+    let past : stands 10 (take n bytes) n ≡ false = ap (is_number 10) (slice_get_past (take n bytes) n (omega (arith, length-take-le n bytes l))) in
+    some_within types bytes n (length bytes + 1) n (omega arith) (omega arith)
+    (sym (alike types (take n bytes) bytes n (λ some byte i h. stands_at_first byte bytes n i h l) (past ∙ sym e)) ∙ here)
+
+at_end : (types : LineEndTypes) (bytes : List ℕ) (n : ℕ) → n ≤ length bytes → (here : Bool) → is_line_start types (take n bytes) n ≡ here
+    → length (starts_within types (take n bytes) n (n + 1)) ≤ length (starts_within types bytes n (length bytes + 1))
+at_end types bytes n l true e = omega (arith, ap length (one_start types (take n bytes) n e), some_at_end types bytes n l e (stands 10 bytes n) refl)
+at_end types bytes n l false e =
+    omega (arith, ap length (no_starts types (take n bytes) n (n + 1) (λ k a b. let same : k ≡ n = omega arith in rw same e)))
+
+all_starts : (types : LineEndTypes) (text : List ℕ) (n : ℕ) → length text ≡ n → line_count types text ≡ length (starts_within types text 0 (n + 1))
+all_starts types text n e =
+    let whole : length text + 1 - 0 ≡ length text + 1 = omega arith in
+    rw (← e, whole) refl
+
+pub fewer_at_first : (types : LineEndTypes) (bytes : List ℕ) (n : ℕ) → n ≤ length bytes → line_count types (take n bytes) ≤ line_count types bytes
+fewer_at_first types bytes n l =
+    omega (
+      arith,
+      all_starts types (take n bytes) n (length-take-le n bytes l),
+      all_starts types bytes (length bytes) refl,
+      ap length (starts_apart types (take n bytes) 0 n (n + 1) (omega arith) (omega arith)),
+      ap length (starts_apart types bytes 0 n (length bytes + 1) (omega arith) (omega arith)),
+      ap length (same_in_front types bytes n l),
+      at_end types bytes n l (is_line_start types (take n bytes) n) refl,
+      length-append (starts_within types (take n bytes) 0 n) (starts_within types (take n bytes) n (n + 1)),
+      length-append (starts_within types bytes 0 n) (starts_within types bytes n (length bytes + 1)),
+    )
+
+-- The text after each piece.
+
+front_of : {X : Type 0} (xs ys : List X) (n : ℕ) → length xs ≡ n → take n (xs ++ ys) ≡ xs
+front_of xs ys n e = rw (← e) (take-append_seam xs ys)
+
+back_of : {X : Type 0} (xs ys : List X) (n : ℕ) → length xs ≡ n → drop n (xs ++ ys) ≡ ys
+back_of xs ys n e = rw (← e) (drop-append_seam xs ys)
+
+one_piece_more : (bytes : List ℕ) (done end : ℕ) → done ≤ end → take end bytes ≡ take done bytes ++ slice_range bytes done end
+one_piece_more bytes done end h =
+    let e : end ≡ done + (end - done) = omega arith in
+    ap (λ n. take n bytes) e ∙ take-add done (end - done) bytes
+
+-- a piece behind those that are in
+pub piece_behind :
+    (cells now : List Cell) (place done end : ℕ) (bytes : List ℕ) → place ≤ length cells → done ≤ end → end ≤ length bytes → now ≡ edited_cells (Insert place (take done bytes)) cells
+    → edited_cells (Insert (place + done) (slice_range bytes done end)) now ≡ edited_cells (Insert place (take end bytes)) cells
+piece_behind cells now place done end bytes p d e is =
+    let front : List Cell = take place cells ++ plain_cells (take done bytes) in
+    let long : length front ≡ place + done =
+    omega (arith, length-append (take place cells) (plain_cells (take done bytes)), length-take-le place cells p, length-map (take done bytes) plain_cell, length-take-le done bytes (omega arith)) in
+    rw (is, one_piece_more bytes done end d, front_of front (drop place cells) (place + done) long, back_of front (drop place cells) (place + done) long)
+    (simp (map-append, append_assoc))
+
+-- The lines that there are with the first bytes.
+
+pub lines_with_first :
+    (cells now : List Cell) (place n : ℕ) (bytes : List ℕ) → InsertionAddsFewLines → place ≤ length cells → n ≤ length bytes → now ≡ edited_cells (Insert place (take n bytes)) cells
+    → line_count Default (bytes_of now) ≤ line_count Default (bytes_of cells) + (line_count Default bytes + 5)
+lines_with_first cells now place n bytes few p l is =
+    let text = ap (λ cs. line_count Default (bytes_of cs)) is ∙ ap (line_count Default) (bytes_of_edited_cells (Insert place (take n bytes)) cells) in
+    omega (arith, text, few Default place (take n bytes) (bytes_of cells) (omega (arith, length-map cells (λ (c : Cell). c.byte))), fewer_at_first Default bytes n l)
+
+-- so a piece's lines fit in where those of all bytes do
+pub piece_fits :
+    (cells now : List Cell) (old lines : Index) (place done end : ℕ) (bytes : List ℕ) → InsertionAddsFewLines → HasLinesOf cells old → place ≤ length cells → done ≤ end → end ≤ length bytes
+    → now ≡ edited_cells (Insert place (take done bytes)) cells → lines.room + length lines.starts ≡ old.room + length old.starts → line_count Default bytes + 5 ≤ old.room
+    → line_count Default (bytes_of (edited_cells (Insert (place + done) (slice_range bytes done end)) now)) ≤ length lines.starts + lines.room
+piece_fits cells now old lines place done end bytes few has p d e is sum room =
+    omega (
+      arith,
+      sum,
+      room,
+      lines_of_index (bytes_of cells) old has.index has.types,
+      lines_with_first cells (edited_cells (Insert (place + done) (slice_range bytes done end)) now) place end bytes few p e (piece_behind cells now place done end bytes p d e is),
+    )
+
+-- and when all are in, no more room was taken than that
+pub pieces_take :
+    (cells now : List Cell) (old lines : Index) (place done : ℕ) (bytes : List ℕ) → InsertionAddsFewLines → HasLinesOf cells old → HasLinesOf now lines → place ≤ length cells → done ≤ length bytes
+    → now ≡ edited_cells (Insert place (take done bytes)) cells → lines.room + length lines.starts ≡ old.room + length old.starts → old.room ≤ lines.room + (line_count Default bytes + 5)
+pieces_take cells now old lines place done bytes few has is_now p l is sum =
+    omega (
+      arith,
+      sum,
+      lines_of_index (bytes_of cells) old has.index has.types,
+      lines_of_index (bytes_of now) lines is_now.index is_now.types,
+      lines_with_first cells now place done bytes few p l is,
+    )
