@@ -1,5 +1,5 @@
 -- Lines of many bytes, counted byte after byte.
-use Rattle.std.proofs.Common.{◌≡◌, ℕ, ◌+◌, ◌-◌, ◌<◌, ◌≤◌, Bool, true, false, cond, ◌==◌, ◌||◌, ◌&&◌, not, List, length, get_or, refl, ap, arith, length-append}
+use Rattle.std.proofs.Common.{◌≡◌, ℕ, ◌+◌, ◌-◌, ◌*◌, ◌<◌, ◌≤◌, Bool, true, false, cond, ◌==◌, ◌||◌, ◌&&◌, not, List, length, get_or, refl, ap, arith, length-append}
 use Rattle.std.proofs.lemmas.Bool.{ne_eqb}
 use Rattle.ed_model.specs.declared.plan.LineEndTypes.{LineEndTypes}
 use Rattle.ed_model.specs.declared.plan.LineEndTypes.TheVariants.{Default}
@@ -54,13 +54,45 @@ pub at_most_one : (here : Bool) (more : ℕ) → more ≡ cond here 1 0 → more
 at_most_one true more e = omega arith
 at_most_one false more e = omega arith
 
--- the places of one more block
+-- the places from one up to another and from there on
 pub block_counted :
-    (text : List ℕ) (place next lines more : ℕ) → place ≤ next → lines ≡ length (starts_within Default text 0 (place + 1))
-    → more ≡ length (starts_within Default text (place + 1) (next + 1)) → lines + more ≡ length (starts_within Default text 0 (next + 1))
-block_counted text place next lines more h a b =
+    (text : List ℕ) (from mid to lines more : ℕ) → from ≤ mid → mid ≤ to → lines ≡ length (starts_within Default text from mid)
+    → more ≡ length (starts_within Default text mid to) → lines + more ≡ length (starts_within Default text from to)
+block_counted text from mid to lines more a b e h =
     omega (
       arith,
-      ap length (starts_apart Default text 0 (place + 1) (next + 1) (omega arith) (omega arith)),
-      length-append (starts_within Default text 0 (place + 1)) (starts_within Default text (place + 1) (next + 1)),
+      ap length (starts_apart Default text from mid to a b),
+      length-append (starts_within Default text from mid) (starts_within Default text mid to),
     )
+
+-- the lines behind so many blocks of a row
+abbrev pub BlocksCounted : List ℕ → ℕ → ℕ → ℕ → Type 0
+BlocksCounted text from blocks lines = lines ≡ length (starts_within Default text (from + 1) (from + blocks * 192 + 1))
+
+-- the same, where the end of the blocks is known
+counted_to :
+    (text : List ℕ) (from blocks to lines : ℕ) → to ≡ from + blocks * 192 → BlocksCounted text from blocks lines
+    → lines ≡ length (starts_within Default text (from + 1) (to + 1))
+counted_to text from blocks to lines e h = rw e h
+
+-- and one more block is counted
+pub next_counted :
+    (text : List ℕ) (from blocks place lines more : ℕ) → place ≡ from + blocks * 192 → BlocksCounted text from blocks lines
+    → more ≡ length (starts_within Default text (place + 1) (place + 192 + 1)) → BlocksCounted text from (blocks + 1) (lines + more)
+next_counted text from blocks place lines more e b h =
+    let end : from + (blocks + 1) * 192 ≡ place + 192 = omega arith in
+    rw end (block_counted text (from + 1) (place + 1) (place + 192 + 1) lines more (omega arith) (omega arith) (counted_to text from blocks place lines e b) h)
+
+-- four whole rows
+pub rows_counted :
+    (text : List ℕ) (from blocks first second third fourth : ℕ) → blocks ≡ 64 → BlocksCounted text from blocks first
+    → BlocksCounted text (from + 12288) blocks second → BlocksCounted text (from + 24576) blocks third → BlocksCounted text (from + 36864) blocks fourth
+    → first + second + third + fourth ≡ length (starts_within Default text (from + 1) (from + 49152 + 1))
+rows_counted text from blocks first second third fourth e a b c d =
+    let one = counted_to text from blocks (from + 12288) first (omega arith) a in
+    let two = counted_to text (from + 12288) blocks (from + 24576) second (omega arith) b in
+    let three = counted_to text (from + 24576) blocks (from + 36864) third (omega arith) c in
+    let four = counted_to text (from + 36864) blocks (from + 49152) fourth (omega arith) d in
+    let half = block_counted text (from + 1) (from + 12288 + 1) (from + 24576 + 1) first second (omega arith) (omega arith) one two in
+    let most = block_counted text (from + 1) (from + 24576 + 1) (from + 36864 + 1) (first + second) third (omega arith) (omega arith) half three in
+    block_counted text (from + 1) (from + 36864 + 1) (from + 49152 + 1) (first + second + third) fourth (omega arith) (omega arith) most four

@@ -13,6 +13,12 @@ use ed_model::LineEndTypes;
 // vector has many such counters.
 const BLOCK: usize = 192;
 
+// How many blocks a row has: so many that its bytes are three pages, since shorter rows took longer.
+const BLOCKS: usize = 64;
+
+// How many bytes a row has.
+const ROW: usize = BLOCKS * BLOCK;
+
 // How many lines end with the byte, where line ends of Unicode do not count: 1 or 0. No branch is taken, so that many
 // bytes are tested at once.
 fn ends_with(byte: u8, next: u8) -> u8
@@ -38,14 +44,47 @@ fn lines_behind_block(bytes: &[u8], from: usize) -> usize
     lines as usize
 }
 
-// How many lines start at the bytes' beginning and behind those of whole blocks, and how many bytes these have.
-fn lines_behind_blocks(bytes: &[u8]) -> (usize, usize)
+// How many lines start behind the bytes of four rows from `from` on, which another byte follows. The rows are gone
+// through side by side, since memory comes faster from four places than from one.
+fn lines_behind_rows(bytes: &[u8], from: usize) -> usize
+    requires { from + 49152 < length bytes.now }
+    ensures lines { result ≡ length (starts_within LineEndTypes.Default bytes.now (from + 1) (from + 49152 + 1)) }
+    ensures few { result ≤ 49152 }
+{
+    let (mut first, mut second, mut third, mut fourth) = (0, 0, 0, 0);
+    for block in 0..BLOCKS {
+        let place = from + block * BLOCK;
+        first += lines_behind_block(bytes, place);
+        second += lines_behind_block(bytes, place + ROW);
+        third += lines_behind_block(bytes, place + 2 * ROW);
+        fourth += lines_behind_block(bytes, place + 3 * ROW);
+    }
+    first + second + third + fourth
+}
+
+// How many lines start at the bytes' beginning and behind those of whole groups of four rows, and how many bytes these
+// have.
+fn lines_behind_groups(bytes: &[u8]) -> (usize, usize)
     ensures lines { result.0 ≡ length (starts_within LineEndTypes.Default bytes.now 0 (result.1 + 1)) }
     ensures few { result.0 ≤ result.1 + 1 }
     ensures within { result.1 ≤ length bytes.now }
 {
     let mut lines = 1;
     let mut place = 0;
+    'adding: while bytes.len() - place > 4 * ROW {
+        lines += lines_behind_rows(bytes, place);
+        place += 4 * ROW;
+    }
+    (lines, place)
+}
+
+// The same for whole blocks: first in groups, then one by one.
+fn lines_behind_blocks(bytes: &[u8]) -> (usize, usize)
+    ensures lines { result.0 ≡ length (starts_within LineEndTypes.Default bytes.now 0 (result.1 + 1)) }
+    ensures few { result.0 ≤ result.1 + 1 }
+    ensures within { result.1 ≤ length bytes.now }
+{
+    let (mut lines, mut place) = lines_behind_groups(bytes);
     'adding: while bytes.len() - place > BLOCK {
         lines += lines_behind_block(bytes, place);
         place += BLOCK;

@@ -208,6 +208,20 @@ fn lines_of_a_long_text(rt: HostRuntime) -> Result<(), Fail> {
     Ok(())
 }
 
+// Eleven bytes with four line ends, over and over: more than two groups of four rows, with the borders of rows and groups
+// behind a CR, behind an LF, and between the two.
+#[test]
+fn lines_of_many_rows(rt: HostRuntime) -> Result<(), Fail> {
+    let mut text: Vec<u8> = Vec::new(rt.alloc());
+    for _ in 0..9000 {
+        text.extend_from_slice(b"x\r\n\r\n\rx\nxxx")?;
+    }
+    for types in [LineEndTypes::Default, LineEndTypes::Unicode] {
+        assert_eq!(rt; lines_in(types, text.as_slice()), 36001);
+    }
+    Ok(())
+}
+
 #[test]
 fn a_refused_growth_changes_nothing(rt: HostRuntime) -> Result<(), Fail> {
     let mut index: LineIndex<u32> = LineIndex::new(rt.alloc(), LineEndTypes::Default)?;

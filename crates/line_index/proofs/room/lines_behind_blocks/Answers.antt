@@ -7,7 +7,7 @@ adding-preserved c =
     let inv = c.adding.invariant in
     let block = c.lines_behind_block-lines in
     record {
-      lines = block_counted c.args.bytes.now c.adding.place (c.adding.place + 192) c.adding.lines block.result (omega arith) inv.lines block.ensures.lines;
+      lines = block_counted c.args.bytes.now 0 (c.adding.place + 1) (c.adding.place + 192 + 1) c.adding.lines block.result (omega arith) (omega arith) inv.lines block.ensures.lines;
       few = omega (arith, inv.few, block.ensures.few);
       within = omega arith;
     }

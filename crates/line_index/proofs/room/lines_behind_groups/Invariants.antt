@@ -1,0 +1,15 @@
+use Rattle.std.proofs.Common.{◌≡◌, ◌+◌, ◌-◌, ◌≤◌, length}
+use Rattle.ed_model.specs.declared.plan.LineEndTypes.TheVariants.{Default}
+use Rattle.line_index.specs.Index.{starts_within}
+use Rattle.line_index.proofs.room.lines_behind_groups.Given as goal
+
+abbrev pub invariant-adding : goal.invariant-adding
+invariant-adding l =
+    record {
+      lines : l.lines ≡ length (starts_within Default l.bytes 0 (l.place + 1));
+      few : l.lines ≤ l.place + 1;
+      within : l.place ≤ length l.bytes;
+    }
+
+abbrev pub decreases-adding : goal.decreases-adding
+decreases-adding l = length l.bytes - l.place
