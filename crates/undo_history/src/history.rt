@@ -418,6 +418,26 @@ fn bytes_by_kind(kind: ChangeKind, stored: &[u8]) -> &[u8]
     }
 }
 
+// How many bytes are copied at once. The C library copies longer runs in a way that is slower where memory is touched for
+// the first time.
+const PIECE: usize = 4096;
+
+// Appends bytes to the stored ones. There must be room for them.
+fn append_bytes(stored: &mut Vec<u8>, bytes: &[u8])
+    requires { vec_len stored.old + length bytes.now ≤ vec_capacity stored.old }
+    ensures bytes { stored.new.items ≡ stored.old.items ++ bytes.now }
+    ensures capacity { vec_capacity stored.old ≤ vec_capacity stored.new }
+{
+    let mut done = 0;
+    'appending: while done < bytes.len() {
+        let end = bytes.len().min(done + PIECE);
+        let Ok(()) = stored.extend_from_slice(&bytes[done..end]) else {
+            unreachable!();
+        };
+        done = end;
+    }
+}
+
 // Stores a change and its bytes behind the others. There must be room for them.
 fn store(changes: &mut Vec<ChangeRecord>, stored: &mut Vec<u8>, kind: ChangeKind, bytes: &[u8])
     requires change_room { vec_len changes.old < vec_capacity changes.old }
@@ -427,9 +447,7 @@ fn store(changes: &mut Vec<ChangeRecord>, stored: &mut Vec<u8>, kind: ChangeKind
     ensures change_capacity { vec_capacity changes.new ≡ vec_capacity changes.old }
     ensures byte_capacity { vec_capacity stored.old ≤ vec_capacity stored.new }
 {
-    let Ok(()) = stored.extend_from_slice(bytes) else {
-        unreachable!();
-    };
+    append_bytes(stored, bytes);
     changes.push_reserved(ChangeRecord {
         kind,
         bytes_end: stored.len(),

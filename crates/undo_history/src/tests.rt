@@ -62,6 +62,21 @@ fn a_dropped_save_point(rt: HostRuntime) -> Result<(), Fail> {
 }
 
 #[test]
+fn a_step_of_many_bytes(rt: HostRuntime) -> Result<(), Fail> {
+    let mut text: Vec<u8> = Vec::new(rt.alloc());
+    for place in 0u32..9001 {
+        text.push(place.to_le_bytes()[0])?;
+    }
+    let mut history = UndoHistory::new(rt.alloc());
+    history.reserve(1, text.len())?;
+    history.append_reserved(false, StepKind::Delete, 3, text.as_slice());
+    assert_eq!(rt; history.undo_len(), 1);
+    let (_, bytes) = history.change_to_undo(0);
+    assert_eq!(rt; bytes, text.as_slice());
+    Ok(())
+}
+
+#[test]
 fn groups_and_container_steps(rt: HostRuntime) -> Result<(), Fail> {
     let mut history = UndoHistory::new(rt.alloc());
     assert!(rt; history.depth() == 0);
