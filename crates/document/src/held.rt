@@ -76,7 +76,7 @@ impl Document {
     /// The length of its text, in bytes.
     pub fn len(&self) -> usize
         ensures len { result ≡ length self.now.cells }
-        ensures within { length self.now.cells + self.now.text_room < 2 ^ 63 }
+        ensures within { length self.now.cells + self.now.text_room < 2 ^ 32 }
     {
         self.cells.len()
     }
