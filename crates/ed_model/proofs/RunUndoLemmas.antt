@@ -21,7 +21,7 @@ use Rattle.ed_model.specs.declared.plan.SessionChange.TheVariants as session_cha
 use Rattle.ed_model.specs.declared.plan.Plan.{Plan}
 use Rattle.ed_model.specs.declared.plan.Plan.TheVariants as plan
 use Rattle.ed_model.specs.Text.{Cell}
-use Rattle.ed_model.specs.Steps.{Step, Insert, Delete}
+use Rattle.ed_model.specs.Steps.{Step}
 use Rattle.ed_model.specs.History.{History, Change, TextStep, ContainerStep, undo_changes, redo_changes}
 use Rattle.ed_model.specs.Session.{Session, Document, View, document_at, view_at, with_document, living, references, left_by, new_session, new_document, new_view, text_of}
 use Rattle.ed_model.specs.Notes as notes
@@ -32,11 +32,10 @@ use Rattle.ed_model.specs.Performing.{Scene, scene_of, session_of, step_made, st
 use Rattle.ed_model.specs.Changes.{changed_document, session_changed, with_attached, attached_last, with_new_document, held_more, held_less}
 use Rattle.ed_model.specs.Table.{table, table_from_view, table_from_kind, table_if_known, table_from_document, answered, plan_of, performed, request, opened, closed_view}
 use Rattle.ed_model.specs.Run.{Running, after_command, after_opening, after_closing, after_message, loaded, file_at, run_to, starting, set_text_message}
-use Rattle.ed_model.specs.InverseLaws as inverse
-use Rattle.ed_model.specs.InverseLaws.{text_of_scene, history_of, after_undo, after_redo}
+use Rattle.ed_model.specs.InverseLaws.{after_undo, after_redo}
 use Rattle.ed_model.specs.EarlierTextLaws.{KeepsEarlierTexts, GoesBackAmong}
 use Rattle.ed_model.specs.RunUndoLaws.{GoesOn, DocumentsGoOn, MessagesLetDocumentsGoOn, CommandsLetDocumentsGoOn, sessions_of, states_of, UndoGoesBackInEveryRun}
-use Rattle.ed_model.specs.SoundLaws.{IsSound, IsSoundDocument, Rise}
+use Rattle.ed_model.specs.SoundLaws.{IsSound, Rise}
 use Rattle.ed_model.specs.PlansFit.{IsSoundRequest, IsFitPlan, IsFitPlanned}
 use Rattle.ed_model.proofs.HistoryLemmas.{both_hold}
 use Rattle.ed_model.proofs.EarlierTextLemmas.{keeps_same, edits_keep_earlier_texts, undo_keeps_the_texts_before, redo_keeps_the_texts_before, document_changes_keep_earlier_texts, goes_back_at_first, goes_back_afterwards}

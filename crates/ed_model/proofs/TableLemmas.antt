@@ -1,5 +1,5 @@
 -- From plans to the table, and from the table to runs.
-use Rattle.std.proofs.Common.{◌≡◌, ℕ, Bool, true, false, ◌&&◌, cond, List, [], ◌∷◌, refl, ap, ◌∙◌, sym, subst, Option, Some, None, Result, Ok, Err}
+use Rattle.std.proofs.Common.{◌≡◌, ℕ, Bool, true, false, ◌&&◌, cond, List, [], ◌∷◌, refl, ap, ◌∙◌, sym, Option, Some, None, Result, Ok, Err}
 use Rattle.ed_types.specs.declared.kind.Kind.{Kind}
 use Rattle.ed_types.specs.declared.message.Message.{Message}
 use Rattle.ed_types.specs.declared.refusal.Refusal.{Refusal}
@@ -14,26 +14,44 @@ use Rattle.ed_model.specs.Run.{Running, after_command, after_opening, after_clos
 use Rattle.ed_model.specs.TableLaws.{Answered, LeavesSession, HasNoText, HasNotes, recording, QueriesLeaveTheSession, FreeMessagesHandOutNoText, FreeMessagesHaveNoNote, RecordedFreeMessagesHaveOneNote, RefusedCommandsLeaveTheSession, is_refused, kept_unless, unrefused, RefusedCommandsCanBeLeftOut}
 use Rattle.ed_model.proofs.QuietLemmas.{IsQuiet, IsFree, query_is_quiet, quiet_plan_leaves, message_without_memory_is_free, free_plan_has_no_text, free_plan_has_no_note}
 
+same_view : (v w : View) (found : Option View) → found ≡ Some v → found ≡ Some w → w ≡ v
+same_view v w found e f = cc
+
+same_document : (v w : View) (d c : Document) (ds : List Document) → w ≡ v → document_at ds v.document ≡ Some d → document_at ds w.document ≡ Some c → c ≡ d
+same_document v w d c ds same e f = cc
+
 -- What every refusal has, and the answer of the kind to each document, the table has.
 module _ (P : Answered → Type 0) (refused : (e : Refusal) → P (Err e)) (known : Kind → Bool) (s : Session) (m : Message) (kind : Kind) where
-  from_document : (v : View) (d : Option Document) → ((e : Document) → P (answered kind (request s v e m) (plan_of kind (request s v e m)))) → P (table_from_document s v kind m d)
-  from_document v None h = refused _
-  from_document v (Some d) h = h d
+  -- the answer of the kind at a view and a document has it
+  abbrev HasAt : View → Document → Type 0
+  HasAt v d = P (answered kind (request s v d m) (plan_of kind (request s v d m)))
 
-  if_known : (b : Bool) (v : View) → ((e : Document) → P (answered kind (request s v e m) (plan_of kind (request s v e m)))) → P (table_if_known b s v kind m)
+  from_document : (v : View) (o : Option Document) → ((d : Document) → o ≡ Some d → HasAt v d) → P (table_from_document s v kind m o)
+  from_document v None h = refused _
+  from_document v (Some d) h = h d refl
+
+  if_known : (b : Bool) (v : View) → ((d : Document) → document_at s.documents v.document ≡ Some d → HasAt v d) → P (table_if_known b s v kind m)
   if_known true v h = from_document v (document_at s.documents v.document) h
   if_known false v h = refused _
 
-  from_kind : (v : View) (k : Option Kind) → k ≡ Some kind → ((e : Document) → P (answered kind (request s v e m) (plan_of kind (request s v e m)))) → P (table_from_kind known s v m k)
+  from_kind : (v : View) (k : Option Kind) → k ≡ Some kind → ((d : Document) → document_at s.documents v.document ≡ Some d → HasAt v d) → P (table_from_kind known s v m k)
   from_kind v k e h = rw e (if_known (known kind) v h)
 
-  from_view : (v : Option View) → kind_of m.number ≡ Some kind → ((w : View) (d : Document) → v ≡ Some w → P (answered kind (request s w d m) (plan_of kind (request s w d m)))) → P (table_from_view known s m v)
+  from_view : (o : Option View) → kind_of m.number ≡ Some kind → ((v : View) (d : Document) → o ≡ Some v → document_at s.documents v.document ≡ Some d → HasAt v d)
+      → P (table_from_view known s m o)
   from_view None e h = refused _
   from_view (Some v) e h = from_kind v (kind_of m.number) e (λ d. h v d refl)
 
   -- the fact of a message, over every view that may send it and its document
-  pub of_table : (view : ℕ) → kind_of m.number ≡ Some kind → ((v : View) (d : Document) → view_at s.views view ≡ Some v → P (answered kind (request s v d m) (plan_of kind (request s v d m)))) → P (table known s view m)
+  pub of_table : (view : ℕ) → kind_of m.number ≡ Some kind
+      → ((v : View) (d : Document) → view_at s.views view ≡ Some v → document_at s.documents v.document ≡ Some d → HasAt v d) → P (table known s view m)
   of_table view e h = from_view (view_at s.views view) e h
+
+  -- and at one view and one document
+  pub at_table : (view : ℕ) (v : View) (d : Document) → kind_of m.number ≡ Some kind → view_at s.views view ≡ Some v → document_at s.documents v.document ≡ Some d
+      → HasAt v d → P (table known s view m)
+  at_table view v d k e f h =
+      of_table view k (λ w c seen found. rw (same_view v w _ e seen, same_document v w d c s.documents (same_view v w _ e seen) f found) h)
 
 quiet_answer : (kind : Kind) (r : Request) (p : Planned) → IsQuiet p → LeavesSession r.session (answered kind r p)
 quiet_answer kind r (Err e) h = tt
@@ -42,7 +60,7 @@ quiet_answer kind r (Ok p) h = quiet_plan_leaves r p h
 pub queries_leave_the_session : QueriesLeaveTheSession
 queries_leave_the_session known s view m kind e q =
     of_table (LeavesSession s) (λ refusal. tt) known s m kind view e
-    (λ v d seen. quiet_answer kind (request s v d m) _ (query_is_quiet kind (request s v d m) q))
+    (λ v d seen found. quiet_answer kind (request s v d m) _ (query_is_quiet kind (request s v d m) q))
 
 -- recording adds no text
 text_if_recorded : (b : Bool) (note : Notice) (reply : Response) → (cond b (record reply { notes = note ∷ reply.notes }) reply).text ≡ reply.text
@@ -57,7 +75,7 @@ free_answer_has_no_text kind r (Ok p) h =
 pub free_messages_hand_out_no_text : FreeMessagesHandOutNoText
 free_messages_hand_out_no_text known s view m kind e n =
     of_table HasNoText (λ refusal. tt) known s m kind view e
-    (λ v d seen. free_answer_has_no_text kind (request s v d m) _ (message_without_memory_is_free kind (request s v d m) n))
+    (λ v d seen found. free_answer_has_no_text kind (request s v d m) _ (message_without_memory_is_free kind (request s v d m) n))
 
 notes_if_unrecorded : (b : Bool) (note : Notice) (reply : Response) → b ≡ false → (cond b (record reply { notes = note ∷ reply.notes }) reply).notes ≡ reply.notes
 notes_if_unrecorded true note reply e = cc
@@ -72,14 +90,11 @@ free_answer_has_no_note kind r (Err e) h b = tt
 free_answer_has_no_note kind r (Ok p) h b =
     notes_if_unrecorded (r.view.records && (marks_of kind).r) (record_note r) (performed r p).1 b ∙ free_plan_has_no_note r p h
 
-same_view : (v w : View) (found : Option View) → found ≡ Some v → found ≡ Some w → v ≡ w
-same_view v w found e f = cc
-
 pub free_messages_have_no_note : FreeMessagesHaveNoNote
 free_messages_have_no_note known s view m kind v e n sees b =
     of_table (HasNotes []) (λ refusal. tt) known s m kind view e
-    (λ w d seen. free_answer_has_no_note kind (request s w d m) _ (message_without_memory_is_free kind (request s w d m) n)
-    (subst (λ (x : View). (x.records && (marks_of kind).r) ≡ false) (same_view v w _ sees seen) b))
+    (λ w d seen found. free_answer_has_no_note kind (request s w d m) _ (message_without_memory_is_free kind (request s w d m) n)
+    (rw (same_view v w _ sees seen) b))
 
 free_answer_has_one_note : (kind : Kind) (r : Request) (p : Planned) → IsFree p → (r.view.records && (marks_of kind).r) ≡ true → HasNotes (record_note r ∷ []) (answered kind r p)
 free_answer_has_one_note kind r (Err e) h b = tt
@@ -89,8 +104,7 @@ free_answer_has_one_note kind r (Ok p) h b =
 pub recorded_free_messages_have_one_note : RecordedFreeMessagesHaveOneNote
 recorded_free_messages_have_one_note known s view m kind v e n sees b =
     of_table (HasNotes (recording v m ∷ [])) (λ refusal. tt) known s m kind view e
-    (λ w d seen. subst (λ (x : View). (x.records && (marks_of kind).r) ≡ true → HasNotes (recording x m ∷ []) (answered kind (request s w d m) (plan_of kind (request s w d m)))) (sym (same_view v w _ sees seen))
-    (λ c. free_answer_has_one_note kind (request s w d m) _ (message_without_memory_is_free kind (request s w d m) n) c) b)
+    (λ w d seen found. rw (same_view v w _ sees seen) (free_answer_has_one_note kind (request s v d m) _ (message_without_memory_is_free kind (request s v d m) n) b))
 
 -- Runs.
 

@@ -1,45 +1,26 @@
 -- The messages UNDO and REDO.
-use Rattle.std.proofs.Common.{◌≡◌, ℕ, Bool, true, false, cond, nat_lt, List, [], ◌∷◌, length, refl, ap, ◌∙◌, sym, subst, Option, Some, Ok, Err}
-use Rattle.ed_types.specs.declared.kind.Kind.{Kind}
+use Rattle.std.proofs.Common.{◌≡◌, ℕ, Bool, true, false, cond, nat_lt, List, [], ◌∷◌, length, refl, ap, ◌∙◌, sym, subst, Some, Ok, Err}
 use Rattle.ed_types.specs.declared.kind.Kind.TheVariants.{Undo, Redo}
-use Rattle.ed_types.specs.declared.message.Message.{Message}
-use Rattle.ed_types.specs.declared.refusal.Refusal.{Refusal}
 use Rattle.ed_types.specs.declared.refusal.Refusal.TheVariants.{TooLong}
-use Rattle.ed_types.specs.Messages.{kind_of}
 use Rattle.ed_model.specs.declared.plan.Plan.{Plan}
 use Rattle.ed_model.specs.declared.plan.Plan.TheVariants as plan
 use Rattle.ed_model.specs.History.{Change, TextStep, ContainerStep, undone, redone, undo_changes, redo_changes, can_undo, can_redo}
-use Rattle.ed_model.specs.Session.{Session, View, Document, view_at, document_at, with_document, text_of, limit_of}
+use Rattle.ed_model.specs.Session.{Session, Document, document_at, with_document, text_of, limit_of}
 use Rattle.ed_model.specs.Notes as notes
 use Rattle.ed_model.specs.Requests.{Request, Planned, size}
 use Rattle.ed_model.specs.Edits.{stays_within}
 use Rattle.ed_model.specs.DocumentPlans.{text_steps, act_on_history}
 use Rattle.ed_model.specs.Performing.{Scene, scene_of, changes_performed, change_performed, changes_lines, is_last}
-use Rattle.ed_model.specs.Table.{table, table_from_view, table_from_kind, table_if_known, table_from_document, answered, plan_of, request}
+use Rattle.ed_model.specs.Table.{answered, request}
 use Rattle.ed_model.specs.InverseLaws.{after_undo, after_redo}
 use Rattle.ed_model.specs.TableLaws.{Answered}
 use Rattle.ed_model.specs.UndoLaws.{undone_text, redone_text}
 use Rattle.ed_model.specs.UndoMessageLaws.{IsUndone, IsRedone, UndoUndoes, RedoRedoes}
+use Rattle.ed_model.proofs.TableLemmas.{at_table}
 use Rattle.ed_model.proofs.TransactionLemmas.{undo_makes_its_steps, redo_makes_its_steps}
 use Rattle.ed_model.proofs.UndoLemmas.{undo_keeps_earlier_texts, one_redone}
 use Rattle.ed_model.proofs.SoundFinding.{document_id, replaced_found}
 use Rattle.ed_model.proofs.RunUndoLemmas.{changes_performed_id}
-
--- What every refusal has, and the answer of the kind at the view and its document, the table has.
-module _ (P : Answered → Type 0) (refused : (e : Refusal) → P (Err e)) (known : Kind → Bool) (s : Session) (m : Message) (kind : Kind) (v : View) (d : Document) where
-  at_document : (o : Option Document) → o ≡ Some d → P (answered kind (request s v d m) (plan_of kind (request s v d m))) → P (table_from_document s v kind m o)
-  at_document o e h = subst (λ (x : Option Document). P (table_from_document s v kind m x)) (sym e) h
-
-  at_known : (b : Bool) → document_at s.documents v.document ≡ Some d → P (answered kind (request s v d m) (plan_of kind (request s v d m))) → P (table_if_known b s v kind m)
-  at_known true e h = at_document (document_at s.documents v.document) e h
-  at_known false e h = refused _
-
-  -- the fact of a message, at its view and document
-  pub at_table : (view : ℕ) → kind_of m.number ≡ Some kind → view_at s.views view ≡ Some v → document_at s.documents v.document ≡ Some d →
-      P (answered kind (request s v d m) (plan_of kind (request s v d m))) → P (table known s view m)
-  at_table view k e f h =
-      subst (λ (x : Option View). P (table_from_view known s m x)) (sym e)
-      (subst (λ (x : Option Kind). P (table_from_kind known s v m x)) (sym k) (at_known (known kind) f h))
 
 -- undo and redo that are not refused act, where they can and may
 acts_if_written : (P : Planned → Type 0) (act : Plan) (b within : Bool) → b ≡ false → P (Ok act) → P (Err TooLong) → P (cond b (Ok plan.Attempt) (cond within (Ok act) (Err TooLong)))
@@ -97,7 +78,7 @@ undo_undoes known s view m v d done k e f can write answer =
     let same : (after_undo (scene_of r)).document.id ≡ d.id = changes_performed_id notes.performed_undo (notes.bit_if (nat_lt 1 (length cs)) notes.multi_step) false cs (scene_of r) in
     let C : Session → Type 0 = λ t. (x : Document) × (document_at t.documents v.document ≡ Some x) × IsUndone d x in
     subst (Afterwards C) answer
-    (at_table (Afterwards C) (λ refusal. tt) known s m Undo v d view k e f
+    (at_table (Afterwards C) (λ refusal. tt) known s m Undo view v d k e f
     (acts (λ (p : Planned). Afterwards C (answered Undo r p)) r (can_undo d.history) cs plan.Undo can write
     ((after_undo (scene_of r)).document, found_again s.documents v.document d (after_undo (scene_of r)).document f same, undone_document (scene_of r)) tt))
 
@@ -108,6 +89,6 @@ redo_redoes known s view m v d done k e f can write answer =
     let same : (after_redo (scene_of r)).document.id ≡ d.id = changes_performed_id notes.performed_redo (notes.bit_if (nat_lt 1 (length cs)) notes.multi_step) false cs (scene_of r) in
     let C : Session → Type 0 = λ t. (x : Document) × (document_at t.documents v.document ≡ Some x) × IsRedone d x in
     subst (Afterwards C) answer
-    (at_table (Afterwards C) (λ refusal. tt) known s m Redo v d view k e f
+    (at_table (Afterwards C) (λ refusal. tt) known s m Redo view v d k e f
     (acts (λ (p : Planned). Afterwards C (answered Redo r p)) r (can_redo d.history) cs plan.Redo can write
     ((after_redo (scene_of r)).document, found_again s.documents v.document d (after_redo (scene_of r)).document f same, redone_document (scene_of r)) tt))

@@ -1,8 +1,7 @@
 -- Changes of a document that are no edit of its text, of a view, and of the session. [Scintilla: markers, styling, indicators,
 -- folding, document pointers]
-use Rattle.std.specs.Prelude.{ℕ, ◌+◌, ◌-◌, ◌*◌, ◌==◌, nat_lt, nat_le, min, max, not, ◌&&◌, if◌then◌else◌, Bool, true, false, ℤ, pos, negsuc, List, [], ◌∷◌, ◌++◌, length, map, filter, flat_map, take, drop, replicate, slice_range, slice_set, slice_index, slice_index_or, Option, Some, None, sum_by, bit_or, int_le}
+use Rattle.std.specs.Prelude.{ℕ, ◌+◌, ◌-◌, ◌==◌, min, not, ◌&&◌, if◌then◌else◌, Bool, true, ℤ, pos, negsuc, List, [], ◌∷◌, ◌++◌, length, map, filter, take, drop, replicate, slice_range, slice_set, slice_index_or, Option, Some, None, sum_by, bit_or, int_le}
 use Rattle.ed_types.specs.Notices.{Notice, Response}
-use Rattle.ed_model.specs.declared.plan.LineEndTypes.{LineEndTypes}
 use Rattle.ed_model.specs.declared.plan.DocumentChange.{DocumentChange}
 use Rattle.ed_model.specs.declared.plan.DocumentChange.TheVariants as change
 use Rattle.ed_model.specs.declared.plan.ViewChange.{ViewChange}
@@ -14,7 +13,7 @@ use Rattle.ed_model.specs.Lines.{start_of_line}
 use Rattle.ed_model.specs.Carry.{regrouped}
 use Rattle.ed_model.specs.Rows.{Marker, Row, fresh_row, rows_together, flags_together}
 use Rattle.ed_model.specs.Indicators.{filled, changed_range}
-use Rattle.ed_model.specs.History.{at_save_point, group_begun, group_ended, emptied, collecting_set, saved, with_container_step}
+use Rattle.ed_model.specs.History.{group_begun, group_ended, emptied, collecting_set, saved, with_container_step}
 use Rattle.ed_model.specs.Folding.{lines_shown, lines_hidden, with_expanded, contracted, expanded, revealed}
 use Rattle.ed_model.specs.Session.{Session, View, Document, text_of, with_view, with_document, watching, keeps_no_styles, attached_to, new_document, living, left_by, document_at}
 use Rattle.ed_model.specs.Notes as notes

@@ -1,5 +1,5 @@
 -- Display lines: the visible lines, counted from 0. [Scintilla: folding]
-use Rattle.std.specs.Prelude.{ℕ, ◌+◌, ◌-◌, ◌==◌, nat_le, if◌then◌else◌, Bool, ℤ, pos, negsuc, List, length, filter, count_by, take, slice_get, unwrap_or}
+use Rattle.std.specs.Prelude.{ℕ, ◌+◌, ◌-◌, Bool, List, length, filter, count_by, take, slice_get, unwrap_or}
 use Rattle.std.specs.List.{range_with_len, list_all}
 use Rattle.ed_model.specs.Rows.{Flags}
 use Rattle.ed_model.specs.Folding.{is_visible}

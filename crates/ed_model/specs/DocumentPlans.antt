@@ -1,6 +1,6 @@
 -- Plans of the messages on undo, markers, styles, indicators, target, folding, documents and recording.
 -- [Scintilla: undo, markers, styling, indicators, searching, folding, document pointers, macro recording]
-use Rattle.std.specs.Prelude.{ℕ, ◌+◌, ◌-◌, ◌*◌, ◌^◌, ◌==◌, nat_le, nat_lt, min, max, not, ◌&&◌, ◌||◌, if◌then◌else◌, Bool, true, false, ℤ, pos, negsuc, ◌≤ℤ◌, int_le, List, [], ◌∷◌, length, map, filter, find, fold, reverse, sum, slice_index, slice_index_or, unwrap_or, take, drop, bit_and, bit_or, Result, Ok, Err, Option, Some, None, is_some, option_map}
+use Rattle.std.specs.Prelude.{ℕ, ◌+◌, ◌-◌, ◌^◌, ◌==◌, nat_le, nat_lt, min, max, not, ◌&&◌, ◌||◌, if◌then◌else◌, Bool, true, false, ℤ, pos, negsuc, int_le, List, [], ◌∷◌, length, map, filter, find, fold, reverse, sum, slice_index, slice_index_or, unwrap_or, take, drop, bit_and, bit_or, Ok, Err, Option, Some, None, is_some}
 use Rattle.std.specs.List.{range_with_len, list_any}
 use Rattle.ed_types.specs.declared.refusal.Refusal.TheVariants.{TooMany, TooLong, NoSuchDocument, BadArgument}
 use Rattle.ed_model.specs.declared.plan.LineEndTypes.{LineEndTypes}
@@ -16,18 +16,18 @@ use Rattle.ed_model.specs.declared.plan.Plan.TheVariants as plan
 use Rattle.ed_model.specs.declared.plan.Edit.TheVariants as edit
 use Rattle.ed_model.specs.declared.plan.Source.TheVariants as source
 use Rattle.ed_model.specs.declared.plan.Follow.TheVariants as follow
-use Rattle.ed_model.specs.Numbers.{flag, is_on, clamped, at_least_zero, within, some_or_all, low_bits, has_bit, meets}
+use Rattle.ed_model.specs.Numbers.{flag, is_on, clamped, at_least_zero, some_or_all, low_bits, has_bit, meets}
 use Rattle.ed_model.specs.Text.{styles_of}
 use Rattle.ed_model.specs.Steps.{Step}
 use Rattle.ed_model.specs.Rows.{Marker, Row, fresh_row, base_level}
-use Rattle.ed_model.specs.History.{Change, TextStep, ContainerStep, can_undo, can_redo, undo_changes, redo_changes, at_save_point, History}
-use Rattle.ed_model.specs.Folding.{level_number, last_child, last_child_at, fold_parent, fold_header, is_visible, is_expanded}
+use Rattle.ed_model.specs.History.{Change, TextStep, ContainerStep, can_undo, can_redo, undo_changes, redo_changes, at_save_point}
+use Rattle.ed_model.specs.Folding.{level_number, last_child_at, fold_parent, fold_header, is_visible, is_expanded}
 use Rattle.ed_model.specs.DisplayLines.{display_line, line_shown, all_visible}
 use Rattle.ed_model.specs.Matches.{match_in}
 use Rattle.ed_model.specs.Session.{Session, Document, document_at, references, limit_of}
 use Rattle.ed_model.specs.Requests.{Request, Planned, answer, answer_number, text, size, lines, selection_start, selection_end, target_least, target_greatest, with_argument, argument, text_length, text_range, counted_range, line_argument}
 use Rattle.ed_model.specs.Edits.{edit_plan, stays_within}
-use Rattle.ed_model.specs.TextPlans.{hand_out, at_place, number_or_zero}
+use Rattle.ed_model.specs.TextPlans.{hand_out, at_place}
 
 abbrev pub change_document : DocumentChange → Planned
 change_document change = Ok (plan.ChangeDocument change (pos 0))

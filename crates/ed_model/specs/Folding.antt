@@ -1,5 +1,5 @@
 -- Folding, over the levels of all lines; the flags of lines are a view's. [Scintilla: folding; expansion: own]
-use Rattle.std.specs.Prelude.{ℕ, ◌+◌, ◌-◌, ◌==◌, nat_le, nat_lt, not, ◌&&◌, ◌||◌, if◌then◌else◌, Bool, true, false, List, [], ◌∷◌, length, map, find, filter, reverse, fold, slice_index, slice_index_or, slice_set, bit_and, Option, Some, None}
+use Rattle.std.specs.Prelude.{ℕ, ◌+◌, ◌-◌, nat_le, nat_lt, not, ◌&&◌, ◌||◌, if◌then◌else◌, Bool, true, false, List, [], ◌∷◌, length, map, find, reverse, fold, slice_index, slice_index_or, slice_set, bit_and, Option, Some, None}
 use Rattle.std.specs.List.{range_with_len, list_all}
 use Rattle.ed_model.specs.Numbers.{meets}
 use Rattle.ed_model.specs.Rows.{Flags, fresh_flags}

@@ -1,5 +1,5 @@
 -- Matches of a text in a range of the document. [Scintilla: searching]
-use Rattle.std.specs.Prelude.{ℕ, ◌+◌, ◌-◌, ◌==◌, nat_le, nat_lt, not, ◌&&◌, ◌||◌, if◌then◌else◌, Bool, true, false, List, [], ◌∷◌, length, map, find, reverse, slice_get, slice_range, min, max, Option, Some, None}
+use Rattle.std.specs.Prelude.{ℕ, ◌+◌, ◌-◌, ◌==◌, nat_le, nat_lt, not, ◌&&◌, ◌||◌, if◌then◌else◌, Bool, false, List, [], ◌∷◌, length, map, find, reverse, slice_get, slice_range, min, Option, Some, None}
 use Rattle.std.specs.List.{range_with_len, starts_with}
 use Rattle.ed_model.specs.Numbers.{meets}
 

@@ -1,5 +1,5 @@
 -- Notes: what is told of, to which views, and in which order. [Scintilla: notifications; order and who hears: own]
-use Rattle.std.specs.Prelude.{ℕ, ◌+◌, ℤ, pos, if◌then◌else◌, Bool, true, false, List, [], ◌∷◌, ◌++◌, length, map, filter, bit_or}
+use Rattle.std.specs.Prelude.{ℕ, ℤ, pos, Bool, true, false, List, [], length, map, filter, bit_or}
 use Rattle.ed_types.specs.Notices.{Notice}
 use Rattle.ed_model.specs.Numbers.{meets}
 use Rattle.ed_model.specs.Steps.{Step, Insert, Delete}

@@ -1,5 +1,5 @@
 -- Numbers in arguments and answers.
-use Rattle.std.specs.Prelude.{ℕ, zero, suc, ◌+◌, ◌-◌, ◌*◌, ◌/◌, ◌%◌, ◌^◌, ◌==◌, nat_le, nat_lt, min, not, ◌&&◌, if◌then◌else◌, Bool, true, false, ℤ, pos, negsuc, ◌-ℤ◌, int_le, Option, Some, None, bit_and}
+use Rattle.std.specs.Prelude.{ℕ, ◌-◌, ◌/◌, ◌%◌, ◌^◌, ◌==◌, nat_le, nat_lt, min, not, ◌&&◌, if◌then◌else◌, Bool, true, false, ℤ, pos, negsuc, ◌-ℤ◌, Option, Some, None, bit_and}
 
 -- whether it is there, and this number
 abbrev pub is_number : ℕ → Option ℕ → Bool

@@ -1,18 +1,15 @@
 -- What a plan does: the session afterwards, and the reply.
-use Rattle.std.specs.Prelude.{ℕ, ◌+◌, ◌-◌, ◌*◌, ◌==◌, nat_lt, nat_le, min, max, not, ◌&&◌, if◌then◌else◌, Bool, true, false, ℤ, pos, negsuc, List, [], ◌∷◌, ◌++◌, length, map, filter, flat_map, take, drop, replicate, reverse, slice_range, slice_set, slice_index, slice_index_or, bit_or, Option, Some, None}
+use Rattle.std.specs.Prelude.{ℕ, ◌+◌, ◌==◌, nat_lt, min, not, ◌&&◌, if◌then◌else◌, Bool, true, false, ℤ, pos, List, [], ◌∷◌, ◌++◌, length, map, flat_map, reverse, slice_range, bit_or, Option, Some, None}
 use Rattle.ed_types.specs.Notices.{Notice, Response}
-use Rattle.ed_model.specs.declared.plan.LineEndTypes.{LineEndTypes}
 use Rattle.ed_model.specs.declared.plan.Edit.{Edit}
 use Rattle.ed_model.specs.declared.plan.Follow.{Follow}
 use Rattle.ed_model.specs.declared.plan.Follow.TheVariants as follow
-use Rattle.ed_model.specs.declared.plan.Plan.{Plan}
-use Rattle.ed_model.specs.declared.plan.Plan.TheVariants as plan
-use Rattle.ed_model.specs.Text.{Cell, bytes_of}
-use Rattle.ed_model.specs.Steps.{Step, Insert, Delete, place_of, step_bytes, edited_cells, moved_position}
+use Rattle.ed_model.specs.Text.{Cell}
+use Rattle.ed_model.specs.Steps.{Step, Insert, Delete, place_of, edited_cells, moved_position}
 use Rattle.ed_model.specs.Carry.{carried_by}
 use Rattle.ed_model.specs.Rows.{rows_together, flags_together}
 use Rattle.ed_model.specs.Indicators.{indicators_after}
-use Rattle.ed_model.specs.History.{History, Change, TextStep, ContainerStep, appended, begins_transaction, at_save_point, sealed_outside_groups, undone, redone, undo_changes, redo_changes, latest_text_step}
+use Rattle.ed_model.specs.History.{History, Change, TextStep, ContainerStep, appended, begins_transaction, at_save_point, sealed_outside_groups, latest_text_step}
 use Rattle.ed_model.specs.Numbers.{growth}
 use Rattle.ed_model.specs.Session.{Session, View, Document, text_of, lines_in, with_document, watching}
 use Rattle.ed_model.specs.Notes as notes

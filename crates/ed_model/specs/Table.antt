@@ -1,5 +1,5 @@
 -- The message table: which plan each message has, or which refusal; and what a message to a session comes to.
-use Rattle.std.specs.Prelude.{ℕ, ◌+◌, nat_lt, nat_le, ◌==◌, not, ◌||◌, ◌&&◌, if◌then◌else◌, Bool, true, false, ℤ, pos, List, [], ◌∷◌, ◌++◌, length, map, filter, slice_range, Result, Ok, Err, Option, Some, None}
+use Rattle.std.specs.Prelude.{ℕ, ◌+◌, nat_lt, nat_le, ◌==◌, not, ◌||◌, ◌&&◌, if◌then◌else◌, Bool, true, false, pos, [], ◌∷◌, ◌++◌, length, map, filter, slice_range, Result, Ok, Err, Option, Some, None}
 use Rattle.ed_types.specs.declared.kind.Kind.{Kind}
 use Rattle.ed_types.specs.declared.kind.Kind.TheVariants.{AddText, InsertText, ClearAll, GetLength, GetCharAt, GetCurrentPos, GetAnchor, GetStyleAt, Redo, SetUndoCollection, SelectAll, SetSavePoint, GetStyledText, CanRedo, MarkerLineFromHandle, MarkerDeleteHandle, GetUndoCollection, GotoLine, GotoPos, SetAnchor, GetCurLine, GetEndStyled, ConvertEols, GetEolMode, SetEolMode, StartStyling, SetStyling, MarkerAdd, MarkerDelete, MarkerDeleteAll, MarkerGet, MarkerNext, MarkerPrevious, SetStylingEx, BeginUndoAction, EndUndoAction, SetLineState, GetLineState, GetLineEndPosition, GetReadOnly, SetCurrentPos, SetSelectionStart, GetSelectionStart, SetSelectionEnd, GetSelectionEnd, GetLine, GetLineCount, GetModify, SetSel, GetSelText, GetTextRange, LineFromPosition, PositionFromLine, ReplaceSel, SetReadOnly, CanPaste, CanUndo, EmptyUndoBuffer, Undo, Cut, Copy, Paste, Clear, SetText, GetText, GetTextLength, SetTargetStart, GetTargetStart, SetTargetEnd, GetTargetEnd, ReplaceTarget, SearchInTarget, SetSearchFlags, GetSearchFlags, VisibleFromDocLine, DocLineFromVisible, SetFoldLevel, GetFoldLevel, GetLastChild, GetFoldParent, ShowLines, HideLines, GetLineVisible, SetFoldExpanded, GetFoldExpanded, ToggleFold, EnsureVisible, GetAllLinesVisible, FoldLine, AppendText, TargetFromSelection, CharLeft, CharLeftExtend, CharRight, CharRightExtend, Home, HomeExtend, LineEnd, LineEndExtend, DocumentStart, DocumentStartExtend, DocumentEnd, DocumentEndExtend, DeleteBack, NewLine, LineLength, GetDocPointer, SetDocPointer, SetModEventMask, CreateDocument, AddRefDocument, ReleaseDocument, GetModEventMask, GetDocumentOptions, PositionBefore, PositionAfter, CopyRange, CopyText, MarkerAddSet, SetPasteConvertEndings, GetPasteConvertEndings, SetIndicatorCurrent, GetIndicatorCurrent, SetIndicatorValue, GetIndicatorValue, IndicatorFillRange, IndicatorClearRange, IndicatorAllOnFor, IndicatorValueAt, IndicatorStart, IndicatorEnd, SetEmptySelection, AddUndoAction, DeleteRange, GetSelectionEmpty, SetLineEndTypesAllowed, GetLineEndTypesAllowed, GetLineEndTypesActive, SetTargetRange, GetTargetText, TargetWholeDocument, StartRecord, StopRecord, Colourise}
 use Rattle.ed_types.specs.declared.message.Message.{Message}

@@ -1,6 +1,6 @@
 -- Plans of the messages on text, lines, selection, clipboard and keys.
 -- [Scintilla: text retrieval and modification, selection, cut copy and paste, keyboard commands, line ends]
-use Rattle.std.specs.Prelude.{ℕ, suc, ◌+◌, ◌-◌, ◌*◌, ◌==◌, nat_le, nat_lt, min, max, if◌then◌else◌, Bool, true, false, ℤ, pos, negsuc, List, [], ◌∷◌, length, slice_get, unwrap_or, Result, Ok, Err, Option, Some, None, is_some}
+use Rattle.std.specs.Prelude.{ℕ, ◌-◌, ◌==◌, nat_lt, min, max, if◌then◌else◌, true, false, ℤ, pos, negsuc, List, length, slice_get, unwrap_or, Ok, Option, Some}
 use Rattle.ed_model.specs.declared.plan.LineEnd.{LineEnd}
 use Rattle.ed_model.specs.declared.plan.LineEnd.TheVariants.{CrLf, Cr, Lf}
 use Rattle.ed_model.specs.declared.plan.Source.TheVariants as source
@@ -10,10 +10,10 @@ use Rattle.ed_model.specs.declared.plan.DocumentChange.TheVariants as document_c
 use Rattle.ed_model.specs.declared.plan.ViewChange.TheVariants as view_change
 use Rattle.ed_model.specs.declared.plan.SessionChange.TheVariants as session_change
 use Rattle.ed_model.specs.declared.plan.Plan.TheVariants as plan
-use Rattle.ed_model.specs.Numbers.{flag, is_on, is_negative, clamped, at_least_zero, within, line_among, is_minus_one}
+use Rattle.ed_model.specs.Numbers.{flag, is_on, is_negative, clamped, within, is_minus_one}
 use Rattle.ed_model.specs.Lines.{start_of_line, start_after_line, end_of_line}
 use Rattle.ed_model.specs.Characters.{cut_before, cut_after}
-use Rattle.ed_model.specs.Requests.{Request, Planned, answer, answer_number, text, size, lines, starts, line_at, selection_start, selection_end, with_argument, argument, text_length, text_range, counted_range, line_argument}
+use Rattle.ed_model.specs.Requests.{Request, Planned, answer, answer_number, text, size, lines, line_at, selection_start, selection_end, with_argument, argument, text_length, text_range, counted_range, line_argument}
 use Rattle.ed_model.specs.Edits.{edit_plan, replace_plan, replace_and_go}
 
 -- Lines.
