@@ -1,6 +1,6 @@
 -- Documents go on from what they were, message by message, and so undo goes back to earlier states of every run.
 use Rattle.std.proofs.Common.{◌≡◌, ℕ, ◌+◌, ◌-◌, ◌≤◌, ◌==◌, nat_lt, cond, Bool, true, false, List, [], ◌∷◌, ◌++◌, length, map, refl, ap, ◌∙◌, sym, subst, arith, Option, Some, None, Result, Ok, Err}
-use Rattle.std.specs.Prelude.{option_map, ◌||◌, nat_le, if◌then◌else◌}
+use Rattle.std.specs.Prelude.{option_map, ◌||◌, nat_le}
 use Rattle.std.specs.Option.{option_or}
 use Rattle.std.specs.List.{cons_option}
 use Rattle.std.proofs.lemmas.Bool.{eqb-true, eq-eqb}
@@ -22,13 +22,13 @@ use Rattle.ed_model.specs.declared.plan.Plan.{Plan}
 use Rattle.ed_model.specs.declared.plan.Plan.TheVariants as plan
 use Rattle.ed_model.specs.Text.{Cell}
 use Rattle.ed_model.specs.Steps.{Step}
-use Rattle.ed_model.specs.History.{History, Change, TextStep, ContainerStep, undo_changes, redo_changes}
+use Rattle.ed_model.specs.History.{History, undo_changes, redo_changes}
 use Rattle.ed_model.specs.Session.{Session, Document, View, document_at, view_at, with_document, living, references, left_by, new_session, new_document, new_view, text_of}
 use Rattle.ed_model.specs.Notes as notes
 use Rattle.ed_model.specs.Requests.{Request, Planned, text}
 use Rattle.ed_model.specs.Edits.{steps_of}
 use Rattle.ed_model.specs.DocumentPlans.{text_steps}
-use Rattle.ed_model.specs.Performing.{Scene, scene_of, session_of, step_made, steps_made, sealed_scene, edit_made, followed, changes_performed, change_performed, changes_lines, is_last}
+use Rattle.ed_model.specs.Performing.{Scene, scene_of, session_of, step_made, steps_made, sealed_scene, edit_made, followed}
 use Rattle.ed_model.specs.Changes.{changed_document, session_changed, with_attached, attached_last, with_new_document, held_more, held_less}
 use Rattle.ed_model.specs.Table.{table, table_from_view, table_from_kind, table_if_known, table_from_document, answered, plan_of, performed, request, opened, closed_view}
 use Rattle.ed_model.specs.Run.{Running, after_command, after_opening, after_closing, after_message, loaded, file_at, run_to, starting, set_text_message}
@@ -40,6 +40,7 @@ use Rattle.ed_model.specs.PlansFit.{IsSoundRequest, IsFitPlan, IsFitPlanned}
 use Rattle.ed_model.proofs.HistoryLemmas.{both_hold}
 use Rattle.ed_model.proofs.EarlierTextLemmas.{keeps_same, edits_keep_earlier_texts, undo_keeps_the_texts_before, redo_keeps_the_texts_before, document_changes_keep_earlier_texts, goes_back_at_first, goes_back_afterwards}
 use Rattle.ed_model.proofs.SoundHistory.{fit_in_turn}
+use Rattle.ed_model.proofs.SoundScenes.{changes_keep}
 use Rattle.ed_model.proofs.SoundFinding.{document_id, view_id, replaced_found, replaced_other}
 use Rattle.ed_model.proofs.SoundChanges.{changed_id}
 use Rattle.ed_model.proofs.SoundReferences.{documents_push}
@@ -215,16 +216,6 @@ edit_made_id steps scene =
     both_hold (λ (x : Scene). x.document.id ≡ scene.document.id) (nat_lt 1 (length steps)) (sealed_scene (steps_made false steps (sealed_scene scene))) (steps_made false steps scene)
     (λ e. steps_made_id false steps (sealed_scene scene)) (λ e. steps_made_id false steps scene)
 
--- a document keeps its id
-pub changes_performed_id : (who several : ℕ) (b : Bool) (cs : List Change) (scene : Scene) → (changes_performed who several b cs scene).document.id ≡ scene.document.id
-changes_performed_id who several b [] scene = refl
-changes_performed_id who several b (TextStep step ∷ cs) scene =
-    let changed = (if b then true else changes_lines (TextStep step) scene.document) in
-    changes_performed_id who several changed cs (change_performed who several (is_last cs) changed (TextStep step) scene)
-changes_performed_id who several b (ContainerStep token coalesce ∷ cs) scene =
-    let changed = (if b then true else changes_lines (ContainerStep token coalesce) scene.document) in
-    changes_performed_id who several changed cs (change_performed who several (is_last cs) changed (ContainerStep token coalesce) scene)
-
 own_document : (r : Request) → IsSoundRequest r → document_at r.session.documents r.document.id ≡ Some r.document
 own_document r h = ap (document_at r.session.documents) (document_id r.session.documents r.view.document r.document h.document) ∙ h.document
 
@@ -257,12 +248,12 @@ performed_goes_on r (plan.Edit change value after) h fit =
 performed_goes_on r plan.Undo h fit =
     let past = undo_changes r.document.history in
     own_replaced r (after_undo (scene_of r)).document h
-    (changes_performed_id notes.performed_undo (notes.bit_if (nat_lt 1 (length past)) notes.multi_step) false past (scene_of r))
+    (changes_keep notes.performed_undo (notes.bit_if (nat_lt 1 (length past)) notes.multi_step) false past (scene_of r)).id
     (undo_keeps_the_texts_before (scene_of r))
 performed_goes_on r plan.Redo h fit =
     let future = redo_changes r.document.history in
     own_replaced r (after_redo (scene_of r)).document h
-    (changes_performed_id notes.performed_redo (notes.bit_if (nat_lt 1 (length future)) notes.multi_step) false future (scene_of r))
+    (changes_keep notes.performed_redo (notes.bit_if (nat_lt 1 (length future)) notes.multi_step) false future (scene_of r)).id
     (redo_keeps_the_texts_before (scene_of r) (fit_in_turn (text_steps future) (text r) (redo_steps_fit r h)))
 
 -- Messages.

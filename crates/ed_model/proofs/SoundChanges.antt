@@ -34,7 +34,7 @@ IsFitOn d other = Unit {0}
 
 -- Parts that change alone.
 
-pub history_changed : (limits : Limits) (d : Document) (h : History) → IsSoundDocument limits d → FitsText (text_of d) h → IsSoundDocument limits (record d { history = h })
+pub history_changed : (limits : Limits) (d : Document) (h : History) → IsSoundDocument limits d → FitsText (limit_of limits d) (text_of d) h → IsSoundDocument limits (record d { history = h })
 history_changed limits d h was fits = record {
   line_starts = was.line_starts;
   rows = was.rows;
@@ -172,7 +172,7 @@ styled_sound limits d new was le =
       handles_differ = was.handles_differ;
       handles_below = was.handles_below;
       referenced = was.referenced;
-      history = subst (λ t. FitsText t d.history) (sym bytes) was.history;
+      history = subst (λ t. FitsText (limit_of limits d) t d.history) (sym bytes) was.history;
     }
 
 -- Indicators.

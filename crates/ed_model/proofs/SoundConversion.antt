@@ -7,7 +7,7 @@ use Rattle.ed_model.specs.declared.plan.LineEnd.{LineEnd}
 use Rattle.ed_model.specs.Text.{line_feed, carriage_return}
 use Rattle.ed_model.specs.Steps.{Insert, Delete}
 use Rattle.ed_model.specs.LineEnds.{after_steps, conversion_steps, missing_from, unwanted_from, begins_with_line_feed, is_feed_foreign, is_return_foreign, is_feed_unwanted, is_return_unwanted}
-use Rattle.ed_model.specs.SoundLaws.{AreStepsOf}
+use Rattle.ed_model.specs.SoundLaws.{IsStepOf, AreStepsOf}
 use Rattle.ed_model.proofs.SoundSteps.{fit_append}
 
 inserted_between : (p : ℕ) (front new rest : List ℕ) → length front ≡ p → take p (front ++ rest) ++ new ++ drop p (front ++ rest) ≡ front ++ (new ++ rest)
@@ -93,6 +93,6 @@ unwanted_fits to (b ∷ bs) after p front e =
 -- the steps of a conversion fit the text in turn
 pub conversion_fits : (to : LineEnd) (text : List ℕ) → AreStepsOf text (conversion_steps to text)
 conversion_fits to text =
-    fit_append (missing_from 0 false to text) (unwanted_from 0 false to (after_steps (missing_from 0 false to text) text)) text
+    fit_append IsStepOf (missing_from 0 false to text) (unwanted_from 0 false to (after_steps (missing_from 0 false to text) text)) text
     (missing_fits to text false 0 [] refl)
     (unwanted_fits to (after_steps (missing_from 0 false to text) text) false 0 [] refl)

@@ -51,7 +51,7 @@ text_after d step = bytes_of_edited_cells step d.cells
 
 -- a sound document is sound after a step that fits, with any history that fits the new text
 pub document_made : (limits : Limits) (d : Document) (step : Step) (h : History) → IsSoundDocument limits d → IsStepOf (text_of d) step
-    → size_after (length d.cells) step ≤ limit_of limits d → FitsText (edited step (text_of d)) h
+    → size_after (length d.cells) step ≤ limit_of limits d → FitsText (limit_of limits d) (edited step (text_of d)) h
     → IsSoundDocument limits (record (document_after step d) { history = h })
 document_made limits d step h sound fits room history =
     let range = cells_range d step fits in
@@ -68,7 +68,7 @@ document_made limits d step h sound fits room history =
       handles_differ = λ handle. let a = handles_carried_by handle d.line_end_types step (text_of d) d.rows in let b = sound.handles_differ handle in omega arith;
       handles_below = λ handle le. let a = handles_carried_by handle d.line_end_types step (text_of d) d.rows in let b = sound.handles_below handle le in omega arith;
       referenced = sound.referenced;
-      history = subst (λ t. FitsText t h) (sym (text_after d step)) history;
+      history = subst (λ t. FitsText (limit_of limits d) t h) (sym (text_after d step)) history;
     }
 
 -- a view stands well on the document after a step

@@ -23,7 +23,7 @@ use Rattle.ed_model.specs.declared.plan.Plan.TheVariants as plan
 use Rattle.ed_model.specs.Steps.{Step}
 use Rattle.ed_model.specs.LineEnds.{after_steps}
 use Rattle.ed_model.specs.History.{History, Change, fresh_history, undo_changes, redo_changes, undone, redone, latest_text_step}
-use Rattle.ed_model.specs.Session.{Session, Document, View, document_at, view_at, with_document, text_of, new_session}
+use Rattle.ed_model.specs.Session.{Session, Document, View, document_at, view_at, with_document, text_of, limit_of, new_session}
 use Rattle.ed_model.specs.Notes as notes
 use Rattle.ed_model.specs.Requests.{Request, Planned, text}
 use Rattle.ed_model.specs.Edits.{steps_of, source_bytes}
@@ -35,13 +35,13 @@ use Rattle.ed_model.specs.Run.{starting, after_opening, after_closing, after_mes
 use Rattle.ed_model.specs.SoundLaws.{AreStepsOf, FitsText, IsSound, StandsOn, NewSessionIsSound, MessageKeepsSound, OpeningKeepsSound, ClosingKeepsSound, CommandKeepsSound, IsSoundInEveryStateFrom, IsSoundInEveryState}
 use Rattle.ed_model.specs.PlansFit.{IsSoundRequest, IsFitFollow, IsFitDocumentChange, IsFitViewChange, IsFitPlan, IsFitPlanned, IsRoomFor, EditStepsFit, UndoStepsFit, RedoStepsFit, PlansKeepSound}
 use Rattle.ed_model.proofs.TransactionLemmas.{text_after_changes}
-use Rattle.ed_model.proofs.SoundSteps.{replacement_fits}
+use Rattle.ed_model.proofs.SoundSteps.{replacement_fits, within_fits}
 use Rattle.ed_model.proofs.SoundConversion.{conversion_fits}
 use Rattle.ed_model.proofs.SoundHistory.{fresh_fits, undo_fits, undone_fits, redo_fits, redone_fits, BehindWithin, last_behind, latest_is_last}
 use Rattle.ed_model.proofs.SoundDocuments.{length_text}
 use Rattle.ed_model.proofs.SoundFinding.{document_id, view_id, replaced_found, found_once, all_weaker}
 use Rattle.ed_model.proofs.SoundSessions.{document_replaced, view_replaced, sender_changed}
-use Rattle.ed_model.proofs.SoundScenes.{IsSoundScene, scene_history, scene_told, edit_made_sound, text_edited, without_history, changes_performed_sound}
+use Rattle.ed_model.proofs.SoundScenes.{IsSoundScene, text_bounded, limit_kept, scene_history, scene_told, edit_made_sound, text_edited, without_history, changes_performed_sound}
 use Rattle.ed_model.proofs.SoundChanges.{IsFitOn, changed_sound, changed_id, changed_views, changed_stands, changed_lines_id, changed_lines_document, changed_lines_others}
 use Rattle.ed_model.proofs.SoundFlags.{IsFitHere, changed_view_stands, changed_view_document, changed_view_id}
 use Rattle.ed_model.proofs.SoundReferences.{created_sound, attached_new_sound, attached_any_sound, held_more_sound, released_sound, opened_sound, closed_sound}
@@ -119,7 +119,7 @@ behind_sound sender s scene None h b = h.sound
 behind_sound sender s scene (Some step) h b = caret_sound sender s scene (place_behind step) h b
 
 history_sound : (r : Request) (who : ℕ) (cs : List Change) (new : History) → IsSoundRequest r → AreStepsOf (text r) (text_steps cs) → IsRoomFor r (text_steps cs)
-    → FitsText (after_steps (text_steps cs) (text r)) new → IsSound (history_performed r who cs new).0
+    → FitsText (limit_of r.session.limits r.document) (after_steps (text_steps cs) (text r)) new → IsSound (history_performed r who cs new).0
 history_sound r who cs new h fits room history =
     let several = notes.bit_if (nat_lt 1 (length cs)) notes.multi_step in
     let done = changes_performed who several false cs (scene_of r) in
@@ -127,7 +127,9 @@ history_sound r who cs new h fits room history =
     let made : IsSoundScene r.view.id r.session (without_history done) = changes_performed_sound r.view.id r.session who several false cs (scene_of r) start (record { fits = fits; within = room }) in
     let same : text_of done.document ≡ after_steps (text_steps cs) (text r) = text_after_changes who several false cs (scene_of r) in
     let kept : IsSoundScene r.view.id r.session (with_history new (without_history done)) =
-    scene_history r.view.id r.session (without_history done) new made (subst (λ t. FitsText t new) (sym same) history) in
+    scene_history r.view.id r.session (without_history done) new made
+    (subst (λ limit. FitsText limit (text_of done.document) new) (sym (limit_kept r.session.limits who several false cs (scene_of r)))
+    (subst (λ t. FitsText (limit_of r.session.limits r.document) t new) (sym same) history)) in
     let scene = transaction_performed who cs new (scene_of r) in
     let told : IsSoundScene r.view.id r.session scene = scene_told r.view.id r.session (with_history new (without_history done)) scene.notes kept in
     behind_sound r.view.id r.session scene (latest_text_step (reverse cs)) told
@@ -135,10 +137,10 @@ history_sound r who cs new h fits room history =
     (subst (λ t. BehindWithin (last_or None (text_steps cs)) (length t)) (sym same) (last_behind (text_steps cs) (text r) None fits tt)))
 
 pub undo_steps_fit : UndoStepsFit
-undo_steps_fit r h = undo_fits (text r) r.document.history (request_document r h).history
+undo_steps_fit r h = within_fits (limit_of r.session.limits r.document) _ (text r) (undo_fits (text r) r.document.history (request_document r h).history)
 
 pub redo_steps_fit : RedoStepsFit
-redo_steps_fit r h = redo_fits (text r) r.document.history (request_document r h).history
+redo_steps_fit r h = within_fits (limit_of r.session.limits r.document) _ (text r) (redo_fits (text r) r.document.history (request_document r h).history)
 
 -- Other changes.
 
@@ -193,11 +195,11 @@ performed_sound r plan.Attempt h fit = h.sound
 performed_sound r plan.Undo h fit =
     let history = (request_document r h).history in
     history_sound r notes.performed_undo (undo_changes r.document.history) (undone r.document.history) h
-    (undo_fits (text r) r.document.history history) fit.1 (undone_fits (text r) r.document.history history)
+    (undo_steps_fit r h) fit.1 (undone_fits (text r) r.document.history history (text_bounded r.session.limits r.document (request_document r h)))
 performed_sound r plan.Redo h fit =
     let history = (request_document r h).history in
     history_sound r notes.performed_redo (redo_changes r.document.history) (redone r.document.history) h
-    (redo_fits (text r) r.document.history history) fit.1 (redone_fits (text r) r.document.history history)
+    (redo_steps_fit r h) fit.1 (redone_fits (text r) r.document.history history (text_bounded r.session.limits r.document (request_document r h)))
 performed_sound r (plan.ChangeDocument change value) h fit = document_change_sound r change value h fit
 performed_sound r (plan.ChangeView change value) h fit = view_change_sound r change h fit
 performed_sound r (plan.ChangeSession change value) h fit = session_change_sound r change h

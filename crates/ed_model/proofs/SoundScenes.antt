@@ -3,6 +3,7 @@ use Rattle.std.proofs.Common.{◌≡◌, ℕ, ◌≤◌, Bool, true, false, cond
 use Rattle.std.specs.Prelude.{Some, ◌==◌, nat_lt, nat_le, if◌then◌else◌}
 use Rattle.std.proofs.lemmas.List.{map-id}
 use Rattle.std.proofs.lemmas.Bool.{cond_both, eq-eqb, ne_eqb, and_parts, leb-true}
+use Rattle.ed_types.specs.declared.limits.Limits.{Limits}
 use Rattle.ed_types.specs.Notices.{Notice}
 use Rattle.ed_model.specs.Numbers.{meets}
 use Rattle.ed_model.specs.Text.{bytes_of}
@@ -15,7 +16,7 @@ use Rattle.ed_model.specs.Session.{Session, Document, View, document_at, with_do
 use Rattle.ed_model.specs.Performing.{Scene, document_after, moved_view, view_after, with_history, step_made, steps_made, sealed_scene, edit_made, change_performed, changes_performed, session_of, changes_lines, is_last}
 use Rattle.ed_model.specs.SoundLaws.{IsStepOf, AreStepsOf, FitsText, IsSound, IsSoundDocument, StandsOn}
 use Rattle.ed_model.proofs.SoundHistory.{appended_fits, sealed_fits, fresh_fits}
-use Rattle.ed_model.proofs.SoundDocuments.{document_made, view_made, text_after, length_cells_after, cells_range}
+use Rattle.ed_model.proofs.SoundDocuments.{document_made, view_made, text_after, length_text, length_cells_after, cells_range}
 use Rattle.ed_model.proofs.SoundFinding.{document_sound, replaced_found, replaced_twice, all_map}
 use Rattle.ed_model.proofs.SoundSessions.{document_replaced, IsOwner}
 
@@ -56,7 +57,7 @@ pub scene_told : (sender : ℕ) (s : Session) (scene : Scene) (notes : List Noti
 scene_told sender s scene notes h = record { sound = h.sound; found = h.found; owner = h.owner }
 
 -- the history changes
-pub scene_history : (sender : ℕ) (s : Session) (scene : Scene) (h : History) → IsSoundScene sender s scene → FitsText (text_of scene.document) h
+pub scene_history : (sender : ℕ) (s : Session) (scene : Scene) (h : History) → IsSoundScene sender s scene → FitsText (limit_of s.limits scene.document) (text_of scene.document) h
     → IsSoundScene sender s (with_history h scene)
 scene_history sender s scene h sound fits =
     let d = scene.document in
@@ -89,7 +90,7 @@ after_document step d v false = refl
 -- a step that fits, with a history that fits the new text
 pub scene_step : (sender : ℕ) (s : Session) (scene : Scene) (step : Step) (h : History) (notes : List Notice) → IsSoundScene sender s scene
     → IsStepOf (text_of scene.document) step → size_after (length scene.document.cells) step ≤ limit_of s.limits scene.document
-    → FitsText (edited step (text_of scene.document)) h
+    → FitsText (limit_of s.limits scene.document) (edited step (text_of scene.document)) h
     → IsSoundScene sender s (record {
       document = record (document_after step scene.document) { history = h };
       views = map (view_after step scene.document) scene.views;
@@ -104,6 +105,10 @@ scene_step sender s scene step h notes sound fits room history =
     (λ v ne. let t : (v.document == scene.document.id) ≡ false = ne_eqb v.document scene.document.id ne in rw t refl)
 
 -- The steps of an edit.
+
+-- the text of a sound document is within its limit
+pub text_bounded : (limits : Limits) (d : Document) → IsSoundDocument limits d → length (text_of d) ≤ limit_of limits d
+text_bounded limits d sound = subst (λ n. n ≤ limit_of limits d) (sym (length_text d)) sound.bounded
 
 -- a text of these steps: they fit in turn, and none passes the limit
 pub record IsRoom (s : Session) (scene : Scene) (steps : List Step) : Type 0 where
@@ -131,7 +136,8 @@ pub step_made_sound : (sender : ℕ) (s : Session) (scene : Scene) (later : Bool
 step_made_sound sender s scene later step steps sound room =
     scene_step sender s scene step (appended later (TextStep step) scene.document.history) (step_made later step scene).notes sound room.fits.0
     (room_first s scene step steps room)
-    (appended_fits later step (text_of scene.document) scene.document.history (scene_document_sound sender s scene sound).history room.fits.0)
+    (appended_fits later step (text_of scene.document) scene.document.history (scene_document_sound sender s scene sound).history room.fits.0
+    (text_bounded s.limits scene.document (scene_document_sound sender s scene sound)))
 
 pub steps_made_sound : (sender : ℕ) (s : Session) (later : Bool) (steps : List Step) (scene : Scene) → IsSoundScene sender s scene → IsRoom s scene steps
     → IsSoundScene sender s (steps_made later steps scene)
@@ -165,6 +171,30 @@ text_edited steps scene =
     cond_both (nat_lt 1 (length steps)) (sealed_scene (steps_made false steps (sealed_scene scene))) (steps_made false steps scene)
     (λ x. text_of x.document ≡ after_steps steps (text_of scene.document))
     (λ _. text_made false steps (sealed_scene scene)) (λ _. text_made false steps scene)
+
+-- What undo and redo leave of a document.
+
+pub record KeepsItself (d e : Document) : Type 0 where
+  pub id : e.id ≡ d.id
+  pub read_only : e.read_only ≡ d.read_only
+  pub options : e.options ≡ d.options
+
+pub changes_keep : (who several : ℕ) (lines_changed : Bool) (cs : List Change) (scene : Scene) → KeepsItself scene.document (changes_performed who several lines_changed cs scene).document
+changes_keep who several lines_changed [] scene = record { id = refl; read_only = refl; options = refl }
+changes_keep who several lines_changed (TextStep step ∷ cs) scene =
+    let changed = (if lines_changed then true else changes_lines (TextStep step) scene.document) in
+    let rest = changes_keep who several changed cs (change_performed who several (is_last cs) changed (TextStep step) scene) in
+    record { id = rest.id; read_only = rest.read_only; options = rest.options }
+changes_keep who several lines_changed (ContainerStep token coalesce ∷ cs) scene =
+    let changed = (if lines_changed then true else changes_lines (ContainerStep token coalesce) scene.document) in
+    let rest = changes_keep who several changed cs (change_performed who several (is_last cs) changed (ContainerStep token coalesce) scene) in
+    record { id = rest.id; read_only = rest.read_only; options = rest.options }
+
+-- the limit too
+pub limit_kept : (limits : Limits) (who several : ℕ) (lines_changed : Bool) (cs : List Change) (scene : Scene)
+    → limit_of limits (changes_performed who several lines_changed cs scene).document ≡ limit_of limits scene.document
+limit_kept limits who several lines_changed cs scene =
+    ap (λ o. if meets o 0x100 then limits.large_bytes else limits.doc_bytes) (changes_keep who several lines_changed cs scene).options
 
 -- Undo and redo: while they go on, the history is left out.
 

@@ -5,7 +5,7 @@ use Rattle.std.proofs.lemmas.List.{reverse-append}
 use Rattle.ed_model.specs.Steps.{Step, Insert, Delete, edited, inverse_of, replacement, deletion, insertion}
 use Rattle.ed_model.specs.LineEnds.{after_steps}
 use Rattle.ed_model.specs.Edits.{size_after}
-use Rattle.ed_model.specs.SoundLaws.{IsStepOf, AreStepsOf}
+use Rattle.ed_model.specs.SoundLaws.{IsStepOf, IsStepWithin, InTurn, AreStepsOf, AreStepsWithin}
 use Rattle.ed_model.proofs.InverseLemmas.{inverse_fits, inverse_gives_back_the_text, steps_after_steps}
 
 -- a step whose place, and what it deletes, lies within n bytes
@@ -43,17 +43,22 @@ pub inverse_returns : (step : Step) (text : List ℕ) → IsStepOf text step →
 inverse_returns step text f = inverse_gives_back_the_text step text f.0
 
 -- steps in turn
-pub fit_append : (xs ys : List Step) (text : List ℕ) → AreStepsOf text xs → AreStepsOf (after_steps xs text) ys → AreStepsOf text (xs ++ ys)
-fit_append [] ys text f g = g
-fit_append (x ∷ xs) ys text f g = (f.0, fit_append xs ys (edited x text) f.1 g)
+pub fit_append : (IsSo : List ℕ → Step → Type 0) (xs ys : List Step) (text : List ℕ) → InTurn IsSo text xs → InTurn IsSo (after_steps xs text) ys → InTurn IsSo text (xs ++ ys)
+fit_append IsSo [] ys text f g = g
+fit_append IsSo (x ∷ xs) ys text f g = (f.0, fit_append IsSo xs ys (edited x text) f.1 g)
 
-pub fit_front : (xs ys : List Step) (text : List ℕ) → AreStepsOf text (xs ++ ys) → AreStepsOf text xs
-fit_front [] ys text f = tt
-fit_front (x ∷ xs) ys text f = (f.0, fit_front xs ys (edited x text) f.1)
+pub fit_front : (IsSo : List ℕ → Step → Type 0) (xs ys : List Step) (text : List ℕ) → InTurn IsSo text (xs ++ ys) → InTurn IsSo text xs
+fit_front IsSo [] ys text f = tt
+fit_front IsSo (x ∷ xs) ys text f = (f.0, fit_front IsSo xs ys (edited x text) f.1)
 
-pub fit_back : (xs ys : List Step) (text : List ℕ) → AreStepsOf text (xs ++ ys) → AreStepsOf (after_steps xs text) ys
-fit_back [] ys text f = f
-fit_back (x ∷ xs) ys text f = fit_back xs ys (edited x text) f.1
+pub fit_back : (IsSo : List ℕ → Step → Type 0) (xs ys : List Step) (text : List ℕ) → InTurn IsSo text (xs ++ ys) → InTurn IsSo (after_steps xs text) ys
+fit_back IsSo [] ys text f = f
+fit_back IsSo (x ∷ xs) ys text f = fit_back IsSo xs ys (edited x text) f.1
+
+-- steps that make no text past a limit are steps
+pub within_fits : (limit : ℕ) (steps : List Step) (text : List ℕ) → AreStepsWithin limit text steps → AreStepsOf text steps
+within_fits limit [] text f = tt
+within_fits limit (x ∷ xs) text f = (f.0.0, within_fits limit xs (edited x text) f.1)
 
 -- the inverses, last first
 abbrev pub reversed : List Step → List Step
@@ -71,12 +76,17 @@ reversed_returns (x ∷ xs) text f =
     ∙ ap (edited (inverse_of x)) (reversed_returns xs (edited x text) f.1)
     ∙ inverse_returns x text f.0
 
-pub reversed_fits : (steps : List Step) (text : List ℕ) → AreStepsOf text steps → AreStepsOf (after_steps steps text) (reversed steps)
-reversed_fits [] text f = tt
-reversed_fits (x ∷ xs) text f =
-    fit_append (reversed xs) (inverse_of x ∷ []) (after_steps xs (edited x text))
-    (reversed_fits xs (edited x text) f.1)
-    (subst (λ t. AreStepsOf t (inverse_of x ∷ [])) (sym (reversed_returns xs (edited x text) f.1)) (inverse_is_step x text f.0, tt))
+-- the inverse of a step leads back to a text within the limit
+pub inverse_within : {limit : ℕ} (step : Step) (text : List ℕ) → IsStepOf text step → length text ≤ limit → IsStepWithin limit (edited step text) (inverse_of step)
+inverse_within step text f h = (inverse_is_step step text f, rw (inverse_returns step text f) h)
+
+-- so inverses make no text past the limit either
+pub reversed_within : {limit : ℕ} (steps : List Step) (text : List ℕ) → AreStepsWithin limit text steps → length text ≤ limit → AreStepsWithin limit (after_steps steps text) (reversed steps)
+reversed_within [] text f h = tt
+reversed_within {limit} (x ∷ xs) text f h =
+    fit_append (IsStepWithin limit) (reversed xs) (inverse_of x ∷ []) (after_steps xs (edited x text))
+    (reversed_within xs (edited x text) f.1 f.0.1)
+    (subst (λ t. AreStepsWithin limit t (inverse_of x ∷ [])) (sym (reversed_returns xs (edited x text) (within_fits limit xs (edited x text) f.1))) (inverse_within x text f.0.0 h, tt))
 
 -- a replacement
 abbrev pub insertion_after : ℕ → List ℕ → List ℕ → List ℕ
@@ -106,7 +116,7 @@ pub replacement_fits : (start count : ℕ) (bytes text : List ℕ) → start + c
 replacement_fits start count bytes text h =
     let d = deletion_fits start count (slice_range text start (start + count)) text h refl (length_slice text start count h) in
     let n : length (after_steps (deletion start (slice_range text start (start + count))) text) ≡ length text - count = d.1 in
-    fit_append (deletion start (slice_range text start (start + count))) (insertion start bytes) text d.0
+    fit_append IsStepOf (deletion start (slice_range text start (start + count))) (insertion start bytes) text d.0
     (insertion_fits start bytes _ (omega arith))
 
 pub length_replacement : (start count : ℕ) (bytes text : List ℕ) → start + count ≤ length text

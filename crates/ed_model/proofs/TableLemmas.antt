@@ -3,6 +3,7 @@ use Rattle.std.proofs.Common.{◌≡◌, ℕ, Bool, true, false, ◌&&◌, cond,
 use Rattle.ed_types.specs.declared.kind.Kind.{Kind}
 use Rattle.ed_types.specs.declared.message.Message.{Message}
 use Rattle.ed_types.specs.declared.refusal.Refusal.{Refusal}
+use Rattle.ed_types.specs.declared.refusal.Refusal.TheVariants.{TooLong}
 use Rattle.ed_types.specs.declared.script.Command.{Command}
 use Rattle.ed_types.specs.declared.script.Command.TheVariants.{OpenView, CloseView, LoadFile, SendMessage, Expect}
 use Rattle.ed_types.specs.Notices.{Notice, Response}
@@ -20,26 +21,26 @@ same_view v w found e f = cc
 same_document : (v w : View) (d c : Document) (ds : List Document) → w ≡ v → document_at ds v.document ≡ Some d → document_at ds w.document ≡ Some c → c ≡ d
 same_document v w d c ds same e f = cc
 
--- What every refusal has, and the answer of the kind to each document, the table has.
-module _ (P : Answered → Type 0) (refused : (e : Refusal) → P (Err e)) (known : Kind → Bool) (s : Session) (m : Message) (kind : Kind) where
+-- What every refusal but TooLong has, and the answer of the kind to each document, the table has.
+module _ (P : Answered → Type 0) (refused : (e : Refusal) → (e ≡ TooLong → ⊥) → P (Err e)) (known : Kind → Bool) (s : Session) (m : Message) (kind : Kind) where
   -- the answer of the kind at a view and a document has it
   abbrev HasAt : View → Document → Type 0
   HasAt v d = P (answered kind (request s v d m) (plan_of kind (request s v d m)))
 
   from_document : (v : View) (o : Option Document) → ((d : Document) → o ≡ Some d → HasAt v d) → P (table_from_document s v kind m o)
-  from_document v None h = refused _
+  from_document v None h = refused _ (λ e. cc)
   from_document v (Some d) h = h d refl
 
   if_known : (b : Bool) (v : View) → ((d : Document) → document_at s.documents v.document ≡ Some d → HasAt v d) → P (table_if_known b s v kind m)
   if_known true v h = from_document v (document_at s.documents v.document) h
-  if_known false v h = refused _
+  if_known false v h = refused _ (λ e. cc)
 
   from_kind : (v : View) (k : Option Kind) → k ≡ Some kind → ((d : Document) → document_at s.documents v.document ≡ Some d → HasAt v d) → P (table_from_kind known s v m k)
   from_kind v k e h = rw e (if_known (known kind) v h)
 
   from_view : (o : Option View) → kind_of m.number ≡ Some kind → ((v : View) (d : Document) → o ≡ Some v → document_at s.documents v.document ≡ Some d → HasAt v d)
       → P (table_from_view known s m o)
-  from_view None e h = refused _
+  from_view None e h = refused _ (λ e. cc)
   from_view (Some v) e h = from_kind v (kind_of m.number) e (λ d. h v d refl)
 
   -- the fact of a message, over every view that may send it and its document
@@ -59,7 +60,7 @@ quiet_answer kind r (Ok p) h = quiet_plan_leaves r p h
 
 pub queries_leave_the_session : QueriesLeaveTheSession
 queries_leave_the_session known s view m kind e q =
-    of_table (LeavesSession s) (λ refusal. tt) known s m kind view e
+    of_table (LeavesSession s) (λ refusal other. tt) known s m kind view e
     (λ v d seen found. quiet_answer kind (request s v d m) _ (query_is_quiet kind (request s v d m) q))
 
 -- recording adds no text
@@ -74,7 +75,7 @@ free_answer_has_no_text kind r (Ok p) h =
 
 pub free_messages_hand_out_no_text : FreeMessagesHandOutNoText
 free_messages_hand_out_no_text known s view m kind e n =
-    of_table HasNoText (λ refusal. tt) known s m kind view e
+    of_table HasNoText (λ refusal other. tt) known s m kind view e
     (λ v d seen found. free_answer_has_no_text kind (request s v d m) _ (message_without_memory_is_free kind (request s v d m) n))
 
 notes_if_unrecorded : (b : Bool) (note : Notice) (reply : Response) → b ≡ false → (cond b (record reply { notes = note ∷ reply.notes }) reply).notes ≡ reply.notes
@@ -92,7 +93,7 @@ free_answer_has_no_note kind r (Ok p) h b =
 
 pub free_messages_have_no_note : FreeMessagesHaveNoNote
 free_messages_have_no_note known s view m kind v e n sees b =
-    of_table (HasNotes []) (λ refusal. tt) known s m kind view e
+    of_table (HasNotes []) (λ refusal other. tt) known s m kind view e
     (λ w d seen found. free_answer_has_no_note kind (request s w d m) _ (message_without_memory_is_free kind (request s w d m) n)
     (rw (same_view v w _ sees seen) b))
 
@@ -103,7 +104,7 @@ free_answer_has_one_note kind r (Ok p) h b =
 
 pub recorded_free_messages_have_one_note : RecordedFreeMessagesHaveOneNote
 recorded_free_messages_have_one_note known s view m kind v e n sees b =
-    of_table (HasNotes (recording v m ∷ [])) (λ refusal. tt) known s m kind view e
+    of_table (HasNotes (recording v m ∷ [])) (λ refusal other. tt) known s m kind view e
     (λ w d seen found. rw (same_view v w _ sees seen) (free_answer_has_one_note kind (request s v d m) _ (message_without_memory_is_free kind (request s v d m) n) b))
 
 -- Runs.

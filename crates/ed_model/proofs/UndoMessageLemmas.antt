@@ -1,16 +1,16 @@
 -- The messages UNDO and REDO.
-use Rattle.std.proofs.Common.{◌≡◌, ℕ, Bool, true, false, cond, nat_lt, List, [], ◌∷◌, length, refl, ap, ◌∙◌, sym, subst, Some, Ok, Err}
+use Rattle.std.proofs.Common.{◌≡◌, ℕ, Bool, true, false, cond, nat_lt, List, length, refl, ap, ◌∙◌, sym, subst, Some, Ok, Err}
 use Rattle.ed_types.specs.declared.kind.Kind.TheVariants.{Undo, Redo}
 use Rattle.ed_types.specs.declared.refusal.Refusal.TheVariants.{TooLong}
 use Rattle.ed_model.specs.declared.plan.Plan.{Plan}
 use Rattle.ed_model.specs.declared.plan.Plan.TheVariants as plan
-use Rattle.ed_model.specs.History.{Change, TextStep, ContainerStep, undone, redone, undo_changes, redo_changes, can_undo, can_redo}
+use Rattle.ed_model.specs.History.{Change, undone, redone, undo_changes, redo_changes, can_undo, can_redo}
 use Rattle.ed_model.specs.Session.{Session, Document, document_at, with_document, text_of, limit_of}
 use Rattle.ed_model.specs.Notes as notes
 use Rattle.ed_model.specs.Requests.{Request, Planned, size}
 use Rattle.ed_model.specs.Edits.{stays_within}
 use Rattle.ed_model.specs.DocumentPlans.{text_steps, act_on_history}
-use Rattle.ed_model.specs.Performing.{Scene, scene_of, changes_performed, change_performed, changes_lines, is_last}
+use Rattle.ed_model.specs.Performing.{Scene, scene_of}
 use Rattle.ed_model.specs.Table.{answered, request}
 use Rattle.ed_model.specs.InverseLaws.{after_undo, after_redo}
 use Rattle.ed_model.specs.TableLaws.{Answered}
@@ -20,7 +20,7 @@ use Rattle.ed_model.proofs.TableLemmas.{at_table}
 use Rattle.ed_model.proofs.TransactionLemmas.{undo_makes_its_steps, redo_makes_its_steps}
 use Rattle.ed_model.proofs.UndoLemmas.{undo_keeps_earlier_texts, one_redone}
 use Rattle.ed_model.proofs.SoundFinding.{document_id, replaced_found}
-use Rattle.ed_model.proofs.RunUndoLemmas.{changes_performed_id}
+use Rattle.ed_model.proofs.SoundScenes.{changes_keep}
 
 -- undo and redo that are not refused act, where they can and may
 acts_if_written : (P : Planned → Type 0) (act : Plan) (b within : Bool) → b ≡ false → P (Ok act) → P (Err TooLong) → P (cond b (Ok plan.Attempt) (cond within (Ok act) (Err TooLong)))
@@ -32,22 +32,13 @@ acts : (P : Planned → Type 0) (r : Request) (can : Bool) (cs : List Change) (a
 acts P r true cs act e f h k = acts_if_written P act r.document.read_only (stays_within (limit_of r.session.limits r.document) (size r) (text_steps cs)) f h k
 acts P r false cs act e f h k = cc
 
-changes_performed_read_only : (who several : ℕ) (b : Bool) (cs : List Change) (scene : Scene) → (changes_performed who several b cs scene).document.read_only ≡ scene.document.read_only
-changes_performed_read_only who several b [] scene = refl
-changes_performed_read_only who several b (TextStep step ∷ cs) scene =
-    let changed = (cond b true (changes_lines (TextStep step) scene.document)) in
-    changes_performed_read_only who several changed cs (change_performed who several (is_last cs) changed (TextStep step) scene)
-changes_performed_read_only who several b (ContainerStep token coalesce ∷ cs) scene =
-    let changed = (cond b true (changes_lines (ContainerStep token coalesce) scene.document)) in
-    changes_performed_read_only who several changed cs (change_performed who several (is_last cs) changed (ContainerStep token coalesce) scene)
-
 -- the scene's document with its last transaction undone, and with its next one redone
 pub undone_document : (scene : Scene) → IsUndone scene.document (after_undo scene).document
 undone_document scene =
     let cs = undo_changes scene.document.history in
     record {
       history = refl;
-      read_only = changes_performed_read_only notes.performed_undo (notes.bit_if (nat_lt 1 (length cs)) notes.multi_step) false cs scene;
+      read_only = (changes_keep notes.performed_undo (notes.bit_if (nat_lt 1 (length cs)) notes.multi_step) false cs scene).read_only;
       texts = λ k. ap (undone_text k (undone scene.document.history).past) (undo_makes_its_steps scene) ∙ undo_keeps_earlier_texts k scene.document.history (text_of scene.document);
     }
 
@@ -56,7 +47,7 @@ redone_document scene =
     let cs = redo_changes scene.document.history in
     record {
       history = refl;
-      read_only = changes_performed_read_only notes.performed_redo (notes.bit_if (nat_lt 1 (length cs)) notes.multi_step) false cs scene;
+      read_only = (changes_keep notes.performed_redo (notes.bit_if (nat_lt 1 (length cs)) notes.multi_step) false cs scene).read_only;
       texts = λ k. ap (redone_text k (redone scene.document.history).future) (redo_makes_its_steps scene) ∙ one_redone k scene.document.history scene.document.history.future (text_of scene.document) refl;
     }
 
@@ -75,10 +66,10 @@ pub undo_undoes : UndoUndoes
 undo_undoes known s view m v d done k e f can write answer =
     let r = request s v d m in
     let cs = undo_changes d.history in
-    let same : (after_undo (scene_of r)).document.id ≡ d.id = changes_performed_id notes.performed_undo (notes.bit_if (nat_lt 1 (length cs)) notes.multi_step) false cs (scene_of r) in
+    let same : (after_undo (scene_of r)).document.id ≡ d.id = (changes_keep notes.performed_undo (notes.bit_if (nat_lt 1 (length cs)) notes.multi_step) false cs (scene_of r)).id in
     let C : Session → Type 0 = λ t. (x : Document) × (document_at t.documents v.document ≡ Some x) × IsUndone d x in
     subst (Afterwards C) answer
-    (at_table (Afterwards C) (λ refusal. tt) known s m Undo view v d k e f
+    (at_table (Afterwards C) (λ refusal other. tt) known s m Undo view v d k e f
     (acts (λ (p : Planned). Afterwards C (answered Undo r p)) r (can_undo d.history) cs plan.Undo can write
     ((after_undo (scene_of r)).document, found_again s.documents v.document d (after_undo (scene_of r)).document f same, undone_document (scene_of r)) tt))
 
@@ -86,9 +77,9 @@ pub redo_redoes : RedoRedoes
 redo_redoes known s view m v d done k e f can write answer =
     let r = request s v d m in
     let cs = redo_changes d.history in
-    let same : (after_redo (scene_of r)).document.id ≡ d.id = changes_performed_id notes.performed_redo (notes.bit_if (nat_lt 1 (length cs)) notes.multi_step) false cs (scene_of r) in
+    let same : (after_redo (scene_of r)).document.id ≡ d.id = (changes_keep notes.performed_redo (notes.bit_if (nat_lt 1 (length cs)) notes.multi_step) false cs (scene_of r)).id in
     let C : Session → Type 0 = λ t. (x : Document) × (document_at t.documents v.document ≡ Some x) × IsRedone d x in
     subst (Afterwards C) answer
-    (at_table (Afterwards C) (λ refusal. tt) known s m Redo view v d k e f
+    (at_table (Afterwards C) (λ refusal other. tt) known s m Redo view v d k e f
     (acts (λ (p : Planned). Afterwards C (answered Redo r p)) r (can_redo d.history) cs plan.Redo can write
     ((after_redo (scene_of r)).document, found_again s.documents v.document d (after_redo (scene_of r)).document f same, redone_document (scene_of r)) tt))

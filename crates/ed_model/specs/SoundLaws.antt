@@ -46,10 +46,22 @@ handles_in rows = flat_map (λ (row : Row). map (λ (m : Marker). m.handle) row.
 abbrev pub IsStepOf : List ℕ → Step → Type 0
 IsStepOf text step = Fits step text × (0 < length (step_bytes step))
 
--- steps of this text in turn: each is one of the text that the steps before it made
+-- such a step that makes no text past the limit
+abbrev pub IsStepWithin : ℕ → List ℕ → Step → Type 0
+IsStepWithin limit text step = IsStepOf text step × (length (edited step text) ≤ limit)
+
+-- each of the steps is so, of the text that the steps before it made
+abbrev pub InTurn : (List ℕ → Step → Type 0) → List ℕ → List Step → Type 0
+InTurn IsSo text [] = Unit {0}
+InTurn IsSo text (step ∷ steps) = IsSo text step × InTurn IsSo (edited step text) steps
+
+-- steps of this text in turn
 abbrev pub AreStepsOf : List ℕ → List Step → Type 0
-AreStepsOf text [] = Unit {0}
-AreStepsOf text (step ∷ steps) = IsStepOf text step × AreStepsOf (edited step text) steps
+AreStepsOf text steps = InTurn IsStepOf text steps
+
+-- and none makes a text past the limit
+abbrev pub AreStepsWithin : ℕ → List ℕ → List Step → Type 0
+AreStepsWithin limit text steps = InTurn (IsStepWithin limit) text steps
 
 -- the steps that take back all the past, the latest first
 abbrev pub undo_path : List Transaction → List Step
@@ -59,10 +71,11 @@ undo_path past = map inverse_of (text_steps (flat_map (λ (t : Transaction). t.c
 abbrev pub redo_path : List Transaction → List Step
 redo_path future = text_steps (flat_map (λ (t : Transaction). reverse t.changes) future)
 
--- all the past can be taken back from this text, and all the future made again; where nothing is collected there is neither
-pub record FitsText (text : List ℕ) (h : History) : Type 0 where
-  pub past : AreStepsOf text (undo_path h.past)
-  pub future : AreStepsOf text (redo_path h.future)
+-- all the past can be taken back from this text, and all the future made again, with no text past the limit; where nothing is
+-- collected there is neither
+pub record FitsText (limit : ℕ) (text : List ℕ) (h : History) : Type 0 where
+  pub past : AreStepsWithin limit text (undo_path h.past)
+  pub future : AreStepsWithin limit text (redo_path h.future)
   pub kept : h.collecting ≡ false → (h.past ≡ []) × (h.future ≡ [])
 
 -- Documents, views and sessions.
@@ -80,7 +93,7 @@ pub record IsSoundDocument (limits : Limits) (d : Document) : Type 0 where
   pub handles_differ : (handle : ℕ) → occurrences handle (handles_in d.rows) ≤ 1
   pub handles_below : (handle : ℕ) → d.next_handle ≤ handle → occurrences handle (handles_in d.rows) ≡ 0
   pub referenced : 0 < references d
-  pub history : FitsText (text_of d) d.history
+  pub history : FitsText (limit_of limits d) (text_of d) d.history
 
 -- a view of the document: its places lie in the text; it has as many flags as there are lines, and line 0 is visible; its indicator is
 -- one of 32; and the document lists it once

@@ -1,14 +1,16 @@
 -- The messages UNDO and REDO: what becomes of the document.
-use Rattle.std.specs.Prelude.{◌≡◌, ℕ, suc, Bool, true, false, Some, Ok}
+use Rattle.std.specs.Prelude.{◌≡◌, ℕ, suc, Bool, true, false, Some, Ok, Err}
 use Rattle.ed_types.specs.declared.kind.Kind.{Kind}
 use Rattle.ed_types.specs.declared.kind.Kind.TheVariants.{Undo, Redo}
 use Rattle.ed_types.specs.declared.message.Message.{Message}
+use Rattle.ed_types.specs.declared.refusal.Refusal.TheVariants.{TooLong}
 use Rattle.ed_types.specs.Notices.{Response}
 use Rattle.ed_types.specs.Messages.{kind_of}
 use Rattle.ed_model.specs.History.{undone, redone, can_undo, can_redo}
 use Rattle.ed_model.specs.Session.{Session, View, Document, view_at, document_at, text_of}
 use Rattle.ed_model.specs.Table.{table}
 use Rattle.ed_model.specs.UndoLaws.{undone_text, redone_text}
+use Rattle.ed_model.specs.SoundLaws.{IsSound}
 
 -- The document with its last transaction undone: the text is the one from before it, and so are all texts before that.
 pub record IsUndone (d e : Document) : Type 0 where
@@ -37,3 +39,15 @@ RedoRedoes =
     kind_of m.number ≡ Some Redo → view_at s.views view ≡ Some v → document_at s.documents v.document ≡ Some d →
     can_redo d.history ≡ true → d.read_only ≡ false → table known s view m ≡ Ok done →
     (e : Document) × (document_at done.0.documents v.document ≡ Some e) × IsRedone d e
+
+-- in a sound session no message of this kind is refused as too long
+abbrev pub IsNeverTooLong : Kind → Type 0
+IsNeverTooLong kind =
+    (known : Kind → Bool) (s : Session) (view : ℕ) (m : Message) → IsSound s → kind_of m.number ≡ Some kind → table known s view m ≡ Err TooLong → ⊥
+
+-- since undo and redo go through texts that were there before
+abbrev pub UndoIsNeverTooLong : Type 0
+UndoIsNeverTooLong = IsNeverTooLong Undo
+
+abbrev pub RedoIsNeverTooLong : Type 0
+RedoIsNeverTooLong = IsNeverTooLong Redo
