@@ -56,3 +56,4 @@ pub mod WorkedRecording
 pub mod EarlierTextLaws
 pub mod RunUndoLaws
 pub mod UndoMessageLaws
+pub mod RepeatedUndoLaws

@@ -54,7 +54,9 @@ pub use table_laws::{
     free_messages_are_silent, queries_leave_the_session, refusals_leave_the_session,
 };
 pub use undo_laws::{earlier_texts_are_kept, undos_and_redos};
-pub use undo_message_laws::{undo_and_redo_act, undo_and_redo_are_never_too_long};
+pub use undo_message_laws::{
+    undo_and_redo_act, undo_and_redo_are_never_too_long, undo_and_redo_messages_lead_there_and_back,
+};
 pub use worked_examples::{
     worked_characters, worked_joins, worked_limits, worked_lines, worked_matches, worked_recording,
 };

@@ -1,5 +1,6 @@
 //! Laws of the messages UNDO and REDO.
 
+ghost use Rattle.ed_model.specs.RepeatedUndoLaws.{UndosGoBackThenRedosGoOn};
 ghost use Rattle.ed_model.specs.UndoMessageLaws.{RedoIsNeverTooLong, RedoRedoes, UndoIsNeverTooLong, UndoUndoes};
 
 /// UNDO, if it is answered where there is something to undo, leaves the document with its last transaction undone, and REDO
@@ -13,4 +14,10 @@ pub fn undo_and_redo_act()
 pub fn undo_and_redo_are_never_too_long()
     ensures undo { UndoIsNeverTooLong }
     ensures redo { RedoIsNeverTooLong }
+{}
+
+/// UNDO messages go back one transaction each, to the text before as many of them, and as many REDO messages lead to the text
+/// that it was, whatever comes between that leaves the document alone.
+pub fn undo_and_redo_messages_lead_there_and_back()
+    ensures { UndosGoBackThenRedosGoOn }
 {}
