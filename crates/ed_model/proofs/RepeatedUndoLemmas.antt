@@ -1,5 +1,5 @@
 -- Undo and redo, message after message.
-use Rattle.std.proofs.Common.{◌≡◌, ℕ, zero, suc, ◌+◌, ◌<◌, ◌≤◌, Bool, true, false, nat_lt, ◌&&◌, List, [], ◌∷◌, length, refl, ap, ◌∙◌, sym, subst, arith, Option, Some}
+use Rattle.std.proofs.Common.{◌≡◌, ℕ, zero, suc, ◌+◌, ◌<◌, ◌≤◌, Bool, true, false, nat_lt, ◌&&◌, List, [], ◌∷◌, length, refl, ap, ◌∙◌, sym, arith, Option, Some}
 use Rattle.std.specs.Prelude.{◌==◌}
 use Rattle.std.proofs.lemmas.Bool.{lt-ltb}
 use Rattle.ed_types.specs.declared.kind.Kind.{Kind}
@@ -51,7 +51,7 @@ left_there : (id : ℕ) (scene : Scene) (s t : Session) → IsThere id scene s �
 left_there id scene s t there left =
     let same : left.before ≡ there.0 = same_document (document_at s.documents id) left.before there.0 left.found there.1 in
     let stands : StandsAt scene left.before = rw same there.2 in
-    (left.after, left.still_found, record { text = left.text ∙ stands.text; history = left.history ∙ stands.history; written = left.read_only ∙ stands.written })
+    (left.after, left.still_found, record { text = left.left.text ∙ stands.text; history = left.left.history ∙ stands.history; written = left.left.read_only ∙ stands.written })
 
 undone_there : (scene : Scene) (d e : Document) → StandsAt scene d → IsUndone d e → StandsAt (after_undo scene) e
 undone_there scene d e stands is = record {

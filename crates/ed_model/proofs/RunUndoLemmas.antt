@@ -20,7 +20,7 @@ use Rattle.ed_model.specs.declared.plan.SessionChange.{SessionChange}
 use Rattle.ed_model.specs.declared.plan.SessionChange.TheVariants as session_change
 use Rattle.ed_model.specs.declared.plan.Plan.{Plan}
 use Rattle.ed_model.specs.declared.plan.Plan.TheVariants as plan
-use Rattle.ed_model.specs.Text.{Cell}
+use Rattle.ed_model.specs.Text.{Cell, bytes_of}
 use Rattle.ed_model.specs.Steps.{Step}
 use Rattle.ed_model.specs.History.{History, undo_changes, redo_changes}
 use Rattle.ed_model.specs.Session.{Session, Document, View, document_at, view_at, with_document, living, references, left_by, new_session, new_document, new_view, text_of}
@@ -34,6 +34,7 @@ use Rattle.ed_model.specs.Table.{table, table_from_view, table_from_kind, table_
 use Rattle.ed_model.specs.Run.{Running, after_command, after_opening, after_closing, after_message, loaded, file_at, run_to, starting, set_text_message}
 use Rattle.ed_model.specs.InverseLaws.{after_undo, after_redo}
 use Rattle.ed_model.specs.EarlierTextLaws.{KeepsEarlierTexts, GoesBackAmong}
+use Rattle.ed_model.specs.RepeatedUndoLaws.{IsLeftAlone, LeavesOthersAlone, MessagesLeaveOtherDocumentsAlone, OpeningLeavesDocumentsAlone, ClosingLeavesDocumentsAlone}
 use Rattle.ed_model.specs.RunUndoLaws.{GoesOn, DocumentsGoOn, MessagesLetDocumentsGoOn, CommandsLetDocumentsGoOn, sessions_of, states_of, UndoGoesBackInEveryRun}
 use Rattle.ed_model.specs.SoundLaws.{IsSound, Rise}
 use Rattle.ed_model.specs.PlansFit.{IsSoundRequest, IsFitPlan, IsFitPlanned}
@@ -49,32 +50,46 @@ use Rattle.ed_model.proofs.SoundRuns.{edit_steps_fit, redo_steps_fit, command_so
 
 -- Lists of documents.
 
-abbrev ListsGoOn : List Document → List Document → Type 0
-ListsGoOn ds es = (id : ℕ) (d : Document) → document_at es id ≡ Some d → GoesOn (document_at ds id) d
+-- a document goes on from what it was, and was left alone unless `Own` tells of it
+abbrev GoesOnBut : (ℕ → Type 0) → Option Document → Document → Type 0
+GoesOnBut Own None d = d.history.past ≡ []
+GoesOnBut Own (Some old) d = KeepsEarlierTexts old d × ((Own d.id → ⊥) → IsLeftAlone old d)
+
+goes_on : (Own : ℕ → Type 0) (o : Option Document) (d : Document) → GoesOnBut Own o d → GoesOn o d
+goes_on Own None d h = h
+goes_on Own (Some old) d h = h.0
+
+left_alone : (Own : ℕ → Type 0) (o : Option Document) (d e : Document) → (Own e.id → ⊥) → o ≡ Some d → GoesOnBut Own o e → IsLeftAlone d e
+left_alone Own None d e other f h = cc
+left_alone Own (Some old) d e other f h = let same : old ≡ d = cc in subst (λ (x : Document). IsLeftAlone x e) same (h.1 other)
+
+abbrev ListsGoOn : (ℕ → Type 0) → List Document → List Document → Type 0
+ListsGoOn Own ds es = (id : ℕ) (d : Document) → document_at es id ≡ Some d → GoesOnBut Own (document_at ds id) d
 
 same_found : (o : Option Document) (d e : Document) → o ≡ Some d → o ≡ Some e → d ≡ e
 same_found o d e p q = cc
 
-goes_on_same : (d : Document) → GoesOn (Some d) d
-goes_on_same d = keeps_same d.history (text_of d)
+goes_on_same : (Own : ℕ → Type 0) (d : Document) → GoesOnBut Own (Some d) d
+goes_on_same Own d = (keeps_same d.history (text_of d), λ other. record { text = refl; history = refl; read_only = refl })
 
-lists_go_on_same : (ds : List Document) → ListsGoOn ds ds
-lists_go_on_same ds id d e = subst (λ (o : Option Document). GoesOn o d) (sym e) (goes_on_same d)
+lists_go_on_same : (Own : ℕ → Type 0) (ds : List Document) → ListsGoOn Own ds ds
+lists_go_on_same Own ds id d e = subst (λ (o : Option Document). GoesOnBut Own o d) (sym e) (goes_on_same Own d)
 
 -- one document replaced by one that goes on from it
-lists_go_on_replaced : (ds : List Document) (old new : Document) → document_at ds new.id ≡ Some old → KeepsEarlierTexts old new → ListsGoOn ds (with_document new ds)
+lists_go_on_replaced : (ds : List Document) (old new : Document) → document_at ds new.id ≡ Some old → KeepsEarlierTexts old new → ListsGoOn (λ id. id ≡ new.id) ds (with_document new ds)
 lists_go_on_replaced ds old new found keeps id d e = go (id == new.id) refl
   where
-    go : (b : Bool) → (id == new.id) ≡ b → GoesOn (document_at ds id) d
+    go : (b : Bool) → (id == new.id) ≡ b → GoesOnBut (λ id. id ≡ new.id) (document_at ds id) d
     go true t =
         let same = eqb-true id new.id t in
         let there : document_at (with_document new ds) id ≡ Some new = ap (document_at (with_document new ds)) same ∙ replaced_found ds old new found in
         let is_new : new ≡ d = same_found (document_at (with_document new ds) id) new d there e in
         let was : Some old ≡ document_at ds id = sym (ap (document_at ds) same ∙ found) in
-        subst (λ (o : Option Document). GoesOn o d) was (subst (λ (x : Document). KeepsEarlierTexts old x) is_new keeps)
+        subst (λ (o : Option Document). GoesOnBut (λ id. id ≡ new.id) o d) was
+        (subst (λ (x : Document). KeepsEarlierTexts old x) is_new keeps, λ other. absurd (other (ap (λ (x : Document). x.id) (sym is_new))))
     go false t =
         let other : id ≡ new.id → ⊥ = λ same. apart_false (eq-eqb id new.id same) t in
-        lists_go_on_same ds id d (sym (replaced_other ds new id other) ∙ e)
+        lists_go_on_same (λ id. id ≡ new.id) ds id d (sym (replaced_other ds new id other) ∙ e)
       where
         apart_false : (id == new.id) ≡ true → (id == new.id) ≡ false → ⊥
         apart_false p q = cc
@@ -84,6 +99,7 @@ pub record IsRelisted (d e : Document) : Type 0 where
   pub id : e.id ≡ d.id
   pub history : e.history ≡ d.history
   pub cells : e.cells ≡ d.cells
+  pub read_only : e.read_only ≡ d.read_only
 
 mapped_at : (g : Document → Document) → ((d : Document) → IsRelisted d (g d)) → (ds : List Document) (id : ℕ) → document_at (map g ds) id ≡ option_map g (document_at ds id)
 mapped_at g r [] id = refl
@@ -94,20 +110,23 @@ mapped_at g r (d ∷ ds) id =
     go true rest = refl
     go false rest = rest
 
-goes_on_relisted : (o : Option Document) (d e : Document) → IsRelisted d e → GoesOn o d → GoesOn o e
-goes_on_relisted None d e r h = ap (λ (x : History). x.past) r.history ∙ h
-goes_on_relisted (Some old) d e r h =
-    subst (λ (x : History). KeepsEarlierTexts old (record d { history = x; cells = e.cells })) (sym r.history)
-    (subst (λ (x : List Cell). KeepsEarlierTexts old (record d { cells = x })) (sym r.cells) h)
+goes_on_relisted : (Own : ℕ → Type 0) (o : Option Document) (d e : Document) → IsRelisted d e → GoesOnBut Own o d → GoesOnBut Own o e
+goes_on_relisted Own None d e r h = ap (λ (x : History). x.past) r.history ∙ h
+goes_on_relisted Own (Some old) d e r h = (
+  subst (λ (x : History). KeepsEarlierTexts old (record d { history = x; cells = e.cells })) (sym r.history)
+      (subst (λ (x : List Cell). KeepsEarlierTexts old (record d { cells = x })) (sym r.cells) h.0),
+  λ other. let was = h.1 (subst (λ id. Own id → ⊥) r.id other) in
+      record { text = ap bytes_of r.cells ∙ was.text; history = r.history ∙ was.history; read_only = r.read_only ∙ was.read_only },
+)
 
-lists_go_on_mapped : (ds es : List Document) (g : Document → Document) → ((d : Document) → IsRelisted d (g d)) → ListsGoOn ds es → ListsGoOn ds (map g es)
-lists_go_on_mapped ds es g r h id d e = go (document_at es id) refl (sym (mapped_at g r es id) ∙ e)
+lists_go_on_mapped : (Own : ℕ → Type 0) (ds es : List Document) (g : Document → Document) → ((d : Document) → IsRelisted d (g d)) → ListsGoOn Own ds es → ListsGoOn Own ds (map g es)
+lists_go_on_mapped Own ds es g r h id d e = go (document_at es id) refl (sym (mapped_at g r es id) ∙ e)
   where
-    go : (o : Option Document) → document_at es id ≡ o → option_map g o ≡ Some d → GoesOn (document_at ds id) d
+    go : (o : Option Document) → document_at es id ≡ o → option_map g o ≡ Some d → GoesOnBut Own (document_at ds id) d
     go None found f = cc
     go (Some x) found f =
         let is : g x ≡ d = cc in
-        subst (GoesOn (document_at ds id)) is (goes_on_relisted (document_at ds id) x (g x) (r x) (h id x found))
+        subst (GoesOnBut Own (document_at ds id)) is (goes_on_relisted Own (document_at ds id) x (g x) (r x) (h id x found))
 
 -- found in rising documents, an id is not below them
 rise_found : (low high : ℕ) (ds : List Document) (id : ℕ) (d : Document) → Rise low high (map (λ (x : Document). x.id) ds) → document_at ds id ≡ Some d → low ≤ id
@@ -135,77 +154,77 @@ living_from low high (x ∷ xs) id d rise e = go (nat_lt 0 (references x)) e (λ
     go true f rest = first (x.id == id) rest f
     go false f rest = later (x.id == id) refl (rise_found (x.id + 1) high xs id d rise.2 (rest f)) (rest f)
 
-lists_go_on_living : (ds es : List Document) (low high : ℕ) → Rise low high (map (λ (x : Document). x.id) es) → ListsGoOn ds es → ListsGoOn ds (living es)
-lists_go_on_living ds es low high rise h id d e = h id d (living_from low high es id d rise e)
+lists_go_on_living : (Own : ℕ → Type 0) (ds es : List Document) (low high : ℕ) → Rise low high (map (λ (x : Document). x.id) es) → ListsGoOn Own ds es → ListsGoOn Own ds (living es)
+lists_go_on_living Own ds es low high rise h id d e = h id d (living_from low high es id d rise e)
 
 mapped_ids : (g : Document → Document) → ((d : Document) → IsRelisted d (g d)) → (ds : List Document) → map (λ (x : Document). x.id) (map g ds) ≡ map (λ (x : Document). x.id) ds
 mapped_ids g r [] = refl
 mapped_ids g r (d ∷ ds) = ap (λ n. n ∷ map (λ (x : Document). x.id) (map g ds)) (r d).id ∙ ap (λ ids. d.id ∷ ids) (mapped_ids g r ds)
 
 -- the documents of other ones relisted, of which some go
-lists_go_on_relisted : (ds es : List Document) (g : Document → Document) (low high : ℕ) → ((d : Document) → IsRelisted d (g d)) →
-    Rise low high (map (λ (x : Document). x.id) es) → ListsGoOn ds es → ListsGoOn ds (living (map g es))
-lists_go_on_relisted ds es g low high r rise h =
-    lists_go_on_living ds (map g es) low high (subst (Rise low high) (sym (mapped_ids g r es)) rise) (lists_go_on_mapped ds es g r h)
+lists_go_on_relisted : (Own : ℕ → Type 0) (ds es : List Document) (g : Document → Document) (low high : ℕ) → ((d : Document) → IsRelisted d (g d)) →
+    Rise low high (map (λ (x : Document). x.id) es) → ListsGoOn Own ds es → ListsGoOn Own ds (living (map g es))
+lists_go_on_relisted Own ds es g low high r rise h =
+    lists_go_on_living Own ds (map g es) low high (subst (Rise low high) (sym (mapped_ids g r es)) rise) (lists_go_on_mapped Own ds es g r h)
 
 -- a new document has no past
-lists_go_on_pushed : (ds : List Document) (new : Document) → new.history.past ≡ [] → ListsGoOn ds (ds ++ new ∷ [])
-lists_go_on_pushed ds new none id d e =
+lists_go_on_pushed : (Own : ℕ → Type 0) (ds : List Document) (new : Document) → new.history.past ≡ [] → ListsGoOn Own ds (ds ++ new ∷ [])
+lists_go_on_pushed Own ds new none id d e =
     go (document_at ds id) (sym (find-append (λ (x : Document). x.id == id) ds (new ∷ [])) ∙ e)
   where
     alone : (b : Bool) → cond b (Some new) None ≡ Some d → d.history.past ≡ []
     alone true f = let same : new ≡ d = cc in ap (λ (x : Document). x.history.past) (sym same) ∙ none
     alone false f = cc
 
-    go : (o : Option Document) → option_or o (document_at (new ∷ []) id) ≡ Some d → GoesOn o d
+    go : (o : Option Document) → option_or o (document_at (new ∷ []) id) ≡ Some d → GoesOnBut Own o d
     go None f = alone (new.id == id) f
-    go (Some x) f = subst (GoesOn (Some x)) (let same : x ≡ d = cc in same) (goes_on_same x)
+    go (Some x) f = subst (GoesOnBut Own (Some x)) (let same : x ≡ d = cc in same) (goes_on_same Own x)
 
 -- Relistings.
 
 same_listed : (d : Document) → IsRelisted d d
-same_listed d = record { id = refl; history = refl; cells = refl }
+same_listed d = record { id = refl; history = refl; cells = refl; read_only = refl }
 
 left_relisted : (view : ℕ) (d : Document) → IsRelisted d (left_by view d)
-left_relisted view d = record { id = refl; history = refl; cells = refl }
+left_relisted view d = record { id = refl; history = refl; cells = refl; read_only = refl }
 
 attached_relisted : (view id : ℕ) (d : Document) → IsRelisted d (attached_last view id d)
 attached_relisted view id d =
     let left = left_by view d in
     both_hold (IsRelisted d) (d.id == id) (record left { views = left.views ++ view ∷ [] }) left
-    (λ e. record { id = refl; history = refl; cells = refl }) (λ e. record { id = refl; history = refl; cells = refl })
+    (λ e. record { id = refl; history = refl; cells = refl; read_only = refl }) (λ e. record { id = refl; history = refl; cells = refl; read_only = refl })
 
 held_more_relisted : (id : ℕ) (d : Document) → IsRelisted d (held_more id d)
-held_more_relisted id d = both_hold (IsRelisted d) (d.id == id) (record d { held = d.held + 1 }) d (λ e. record { id = refl; history = refl; cells = refl }) (λ e. same_listed d)
+held_more_relisted id d = both_hold (IsRelisted d) (d.id == id) (record d { held = d.held + 1 }) d (λ e. record { id = refl; history = refl; cells = refl; read_only = refl }) (λ e. same_listed d)
 
 held_less_relisted : (id : ℕ) (d : Document) → IsRelisted d (held_less id d)
-held_less_relisted id d = both_hold (IsRelisted d) (d.id == id) (record d { held = d.held - 1 }) d (λ e. record { id = refl; history = refl; cells = refl }) (λ e. same_listed d)
+held_less_relisted id d = both_hold (IsRelisted d) (d.id == id) (record d { held = d.held - 1 }) d (λ e. record { id = refl; history = refl; cells = refl; read_only = refl }) (λ e. same_listed d)
 
 -- What a plan does.
 
-attached_go_on : (ds : List Document) (s : Session) (o : Option Document) (v : View) (high : ℕ) → Rise 0 high (map (λ (x : Document). x.id) s.documents) →
-    ListsGoOn ds s.documents → ListsGoOn ds (with_attached o v s).documents
-attached_go_on ds s None v high rise h = h
-attached_go_on ds s (Some d) v high rise h = lists_go_on_relisted ds s.documents (attached_last v.id d.id) 0 high (attached_relisted v.id d.id) rise h
+attached_go_on : (Own : ℕ → Type 0) (ds : List Document) (s : Session) (o : Option Document) (v : View) (high : ℕ) → Rise 0 high (map (λ (x : Document). x.id) s.documents) →
+    ListsGoOn Own ds s.documents → ListsGoOn Own ds (with_attached o v s).documents
+attached_go_on Own ds s None v high rise h = h
+attached_go_on Own ds s (Some d) v high rise h = lists_go_on_relisted Own ds s.documents (attached_last v.id d.id) 0 high (attached_relisted v.id d.id) rise h
 
-session_change_goes_on : (r : Request) (what : SessionChange) → IsSound r.session → ListsGoOn r.session.documents (session_changed r what).documents
-session_change_goes_on r (session_change.Copy start count) h = lists_go_on_same r.session.documents
-session_change_goes_on r (session_change.CopyText count) h = lists_go_on_same r.session.documents
-session_change_goes_on r (session_change.Attach id) h =
-    attached_go_on r.session.documents r.session (document_at r.session.documents id) r.view r.session.next_document h.document_ids (lists_go_on_same r.session.documents)
-session_change_goes_on r session_change.AttachNew h =
+session_change_goes_on : (Own : ℕ → Type 0) (r : Request) (what : SessionChange) → IsSound r.session → ListsGoOn Own r.session.documents (session_changed r what).documents
+session_change_goes_on Own r (session_change.Copy start count) h = lists_go_on_same Own r.session.documents
+session_change_goes_on Own r (session_change.CopyText count) h = lists_go_on_same Own r.session.documents
+session_change_goes_on Own r (session_change.Attach id) h =
+    attached_go_on Own r.session.documents r.session (document_at r.session.documents id) r.view r.session.next_document h.document_ids (lists_go_on_same Own r.session.documents)
+session_change_goes_on Own r session_change.AttachNew h =
     let s = r.session in
     let with = with_new_document (new_document s.next_document 0) s in
-    attached_go_on s.documents with (document_at with.documents s.next_document) r.view (s.next_document + 1)
+    attached_go_on Own s.documents with (document_at with.documents s.next_document) r.view (s.next_document + 1)
     (documents_push s.next_document s.documents (new_document s.next_document 0) refl h.document_ids)
-    (lists_go_on_pushed s.documents (new_document s.next_document 0) refl)
-session_change_goes_on r (session_change.Create options) h =
+    (lists_go_on_pushed Own s.documents (new_document s.next_document 0) refl)
+session_change_goes_on Own r (session_change.Create options) h =
     let d = new_document r.session.next_document options in
-    lists_go_on_pushed r.session.documents (record d { held = 1 }) refl
-session_change_goes_on r (session_change.AddReference id) h =
-    lists_go_on_mapped r.session.documents r.session.documents (held_more id) (held_more_relisted id) (lists_go_on_same r.session.documents)
-session_change_goes_on r (session_change.Release id) h =
-    lists_go_on_relisted r.session.documents r.session.documents (held_less id) 0 r.session.next_document (held_less_relisted id) h.document_ids (lists_go_on_same r.session.documents)
+    lists_go_on_pushed Own r.session.documents (record d { held = 1 }) refl
+session_change_goes_on Own r (session_change.AddReference id) h =
+    lists_go_on_mapped Own r.session.documents r.session.documents (held_more id) (held_more_relisted id) (lists_go_on_same Own r.session.documents)
+session_change_goes_on Own r (session_change.Release id) h =
+    lists_go_on_relisted Own r.session.documents r.session.documents (held_less id) 0 r.session.next_document (held_less_relisted id) h.document_ids (lists_go_on_same Own r.session.documents)
 
 steps_made_id : (later : Bool) (steps : List Step) (scene : Scene) → (steps_made later steps scene).document.id ≡ scene.document.id
 steps_made_id later [] scene = refl
@@ -220,9 +239,11 @@ own_document : (r : Request) → IsSoundRequest r → document_at r.session.docu
 own_document r h = ap (document_at r.session.documents) (document_id r.session.documents r.view.document r.document h.document) ∙ h.document
 
 -- the request's document replaced by one that goes on from it
-own_replaced : (r : Request) (new : Document) → IsSoundRequest r → new.id ≡ r.document.id → KeepsEarlierTexts r.document new → ListsGoOn r.session.documents (with_document new r.session.documents)
+own_replaced : (r : Request) (new : Document) → IsSoundRequest r → new.id ≡ r.document.id → KeepsEarlierTexts r.document new → ListsGoOn (λ id. id ≡ r.view.document) r.session.documents (with_document new r.session.documents)
 own_replaced r new h same keeps =
-    lists_go_on_replaced r.session.documents r.document new (ap (document_at r.session.documents) same ∙ own_document r h) keeps
+    let own : new.id ≡ r.view.document = same ∙ document_id r.session.documents r.view.document r.document h.document in
+    subst (λ n. ListsGoOn (λ id. id ≡ n) r.session.documents (with_document new r.session.documents)) own
+    (lists_go_on_replaced r.session.documents r.document new (ap (document_at r.session.documents) same ∙ own_document r h) keeps)
 
 followed_documents : (view : ℕ) (before : List ℕ) (after : Follow) (s : Session) → (followed view before after s).documents ≡ s.documents
 followed_documents view before follow.Nothing s = refl
@@ -230,19 +251,19 @@ followed_documents view before (follow.Caret place) s = refl
 followed_documents view before (follow.Target start past) s = refl
 followed_documents view before (follow.Clipboard start count) s = refl
 
-performed_goes_on : (r : Request) (what : Plan) → IsSoundRequest r → IsFitPlan r what → ListsGoOn r.session.documents (performed r what).0.documents
-performed_goes_on r (plan.Answer value) h fit = lists_go_on_same r.session.documents
-performed_goes_on r (plan.HandOut value start count) h fit = lists_go_on_same r.session.documents
-performed_goes_on r (plan.HandOutStyled start count) h fit = lists_go_on_same r.session.documents
-performed_goes_on r plan.Attempt h fit = lists_go_on_same r.session.documents
-performed_goes_on r (plan.ChangeView change value) h fit = lists_go_on_same r.session.documents
-performed_goes_on r (plan.ChangeSession change value) h fit = session_change_goes_on r change h.sound
+performed_goes_on : (r : Request) (what : Plan) → IsSoundRequest r → IsFitPlan r what → ListsGoOn (λ id. id ≡ r.view.document) r.session.documents (performed r what).0.documents
+performed_goes_on r (plan.Answer value) h fit = lists_go_on_same (λ id. id ≡ r.view.document) r.session.documents
+performed_goes_on r (plan.HandOut value start count) h fit = lists_go_on_same (λ id. id ≡ r.view.document) r.session.documents
+performed_goes_on r (plan.HandOutStyled start count) h fit = lists_go_on_same (λ id. id ≡ r.view.document) r.session.documents
+performed_goes_on r plan.Attempt h fit = lists_go_on_same (λ id. id ≡ r.view.document) r.session.documents
+performed_goes_on r (plan.ChangeView change value) h fit = lists_go_on_same (λ id. id ≡ r.view.document) r.session.documents
+performed_goes_on r (plan.ChangeSession change value) h fit = session_change_goes_on (λ id. id ≡ r.view.document) r change h.sound
 performed_goes_on r (plan.ChangeDocument change value) h fit =
     own_replaced r (changed_document r.message.text change r.document) h (changed_id r.message.text change r.document) (document_changes_keep_earlier_texts r.message.text change r.document)
 performed_goes_on r (plan.Edit change value after) h fit =
     let scene = edit_made (steps_of r change) (scene_of r) in
     let history = (request_document r h).history in
-    subst (ListsGoOn r.session.documents) (sym (followed_documents r.view.id (text r) after (session_of r.session scene)))
+    subst (ListsGoOn (λ id. id ≡ r.view.document) r.session.documents) (sym (followed_documents r.view.id (text r) after (session_of r.session scene)))
     (own_replaced r scene.document h (edit_made_id (steps_of r change) (scene_of r))
     (edits_keep_earlier_texts (steps_of r change) (scene_of r) (fit_in_turn (steps_of r change) (text r) (edit_steps_fit r change fit.0)) (λ e. (history.kept e).0)))
 performed_goes_on r plan.Undo h fit =
@@ -259,48 +280,70 @@ performed_goes_on r plan.Redo h fit =
 -- Messages.
 
 -- what comes of a message lets the documents go on
-abbrev LetsGoOn : Session → Result (Session × Response) Refusal → Type 0
-LetsGoOn s (Ok done) = DocumentsGoOn s done.0
-LetsGoOn s (Err refusal) = Unit {0}
+abbrev LetsGoOn : (ℕ → Type 0) → Session → Result (Session × Response) Refusal → Type 0
+LetsGoOn Own s (Ok done) = ListsGoOn Own s.documents done.0.documents
+LetsGoOn Own s (Err refusal) = Unit {0}
 
-answered_goes_on : (kind : Kind) (r : Request) (p : Planned) → IsSoundRequest r → IsFitPlanned r p → LetsGoOn r.session (answered kind r p)
+-- the view shows the document of this id
+abbrev IsShownBy : Option View → ℕ → Type 0
+IsShownBy None id = ⊥
+IsShownBy (Some v) id = id ≡ v.document
+
+answered_goes_on : (kind : Kind) (r : Request) (p : Planned) → IsSoundRequest r → IsFitPlanned r p → LetsGoOn (IsShownBy (Some r.view)) r.session (answered kind r p)
 answered_goes_on kind r (Err refusal) h fit = tt
 answered_goes_on kind r (Ok what) h fit = performed_goes_on r what h fit
 
 from_document_goes_on : (s : Session) (v : View) (kind : Kind) (m : Message) (o : Option Document) → IsSound s → view_at s.views v.id ≡ Some v → document_at s.documents v.document ≡ o →
-    LetsGoOn s (table_from_document s v kind m o)
+    LetsGoOn (IsShownBy (Some v)) s (table_from_document s v kind m o)
 from_document_goes_on s v kind m None h e f = tt
 from_document_goes_on s v kind m (Some d) h e f =
     let sound_request : IsSoundRequest (request s v d m) = record { sound = h; view = e; document = f } in
     answered_goes_on kind (request s v d m) (plan_of kind (request s v d m)) sound_request (plan_fits kind (request s v d m) sound_request)
 
-if_known_goes_on : (b : Bool) (s : Session) (v : View) (kind : Kind) (m : Message) → IsSound s → view_at s.views v.id ≡ Some v → LetsGoOn s (table_if_known b s v kind m)
+if_known_goes_on : (b : Bool) (s : Session) (v : View) (kind : Kind) (m : Message) → IsSound s → view_at s.views v.id ≡ Some v → LetsGoOn (IsShownBy (Some v)) s (table_if_known b s v kind m)
 if_known_goes_on true s v kind m h e = from_document_goes_on s v kind m (document_at s.documents v.document) h e refl
 if_known_goes_on false s v kind m h e = tt
 
-from_kind_goes_on : (known : Kind → Bool) (s : Session) (v : View) (m : Message) (o : Option Kind) → IsSound s → view_at s.views v.id ≡ Some v → LetsGoOn s (table_from_kind known s v m o)
+from_kind_goes_on : (known : Kind → Bool) (s : Session) (v : View) (m : Message) (o : Option Kind) → IsSound s → view_at s.views v.id ≡ Some v → LetsGoOn (IsShownBy (Some v)) s (table_from_kind known s v m o)
 from_kind_goes_on known s v m None h e = tt
 from_kind_goes_on known s v m (Some kind) h e = if_known_goes_on (known kind) s v kind m h e
 
-from_view_goes_on : (known : Kind → Bool) (s : Session) (view : ℕ) (m : Message) (o : Option View) → IsSound s → view_at s.views view ≡ o → LetsGoOn s (table_from_view known s m o)
+from_view_goes_on : (known : Kind → Bool) (s : Session) (view : ℕ) (m : Message) (o : Option View) → IsSound s → view_at s.views view ≡ o → LetsGoOn (IsShownBy o) s (table_from_view known s m o)
 from_view_goes_on known s view m None h e = tt
 from_view_goes_on known s view m (Some v) h e =
     from_kind_goes_on known s v m (kind_of m.number) h (ap (view_at s.views) (view_id s.views view v e) ∙ e)
 
-table_goes_on : (known : Kind → Bool) (s : Session) (view : ℕ) (m : Message) → IsSound s → LetsGoOn s (table known s view m)
+table_goes_on : (known : Kind → Bool) (s : Session) (view : ℕ) (m : Message) → IsSound s → LetsGoOn (IsShownBy (view_at s.views view)) s (table known s view m)
 table_goes_on known s view m h = from_view_goes_on known s view m (view_at s.views view) h refl
 
+all_go_on : (Own : ℕ → Type 0) (s t : Session) → ListsGoOn Own s.documents t.documents → DocumentsGoOn s t
+all_go_on Own s t h id d e = goes_on Own (document_at s.documents id) d (h id d e)
+
 pub messages_let_documents_go_on : MessagesLetDocumentsGoOn
-messages_let_documents_go_on known s view m done h e = subst (LetsGoOn s) e (table_goes_on known s view m h)
+messages_let_documents_go_on known s view m done h e =
+    all_go_on (IsShownBy (view_at s.views view)) s done.0 (subst (LetsGoOn (IsShownBy (view_at s.views view)) s) e (table_goes_on known s view m h))
+
+others_left_alone : (Own : ℕ → Type 0) (s t : Session) → ListsGoOn Own s.documents t.documents → LeavesOthersAlone Own s t
+others_left_alone Own s t h id d e other found still =
+    left_alone Own (document_at s.documents id) d e (subst (λ n. Own n → ⊥) (sym (document_id t.documents id e still)) other) found (h id e still)
+
+pub messages_leave_other_documents_alone : MessagesLeaveOtherDocumentsAlone
+messages_leave_other_documents_alone known s view m v done h seen e =
+    others_left_alone (IsShownBy (Some v)) s done.0
+    (subst (λ (o : Option View). ListsGoOn (IsShownBy o) s.documents done.0.documents) seen (subst (LetsGoOn (IsShownBy (view_at s.views view)) s) e (table_goes_on known s view m h)))
 
 -- Commands.
 
-message_goes_on : (s : Session) (o : Result (Session × Response) Refusal) → LetsGoOn s o → DocumentsGoOn s (after_message s o).0.session
-message_goes_on s (Ok done) k = k
-message_goes_on s (Err refusal) k = lists_go_on_same s.documents
+message_goes_on : (Own : ℕ → Type 0) (s : Session) (o : Result (Session × Response) Refusal) → LetsGoOn Own s o → DocumentsGoOn s (after_message s o).0.session
+message_goes_on Own s (Ok done) k = all_go_on Own s done.0 k
+message_goes_on Own s (Err refusal) k = all_go_on Own s s (lists_go_on_same Own s.documents)
+
+-- no document is anyone's own
+abbrev Nobodys : ℕ → Type 0
+Nobodys id = ⊥
 
 abbrev OpeningGoesOn : Session → Result (Session × ℕ) Refusal → Type 0
-OpeningGoesOn s o = DocumentsGoOn s (after_opening s o).0.session
+OpeningGoesOn s o = ListsGoOn Nobodys s.documents (after_opening s o).0.session.documents
 
 opening_goes_on : (s : Session) → OpeningGoesOn s (opened s)
 opening_goes_on s =
@@ -308,25 +351,35 @@ opening_goes_on s =
     let with = with_new_document (record d { views = s.next_view ∷ [] }) s in
     both_hold (OpeningGoesOn s) (nat_le s.limits.views (length s.views) || nat_lt s.limits.ids s.next_view || nat_lt s.limits.ids s.next_document) (Err TooMany)
     (Ok (record with { views = s.views ++ new_view s.next_view d ∷ []; next_view = s.next_view + 1 }, s.next_view))
-    (λ e. lists_go_on_same s.documents) (λ e. lists_go_on_pushed s.documents (record d { views = s.next_view ∷ [] }) refl)
+    (λ e. lists_go_on_same Nobodys s.documents) (λ e. lists_go_on_pushed Nobodys s.documents (record d { views = s.next_view ∷ [] }) refl)
 
-closing_goes_on : (s : Session) (o : Option View) → IsSound s → DocumentsGoOn s (after_closing s (closed_view s o)).0.session
-closing_goes_on s None h = lists_go_on_same s.documents
+pub opening_leaves_documents_alone : OpeningLeavesDocumentsAlone
+opening_leaves_documents_alone s done e = others_left_alone Nobodys s done.0 (subst (OpeningGoesOn s) e (opening_goes_on s))
+
+closing_goes_on : (s : Session) (o : Option View) → IsSound s → ListsGoOn Nobodys s.documents (after_closing s (closed_view s o)).0.session.documents
+closing_goes_on s None h = lists_go_on_same Nobodys s.documents
 closing_goes_on s (Some v) h =
-    lists_go_on_relisted s.documents s.documents (left_by v.id) 0 s.next_document (left_relisted v.id) h.document_ids (lists_go_on_same s.documents)
+    lists_go_on_relisted Nobodys s.documents s.documents (left_by v.id) 0 s.next_document (left_relisted v.id) h.document_ids (lists_go_on_same Nobodys s.documents)
 
-loaded_goes_on : (known : Kind → Bool) (s : Session) (view : ℕ) (v : Option View) (file : Option (List ℕ)) → IsSound s → LetsGoOn s (loaded known s view v file)
+pub closing_leaves_documents_alone : ClosingLeavesDocumentsAlone
+closing_leaves_documents_alone s t view h e =
+    others_left_alone Nobodys s t
+    (subst (λ (o : Result Session Refusal). ListsGoOn Nobodys s.documents (after_closing s o).0.session.documents) e (closing_goes_on s (view_at s.views view) h))
+
+loaded_goes_on : (known : Kind → Bool) (s : Session) (view : ℕ) (v : Option View) (file : Option (List ℕ)) → IsSound s → LetsGoOn (IsShownBy (view_at s.views view)) s (loaded known s view v file)
 loaded_goes_on known s view None file h = tt
 loaded_goes_on known s view (Some v) None h = tt
 loaded_goes_on known s view (Some v) (Some bytes) h = table_goes_on known s view (set_text_message bytes) h
 
 pub commands_let_documents_go_on : CommandsLetDocumentsGoOn
-commands_let_documents_go_on known files OpenView s h = opening_goes_on s.session
-commands_let_documents_go_on known files (CloseView view) s h = closing_goes_on s.session (view_at s.session.views view) h
+commands_let_documents_go_on known files OpenView s h = all_go_on Nobodys s.session (after_opening s.session (opened s.session)).0.session (opening_goes_on s.session)
+commands_let_documents_go_on known files (CloseView view) s h = all_go_on Nobodys s.session (after_closing s.session (closed_view s.session (view_at s.session.views view))).0.session (closing_goes_on s.session (view_at s.session.views view) h)
 commands_let_documents_go_on known files (LoadFile view file) s h =
-    message_goes_on s.session (loaded known s.session view (view_at s.session.views view) (file_at files file)) (loaded_goes_on known s.session view (view_at s.session.views view) (file_at files file) h)
-commands_let_documents_go_on known files (SendMessage view message) s h = message_goes_on s.session (table known s.session view message) (table_goes_on known s.session view message h)
-commands_let_documents_go_on known files (Expect value) s h = lists_go_on_same s.session.documents
+    message_goes_on (IsShownBy (view_at s.session.views view)) s.session (loaded known s.session view (view_at s.session.views view) (file_at files file))
+    (loaded_goes_on known s.session view (view_at s.session.views view) (file_at files file) h)
+commands_let_documents_go_on known files (SendMessage view message) s h =
+    message_goes_on (IsShownBy (view_at s.session.views view)) s.session (table known s.session view message) (table_goes_on known s.session view message h)
+commands_let_documents_go_on known files (Expect value) s h = all_go_on Nobodys s.session s.session (lists_go_on_same Nobodys s.session.documents)
 
 -- Runs.
 

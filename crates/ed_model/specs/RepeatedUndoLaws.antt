@@ -6,19 +6,41 @@ use Rattle.ed_types.specs.declared.message.Message.{Message}
 use Rattle.ed_types.specs.Notices.{Response}
 use Rattle.ed_types.specs.Messages.{kind_of}
 use Rattle.ed_model.specs.Session.{Session, View, Document, view_at, document_at, text_of}
-use Rattle.ed_model.specs.Table.{table}
+use Rattle.ed_model.specs.Table.{table, opened, closed}
 use Rattle.ed_model.specs.UndoLaws.{undone_text}
 use Rattle.ed_model.specs.SoundLaws.{IsSound}
 
--- the document of this id is there before and afterwards, with the same text and history, and can be written or not as before
+-- A document that was left alone: it has the same text and history, and can be written or not as before.
+pub record IsLeftAlone (d e : Document) : Type 0 where
+  pub text : text_of e ≡ text_of d
+  pub history : e.history ≡ d.history
+  pub read_only : e.read_only ≡ d.read_only
+
+-- the document of this id is there before and afterwards, and was left alone
 pub record LeavesAlone (id : ℕ) (s t : Session) : Type 0 where
   pub before : Document
   pub after : Document
   pub found : document_at s.documents id ≡ Some before
   pub still_found : document_at t.documents id ≡ Some after
-  pub text : text_of after ≡ text_of before
-  pub history : after.history ≡ before.history
-  pub read_only : after.read_only ≡ before.read_only
+  pub left : IsLeftAlone before after
+
+-- every document that is there before and afterwards was left alone, but for those of which `Own` tells
+abbrev pub LeavesOthersAlone : (ℕ → Type 0) → Session → Session → Type 0
+LeavesOthersAlone Own s t =
+    (id : ℕ) (d e : Document) → (Own id → ⊥) → document_at s.documents id ≡ Some d → document_at t.documents id ≡ Some e → IsLeftAlone d e
+
+-- a message to a sound session leaves all documents alone but that of its view
+abbrev pub MessagesLeaveOtherDocumentsAlone : Type 0
+MessagesLeaveOtherDocumentsAlone =
+    (known : Kind → Bool) (s : Session) (view : ℕ) (m : Message) (v : View) (done : Session × Response) →
+    IsSound s → view_at s.views view ≡ Some v → table known s view m ≡ Ok done → LeavesOthersAlone (λ id. id ≡ v.document) s done.0
+
+-- and views that come and go leave all of them alone
+abbrev pub OpeningLeavesDocumentsAlone : Type 0
+OpeningLeavesDocumentsAlone = (s : Session) (done : Session × ℕ) → opened s ≡ Ok done → LeavesOthersAlone (λ id. ⊥) s done.0
+
+abbrev pub ClosingLeavesDocumentsAlone : Type 0
+ClosingLeavesDocumentsAlone = (s t : Session) (view : ℕ) → IsSound s → closed s view ≡ Ok t → LeavesOthersAlone (λ id. ⊥) s t
 
 -- a message of this kind to a view of the document is answered
 pub record IsAnswered (known : Kind → Bool) (kind : Kind) (id : ℕ) (sent : ℕ × Message) (s : Session) (done : Session × Response) : Type 0 where

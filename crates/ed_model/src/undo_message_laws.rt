@@ -1,6 +1,11 @@
 //! Laws of the messages UNDO and REDO.
 
-ghost use Rattle.ed_model.specs.RepeatedUndoLaws.{UndosGoBackThenRedosGoOn};
+ghost use Rattle.ed_model.specs.RepeatedUndoLaws.{
+  ClosingLeavesDocumentsAlone,
+  MessagesLeaveOtherDocumentsAlone,
+  OpeningLeavesDocumentsAlone,
+  UndosGoBackThenRedosGoOn,
+};
 ghost use Rattle.ed_model.specs.UndoMessageLaws.{RedoIsNeverTooLong, RedoRedoes, UndoIsNeverTooLong, UndoUndoes};
 
 /// UNDO, if it is answered where there is something to undo, leaves the document with its last transaction undone, and REDO
@@ -20,4 +25,12 @@ pub fn undo_and_redo_are_never_too_long()
 /// that it was, whatever comes between that leaves the document alone.
 pub fn undo_and_redo_messages_lead_there_and_back()
     ensures { UndosGoBackThenRedosGoOn }
+{}
+
+/// A message leaves all documents alone but that of its view, and views that come and go leave all of them alone: their texts and
+/// histories are as they were.
+pub fn other_documents_are_left_alone()
+    ensures messages { MessagesLeaveOtherDocumentsAlone }
+    ensures opening { OpeningLeavesDocumentsAlone }
+    ensures closing { ClosingLeavesDocumentsAlone }
 {}
