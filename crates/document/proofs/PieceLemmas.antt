@@ -1,19 +1,20 @@
 -- Bytes that are put in piece after piece: the text after each, and how many lines it has.
-use Rattle.std.proofs.Common.{◌≡◌, ℕ, zero, suc, ◌+◌, ◌-◌, ◌<◌, ◌≤◌, ◌==◌, Bool, true, false, List, [], ◌∷◌, ◌++◌, length, take, drop, slice_range, refl, ap, sym, ◌∙◌, inl, inr, arith, append_assoc, length-append}
+use Rattle.std.proofs.Common.{◌≡◌, ℕ, zero, suc, ◌+◌, ◌-◌, ◌<◌, ◌≤◌, ◌==◌, Bool, true, false, List, ◌++◌, length, take, drop, slice_range, refl, ap, sym, ◌∙◌, inl, inr, arith, append_assoc, length-append}
 use Rattle.std.proofs.lemmas.Bool.{ne_eqb, true≢false, cases_lt}
 use Rattle.std.proofs.lemmas.List.{length-map, length-take-le, map-append}
 use Rattle.std.proofs.lemmas.Option.{slice_get_past}
-use Rattle.std.proofs.Math.Seq.{take-add, take-append_seam, drop-append_seam}
 use Rattle.ed_model.specs.declared.plan.LineEndTypes.{LineEndTypes}
 use Rattle.ed_model.specs.declared.plan.LineEndTypes.TheVariants.{Default}
 use Rattle.ed_model.specs.Numbers.{is_number}
 use Rattle.ed_model.specs.Text.{Cell, bytes_of, plain_cell, plain_cells, stands}
 use Rattle.ed_model.specs.Lines.{is_line_start, line_count}
 use Rattle.ed_model.specs.Steps.{Insert, edited_cells}
+use Rattle.ed_model.proofs.NeighbourLemmas.{slice_get_take, take_and_next}
 use Rattle.ed_model.proofs.RisingLemmas.{filter_range_agree}
 use Rattle.ed_model.proofs.StepLemmas.{bytes_of_edited_cells}
 use Rattle.line_index.specs.Index.{Index, starts_within}
 use Rattle.line_index.specs.RoomLaws.{InsertionAddsFewLines}
+use Rattle.line_index.proofs.Added.{front_of, back_of}
 use Rattle.line_index.proofs.StartLists.{starts_apart, one_start, no_starts}
 use Rattle.document.specs.Held.{HasLinesOf}
 use Rattle.document.proofs.LineSteps.{lines_of_index}
@@ -21,11 +22,8 @@ use Rattle.document.proofs.LineSteps.{lines_of_index}
 -- The first bytes of a text have no more lines than all.
 
 -- what stands in the first bytes
-stands_at_first : (byte : ℕ) (bytes : List ℕ) (n k : ℕ) → k < n → n ≤ length bytes → stands byte (take n bytes) k ≡ stands byte bytes k
-stands_at_first byte [] n k h l = absurd (omega arith)
-stands_at_first byte (b ∷ bytes) zero k h l = absurd (omega arith)
-stands_at_first byte (b ∷ bytes) (suc n) zero h l = refl
-stands_at_first byte (b ∷ bytes) (suc n) (suc k) h l = stands_at_first byte bytes n k (omega arith) (omega arith)
+stands_at_first : (byte : ℕ) (bytes : List ℕ) (n k : ℕ) → k < n → stands byte (take n bytes) k ≡ stands byte bytes k
+stands_at_first byte bytes n k h = ap (is_number byte) (slice_get_take n bytes k h)
 
 -- a line starts at a place of both texts or of none, where the same bytes stand in front and an LF behind in both or in none
 alike : (types : LineEndTypes) (text other : List ℕ) (p : ℕ) → (0 < p → (byte k : ℕ) → k < p → stands byte text k ≡ stands byte other k) → stands 10 text p ≡ stands 10 other p
@@ -51,7 +49,7 @@ alike types text other (suc q) front here =
 same_in_front : (types : LineEndTypes) (bytes : List ℕ) (n : ℕ) → n ≤ length bytes → starts_within types (take n bytes) 0 n ≡ starts_within types bytes 0 n
 same_in_front types bytes n l =
     filter_range_agree (is_line_start types bytes) (is_line_start types (take n bytes)) 0 (n - 0)
-    (λ k a b. sym (alike types (take n bytes) bytes k (λ some byte i h. stands_at_first byte bytes n i (omega arith) l) (stands_at_first 10 bytes n k (omega arith) l)))
+    (λ k a b. sym (alike types (take n bytes) bytes k (λ some byte i h. stands_at_first byte bytes n i (omega arith)) (stands_at_first 10 bytes n k (omega arith))))
 
 -- where a line starts between two places, there is one
 some_within : (types : LineEndTypes) (text : List ℕ) (from to k : ℕ) → from ≤ k → k < to → is_line_start types text k ≡ true → 1 ≤ length (starts_within types text from to)
@@ -86,7 +84,7 @@ some_at_end types bytes n l here true e =
 some_at_end types bytes n l here false e =
     let past : stands 10 (take n bytes) n ≡ false = ap (is_number 10) (slice_get_past (take n bytes) n (omega (arith, length-take-le n bytes l))) in
     some_within types bytes n (length bytes + 1) n (omega arith) (omega arith)
-    (sym (alike types (take n bytes) bytes n (λ some byte i h. stands_at_first byte bytes n i h l) (past ∙ sym e)) ∙ here)
+    (sym (alike types (take n bytes) bytes n (λ some byte i h. stands_at_first byte bytes n i h) (past ∙ sym e)) ∙ here)
 
 at_end : (types : LineEndTypes) (bytes : List ℕ) (n : ℕ) → n ≤ length bytes → (here : Bool) → is_line_start types (take n bytes) n ≡ here
     → length (starts_within types (take n bytes) n (n + 1)) ≤ length (starts_within types bytes n (length bytes + 1))
@@ -115,17 +113,6 @@ fewer_at_first types bytes n l =
 
 -- The text after each piece.
 
-front_of : {X : Type 0} (xs ys : List X) (n : ℕ) → length xs ≡ n → take n (xs ++ ys) ≡ xs
-front_of xs ys n e = rw (← e) (take-append_seam xs ys)
-
-back_of : {X : Type 0} (xs ys : List X) (n : ℕ) → length xs ≡ n → drop n (xs ++ ys) ≡ ys
-back_of xs ys n e = rw (← e) (drop-append_seam xs ys)
-
-one_piece_more : (bytes : List ℕ) (done end : ℕ) → done ≤ end → take end bytes ≡ take done bytes ++ slice_range bytes done end
-one_piece_more bytes done end h =
-    let e : end ≡ done + (end - done) = omega arith in
-    ap (λ n. take n bytes) e ∙ take-add done (end - done) bytes
-
 -- a piece behind those that are in
 pub piece_behind :
     (cells now : List Cell) (place done end : ℕ) (bytes : List ℕ) → place ≤ length cells → done ≤ end → end ≤ length bytes → now ≡ edited_cells (Insert place (take done bytes)) cells
@@ -134,7 +121,7 @@ piece_behind cells now place done end bytes p d e is =
     let front : List Cell = take place cells ++ plain_cells (take done bytes) in
     let long : length front ≡ place + done =
     omega (arith, length-append (take place cells) (plain_cells (take done bytes)), length-take-le place cells p, length-map (take done bytes) plain_cell, length-take-le done bytes (omega arith)) in
-    rw (is, one_piece_more bytes done end d, front_of front (drop place cells) (place + done) long, back_of front (drop place cells) (place + done) long)
+    rw (is, take_and_next bytes done end d, front_of front (drop place cells) (place + done) long, back_of front (drop place cells) (place + done) long)
     (simp (map-append, append_assoc))
 
 -- The lines that there are with the first bytes.

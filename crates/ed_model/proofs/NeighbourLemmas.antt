@@ -5,6 +5,7 @@ use Rattle.std.specs.List.{range_with_len}
 use Rattle.std.proofs.lemmas.Bool.{cases_lt, cases_eq, eq-eqb, ne_eqb, lt-ltb, le-ltb, le-leb, lt-leb}
 use Rattle.std.proofs.lemmas.List.{length-append, length-take-le, length-drop}
 use Rattle.std.proofs.lemmas.List.Elements.{filter-append}
+use Rattle.std.proofs.Math.Seq.{take-add}
 use Rattle.ed_model.specs.declared.plan.LineEndTypes.{LineEndTypes}
 use Rattle.ed_model.specs.Lines.{is_line_start, line_starts}
 use Rattle.ed_model.specs.Steps.{Insert, Delete, edited}
@@ -32,6 +33,12 @@ slice_get_take zero xs i h = absurd (omega arith)
 slice_get_take (suc n) [] i h = refl
 slice_get_take (suc n) (x ∷ xs) zero h = refl
 slice_get_take (suc n) (x ∷ xs) (suc i) h = slice_get_take n xs i (omega arith)
+
+-- the front of a list, and what comes next of it
+pub take_and_next : {X : Type 0} (xs : List X) (n m : ℕ) → n ≤ m → take m xs ≡ take n xs ++ slice_range xs n m
+take_and_next xs n m h =
+    let apart : m ≡ n + (m - n) = omega arith in
+    ap (λ k. take k xs) apart ∙ take-add n (m - n) xs
 
 -- what stands in the rest of a list
 pub slice_get_drop : {X : Type 0} (n : ℕ) (xs : List X) (i j : ℕ) → j ≡ n + i → slice_get (drop n xs) i ≡ slice_get xs j

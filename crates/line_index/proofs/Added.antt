@@ -75,10 +75,10 @@ can_go_on types text from mid last to at next was now can added a b d =
           );
     }
 
-front_of : (xs ys : List ℕ) (n : ℕ) → length xs ≡ n → take n (xs ++ ys) ≡ xs
+pub front_of : {X : Type 0} (xs ys : List X) (n : ℕ) → length xs ≡ n → take n (xs ++ ys) ≡ xs
 front_of xs ys n e = rw (← e) (take-append_seam xs ys)
 
-back_of : (xs ys : List ℕ) (n : ℕ) → length xs ≡ n → drop n (xs ++ ys) ≡ ys
+pub back_of : {X : Type 0} (xs ys : List X) (n : ℕ) → length xs ≡ n → drop n (xs ++ ys) ≡ ys
 back_of xs ys n e = rw (← e) (drop-append_seam xs ys)
 
 -- one part and the next
