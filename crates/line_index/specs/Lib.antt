@@ -1,4 +1,5 @@
 pub mod Index
 pub mod Change
+pub mod Edits
 pub mod Ends
 pub mod RoomLaws

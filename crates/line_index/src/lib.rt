@@ -15,6 +15,7 @@
 
 mod adding;
 mod change;
+mod edit;
 mod halves;
 mod index;
 mod marks;
@@ -25,5 +26,6 @@ mod steps;
 mod tests;
 
 pub use change::{LineChange, NearLines};
+pub use edit::LineEdit;
 pub use index::LineIndex;
 pub use room::{lines_in, room_for_steps};
