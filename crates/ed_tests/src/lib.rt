@@ -3,3 +3,5 @@
 
 #[cfg(test)]
 mod char_cut;
+#[cfg(test)]
+mod selection;
