@@ -4,4 +4,6 @@
 #[cfg(test)]
 mod char_cut;
 #[cfg(test)]
+mod notify;
+#[cfg(test)]
 mod selection;
