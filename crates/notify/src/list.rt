@@ -84,9 +84,10 @@ impl NoteList {
         requires { length first.now + length second.now ≤ self.old.text_room }
         ensures { self.new ≡ record self.old { held = first.now ++ second.now; text_room = self.old.text_room - (length first.now + length second.now) } }
     {
-        self.held_from = self.pool.len();
+        let from = self.pool.len();
         append(&mut self.pool, first);
         append(&mut self.pool, second);
+        self.held_from = from;
         self.text_room -= first.len() + second.len();
     }
 

@@ -19,7 +19,7 @@ pub returns : goal.returns
 returns c =
     let pool = c.self.inside.pool.items in
     let all : c.append-2.new.pool.items ≡ pool ++ c.args.first.now ++ c.args.second.now = rw (c.append-2.ensures.bytes, c.append.ensures.bytes) refl in
-    let from : c.len-self-inside.result ≡ length pool = omega arith in
+    let from : c.len-from.result ≡ length pool = omega arith in
     let texts : heard_in c.append-2.new.pool.items c.self.inside.notes.items ≡ heard_in pool c.self.inside.notes.items = rw all (heard_stay_twice pool c.args.first.now c.args.second.now c.self.inside.notes.items c.self.invariant.texts) in
-    let held : drop c.len-self-inside.result c.append-2.new.pool.items ≡ c.args.first.now ++ c.args.second.now = rw (all, from) (two_behind pool c.args.first.now c.args.second.now) in
+    let held : drop c.len-from.result c.append-2.new.pool.items ≡ c.args.first.now ++ c.args.second.now = rw (all, from) (two_behind pool c.args.first.now c.args.second.now) in
     rw (← c.self.view_is, texts, held) refl
