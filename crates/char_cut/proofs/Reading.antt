@@ -6,7 +6,7 @@ use Rattle.ed_model.specs.Characters.{begins_with, character_length, cut_before,
 use Rattle.char_cut.specs.Following.{following_of, so_many, is_some_from_to, follows_at}
 use Rattle.char_cut.specs.Places.{start_of, end_of}
 use Rattle.char_cut.proofs.Followers.{sized, by_first_byte}
-use Rattle.char_cut.proofs.Walk.{end_within, cut_after_is, cut_after_end, cut_before_is, cut_before_start}
+use Rattle.char_cut.proofs.Walk.{end_within, end_behind_place, cut_after_is, cut_after_end, cut_before_is, cut_before_start}
 
 -- Bytes that have to follow.
 
@@ -87,9 +87,16 @@ before_in_halves xs ys p a l = cut_before_is (xs ++ ys) p (p - 1) (omega arith) 
 pub before_start : (text : List ℕ) (p : ℕ) → p ≡ 0 → cut_before text p ≡ 0
 before_start text p e = rw e (cut_before_start text)
 
--- no place in the text or at its end is past the greatest number
-pub end_fits : (xs ys : List ℕ) (p start count : ℕ) → p < length xs + length ys → start ≡ start_of (xs ++ ys) p → count ≡ character_length (drop start (xs ++ ys)) → start + count ≤ length xs + length ys
-end_fits xs ys p start count l s e =
-    let within : end_of (xs ++ ys) p ≤ length (xs ++ ys) = end_within (length (xs ++ ys)) p (xs ++ ys) (omega arith) (omega (arith, length-append xs ys)) in
-    let same : count ≡ character_length (drop (start_of (xs ++ ys) p) (xs ++ ys)) = rw (← s) e in
-    omega (arith, length-append xs ys)
+-- the end of a character, by where it starts and how long it is: behind the place, and in the text
+pub record IsEndBehind (p end whole : ℕ) : Type 0 where
+  pub behind : p < end
+  pub within : end ≤ whole
+
+pub end_about : (xs ys : List ℕ) (p start count : ℕ) → p < length xs + length ys → start ≡ start_of (xs ++ ys) p → count ≡ character_length (drop start (xs ++ ys)) → IsEndBehind p (start + count) (length xs + length ys)
+end_about xs ys p start count l s e =
+    let text : List ℕ = xs ++ ys in
+    let size : length text ≡ length xs + length ys = length-append xs ys in
+    let within : end_of text p ≤ length text = end_within (length text) p text (omega arith) (omega arith) in
+    let behind : p < end_of text p = end_behind_place (length text) p text (omega arith) (omega arith) in
+    let same : count ≡ character_length (drop (start_of text p) text) = rw (← s) e in
+    record { behind = omega arith; within = omega arith }

@@ -178,6 +178,22 @@ end_within (suc fuel) i (b ∷ bs) f l =
           omega (arith, is.within, end_behind (b ∷ bs) i n is refl behind)
     ]
 
+-- .. and behind each place in it
+pub end_behind_place : (fuel i : ℕ) (text : List ℕ) → length text ≤ fuel → i < length text → i < end_of text i
+end_behind_place zero i text f l = absurd (omega arith)
+end_behind_place (suc fuel) i [] f l = absurd (omega arith)
+end_behind_place (suc fuel) i (b ∷ bs) f l =
+    let n : ℕ = character_length (b ∷ bs) in
+    let rest : List ℕ = drop n (b ∷ bs) in
+    let is = first_character b bs in
+    let size : length rest ≡ length (b ∷ bs) - n = length-drop n (b ∷ bs) in
+    elim (cases_lt i n) [
+      | inl inside ↦ omega (arith, end_in_first (b ∷ bs) i is inside)
+      | inr behind ↦
+          let later : i - n < end_of rest (i - n) = end_behind_place fuel (i - n) rest (omega (arith, is.some)) (omega arith) in
+          omega (arith, end_behind (b ∷ bs) i n is refl behind)
+    ]
+
 -- What the look at the bytes about a place answers.
 
 pub cut_after_is : (text : List ℕ) (p : ℕ) → p < length text → cut_after text p ≡ end_of text p

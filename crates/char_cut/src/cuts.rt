@@ -15,7 +15,8 @@ fn is_inside(first: &[u8], second: &[u8], place: usize, back: usize) -> bool
 
 // Where the character begins that the byte at the place is part of.
 fn character_start(first: &[u8], second: &[u8], place: usize) -> usize
-    ensures { result ≡ start_of (first.now ++ second.now) place }
+    ensures start { result ≡ start_of (first.now ++ second.now) place }
+    ensures within { result ≤ place }
 {
     if is_inside(first, second, place, 1) {
         return place - 1;
@@ -34,7 +35,9 @@ fn character_start(first: &[u8], second: &[u8], place: usize) -> usize
 #[tactic(auto, using(crate::proofs::Reading::before_in_halves, crate::proofs::Reading::before_start))]
 pub fn before(first: &[u8], second: &[u8], place: usize) -> usize
     requires { place ≤ length first.now + length second.now }
-    ensures { result ≡ cut_before (first.now ++ second.now) place }
+    ensures cut { result ≡ cut_before (first.now ++ second.now) place }
+    ensures within { result ≤ place }
+    ensures back { 0 < place → result < place }
 {
     if place == 0 {
         return 0;
@@ -47,7 +50,9 @@ pub fn before(first: &[u8], second: &[u8], place: usize) -> usize
 #[tactic(auto, using(crate::proofs::Reading::after_in_halves, crate::proofs::Reading::after_end))]
 pub fn after(first: &[u8], second: &[u8], place: usize) -> usize
     requires { place ≤ length first.now + length second.now }
-    ensures { result ≡ cut_after (first.now ++ second.now) place }
+    ensures cut { result ≡ cut_after (first.now ++ second.now) place }
+    ensures within { result ≤ length first.now + length second.now }
+    ensures on { place < length first.now + length second.now → place < result }
 {
     if place == first.len() + second.len() {
         return place;
