@@ -2,6 +2,8 @@
 #![tactic(auto)]
 
 #[cfg(test)]
+mod char_cut;
+#[cfg(test)]
 mod document;
 #[cfg(test)]
 mod document_table;
@@ -14,8 +16,12 @@ mod lending;
 #[cfg(test)]
 mod macro_script;
 #[cfg(test)]
+mod notify;
+#[cfg(test)]
 mod partitioning;
 #[cfg(test)]
 mod run_styles;
+#[cfg(test)]
+mod selection;
 #[cfg(test)]
 mod split_vector;

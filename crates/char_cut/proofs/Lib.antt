@@ -1,0 +1,3 @@
+pub mod Followers
+pub mod Walk
+pub mod Reading

@@ -1,0 +1,70 @@
+//! Notes of a reply, their texts, and the room for them.
+
+use ed_types::{Bytes, Note, Reply};
+use notify::{NoteList, blank};
+use std::alloc::{AllocError, Global};
+use std::process::Abort;
+
+// A note to a view.
+fn note_to(view: u32) -> Note {
+    let mut note = blank(2008);
+    note.view = view;
+    note
+}
+
+// The note there is told to this view, with this text.
+fn assert_note(rt: &impl Abort, reply: &Reply, index: usize, view: u32, text: &[u8]) {
+    assert!(rt; index < reply.note_count());
+    let (note, its) = reply.note(index);
+    assert_eq!(rt; note.view, view);
+    assert_eq!(rt; note.code, 2008);
+    assert_eq!(rt; its, text);
+}
+
+fn reply_of_six(alloc: Global) -> Result<Reply, AllocError> {
+    let mut notes = NoteList::new(alloc);
+    notes.reserve(6, 5)?;
+    notes.put(note_to(1), b"abc");
+    notes.put_again(note_to(2));
+    notes.put_bare(note_to(3));
+    notes.put_again(note_to(4));
+    notes.put_halves(note_to(5), b"d", b"e");
+    notes.put_again(note_to(6));
+    Ok(notes.finish(7, Bytes::empty(alloc)))
+}
+
+#[test]
+fn notes_with_their_texts(rt: HostRuntime) -> Result<(), AllocError> {
+    let reply = reply_of_six(rt.alloc())?;
+    assert_eq!(rt; reply.value(), 7);
+    assert_eq!(rt; reply.text().len(), 0);
+    assert_eq!(rt; reply.note_count(), 6);
+    assert_note(&rt, &reply, 0, 1, b"abc");
+    assert_note(&rt, &reply, 1, 2, b"abc");
+    assert_note(&rt, &reply, 2, 3, b"");
+    assert_note(&rt, &reply, 3, 4, b"abc");
+    assert_note(&rt, &reply, 4, 5, b"de");
+    assert_note(&rt, &reply, 5, 6, b"de");
+    Ok(())
+}
+
+#[test]
+fn a_text_is_held_before_its_notes(rt: HostRuntime) -> Result<(), AllocError> {
+    let mut notes = NoteList::new(rt.alloc());
+    notes.reserve(1, 2)?;
+    notes.reserve(2, 1)?;
+    notes.hold(b"x", b"y");
+    notes.put_bare(note_to(1));
+    notes.put_again(note_to(2));
+    let reply = notes.finish(0, Bytes::empty(rt.alloc()));
+    assert_note(&rt, &reply, 0, 1, b"");
+    assert_note(&rt, &reply, 1, 2, b"xy");
+    Ok(())
+}
+
+#[test]
+fn no_notes_need_no_room(rt: HostRuntime) {
+    let reply = NoteList::new(rt.alloc()).finish(-1, Bytes::empty(rt.alloc()));
+    assert_eq!(rt; reply.value(), -1);
+    assert_eq!(rt; reply.note_count(), 0);
+}

@@ -1,0 +1,18 @@
+use Rattle.std.proofs.Common.{◌-◌, drop, refl, ap, arith, length}
+use Rattle.notify.specs.Gathered.{gathered}
+use Rattle.notify.proofs.Pools.{one_more_ends, heard_without}
+use Rattle.notify.proofs.list.NoteList.put_bare.Goals as goal
+
+pub invariant_of-self : goal.invariant_of-self
+invariant_of-self c = record {
+  texts = rw c.push_reserved.ensures.items (one_more_ends (length c.self.inside.pool.items) c.self.inside.notes.items _ c.self.invariant.texts (omega arith));
+  held = c.self.invariant.held;
+  notes = omega arith;
+  pool = c.self.invariant.pool;
+}
+
+pub returns : goal.returns
+returns c =
+    rw (← c.self.view_is, c.push_reserved.ensures.items)
+    (ap (λ notes. gathered notes (drop c.self.inside.held_from c.self.inside.pool.items) (c.self.inside.note_room - 1) c.self.inside.text_room)
+    (heard_without c.self.inside.pool.items c.self.inside.notes.items _ refl))

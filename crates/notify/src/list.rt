@@ -1,0 +1,173 @@
+//! `NoteList`.
+
+ghost use Rattle.std.specs.Prelude.{◌≡◌, List, ℕ, ◌+◌, ◌-◌, ◌<◌, ◌≤◌, [], ◌∷◌, ◌++◌, length, max, OnOk, OnErr, IsOk, vec_len, vec_capacity};
+ghost use Rattle.ed_model.specs.Notes.{blank};
+ghost use Rattle.ed_types.specs.Heard.{with_text};
+ghost use Rattle.notify.specs.Gathered.{gathered};
+
+use ed_types::{Bytes, Note, Reply};
+use std::alloc::{AllocError, Global};
+use std::marker::Model;
+
+/// Notes in order, each with its text.
+#[derive(Drop)]
+pub struct NoteList {
+    notes: Vec<Note>,
+    pool: Vec<u8>,
+    // Where the held text begins in the pool; it ends with it.
+    held_from: usize,
+    // How many more notes, and bytes of texts, were asked for and are there.
+    note_room: usize,
+    text_room: usize,
+}
+
+impl Model for NoteList {
+    ghost use Rattle.notify.specs.Gathered.{Gathered, gathered};
+
+    ghost Value = { Gathered };
+
+    ghost use Rattle.std.specs.Prelude.{◌≤◌, ◌+◌, length, drop, vec_len, vec_capacity};
+    ghost use Rattle.ed_types.specs.Heard.{heard_in};
+    ghost use Rattle.notify.specs.Ranges.{EndWithin};
+
+    ghost view = { λ l. gathered (heard_in l.pool.items l.notes.items) (drop l.held_from l.pool.items) l.note_room l.text_room };
+
+    ghost invariant = { λ l. record {
+      texts : EndWithin (length l.pool.items) l.notes.items;
+      held : l.held_from ≤ length l.pool.items;
+      notes : vec_len l.notes + l.note_room ≤ vec_capacity l.notes;
+      pool : vec_len l.pool + l.text_room ≤ vec_capacity l.pool;
+    } };
+}
+
+impl NoteList {
+    /// Returns a list of no notes, which holds no text. Takes no memory.
+    pub fn new(alloc: Global) -> Self
+        ensures { result ≡ gathered [] [] 0 0 }
+    {
+        NoteList {
+            notes: Vec::new(alloc),
+            pool: Vec::new(alloc),
+            held_from: 0,
+            note_room: 0,
+            text_room: 0,
+        }
+    }
+
+    /// Makes room for so many more notes, and texts of so many bytes in all. It gives no room back.
+    ///
+    /// # Errors
+    ///
+    /// `AllocError` where memory is refused. All is then as it was.
+    pub fn reserve(&mut self, notes: usize, bytes: usize) -> Result<(), AllocError>
+        ensures ok { OnOk result (self.new ≡ record self.old { note_room = max self.old.note_room notes; text_room = max self.old.text_room bytes }) }
+        ensures room_is_there { notes ≤ self.old.note_room → bytes ≤ self.old.text_room → IsOk result × (self.new ≡ self.old) }
+        ensures room_stays { (self.old.note_room ≤ self.new.note_room) × (self.old.text_room ≤ self.new.text_room) }
+        ensures err { OnErr result (self.new ≡ self.old) }
+    {
+        if notes <= self.note_room && bytes <= self.text_room {
+            return Ok(());
+        }
+        let Ok(()) = self.notes.reserve_exact(notes) else {
+            return Err(AllocError);
+        };
+        let Ok(()) = self.pool.reserve_exact(bytes) else {
+            return Err(AllocError);
+        };
+        self.note_room = self.note_room.max(notes);
+        self.text_room = self.text_room.max(bytes);
+        Ok(())
+    }
+
+    /// Holds a text for notes to come, in place of the one that was held. It comes in two halves, as a gap buffer lends it.
+    pub fn hold(&mut self, first: &[u8], second: &[u8])
+        requires { length first.now + length second.now ≤ self.old.text_room }
+        ensures { self.new ≡ record self.old { held = first.now ++ second.now; text_room = self.old.text_room - (length first.now + length second.now) } }
+    {
+        let from = self.pool.len();
+        append(&mut self.pool, first);
+        append(&mut self.pool, second);
+        self.held_from = from;
+        self.text_room -= first.len() + second.len();
+    }
+
+    /// Puts a note in at the end, with the text that is held. The note's own range is not looked at.
+    pub fn put_again(&mut self, mut note: Note)
+        requires { 0 < self.old.note_room }
+        ensures { self.new ≡ record self.old { notes = self.old.notes ++ with_text note self.old.held ∷ []; note_room = self.old.note_room - 1 } }
+    {
+        note.text = self.held_from..self.pool.len();
+        self.notes.push_reserved(note);
+        self.note_room -= 1;
+    }
+
+    /// Puts a note in at the end that has no text. The text that is held stays.
+    pub fn put_bare(&mut self, mut note: Note)
+        requires { 0 < self.old.note_room }
+        ensures { self.new ≡ record self.old { notes = self.old.notes ++ with_text note [] ∷ []; note_room = self.old.note_room - 1 } }
+    {
+        note.text = 0..0;
+        self.notes.push_reserved(note);
+        self.note_room -= 1;
+    }
+
+    /// Puts a note in at the end, with a text of its own that is held from then on.
+    pub fn put(&mut self, note: Note, text: &[u8])
+        requires notes { 0 < self.old.note_room }
+        requires text { length text.now ≤ self.old.text_room }
+        ensures { self.new ≡ gathered (self.old.notes ++ with_text note text.now ∷ []) text.now (self.old.note_room - 1) (self.old.text_room - length text.now) }
+    {
+        self.put_halves(note, text, &[]);
+    }
+
+    /// The same with a text that comes in two halves.
+    pub fn put_halves(&mut self, note: Note, first: &[u8], second: &[u8])
+        requires notes { 0 < self.old.note_room }
+        requires text { length first.now + length second.now ≤ self.old.text_room }
+        ensures { self.new ≡ gathered (self.old.notes ++ with_text note (first.now ++ second.now) ∷ []) (first.now ++ second.now) (self.old.note_room - 1) (self.old.text_room - (length first.now + length second.now)) }
+    {
+        self.hold(first, second);
+        self.put_again(note);
+    }
+
+    /// Returns the reply with these notes. Takes no memory.
+    pub fn finish(self, value: i64, text: Bytes) -> Reply
+        ensures { result ≡ record { value = value; text = text; notes = self.notes } }
+    {
+        let NoteList { notes, pool, .. } = self;
+        Reply::new(value, text, notes, Bytes::new(pool))
+    }
+}
+
+/// Returns a note of this code, for no view yet, all else 0 and empty.
+pub fn blank(code: u32) -> Note
+    ensures { (text : List ℕ) → let n = blank code in with_text result text ≡ record n { text = text } }
+{
+    Note {
+        view: 0,
+        code,
+        kind: 0,
+        position: 0,
+        length: 0,
+        lines: 0,
+        line: 0,
+        now: 0,
+        prev: 0,
+        token: 0,
+        message: 0,
+        w: 0,
+        l: 0,
+        text: 0..0,
+    }
+}
+
+// Appends bytes to a pool that has room for them.
+fn append(pool: &mut Vec<u8>, bytes: &[u8])
+    requires { vec_len pool.old + length bytes.now ≤ vec_capacity pool.old }
+    ensures bytes { pool.new.items ≡ pool.old.items ++ bytes.now }
+    ensures capacity { vec_capacity pool.old ≤ vec_capacity pool.new }
+{
+    let Ok(()) = pool.extend_from_slice(bytes) else {
+        unreachable!();
+    };
+}

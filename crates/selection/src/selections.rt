@@ -1,0 +1,58 @@
+//! `Selection`: anchor and caret.
+
+ghost use Rattle.std.specs.Prelude.{◌≡◌, ◌==◌, ◌+◌, ◌^◌, ◌<◌, min, max};
+ghost use Rattle.selection.specs.Positions.{moved_by, count_of};
+
+use crate::movements::Movement;
+
+/// The two ends of what is selected. They are equal where nothing is.
+#[derive(Clone, Copy, Debug, PartialEq, Eq)]
+pub struct Selection {
+    /// The end that stays where the selection is extended, in bytes.
+    pub anchor: usize,
+    /// The end that keys move, in bytes.
+    pub caret: usize,
+}
+
+impl Selection {
+    /// Returns the selection of nothing at the place.
+    pub fn at(place: usize) -> Self
+        ensures { result ≡ record { anchor = place; caret = place } }
+    {
+        Selection {
+            anchor: place,
+            caret: place,
+        }
+    }
+
+    /// Returns the lesser end.
+    pub fn start(self) -> usize
+        ensures { result ≡ min self.anchor self.caret }
+    {
+        self.anchor.min(self.caret)
+    }
+
+    /// Returns the greater end.
+    pub fn end(self) -> usize
+        ensures { result ≡ max self.anchor self.caret }
+    {
+        self.anchor.max(self.caret)
+    }
+
+    /// Returns whether nothing is selected.
+    pub fn is_empty(self) -> bool
+        ensures { result ≡ (self.anchor == self.caret) }
+    {
+        self.anchor == self.caret
+    }
+
+    /// Moves both ends as a step of the text does. Takes no memory.
+    pub fn moved(&mut self, movement: Movement)
+        requires anchor { self.old.anchor + count_of movement < 2 ^ 64 }
+        requires caret { self.old.caret + count_of movement < 2 ^ 64 }
+        ensures { self.new ≡ record { anchor = moved_by movement self.old.anchor; caret = moved_by movement self.old.caret } }
+    {
+        self.anchor = movement.moved(self.anchor);
+        self.caret = movement.moved(self.caret);
+    }
+}
