@@ -1,0 +1,14 @@
+-- What is searched for, and where.
+use Rattle.std.specs.Prelude.{ℕ, Bool, List, ◌++◌, length}
+use Rattle.ed_model.specs.Matches.{is_match}
+use Rattle.target_search.specs.declared.search.Search.{Search}
+
+abbrev pub text_of : Search → List ℕ
+text_of search = search.before.now ++ search.after.now
+
+abbrev pub size_of : Search → ℕ
+size_of search = length search.pattern.now
+
+-- whether a match begins at the place
+abbrev pub is_match_of : Search → ℕ → Bool
+is_match_of search place = is_match search.flags (text_of search) search.pattern.now place
