@@ -21,7 +21,7 @@ fn words(alloc: Global, bytes: usize) -> Result<Vec<u8>, AllocError> {
     ];
     let mut text = Vec::new(alloc);
     let mut seed = 1u64;
-    while text.len() < bytes {
+    for _ in 0..bytes / 5 {
         seed = seed
             .wrapping_mul(6364136223846793005)
             .wrapping_add(1442695040888963407);
