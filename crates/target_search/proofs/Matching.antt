@@ -1,9 +1,9 @@
 -- Where a pattern stands, told by what is found in a part of the text.
 use Rattle.std.proofs.Common.{◌≡◌, ℕ, ◌+◌, ◌-◌, ◌<◌, ◌≤◌, min, Bool, true, false, eqb, ◌==◌, ◌&&◌, ◌||◌, not, List, ◌++◌, length, map, get_or, take, drop, slice_range, refl, sym, ap, ◌∙◌, subst, arith, inl, inr}
 use Rattle.std.specs.List.{starts_with}
-use Rattle.std.proofs.lemmas.Bool.{cases_Bool, cases_lt, cond-true}
+use Rattle.std.proofs.lemmas.Bool.{cases_Bool, cases_lt, cond-true, false≢true}
 use Rattle.std.proofs.lemmas.List.{length-take, length-drop, length-append, length-take-le, get_or-take, get_or-drop, get_or_append_left, get_or-append_right, ext_get_or, take-append-drop}
-use Rattle.memchr.specs.Find.{OccursAt, Passes, is_byte2}
+use Rattle.memchr.specs.Find.{OccursAt}
 use Rattle.ed_model.specs.Numbers.{meets}
 use Rattle.ed_model.specs.Matches.{folded, match_case, whole_word, word_start, word_before, word_after, is_match}
 use Rattle.target_search.specs.Found.{stands_at, words_pass, IsPart}
@@ -113,17 +113,18 @@ module _ (flags : ℕ) (text pattern : List ℕ) where
               part.reads (place - offset + j) (omega arith) ∙ ap (λ p. get_or text p 0) at ∙ sym (plain _) ∙ stands_reads place stands j l ∙ plain _;
         }))
 
-  -- the search of one byte of the pattern in both its cases, which are those that are the same without case
-  module _ (rare lower upper : ℕ) (within : rare < length pattern)
-      (cases : (flags other : ℕ) → folded flags other ≡ folded flags (get_or pattern rare 0) → (other == lower || other == upper) ≡ true)
-      (sub : List ℕ) (offset : ℕ) (part : IsPart text sub (offset + rare)) where
-    pub not_where_no_byte : (place : ℕ) → offset ≤ place → place < offset + length sub → (Passes (is_byte2 lower upper) sub (place - offset) → ⊥) → is_match flags text pattern place ≡ false
-    not_where_no_byte place a b apart =
-        no_match_at place
-        (λ stands.
-        let at : offset + rare + (place - offset) ≡ place + rare = omega arith in
-        let read : get_or sub (place - offset) 0 ≡ get_or text (place + rare) 0 = part.reads (place - offset) (omega arith) ∙ ap (λ p. get_or text p 0) at in
-        apart (cases flags (get_or sub (place - offset) 0) (ap (folded flags) read ∙ stands_reads place stands rare within)))
+  -- a byte of the pattern in both its cases, which are those that are the same without case
+  pub not_where_other_byte :
+      (rare lower upper : ℕ) → rare < length pattern
+      → ((flags other : ℕ) → folded flags other ≡ folded flags (get_or pattern rare 0) → (other == lower || other == upper) ≡ true)
+      → (part : List ℕ) (offset : ℕ) → IsPart text part offset
+      → (at place i : ℕ) → place ≡ offset + at → i ≡ at + rare → i < length part → (get_or part i 0 == lower || get_or part i 0 == upper) ≡ false → is_match flags text pattern place ≡ false
+  not_where_other_byte rare lower upper within cases part offset is at place i e f l other =
+      no_match_at place
+      (λ stands.
+          let same : offset + i ≡ place + rare = omega arith in
+          let read : get_or part i 0 ≡ get_or text (place + rare) 0 = is.reads i l ∙ ap (λ p. get_or text p 0) same in
+          false≢true (sym other ∙ cases flags (get_or part i 0) (ap (folded flags) read ∙ stands_reads place stands rare within)))
 
 -- the bytes over the seam, in two pieces
 pub seam_slice : (xs ys : List ℕ) (place n b : ℕ) → place ≤ length xs → place + n ≤ length xs + length ys → length xs + b ≡ place + n

@@ -5,8 +5,8 @@
 //! range     0             8        first place to last place forwards, last to first backwards
 //! ```
 //!
-//! Where case counts, candidates are found by `memchr`'s search of a substring, and where it does not, by the rarest
-//! byte of the pattern in both cases; each is tested for the words about it. Matches over the seam of the two slices
+//! Where case counts, candidates are found by `memchr`'s search of a substring, and where it does not, 64 places at once
+//! by two rare bytes of the pattern in both cases; each is tested for the words about it. Matches over the seam of the two slices
 //! are compared byte by byte. What a match is, and which one is answered, is said by `ed_model`: `match_in`.
 #![tactic(auto)]
 
@@ -17,6 +17,8 @@ mod any_case;
 mod bytes;
 mod exact;
 mod flags;
+mod marks;
+mod rare;
 mod search;
 mod words;
 

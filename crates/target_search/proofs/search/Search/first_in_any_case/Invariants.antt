@@ -5,9 +5,9 @@ use Rattle.target_search.proofs.search.Search.first_in_any_case.Given as goal
 
 abbrev pub invariant-searching : goal.invariant-searching
 invariant-searching l = record {
-  within : l.start ≤ l.starts;
+  within : l.start ≤ l.end;
   none : NonePasses (is_match_of l.self) l.offset (l.offset + l.start);
 }
 
 abbrev pub decreases-searching : goal.decreases-searching
-decreases-searching l = l.starts - l.start
+decreases-searching l = l.end - l.start
