@@ -5,12 +5,14 @@
 //!     ed_bench partitions STARTS LOOK_UPS EDITS
 //!     ed_bench script BYTES
 //!     ed_bench lines BYTES TYPED
+//!     ed_bench search BYTES
 //!     ed_bench all                                  (each part, tiny)
 #![tactic(auto)]
 
 mod lines;
 mod partitions;
 mod scripts;
+mod search;
 mod split;
 
 use std::time::Instant;
@@ -49,12 +51,14 @@ fn main(rt: HostRuntime) -> io::Result<()> {
             split::run(&rt, 1000, 10, 100)?;
             partitions::run(&rt, 100, 100, 10)?;
             scripts::run(&rt, 1000)?;
-            lines::run(&rt, 400, 100)
+            lines::run(&rt, 400, 100)?;
+            search::run(&rt, 400)
         }
         "split" => split::run(&rt, first, second, third),
         "script" => scripts::run(&rt, first),
         "lines" => lines::run(&rt, first, second),
+        "search" => search::run(&rt, first),
         "partitions" => partitions::run(&rt, first, second, third),
-        _ => eprintln!(&rt; "ed_bench split|partitions|script|lines|all SIZES.."),
+        _ => eprintln!(&rt; "ed_bench split|partitions|script|lines|search|all SIZES.."),
     }
 }

@@ -25,3 +25,5 @@ mod run_styles;
 mod selection;
 #[cfg(test)]
 mod split_vector;
+#[cfg(test)]
+mod target_search;

@@ -1,0 +1,96 @@
+//! Searches: of a rare pattern, with case and without, beside `memchr`'s own search of one slice; and of patterns that
+//! nearly meet everywhere.
+
+use crate::tell;
+use memchr::memmem;
+use std::alloc::{AllocError, Global};
+use std::io;
+use std::time::Instant;
+use target_search::{SearchFlags, find};
+
+/// What is looked for, and stands at the end of the text alone.
+const RARE: &[u8] = b"Jackdaws love my big sphinx";
+
+/// The same in other case.
+const RARE_IN_OTHER_CASE: &[u8] = b"jackDAWS LOVE my BIG Sphinx";
+
+/// A text of English words, one behind the other in an order that repeats after many, with the rare words at its end.
+fn words(alloc: Global, bytes: usize) -> Result<Vec<u8>, AllocError> {
+    let some: [&[u8]; 8] = [
+        b"the ", b"quick ", b"brown ", b"fox ", b"jumps ", b"over ", b"a lazy ", b"Dog.\n",
+    ];
+    let mut text = Vec::new(alloc);
+    let mut seed = 1u64;
+    for _ in 0..bytes / 5 {
+        seed = seed
+            .wrapping_mul(6364136223846793005)
+            .wrapping_add(1442695040888963407);
+        text.extend_from_slice(some[(seed >> 60) as usize % 8])?;
+    }
+    text.extend_from_slice(RARE)?;
+    Ok(text)
+}
+
+/// `ab` over and over.
+fn pairs(alloc: Global, bytes: usize) -> Result<Vec<u8>, AllocError> {
+    let mut text = Vec::new(alloc);
+    for _ in 0..bytes / 2 {
+        text.extend_from_slice(b"ab")?;
+    }
+    Ok(text)
+}
+
+/// Searches the text, in two halves, and prints what was found.
+fn search(
+    rt: &HostRuntime,
+    what: &str,
+    flags: u32,
+    text: &[u8],
+    pattern: &[u8],
+    is_backwards: bool,
+) -> io::Result<()> {
+    let (before, after) = text.split_at(text.len() / 2);
+    let (from, to) = if is_backwards {
+        (text.len(), 0)
+    } else {
+        (0, text.len())
+    };
+    let start = Instant::now(rt)?;
+    let found = find(SearchFlags::new(flags), before, after, pattern, from, to);
+    tell(rt, what, start, text.len())?;
+    println!(rt; "{what} {found:?}")
+}
+
+/// A text of about `bytes` bytes, searched in each way: prints where the patterns were found.
+pub fn run(rt: &HostRuntime, bytes: usize) -> io::Result<()> {
+    let text = words(rt.alloc(), bytes)?;
+    let text = text.as_slice();
+    let start = Instant::now(rt)?;
+    let found = memmem::find(text, RARE);
+    tell(rt, "memchr forwards", start, text.len())?;
+    println!(rt; "memchr {found:?}")?;
+    let exact = SearchFlags::MATCH_CASE;
+    search(rt, "with case", exact, text, RARE, false)?;
+    search(rt, "any case", 0, text, RARE_IN_OTHER_CASE, false)?;
+    let start = Instant::now(rt)?;
+    let found = memmem::rfind(text, b"Jackdaws hate");
+    tell(rt, "memchr backwards", start, text.len())?;
+    println!(rt; "memchr {found:?}")?;
+    search(
+        rt,
+        "with case backwards",
+        exact,
+        text,
+        b"Jackdaws hate",
+        true,
+    )?;
+    search(rt, "any case backwards", 0, text, b"jackDAWS HATE", true)?;
+    let text = pairs(rt.alloc(), bytes)?;
+    let text = text.as_slice();
+    let word = SearchFlags::WHOLE_WORD;
+    search(rt, "words with case", exact | word, text, b"ab", false)?;
+    search(rt, "words in any case", word, text, b"AB", false)?;
+    search(rt, "words backwards", exact | word, text, b"ab", true)?;
+    search(rt, "words in any case backwards", word, text, b"AB", true)?;
+    search(rt, "pairs in any case", 0, text, b"ABABABABABABABAC", false)
+}

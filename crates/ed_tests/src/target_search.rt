@@ -1,0 +1,212 @@
+//! Searches in texts that are split at each place, and in longer ones.
+
+use std::alloc::{AllocError, Global};
+use std::process::Abort;
+use std::test::Fail;
+use target_search::{SearchFlags, find};
+
+const WHOLE_WORD: u32 = 2;
+
+const MATCH_CASE: u32 = 4;
+
+const WORD_START: u32 = 0x10_0000;
+
+// Where the text, in two halves that meet at `middle`, has the pattern.
+fn assert_found_at(
+    rt: &impl Abort,
+    flags: u32,
+    text: &[u8],
+    middle: usize,
+    pattern: &[u8],
+    from: usize,
+    to: usize,
+    place: Option<usize>,
+) {
+    assert!(rt; middle <= text.len() && from <= text.len() && to <= text.len());
+    let (before, after) = text.split_at(middle);
+    let found = find(SearchFlags::new(flags), before, after, pattern, from, to);
+    assert_eq!(rt; found, place, "in {text:?} split at {middle}");
+}
+
+// The same for each way to split it.
+fn assert_found(
+    rt: &impl Abort,
+    flags: u32,
+    text: &[u8],
+    pattern: &[u8],
+    from: usize,
+    to: usize,
+    place: Option<usize>,
+) {
+    for middle in 0..text.len() + 1 {
+        assert_found_at(rt, flags, text, middle, pattern, from, to, place);
+    }
+}
+
+#[test]
+fn flags_are_their_number(rt: HostRuntime) {
+    for bits in [0, WHOLE_WORD, MATCH_CASE, WORD_START, 0x10_0006] {
+        assert_eq!(rt; SearchFlags::new(bits).bits(), bits);
+    }
+    assert_eq!(rt; SearchFlags::WHOLE_WORD, WHOLE_WORD);
+    assert_eq!(rt; SearchFlags::MATCH_CASE, MATCH_CASE);
+    assert_eq!(rt; SearchFlags::WORD_START, WORD_START);
+}
+
+#[test]
+fn words(rt: HostRuntime) {
+    let text = b"ab_ab ab";
+    assert_found(&rt, WHOLE_WORD, text, b"ab", 0, 8, Some(6));
+    assert_found(&rt, WHOLE_WORD | MATCH_CASE, text, b"ab", 0, 8, Some(6));
+    assert_found(&rt, 0, text, b"ab", 0, 8, Some(0));
+    assert_found(&rt, WHOLE_WORD, text, b"ab", 3, 5, None);
+    assert_found(&rt, WHOLE_WORD, text, b"ab", 5, 3, None);
+    let text = b"xab abx";
+    assert_found(&rt, WORD_START, text, b"ab", 0, 7, Some(4));
+    assert_found(&rt, WORD_START, text, b"ab", 7, 0, Some(4));
+    assert_found(&rt, WORD_START | MATCH_CASE, text, b"ab", 0, 7, Some(4));
+    assert_found(&rt, WORD_START | MATCH_CASE, text, b"ab", 7, 0, Some(4));
+    assert_found(&rt, WHOLE_WORD, text, b"ab", 0, 7, None);
+    assert_found(&rt, WHOLE_WORD, b"ab\xC3\xA4", b"ab", 0, 4, None);
+}
+
+#[test]
+fn backwards(rt: HostRuntime) {
+    assert_found(&rt, 0, b"abab", b"ab", 4, 0, Some(2));
+    assert_found(&rt, MATCH_CASE, b"abab", b"ab", 4, 0, Some(2));
+    assert_found(&rt, 0, b"abab", b"ab", 3, 0, Some(0));
+    assert_found(&rt, 0, b"abab", b"ab", 3, 1, None);
+    assert_found(&rt, MATCH_CASE, b"aaaa", b"aa", 3, 0, Some(1));
+}
+
+#[test]
+fn an_empty_pattern(rt: HostRuntime) {
+    assert_found(&rt, 0, b"abab", b"", 4, 0, Some(0));
+    assert_found(&rt, 0, b"abab", b"", 1, 4, Some(1));
+    assert_found(&rt, WHOLE_WORD, b"abab", b"", 3, 2, Some(2));
+    assert_found(&rt, 0, b"", b"", 0, 0, Some(0));
+}
+
+#[test]
+fn no_match(rt: HostRuntime) {
+    assert_found(&rt, 0, b"abab", b"x", 0, 4, None);
+    assert_found(&rt, 0, b"abab", b"x", 4, 0, None);
+    assert_found(&rt, MATCH_CASE, b"abab", b"x", 0, 4, None);
+    assert_found(&rt, 0, b"abab", b"ababa", 0, 4, None);
+    assert_found(&rt, MATCH_CASE, b"abab", b"bab", 0, 3, None);
+    assert_found(&rt, 0, b"", b"a", 0, 0, None);
+}
+
+#[test]
+fn case(rt: HostRuntime) {
+    assert_found(&rt, 0, b"ab AB", b"AB", 0, 5, Some(0));
+    assert_found(&rt, MATCH_CASE, b"ab AB", b"AB", 0, 5, Some(3));
+    assert_found(&rt, 0, b"ab AB", b"aB", 5, 0, Some(3));
+    assert_found(&rt, MATCH_CASE, b"AB ab", b"AB", 5, 0, Some(0));
+    // What is not an ASCII letter has one case alone, though it differs from another byte by 32.
+    assert_found(&rt, 0, b"@[`{\xC0\xE0", b"`", 0, 6, Some(2));
+    assert_found(&rt, 0, b"@[`{\xC0\xE0", b"{", 0, 6, Some(3));
+    assert_found(&rt, 0, b"@[`{\xC0\xE0", b"\xE0", 0, 6, Some(5));
+}
+
+// Lines of `the quick brown fox`, 20 bytes each.
+fn long_text(alloc: Global, lines: usize) -> Result<Vec<u8>, AllocError> {
+    let mut text = Vec::new(alloc);
+    for _ in 0..lines {
+        text.extend_from_slice(b"the quick brown fox\n")?;
+    }
+    Ok(text)
+}
+
+#[test]
+fn long_texts(rt: HostRuntime) -> Result<(), Fail> {
+    let alloc = rt.alloc();
+    let mut text = long_text(alloc, 100)?;
+    text.extend_from_slice(b"A lazy Dog\n")?;
+    let more = long_text(alloc, 100)?;
+    text.extend_from_slice(more.as_slice())?;
+    let text = text.as_slice();
+    let end = text.len();
+    assert_eq!(rt; end, 4011);
+    for middle in [0, 1, 1999, 2000, 2003, 2005, 2008, 2011, 4000, end] {
+        for flags in [0, MATCH_CASE, WHOLE_WORD, MATCH_CASE | WORD_START] {
+            assert_found_at(&rt, flags, text, middle, b"lazy Dog", 0, end, Some(2002));
+            assert_found_at(&rt, flags, text, middle, b"lazy Dog", end, 0, Some(2002));
+            assert_found_at(&rt, flags, text, middle, b"the", 1, end, Some(20));
+            assert_found_at(&rt, flags, text, middle, b"fox", end, 0, Some(4007));
+            assert_found_at(&rt, flags, text, middle, b"fox\nA", 0, end, Some(1996));
+        }
+        assert_found_at(&rt, 0, text, middle, b"LAZY dog", 0, end, Some(2002));
+        assert_found_at(&rt, 0, text, middle, b"LAZY dog", end, 0, Some(2002));
+        assert_found_at(&rt, MATCH_CASE, text, middle, b"LAZY dog", 0, end, None);
+        assert_found_at(&rt, MATCH_CASE, text, middle, b"LAZY dog", end, 0, None);
+        assert_found_at(&rt, WHOLE_WORD, text, middle, b"laz", 0, end, None);
+        assert_found_at(&rt, WORD_START, text, middle, b"azy", end, 0, None);
+        assert_found_at(&rt, 0, text, middle, b"lazy", 2003, end, None);
+        assert_found_at(&rt, 0, text, middle, b"lazy", 2005, 0, None);
+        assert_found_at(&rt, 0, text, middle, b"lazy", 2006, 0, Some(2002));
+    }
+    Ok(())
+}
+
+#[test]
+fn many_candidates(rt: HostRuntime) -> Result<(), Fail> {
+    let mut text = Vec::new(rt.alloc());
+    for _ in 0..2000 {
+        text.extend_from_slice(b"ab")?;
+    }
+    text.extend_from_slice(b" AB ")?;
+    for _ in 0..2000 {
+        text.extend_from_slice(b"ab")?;
+    }
+    let text = text.as_slice();
+    let end = text.len();
+    assert_eq!(rt; end, 8004);
+    for middle in [0, 3999, 4001, 4002, 4003, end] {
+        assert_found_at(&rt, WHOLE_WORD, text, middle, b"ab", 0, end, Some(4001));
+        assert_found_at(&rt, WHOLE_WORD, text, middle, b"ab", end, 0, Some(4001));
+        assert_found_at(&rt, WORD_START, text, middle, b"ab", 1, end, Some(4001));
+        assert_found_at(&rt, WORD_START, text, middle, b"ab", 4004, 0, Some(4001));
+        assert_found_at(
+            &rt,
+            MATCH_CASE | WHOLE_WORD,
+            text,
+            middle,
+            b"ab",
+            0,
+            end,
+            None,
+        );
+        assert_found_at(
+            &rt,
+            MATCH_CASE | WHOLE_WORD,
+            text,
+            middle,
+            b"AB",
+            0,
+            end,
+            Some(4001),
+        );
+        assert_found_at(
+            &rt,
+            MATCH_CASE | WHOLE_WORD,
+            text,
+            middle,
+            b"ab",
+            end,
+            0,
+            None,
+        );
+        assert_found_at(
+            &rt,
+            MATCH_CASE | WHOLE_WORD,
+            text,
+            middle,
+            b"AB",
+            end,
+            0,
+            Some(4001),
+        );
+    }
+    Ok(())
+}

@@ -1,0 +1,4 @@
+pub mod Finding
+pub mod Fronts
+pub mod MarkedBytes
+pub mod Matching

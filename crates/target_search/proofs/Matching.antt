@@ -1,0 +1,161 @@
+-- Where a pattern stands, told by what is found in a part of the text.
+use Rattle.std.proofs.Common.{◌≡◌, ℕ, ◌+◌, ◌-◌, ◌<◌, ◌≤◌, min, Bool, true, false, eqb, ◌==◌, ◌&&◌, ◌||◌, not, List, ◌++◌, length, map, get_or, take, drop, slice_range, refl, sym, ap, ◌∙◌, subst, arith, inl, inr}
+use Rattle.std.specs.List.{starts_with}
+use Rattle.std.proofs.lemmas.Bool.{cases_Bool, cases_lt, cond-true, false≢true}
+use Rattle.std.proofs.lemmas.List.{length-take, length-drop, length-append, length-take-le, get_or-take, get_or-drop, get_or_append_left, get_or-append_right, ext_get_or, take-append-drop}
+use Rattle.memchr.specs.Find.{OccursAt}
+use Rattle.ed_model.specs.Numbers.{meets}
+use Rattle.ed_model.specs.Matches.{folded, match_case, whole_word, word_start, word_before, word_after, is_match}
+use Rattle.target_search.specs.Found.{stands_at, words_pass, IsPart}
+use Rattle.target_search.proofs.Fronts.{and_assoc, and_both, and_false, and_first, front_true, front_long, front_reads, front_pieces}
+
+-- bytes of a part
+within_part : (xs : List ℕ) (from to k : ℕ) → k < length (slice_range xs from to) → (k < to - from) × (from + k < length xs)
+within_part xs from to k h =
+    let size : length (slice_range xs from to) ≡ min (to - from) (length xs - from) = simp (length-take, length-drop) in
+    (omega arith, omega arith)
+
+pub length_part : (xs : List ℕ) (from to : ℕ) → from ≤ to → to ≤ length xs → from + length (slice_range xs from to) ≡ to
+length_part xs from to a b =
+    let size : length (slice_range xs from to) ≡ min (to - from) (length xs - from) = simp (length-take, length-drop) in
+    omega arith
+
+read_part : (xs : List ℕ) (from to k : ℕ) → k < length (slice_range xs from to) → get_or (slice_range xs from to) k 0 ≡ get_or xs (from + k) 0
+read_part xs from to k h = get_or-take (to - from) (drop from xs) k 0 (within_part xs from to k h).0 ∙ get_or-drop from xs k 0
+
+-- a part of a part
+pub part_of_part : (text part : List ℕ) (offset from to base : ℕ) → base ≡ offset + from → from ≤ to → to ≤ length part → IsPart text part offset → IsPart text (slice_range part from to) base
+part_of_part text part offset from to base e a b is =
+    let size = length_part part from to a b in
+    record {
+      within = omega (arith, is.within);
+      reads = λ k l.
+          let place : offset + (from + k) ≡ base + k = omega arith in
+          read_part part from to k l ∙ is.reads (from + k) (omega arith) ∙ ap (λ p. get_or text p 0) place;
+    }
+
+pub front_of_part : (text part : List ℕ) (offset to : ℕ) → to ≤ length part → IsPart text part offset → IsPart text (take to part) offset
+front_of_part text part offset to b is =
+    let whole : slice_range part 0 to ≡ take to part = ap (λ n. take n part) (let e : to - 0 ≡ to = omega arith in e) in
+    subst (λ xs. IsPart text xs offset) whole (part_of_part text part offset 0 to offset (omega arith) (omega arith) b is)
+
+-- the bytes of a part are those of the text
+pub same_slice : (text part : List ℕ) (offset at n : ℕ) → IsPart text part offset → at + n ≤ length part → slice_range part at (at + n) ≡ slice_range text (offset + at) (offset + at + n)
+same_slice text part offset at n is l =
+    let one = length_part part at (at + n) (omega arith) l in
+    let two = length_part text (offset + at) (offset + at + n) (omega arith) (omega (arith, is.within)) in
+    ext_get_or 0 (slice_range part at (at + n)) (slice_range text (offset + at) (offset + at + n)) (omega arith)
+    (λ k b.
+    let place : offset + (at + k) ≡ offset + at + k = omega arith in
+    read_part part at (at + n) k b ∙ is.reads (at + k) (omega arith) ∙ ap (λ p. get_or text p 0) place ∙ sym (read_part text (offset + at) (offset + at + n) k (omega arith)))
+
+module _ (flags : ℕ) (text pattern : List ℕ) where
+  -- a match is where the pattern stands and the words are allowed
+  pub match_is : (place : ℕ) → is_match flags text pattern place ≡ (stands_at flags text pattern place && words_pass flags text place (place + length pattern))
+  match_is place =
+      and_assoc (stands_at flags text pattern place) (not ((meets flags whole_word || meets flags word_start) && word_before text place))
+      (not (meets flags whole_word && word_after text (place + length pattern)))
+
+  pub no_match_at : (place : ℕ) → (stands_at flags text pattern place ≡ true → ⊥) → is_match flags text pattern place ≡ false
+  no_match_at place apart =
+      elim (cases_Bool (is_match flags text pattern place)) [
+        | inl here ↦ absurd (apart (and_first _ _ (sym (match_is place) ∙ here)))
+        | inr other ↦ other
+      ]
+
+  -- told by the two tests, one after the other
+  pub refused_first : (place : ℕ) (s : Bool) → s ≡ stands_at flags text pattern place → s ≡ false → s ≡ is_match flags text pattern place
+  refused_first place s e f = f ∙ sym (match_is place ∙ ap (λ b. b && words_pass flags text place (place + length pattern)) (sym e ∙ f))
+
+  pub told_second : (place : ℕ) (s w : Bool) → s ≡ stands_at flags text pattern place → s ≡ true → w ≡ words_pass flags text place (place + length pattern) → w ≡ is_match flags text pattern place
+  told_second place s w e t words = words ∙ sym (match_is place ∙ ap (λ b. b && words_pass flags text place (place + length pattern)) (sym e ∙ t))
+
+  pub is_match_at : (place : ℕ) → stands_at flags text pattern place ≡ true → words_pass flags text place (place + length pattern) ≡ true → is_match flags text pattern place ≡ true
+  is_match_at place s w = match_is place ∙ and_both _ _ s w
+
+  pub words_refuse : (place : ℕ) → words_pass flags text place (place + length pattern) ≡ false → is_match flags text pattern place ≡ false
+  words_refuse place w = match_is place ∙ ap (λ b. stands_at flags text pattern place && b) w ∙ and_false (stands_at flags text pattern place)
+
+  -- read byte by byte
+  stands_from_reads : (place : ℕ) → place + length pattern ≤ length text
+      → ((k : ℕ) → k < length pattern → folded flags (get_or text (place + k) 0) ≡ folded flags (get_or pattern k 0)) → stands_at flags text pattern place ≡ true
+  stands_from_reads place l reads =
+      let size = length_part text place (place + length pattern) (omega arith) l in
+      front_true (folded flags) (slice_range text place (place + length pattern)) pattern (omega arith)
+      (λ k b. ap (folded flags) (read_part text place (place + length pattern) k (omega arith)) ∙ reads k b)
+
+  stands_reads : (place : ℕ) → stands_at flags text pattern place ≡ true → (k : ℕ) → k < length pattern → folded flags (get_or text (place + k) 0) ≡ folded flags (get_or pattern k 0)
+  stands_reads place h k b =
+      let long = front_long (folded flags) (slice_range text place (place + length pattern)) pattern h in
+      ap (folded flags) (sym (read_part text place (place + length pattern) k (omega arith)))
+      ∙ front_reads (folded flags) (slice_range text place (place + length pattern)) pattern h k b
+
+  -- the search of a substring, where case counts
+  module _ (case : meets flags match_case ≡ true) (needle : List ℕ) (same : needle ≡ pattern) (sub : List ℕ) (offset : ℕ) (part : IsPart text sub offset) where
+    plain : (b : ℕ) → folded flags b ≡ b
+    plain b = cond-true _ _ _ case
+
+    pub stands_where_found : (k : ℕ) → OccursAt sub needle k → stands_at flags text pattern (offset + k) ≡ true
+    stands_where_found k found =
+        let occurs : OccursAt sub pattern k = subst (λ n. OccursAt sub n k) same found in
+        stands_from_reads (offset + k) (omega (arith, occurs.fits, part.within))
+        (λ j b.
+        let place : offset + (k + j) ≡ offset + k + j = omega arith in
+        ap (folded flags) (ap (λ p. get_or text p 0) (sym place) ∙ sym (part.reads (k + j) (omega (arith, occurs.fits))) ∙ occurs.reads j b))
+
+    pub not_where_not_found : (place : ℕ) → offset ≤ place → place + length pattern ≤ offset + length sub → (OccursAt sub needle (place - offset) → ⊥) → is_match flags text pattern place ≡ false
+    not_where_not_found place a b apart =
+        no_match_at place
+        (λ stands. apart (subst (λ n. OccursAt sub n (place - offset)) (sym same) record {
+          fits = omega arith;
+          reads = λ j l.
+              let at : offset + (place - offset + j) ≡ place + j = omega arith in
+              part.reads (place - offset + j) (omega arith) ∙ ap (λ p. get_or text p 0) at ∙ sym (plain _) ∙ stands_reads place stands j l ∙ plain _;
+        }))
+
+  -- a byte of the pattern in both its cases, which are those that are the same without case
+  pub not_where_other_byte :
+      (rare lower upper : ℕ) → rare < length pattern
+      → ((flags other : ℕ) → folded flags other ≡ folded flags (get_or pattern rare 0) → (other == lower || other == upper) ≡ true)
+      → (part : List ℕ) (offset : ℕ) → IsPart text part offset
+      → (at place i : ℕ) → place ≡ offset + at → i ≡ at + rare → i < length part → (get_or part i 0 == lower || get_or part i 0 == upper) ≡ false → is_match flags text pattern place ≡ false
+  not_where_other_byte rare lower upper within cases part offset is at place i e f l other =
+      no_match_at place
+      (λ stands.
+          let same : offset + i ≡ place + rare = omega arith in
+          let read : get_or part i 0 ≡ get_or text (place + rare) 0 = is.reads i l ∙ ap (λ p. get_or text p 0) same in
+          false≢true (sym other ∙ cases flags (get_or part i 0) (ap (folded flags) read ∙ stands_reads place stands rare within)))
+
+-- the bytes over the seam, in two pieces
+pub seam_slice : (xs ys : List ℕ) (place n b : ℕ) → place ≤ length xs → place + n ≤ length xs + length ys → length xs + b ≡ place + n
+    → slice_range xs place (length xs) ++ take b ys ≡ slice_range (xs ++ ys) place (place + n)
+seam_slice xs ys place n b l w e =
+    let front = slice_range xs place (length xs) in
+    let one = length_part xs place (length xs) l (omega arith) in
+    let two : length (take b ys) ≡ b = length-take-le b ys (omega arith) in
+    let three = length_part (xs ++ ys) place (place + n) (omega arith) (omega (arith, length-append xs ys)) in
+    ext_get_or 0 (front ++ take b ys) (slice_range (xs ++ ys) place (place + n)) (omega (arith, length-append front (take b ys)))
+    (λ k h.
+    let whole = read_part (xs ++ ys) place (place + n) k (omega (arith, length-append front (take b ys))) in
+    elim (cases_lt k (length front)) [
+      | inl near ↦ get_or_append_left front (take b ys) 0 k near ∙ read_part xs place (length xs) k near ∙ sym (get_or_append_left xs ys 0 (place + k) (omega arith)) ∙ sym whole
+      | inr far ↦
+          get_or-append_right front (take b ys) (length front) k 0 refl far
+          ∙ get_or-take b ys (k - length front) 0 (omega (arith, length-append front (take b ys)))
+          ∙ ap (λ i. get_or ys i 0) (let i : k - length front ≡ place + k - length xs = omega arith in i)
+          ∙ sym (get_or-append_right xs ys (length xs) (place + k) 0 refl (omega arith)) ∙ sym whole
+    ])
+
+-- so it stands there, if both pieces do
+pub stands_over_seam : (flags : ℕ) (xs ys pattern front behind : List ℕ) (place m : ℕ) → front ≡ take m pattern → behind ≡ drop m pattern → place + m ≡ length xs → m ≤ length pattern
+    → place + length pattern ≤ length xs + length ys
+    → (starts_with eqb (map (folded flags) (slice_range xs place (length xs))) (map (folded flags) front) && starts_with eqb (map (folded flags) (take (length behind) ys)) (map (folded flags) behind))
+    ≡ stands_at flags (xs ++ ys) pattern place
+stands_over_seam flags xs ys pattern front behind place m f b e l w =
+    let one = length_part xs place (length xs) (omega arith) (omega arith) in
+    let two : length front ≡ m = ap length f ∙ length-take-le m pattern l in
+    let three : length behind ≡ length pattern - m = ap length b ∙ length-drop m pattern in
+    let joined : front ++ behind ≡ pattern = ap (λ n. n ++ behind) f ∙ ap (λ n. take m pattern ++ n) b ∙ take-append-drop m pattern in
+    front_pieces (folded flags) (slice_range xs place (length xs)) (take (length behind) ys) front behind (omega arith)
+    ∙ ap (λ n. starts_with eqb (map (folded flags) n) (map (folded flags) (front ++ behind))) (seam_slice xs ys place (length pattern) (length behind) (omega arith) w (omega arith))
+    ∙ ap (λ n. starts_with eqb (map (folded flags) (slice_range (xs ++ ys) place (place + length pattern))) (map (folded flags) n)) joined

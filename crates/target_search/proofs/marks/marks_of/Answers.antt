@@ -1,0 +1,12 @@
+use Rattle.std.proofs.Common.{eqb, take, drop, sym, ap, ◌∙◌}
+use Rattle.std.proofs.lemmas.Simd.{length-chunk, get_or-chunk}
+use Rattle.target_search.proofs.MarkedBytes.{marked_lane, clear_false}
+use Rattle.target_search.proofs.marks.marks_of.Goals as goal
+
+pub returns : goal.returns
+returns c k l clear =
+    let xs = c.args.bytes.now in
+    let at = c.args.at in
+    let byte = c.args.byte in
+    sym (ap (λ x. eqb x byte) (get_or-chunk at 64 xs k 0 l))
+    ∙ clear_false _ _ (marked_lane (take 64 (drop at xs)) byte k (length-chunk at 64 xs c.requires) l) clear

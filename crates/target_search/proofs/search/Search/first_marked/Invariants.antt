@@ -1,0 +1,9 @@
+use Rattle.std.proofs.Common.{◌+◌}
+use Rattle.target_search.specs.Searches.{MarksMatches}
+use Rattle.target_search.proofs.search.Search.first_marked.Given as goal
+
+abbrev pub invariant-looking : goal.invariant-looking
+invariant-looking l = MarksMatches l.self (l.offset + l.start) l.left
+
+abbrev pub decreases-looking : goal.decreases-looking
+decreases-looking l = l.left

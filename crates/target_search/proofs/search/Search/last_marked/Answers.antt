@@ -1,0 +1,29 @@
+use Rattle.std.proofs.Common.{◌≡◌, ◌+◌, true, false, subst, sym, ◌∙◌, arith}
+use Rattle.target_search.specs.Searches.{is_match_of}
+use Rattle.target_search.proofs.MarkedBytes.{still_marks, none_above, none_unmarked}
+use Rattle.target_search.proofs.search.Search.last_marked.Goals as goal
+
+pub returns-then-is_match_in : goal.returns-then-is_match_in
+returns-then-is_match_in c =
+    let test = is_match_of c.args.self.now in
+    let base = c.args.offset + c.args.start in
+    let bit = c.highest-bit.result in
+    let place : c.args.offset + (c.args.start + bit) ≡ base + bit = omega arith in
+    record {
+      low = omega arith;
+      high = omega (arith, c.highest-bit.ensures.within);
+      passes = subst (λ p. test p ≡ true) place (sym c.is_match_in.ensures ∙ c.if-is_match_in.true);
+      behind = none_above test base c.looking.left bit c.looking.invariant c.highest-bit.ensures.above;
+    }
+
+pub looking-preserved : goal.looking-preserved
+looking-preserved c =
+    let test = is_match_of c.args.self.now in
+    let base = c.args.offset + c.args.start in
+    let bit = c.highest-bit.result in
+    let place : c.args.offset + (c.args.start + bit) ≡ base + bit = omega arith in
+    still_marks test base c.looking.left c.without-left.result bit c.looking.invariant
+    (subst (λ p. test p ≡ false) place (sym c.is_match_in.ensures ∙ c.if-is_match_in.false)) c.without-left.ensures.kept
+
+pub returns : goal.returns
+returns c = none_unmarked (is_match_of c.args.self.now) (c.args.offset + c.args.start) c.looking.left c.looking.invariant c.looking-test.false

@@ -1,0 +1,19 @@
+-- What is searched for, and where.
+use Rattle.std.specs.Prelude.{◌≡◌, ℕ, ◌+◌, ◌<◌, Bool, false, List, ◌++◌, length}
+use Rattle.std.specs.Int.{bit_at}
+use Rattle.ed_model.specs.Matches.{is_match}
+use Rattle.target_search.specs.declared.search.Search.{Search}
+
+abbrev pub text_of : Search → List ℕ
+text_of search = search.before.now ++ search.after.now
+
+abbrev pub size_of : Search → ℕ
+size_of search = length search.pattern.now
+
+-- whether a match begins at the place
+abbrev pub is_match_of : Search → ℕ → Bool
+is_match_of search place = is_match search.flags (text_of search) search.pattern.now place
+
+-- of the 64 places from one on, a match can begin at those alone whose bit is set
+abbrev pub MarksMatches : Search → ℕ → ℕ → Type 0
+MarksMatches search place marks = (k : ℕ) → k < 64 → bit_at marks k ≡ 0 → is_match_of search (place + k) ≡ false

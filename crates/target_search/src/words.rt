@@ -1,0 +1,42 @@
+//! The words about a match.
+
+ghost use Rattle.std.specs.Prelude.{◌≡◌, ◌++◌};
+ghost use Rattle.ed_model.specs.Matches.{is_word_byte as is_byte_of_word, word_before, word_after};
+ghost use Rattle.target_search.specs.Found.{words_pass};
+
+use crate::flags::SearchFlags;
+
+// Whether words have this byte: an ASCII letter or digit, `_`, or one of 0x80 on.
+fn is_word_byte(byte: u8) -> bool
+    ensures { result ≡ is_byte_of_word byte }
+{
+    byte.is_ascii_alphanumeric() || byte == b'_' || byte >= 0x80
+}
+
+// Whether a byte of words stands at the place.
+fn is_word_at(before: &[u8], after: &[u8], place: usize) -> bool
+    ensures { result ≡ word_after (before.now ++ after.now) place }
+{
+    if place < before.len() {
+        return is_word_byte(before[place]);
+    }
+    let behind = place - before.len();
+    behind < after.len() && is_word_byte(after[behind])
+}
+
+/// Whether the flags allow the bytes about a match from `place` to `end`.
+#[inline]
+pub(crate) fn words_allow(
+    flags: SearchFlags,
+    before: &[u8],
+    after: &[u8],
+    place: usize,
+    end: usize,
+) -> bool
+    ensures { result ≡ words_pass flags (before.now ++ after.now) place end }
+{
+    if flags.starts_words() && 0 < place && is_word_at(before, after, place - 1) {
+        return false;
+    }
+    !(flags.ends_words() && is_word_at(before, after, end))
+}
