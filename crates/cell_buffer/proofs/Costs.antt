@@ -22,8 +22,8 @@ insertion_costs place count old new g m =
     record {
       bytes = insertion_cost place count old.gaps.0 old.moved.0 new.gaps.0 new.moved.0 (ap (λ t. t.0) g) (ap (λ t. t.0) m);
       styles = λ k. insertion_cost place count old.gaps.1 old.moved.1 new.gaps.1 new.moved.1
-      (ap (λ t. t.1) g ∙ ap (λ n. gap_after place n old.gaps.1) (kept k))
-      (ap (λ t. t.1) m ∙ ap (λ n. moved_after place n old.gaps.1 old.moved.1) (kept k));
+          (ap (λ t. t.1) g ∙ ap (λ n. gap_after place n old.gaps.1) (kept k))
+          (ap (λ t. t.1) m ∙ ap (λ n. moved_after place n old.gaps.1 old.moved.1) (kept k));
       no_styles = λ k. (ap (λ t. t.1) g ∙ ap (λ n. gap_after place n old.gaps.1) (none k), ap (λ t. t.1) m ∙ ap (λ n. moved_after place n old.gaps.1 old.moved.1) (none k));
     }
 
@@ -38,7 +38,7 @@ deletion_costs place count old new g m =
     record {
       bytes = deletion_cost place count old.gaps.0 old.moved.0 new.gaps.0 new.moved.0 (ap (λ t. t.0) g) (ap (λ t. t.0) m);
       styles = λ k. deletion_cost place count old.gaps.1 old.moved.1 new.gaps.1 new.moved.1
-      (ap (λ t. t.1) g ∙ ap (λ n. gap_closed place n old.gaps.1) (kept k))
-      (ap (λ t. t.1) m ∙ ap (λ n. moved_closed place n old.gaps.1 old.moved.1) (kept k));
+          (ap (λ t. t.1) g ∙ ap (λ n. gap_closed place n old.gaps.1) (kept k))
+          (ap (λ t. t.1) m ∙ ap (λ n. moved_closed place n old.gaps.1 old.moved.1) (kept k));
       no_styles = λ k. (ap (λ t. t.1) g ∙ ap (λ n. gap_closed place n old.gaps.1) (none k), ap (λ t. t.1) m ∙ ap (λ n. moved_closed place n old.gaps.1 old.moved.1) (none k));
     }

@@ -170,5 +170,6 @@ pub range_of_halves : (xs ys : List ℕ) (start past : ℕ) → start ≤ past �
     slice_range xs (min start (length xs)) (min past (length xs)) ++ slice_range ys (start - length xs) (past - length xs) ≡ slice_range (xs ++ ys) start past
 range_of_halves xs ys start past l =
     elim (cases_lt past (length xs)) [
-    inl inside ↦ range_before xs ys start past l inside
-    | inr behind ↦ elim (cases_lt start (length xs)) [ inl across ↦ range_across xs ys start past across behind | inr after ↦ range_behind xs ys start past after l ] ]
+      | inl inside ↦ range_before xs ys start past l inside
+      | inr behind ↦ elim (cases_lt start (length xs)) [ inl across ↦ range_across xs ys start past across behind | inr after ↦ range_behind xs ys start past after l ]
+    ]

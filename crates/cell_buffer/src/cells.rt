@@ -1,12 +1,12 @@
 //! `Cells` and its calls. A clause sees them as their `cells`, whether they keep styles (`keeps_styles`), their `room`, and the
 //! `spare`, `gaps` and `moved` of both gap buffers.
 
-ghost use Rattle.std.specs.Prelude.{◌≡◌, ◌<◌, ◌≤◌, ◌+◌, ◌*◌, ◌-◌, ◌^◌, true, false, ◌++◌, length, take, drop, replicate, max, Some, slice_get, slice_range, vec_len, vec_capacity, OnOk, OnErr, IsOk};
+ghost use Rattle.std.specs.Prelude.{◌≡◌, ◌<◌, ◌≤◌, ◌+◌, ◌^◌, true, false, ◌++◌, length, take, drop, replicate, max, slice_get, slice_range, vec_len, vec_capacity, OnOk, OnErr, IsOk};
 ghost use Rattle.ed_model.specs.Text.{bytes_of, styles_of, plain_cells};
 ghost use Rattle.ed_model.specs.Steps.{Insert, edited_cells};
 ghost use Rattle.ed_model.specs.Changes.{restyled};
 ghost use Rattle.ed_model.specs.Indicators.{changed_range};
-ghost use Rattle.split_vector.specs.Split.{gap_after, moved_after, gap_closed, moved_closed};
+ghost use Rattle.split_vector.specs.Split.{most_room, gap_after, moved_after, gap_closed, moved_closed};
 ghost use Rattle.cell_buffer.specs.Buffer.{no_cells, stored, CostsBoth};
 
 use crate::styling::{fill, overwrite};
@@ -79,8 +79,9 @@ impl Cells {
         ensures room { result ≡ self.now.room }
         ensures within { length self.now.cells + self.now.room < 2 ^ 63 }
     {
+        let room = self.room;
         let _ = self.bytes.spare(); // it says that the sum is small
-        self.room
+        room
     }
 
     /// Whether styles are stored. If not, all are 0.
@@ -125,8 +126,8 @@ impl Cells {
     pub fn reserve(&mut self, count: usize) -> Result<(), AllocError>
         ensures ok { OnOk result (self.new ≡ record self.old { room = max self.old.room count; spare = self.new.spare }) }
         ensures room_is_there { count ≤ self.old.room → IsOk result × (self.new ≡ self.old) }
-        ensures at_most { length self.old.cells + self.new.spare.0 ≤ max (2 * (length self.old.cells + self.old.spare.0)) (length self.old.cells + count) }
-        ensures styles_at_most { stored self.old.keeps_styles (length self.old.cells) + self.new.spare.1 ≤ max (2 * (stored self.old.keeps_styles (length self.old.cells) + self.old.spare.1)) (stored self.old.keeps_styles (length self.old.cells + count)) }
+        ensures at_most { self.new.spare.0 ≤ most_room (length self.old.cells) self.old.spare.0 count }
+        ensures styles_at_most { self.new.spare.1 ≤ most_room (stored self.old.keeps_styles (length self.old.cells)) self.old.spare.1 (stored self.old.keeps_styles count) }
         ensures err { OnErr result (self.new ≡ record self.old { spare = self.new.spare }) }
         ensures within { length self.new.cells + self.new.room < 2 ^ 63 }
     {
@@ -156,7 +157,7 @@ impl Cells {
         ensures ok { OnOk result (self.new ≡ record self.old { keeps_styles = true; spare = (self.old.spare.0, self.new.spare.1); gaps = (self.old.gaps.0, self.new.gaps.1); moved = (self.old.moved.0, self.new.moved.1) }) }
         ensures plain { self.old.keeps_styles ≡ false → self.new.cells ≡ plain_cells (bytes_of self.new.cells) }
         ensures stored { self.old.keeps_styles ≡ false → OnOk result ((self.new.gaps.1 ≡ gap_after 0 (length self.old.cells) self.old.gaps.1) × (self.new.moved.1 ≡ moved_after 0 (length self.old.cells) self.old.gaps.1 self.old.moved.1)) }
-        ensures at_most { self.old.keeps_styles ≡ false → OnOk result (length self.old.cells + self.new.spare.1 ≤ max (2 * self.old.spare.1) (length self.old.cells + self.old.room)) }
+        ensures at_most { self.old.keeps_styles ≡ false → OnOk result (length self.old.cells + self.new.spare.1 ≤ most_room 0 self.old.spare.1 (length self.old.cells + self.old.room)) }
         ensures kept { self.old.keeps_styles ≡ true → IsOk result × (self.new ≡ self.old) }
         ensures err { OnErr result (self.new ≡ self.old) }
     {

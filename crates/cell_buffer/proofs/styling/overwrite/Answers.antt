@@ -30,8 +30,8 @@ loop-i-preserved c =
     record {
       items = now ∙ ap (λ t. overwritten old start t) (sym (take_more c.args.new.now i 0 (omega arith)));
       changed = c.put-changed.ensures.changed
-      ∙ range_put old done c.loop-i.styles.items c.loop-i.changed start i style c.loop-i.invariant.items c.loop-i.invariant.changed count (omega arith)
-      ∙ ap (λ t. changed_range old t) (sym now);
+          ∙ range_put old done c.loop-i.styles.items c.loop-i.changed start i style c.loop-i.invariant.items c.loop-i.invariant.changed count (omega arith)
+          ∙ ap (λ t. changed_range old t) (sym now);
       spare = cc;
       gap = cc;
       moved = cc;
