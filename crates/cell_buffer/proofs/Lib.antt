@@ -1,4 +1,4 @@
 pub mod Pairs
-pub mod Padded
 pub mod Stored
 pub mod Costs
+pub mod Changed

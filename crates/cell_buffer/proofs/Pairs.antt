@@ -1,7 +1,6 @@
 -- Bytes and styles as cells: `paired` against take, drop, ++ and the words of the definitions.
 use Rattle.std.proofs.Common.{◌≡◌, ◌≤◌, ◌<◌, ◌+◌, ℕ, zero, suc, List, [], ◌∷◌, ◌++◌, length, take, drop, set, replicate, get_or, refl, ap, sym, ◌∙◌, arith, append_assoc}
 use Rattle.std.specs.Prelude.{Some, slice_get}
-use borrow.Rule.Slice.PartMut.{post_of}
 use Rattle.std.proofs.lemmas.List.{length-take-le, length-drop, length-append, length-take, length-replicate, set_at, length-map, take_at, drop_at, drop_all, append-nil, drop_more, drop-drop, take-append-drop}
 use Rattle.ed_model.specs.Text.{bytes_of, styles_of, plain_cells}
 use Rattle.ed_model.specs.Steps.{Insert, edited_cells}
@@ -61,7 +60,7 @@ restyled_pairs (x ∷ new) [] (s ∷ ss) h l = absurd (omega arith)
 restyled_pairs (x ∷ new) (b ∷ bs) (s ∷ ss) h l = ap (λ t. record { byte = b; style = x } ∷ t) (restyled_pairs new bs ss (omega arith) (omega arith))
 
 -- a read
-read_item : (xs : List ℕ) (i x : ℕ) → i < length xs → x ≡ get_or xs i x → slice_get xs i ≡ Some x
+pub read_item : (xs : List ℕ) (i x : ℕ) → i < length xs → x ≡ get_or xs i x → slice_get xs i ≡ Some x
 read_item [] i x h e = absurd (omega arith)
 read_item (y ∷ xs) zero x h e = ap Some (sym e)
 read_item (y ∷ xs) (suc i) x h e = read_item xs i x (omega arith) e
@@ -129,9 +128,8 @@ overwritten_pairs bs ss new start h l =
     rw (rest, pairs_taken start bs ss, ← pairs_joined (take start bs) (take start ss) (drop start bs) (new ++ drop (start + length new) ss) (same_front start bs ss h), take-append-drop start bs)
     (simp append_assoc)
 
--- a list that grew by some items, which were then written
-pub written_behind : (grown old room new past : List ℕ) (before n k : ℕ) → grown ≡ old ++ room → length old ≡ before → length room ≤ k → before + length new ≡ n →
-    take n ((take before grown ++ (new ++ post_of before k grown)) ++ past) ≡ old ++ new
-written_behind grown old room new past before n k g b r l =
-    rw (g, take_at old room before b, drop_at old room before b, drop_all k room r, append-nil new)
-    (take_at (old ++ new) past n (omega (arith, length-append old new)))
+-- nothing written
+pub overwritten_none : (xs : List ℕ) (start : ℕ) → overwritten xs start [] ≡ xs
+overwritten_none xs start =
+    let place : start + 0 ≡ start = omega arith in
+    rw (append-nil (take start xs), place) (take-append-drop start xs)

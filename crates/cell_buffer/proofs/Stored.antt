@@ -1,88 +1,175 @@
--- Bytes and the stored styles as cells: what is read of both, and what is done to both.
-use Rattle.std.proofs.Common.{◌≡◌, ◌≤◌, ◌<◌, ◌+◌, ◌-◌, ℕ, List, ◌++◌, length, take, drop, replicate, get_or, min, refl, ap, sym, ◌∙◌, arith}
-use Rattle.std.specs.Prelude.{Some, slice_get}
-use Rattle.std.proofs.lemmas.List.{length-append, length-take, length-drop, length-replicate}
-use Rattle.ed_model.specs.Text.{bytes_of, styles_of}
+-- The bytes and the stored styles as cells: what is read of both, and what is done to both.
+use Rattle.std.proofs.Common.{◌≡◌, ◌≤◌, ◌<◌, ◌+◌, ◌-◌, ℕ, zero, suc, List, [], ◌∷◌, ◌++◌, length, take, drop, map, replicate, get_or, min, Bool, true, false, inl, inr, refl, ap, sym, ◌∙◌, arith, append_assoc, append-nil}
+use Rattle.std.specs.Prelude.{Some, slice_get, slice_range}
+use Rattle.std.proofs.lemmas.List.{length-append, length-take, length-drop, length-replicate, length-map, take_all, take-append-le, drop-append-le}
+use Rattle.std.proofs.Math.Seq.{take-append-add, drop-append-add}
+use Rattle.std.proofs.lemmas.Bool.{cases_lt}
+use Rattle.ed_model.specs.Text.{Cell, bytes_of, styles_of, plain_cell, plain_cells}
 use Rattle.ed_model.specs.Steps.{Insert, edited_cells}
 use Rattle.ed_model.specs.Changes.{restyled}
+use Rattle.ed_model.specs.Indicators.{changed_range}
 use Rattle.split_vector.specs.Split.{inserted, deleted}
-use Rattle.cell_buffer.specs.Buffer.{paired, padded, overwritten}
-use Rattle.cell_buffer.proofs.Pairs.{pairs_length, pairs_bytes, byte_read, style_read, inserted_pairs, inserted_pairs_length, deleted_pairs, deleted_pairs_length, overwritten_pairs}
-use Rattle.cell_buffer.proofs.Padded.{padded_length, padded_inserted, padded_inserted_behind, padded_deleted, padded_deleted_behind, padded_again, padded_overwritten, padded_read, padded_read_behind}
+use Rattle.cell_buffer.specs.Buffer.{paired, cells_of, stored, overwritten}
+use Rattle.cell_buffer.proofs.Pairs.{pairs_length, pairs_bytes, pairs_styles, plain_pairs, byte_read, style_read, inserted_pairs, inserted_pairs_length, deleted_pairs, deleted_pairs_length, overwritten_pairs, overwritten_length, read_item}
 
-pub cells_length : (bs ss : List ℕ) → length ss ≤ length bs → length (paired bs (padded (length bs) ss)) ≡ length bs
-cells_length bs ss h = pairs_length bs (padded (length bs) ss) (padded_length (length bs) ss h)
+-- Plain cells.
 
-pub cells_bytes : (bs ss : List ℕ) → length ss ≤ length bs → bytes_of (paired bs (padded (length bs) ss)) ≡ bs
-cells_bytes bs ss h = pairs_bytes bs (padded (length bs) ss) (padded_length (length bs) ss h)
+plain_length : (bs : List ℕ) → length (plain_cells bs) ≡ length bs
+plain_length bs = simp length-map
 
-pub cells_byte : (bs ss : List ℕ) (i x : ℕ) → length ss ≤ length bs → i < length bs → x ≡ get_or bs i x →
-    slice_get (bytes_of (paired bs (padded (length bs) ss))) i ≡ Some x
-cells_byte bs ss i x h l e = byte_read bs (padded (length bs) ss) i x (padded_length (length bs) ss h) l e
+plain_bytes : (bs : List ℕ) → bytes_of (plain_cells bs) ≡ bs
+plain_bytes [] = refl
+plain_bytes (b ∷ bs) = ap (λ t. b ∷ t) (plain_bytes bs)
 
-pub cells_style : (bs ss : List ℕ) (i x : ℕ) → length ss ≤ length bs → i < length ss → x ≡ get_or ss i x →
-    slice_get (styles_of (paired bs (padded (length bs) ss))) i ≡ Some x
-cells_style bs ss i x h l e =
-    let inside : i < length bs = omega arith in
-    style_read bs (padded (length bs) ss) i x (padded_length (length bs) ss h) inside (e ∙ sym (padded_read ss (length bs) i x l))
+plain_styles_read : (bs : List ℕ) (i : ℕ) → i < length bs → slice_get (styles_of (plain_cells bs)) i ≡ Some 0
+plain_styles_read [] i h = absurd (omega arith)
+plain_styles_read (b ∷ bs) zero h = refl
+plain_styles_read (b ∷ bs) (suc i) h = plain_styles_read bs i (omega arith)
 
-pub cells_style_behind : (bs ss : List ℕ) (i x : ℕ) → length ss ≤ length bs → length ss ≤ i → i < length bs → x ≡ 0 →
-    slice_get (styles_of (paired bs (padded (length bs) ss))) i ≡ Some x
-cells_style_behind bs ss i x h l b e = style_read bs (padded (length bs) ss) i x (padded_length (length bs) ss h) b (e ∙ sym (padded_read_behind ss (length bs) i x l b))
+plain_joined : (xs ys : List ℕ) → plain_cells (xs ++ ys) ≡ plain_cells xs ++ plain_cells ys
+plain_joined [] ys = refl
+plain_joined (x ∷ xs) ys = ap (λ t. plain_cell x ∷ t) (plain_joined xs ys)
 
--- the length after bytes went in
-grown : (bs new : List ℕ) (p n : ℕ) → n ≡ length new → p ≤ length bs → length (inserted bs p new) ≡ length bs + n
-grown bs new p n e l = simp (length-append, length-take, length-drop) (omega arith)
+plain_taken : (n : ℕ) (bs : List ℕ) → plain_cells (take n bs) ≡ take n (plain_cells bs)
+plain_taken zero bs = refl
+plain_taken (suc n) [] = refl
+plain_taken (suc n) (b ∷ bs) = ap (λ t. plain_cell b ∷ t) (plain_taken n bs)
 
--- the length after bytes went out
+plain_dropped : (n : ℕ) (bs : List ℕ) → plain_cells (drop n bs) ≡ drop n (plain_cells bs)
+plain_dropped zero bs = refl
+plain_dropped (suc n) [] = refl
+plain_dropped (suc n) (b ∷ bs) = plain_dropped n bs
+
+-- Reads.
+
+pub cells_length : (keeps : Bool) (bs ss : List ℕ) → length ss ≡ stored keeps (length bs) → length (cells_of keeps bs ss) ≡ length bs
+cells_length true bs ss h = pairs_length bs ss h
+cells_length false bs ss h = plain_length bs
+
+pub cells_bytes : (keeps : Bool) (bs ss : List ℕ) → length ss ≡ stored keeps (length bs) → bytes_of (cells_of keeps bs ss) ≡ bs
+cells_bytes true bs ss h = pairs_bytes bs ss h
+cells_bytes false bs ss h = plain_bytes bs
+
+pub plain_where_none_kept : (keeps : Bool) (bs ss : List ℕ) → keeps ≡ false → cells_of keeps bs ss ≡ plain_cells (bytes_of (cells_of keeps bs ss))
+plain_where_none_kept true bs ss e = absurd (cc)
+plain_where_none_kept false bs ss e = ap plain_cells (sym (plain_bytes bs))
+
+pub cells_byte : (keeps : Bool) (bs ss : List ℕ) (i x : ℕ) → length ss ≡ stored keeps (length bs) → i < length bs → x ≡ get_or bs i x →
+    slice_get (bytes_of (cells_of keeps bs ss)) i ≡ Some x
+cells_byte keeps bs ss i x h l e = ap (λ t. slice_get t i) (cells_bytes keeps bs ss h) ∙ read_item bs i x l e
+
+pub kept_style : (keeps : Bool) (bs ss : List ℕ) (i x : ℕ) → keeps ≡ true → length ss ≡ stored keeps (length bs) → i < length bs → x ≡ get_or ss i x →
+    slice_get (styles_of (cells_of keeps bs ss)) i ≡ Some x
+kept_style true bs ss i x k h l e = style_read bs ss i x h l e
+kept_style false bs ss i x k h l e = absurd (cc)
+
+pub plain_style : (keeps : Bool) (bs ss : List ℕ) (i x : ℕ) → keeps ≡ false → i < length bs → x ≡ 0 → slice_get (styles_of (cells_of keeps bs ss)) i ≡ Some x
+plain_style true bs ss i x k l e = absurd (cc)
+plain_style false bs ss i x k l e = plain_styles_read bs i l ∙ ap (λ s. Some s) (sym e)
+
+-- zeros are stored from now on
+pub kept_from_now_on : (keeps : Bool) (bs ss : List ℕ) (n : ℕ) → keeps ≡ false → length ss ≡ stored keeps (length bs) → n ≡ length bs →
+    cells_of true bs (inserted ss 0 (replicate n 0)) ≡ cells_of keeps bs ss
+kept_from_now_on true bs ss n k h e = absurd (cc)
+kept_from_now_on false bs [] n k h e = ap (paired bs) (simp append-nil) ∙ plain_pairs bs n e
+kept_from_now_on false bs (s ∷ ss) n k h e = absurd (omega arith)
+
+-- Insertions.
+
+pub inserted_kept : (keeps : Bool) (bs ss new : List ℕ) (p n : ℕ) → keeps ≡ true → length ss ≡ stored keeps (length bs) → n ≡ length new → p ≤ length bs →
+    cells_of keeps (inserted bs p new) (inserted ss p (replicate n 0)) ≡ edited_cells (Insert p new) (cells_of keeps bs ss)
+inserted_kept true bs ss new p n k h e l = inserted_pairs bs ss new p n h e l
+inserted_kept false bs ss new p n k h e l = absurd (cc)
+
+pub inserted_plain : (keeps : Bool) (bs ss new : List ℕ) (p : ℕ) → keeps ≡ false →
+    cells_of keeps (inserted bs p new) ss ≡ edited_cells (Insert p new) (cells_of keeps bs ss)
+inserted_plain true bs ss new p k = absurd (cc)
+inserted_plain false bs ss new p k =
+    rw (← plain_taken p bs, ← plain_dropped p bs)
+    (plain_joined (take p bs ++ new) (drop p bs) ∙ ap (λ t. t ++ plain_cells (drop p bs)) (plain_joined (take p bs) new))
+
+pub inserted_cells_length : (keeps : Bool) (bs ss new : List ℕ) (p : ℕ) → length ss ≡ stored keeps (length bs) → p ≤ length bs →
+    length (edited_cells (Insert p new) (cells_of keeps bs ss)) ≡ length (cells_of keeps bs ss) + length new
+inserted_cells_length keeps bs ss new p h l = simp (length-append, length-take, length-drop, length-map) (omega (arith, cells_length keeps bs ss h))
+
+-- Deletions.
+
 pub shrunk : (bs : List ℕ) (p n : ℕ) → p + n ≤ length bs → length (deleted bs p n) + n ≡ length bs
 shrunk bs p n l = simp (length-append, length-take, length-drop) (omega arith)
 
--- bytes go in at a place among the stored styles, and so do zeros
-pub inserted_cells : (bs ss new : List ℕ) (p n : ℕ) → length ss ≤ length bs → n ≡ length new → p ≤ length ss →
-    paired (inserted bs p new) (padded (length (inserted bs p new)) (inserted ss p (replicate n 0))) ≡ edited_cells (Insert p new) (paired bs (padded (length bs) ss))
-inserted_cells bs ss new p n h e l =
-    let inside : p ≤ length bs = omega arith in
-    ap (paired (inserted bs p new)) (padded_inserted ss (length bs) (length (inserted bs p new)) p n h l (grown bs new p n e inside))
-    ∙ inserted_pairs bs (padded (length bs) ss) new p n (padded_length (length bs) ss h) e inside
+pub deleted_kept : (keeps : Bool) (bs ss : List ℕ) (p n : ℕ) → keeps ≡ true → length ss ≡ stored keeps (length bs) →
+    cells_of keeps (deleted bs p n) (deleted ss p n) ≡ take p (cells_of keeps bs ss) ++ drop (p + n) (cells_of keeps bs ss)
+deleted_kept true bs ss p n k h = deleted_pairs bs ss p n h
+deleted_kept false bs ss p n k h = absurd (cc)
 
--- bytes go in behind them, and no zeros
-pub inserted_cells_behind : (bs ss new : List ℕ) (p : ℕ) → length ss ≤ p → p ≤ length bs →
-    paired (inserted bs p new) (padded (length (inserted bs p new)) ss) ≡ edited_cells (Insert p new) (paired bs (padded (length bs) ss))
-inserted_cells_behind bs ss new p l inside =
-    let h : length ss ≤ length bs = omega arith in
-    ap (paired (inserted bs p new)) (padded_inserted_behind ss (length bs) (length (inserted bs p new)) p (length new) l inside (grown bs new p (length new) refl inside))
-    ∙ inserted_pairs bs (padded (length bs) ss) new p (length new) (padded_length (length bs) ss h) refl inside
+pub deleted_plain : (keeps : Bool) (bs ss : List ℕ) (p n : ℕ) → keeps ≡ false →
+    cells_of keeps (deleted bs p n) ss ≡ take p (cells_of keeps bs ss) ++ drop (p + n) (cells_of keeps bs ss)
+deleted_plain true bs ss p n k = absurd (cc)
+deleted_plain false bs ss p n k = rw (← plain_taken p bs, ← plain_dropped (p + n) bs) (plain_joined (take p bs) (drop (p + n) bs))
 
--- cells go out from a place among the stored styles on, and the styles that are stored
-pub deleted_cells : (bs ss : List ℕ) (p n : ℕ) → length ss ≤ length bs → p ≤ length ss → p + n ≤ length bs →
-    paired (deleted bs p n) (padded (length (deleted bs p n)) (deleted ss p (min n (length ss - p)))) ≡ take p (paired bs (padded (length bs) ss)) ++ drop (p + n) (paired bs (padded (length bs) ss))
-deleted_cells bs ss p n h l inside =
-    ap (paired (deleted bs p n)) (padded_deleted ss (length bs) (length (deleted bs p n)) p n h l (shrunk bs p n inside) inside)
-    ∙ deleted_pairs bs (padded (length bs) ss) p n (padded_length (length bs) ss h)
+pub deleted_cells_length : (keeps : Bool) (bs ss : List ℕ) (p n : ℕ) → length ss ≡ stored keeps (length bs) → p + n ≤ length bs →
+    length (take p (cells_of keeps bs ss) ++ drop (p + n) (cells_of keeps bs ss)) + n ≡ length (cells_of keeps bs ss)
+deleted_cells_length keeps bs ss p n h l = simp (length-append, length-take, length-drop) (omega (arith, cells_length keeps bs ss h))
 
--- cells go out behind them
-pub deleted_cells_behind : (bs ss : List ℕ) (p n : ℕ) → length ss ≤ p → p + n ≤ length bs →
-    paired (deleted bs p n) (padded (length (deleted bs p n)) ss) ≡ take p (paired bs (padded (length bs) ss)) ++ drop (p + n) (paired bs (padded (length bs) ss))
-deleted_cells_behind bs ss p n l inside =
-    let h : length ss ≤ length bs = omega arith in
-    ap (paired (deleted bs p n)) (padded_deleted_behind ss (length bs) (length (deleted bs p n)) p n l (shrunk bs p n inside) inside)
-    ∙ deleted_pairs bs (padded (length bs) ss) p n (padded_length (length bs) ss h)
+-- Styles.
 
--- the lengths after an insertion and a deletion
-pub inserted_cells_length : (bs ss new : List ℕ) (p : ℕ) → length ss ≤ length bs → p ≤ length bs →
-    length (edited_cells (Insert p new) (paired bs (padded (length bs) ss))) ≡ length (paired bs (padded (length bs) ss)) + length new
-inserted_cells_length bs ss new p h l = inserted_pairs_length bs (padded (length bs) ss) new p (length new) (padded_length (length bs) ss h) refl l
+pub restyled_kept : (keeps : Bool) (bs ss new : List ℕ) (start : ℕ) → keeps ≡ true → length ss ≡ stored keeps (length bs) → start + length new ≤ length bs →
+    cells_of keeps bs (overwritten ss start new) ≡ take start (cells_of keeps bs ss) ++ restyled new (drop start (cells_of keeps bs ss))
+restyled_kept true bs ss new start k h l = overwritten_pairs bs ss new start h l
+restyled_kept false bs ss new start k h l = absurd (cc)
 
-pub deleted_cells_length : (bs ss : List ℕ) (p n : ℕ) → length ss ≤ length bs → p + n ≤ length bs →
-    length (take p (paired bs (padded (length bs) ss)) ++ drop (p + n) (paired bs (padded (length bs) ss))) + n ≡ length (paired bs (padded (length bs) ss))
-deleted_cells_length bs ss p n h l = deleted_pairs_length bs (padded (length bs) ss) p n (padded_length (length bs) ss h) l
+pub styles_kept : (keeps : Bool) (bs ss : List ℕ) → keeps ≡ true → length ss ≡ stored keeps (length bs) → styles_of (cells_of keeps bs ss) ≡ ss
+styles_kept true bs ss k h = pairs_styles bs ss h
+styles_kept false bs ss k h = absurd (cc)
 
--- styles are put on some cells, once those up to the last of them are stored
-pub restyled_cells : (bs ss new : List ℕ) (start end : ℕ) → length ss ≤ length bs → start + length new ≤ length bs → end ≡ start + length new →
-    paired bs (padded (length bs) (overwritten (padded end ss) start new)) ≡ take start (paired bs (padded (length bs) ss)) ++ restyled new (drop start (paired bs (padded (length bs) ss)))
-restyled_cells bs ss new start end h l e =
-    let stored : start + length new ≤ length (padded end ss) = simp (length-append, length-replicate) (omega arith) in
-    let inside : end ≤ length bs = omega arith in
-    ap (paired bs) (padded_overwritten (padded end ss) new (length bs) start stored ∙ ap (λ t. overwritten t start new) (padded_again ss (length bs) end h inside))
-    ∙ overwritten_pairs bs (padded (length bs) ss) new start (padded_length (length bs) ss h) l
+pub changed_of_kept : (keeps : Bool) (bs ss new : List ℕ) (start : ℕ) → keeps ≡ true → length ss ≡ stored keeps (length bs) → start + length new ≤ length bs →
+    changed_range ss (overwritten ss start new) ≡ changed_range (styles_of (cells_of keeps bs ss)) (styles_of (cells_of keeps bs (overwritten ss start new)))
+changed_of_kept keeps bs ss new start k h l =
+    let count : stored keeps (length bs) ≡ length bs = ap (λ b. stored b (length bs)) k in
+    let same : length (overwritten ss start new) ≡ stored keeps (length bs) = overwritten_length ss new start (omega arith) ∙ h in
+    rw (styles_kept keeps bs ss k h, styles_kept keeps bs (overwritten ss start new) k same)
+
+-- A range of two lists that stand one behind the other.
+
+range_before : (xs ys : List ℕ) (start past : ℕ) → start ≤ past → past < length xs →
+    slice_range xs (min start (length xs)) (min past (length xs)) ++ slice_range ys (start - length xs) (past - length xs) ≡ slice_range (xs ++ ys) start past
+range_before xs ys start past l h =
+    let first : min start (length xs) ≡ start = omega arith in
+    let last : min past (length xs) ≡ past = omega arith in
+    let none : past - length xs - (start - length xs) ≡ 0 = omega arith in
+    let inside : start ≤ length xs = omega arith in
+    let fits : past - start ≤ length (drop start xs) = omega (arith, length-drop start xs) in
+    rw (first, last, none, drop-append-le start xs ys inside, take-append-le (past - start) (drop start xs) ys fits, append-nil)
+
+range_across : (xs ys : List ℕ) (start past : ℕ) → start < length xs → length xs ≤ past →
+    slice_range xs (min start (length xs)) (min past (length xs)) ++ slice_range ys (start - length xs) (past - length xs) ≡ slice_range (xs ++ ys) start past
+range_across xs ys start past l h =
+    let first : min start (length xs) ≡ start = omega arith in
+    let last : min past (length xs) ≡ length xs = omega arith in
+    let none : start - length xs ≡ 0 = omega arith in
+    let left : past - length xs - 0 ≡ past - length xs = omega arith in
+    let inside : start ≤ length xs = omega arith in
+    let all : take (length xs - start) (drop start xs) ≡ drop start xs = take_all (length xs - start) (drop start xs) (omega (arith, length-drop start xs)) in
+    let count : past - start ≡ length (drop start xs) + (past - length xs) = omega (arith, length-drop start xs) in
+    rw (first, last, none, all, drop-append-le start xs ys inside, count, take-append-add (drop start xs) ys (past - length xs))
+    (ap (λ n. drop start xs ++ take n ys) left)
+
+range_behind : (xs ys : List ℕ) (start past : ℕ) → length xs ≤ start → start ≤ past →
+    slice_range xs (min start (length xs)) (min past (length xs)) ++ slice_range ys (start - length xs) (past - length xs) ≡ slice_range (xs ++ ys) start past
+range_behind xs ys start past l h =
+    let first : min start (length xs) ≡ length xs = omega arith in
+    let last : min past (length xs) ≡ length xs = omega arith in
+    let none : length xs - length xs ≡ 0 = omega arith in
+    let place : start ≡ length xs + (start - length xs) = omega arith in
+    let count : past - length xs - (start - length xs) ≡ past - start = omega arith in
+    let back : drop start (xs ++ ys) ≡ drop (start - length xs) ys = ap (λ j. drop j (xs ++ ys)) place ∙ drop-append-add xs ys (start - length xs) in
+    rw (first, last, none, back, count)
+
+-- a range of both is a range of the one, and a range of the other behind it
+pub range_of_halves : (xs ys : List ℕ) (start past : ℕ) → start ≤ past →
+    slice_range xs (min start (length xs)) (min past (length xs)) ++ slice_range ys (start - length xs) (past - length xs) ≡ slice_range (xs ++ ys) start past
+range_of_halves xs ys start past l =
+    elim (cases_lt past (length xs)) [
+      | inl inside ↦ range_before xs ys start past l inside
+      | inr behind ↦ elim (cases_lt start (length xs)) [ inl across ↦ range_across xs ys start past across behind | inr after ↦ range_behind xs ys start past after l ]
+    ]

@@ -1,23 +1,26 @@
 -- What a contract sees of `Cells`.
-use Rattle.std.specs.Prelude.{◌≡◌, ◌≤◌, ◌<◌, ℕ, ◌+◌, ◌-◌, ◌⊎◌, nat_lt, if◌then◌else◌, min, List, [], ◌∷◌, ◌++◌, length, take, drop, replicate}
-use Rattle.ed_model.specs.Text.{Cell}
+use Rattle.std.specs.Prelude.{◌≡◌, ◌≤◌, ◌<◌, ℕ, ◌+◌, ◌-◌, ◌⊎◌, Bool, true, false, List, [], ◌∷◌, ◌++◌, length, take, drop, Option, Some, None}
+use Rattle.ed_model.specs.Text.{Cell, plain_cells}
 
--- The cells; how many of them, from the first on, have their styles stored, where all others have style 0; how many more are
--- sure to fit in; and for the bytes and for the stored styles, each in a gap buffer of its own, how many lie before the gap and
--- how many were moved or written so far.
+-- The cells; whether their styles are stored, where they are all 0 if not; how many more cells are sure to fit in; and for the
+-- bytes and for the stored styles, each in a gap buffer of its own, how many more fit into its block, how many lie before the gap
+-- and how many were moved or written so far.
 pub record Buffer : Type 0 where
   pub cells : List Cell
-  pub styled : ℕ
+  pub keeps_styles : Bool
   pub room : ℕ
+  pub spare : ℕ × ℕ
   pub gaps : ℕ × ℕ
   pub moved : ℕ × ℕ
 
-abbrev pub buffer : List Cell → ℕ → ℕ → ℕ × ℕ → ℕ × ℕ → Buffer
-buffer cells styled room gaps moved = record { cells = cells; styled = styled; room = room; gaps = gaps; moved = moved }
+-- no cells, no styles and no room
+abbrev pub no_cells : Buffer
+no_cells = record { cells = []; keeps_styles = false; room = 0; spare = (0, 0); gaps = (0, 0); moved = (0, 0) }
 
--- the stored styles, and style 0 for the cells behind them, n in all
-abbrev pub padded : ℕ → List ℕ → List ℕ
-padded n ss = ss ++ replicate (n - length ss) 0
+-- how many styles are stored for n bytes
+abbrev pub stored : Bool → ℕ → ℕ
+stored true n = n
+stored false n = 0
 
 -- each byte with its style
 abbrev pub paired : List ℕ → List ℕ → List Cell
@@ -25,17 +28,19 @@ paired [] styles = []
 paired (b ∷ bs) [] = []
 paired (b ∷ bs) (s ∷ ss) = record { byte = b; style = s } ∷ paired bs ss
 
+-- the bytes with the stored styles, or all with style 0
+abbrev pub cells_of : Bool → List ℕ → List ℕ → List Cell
+cells_of true bs ss = paired bs ss
+cells_of false bs ss = plain_cells bs
+
 -- xs with the new items in place of those from the place on
 abbrev pub overwritten : List ℕ → ℕ → List ℕ → List ℕ
 overwritten xs place new = take place xs ++ new ++ drop (place + length new) xs
 
--- how many styles go in among the stored ones with `count` cells at the place: none at their end or behind it
-abbrev pub styles_in : ℕ → ℕ → ℕ → ℕ
-styles_in styled place count = if nat_lt place styled then count else 0
-
--- how many stored styles go out with the `count` cells from the place on
-abbrev pub styles_out : ℕ → ℕ → ℕ → ℕ
-styles_out styled place count = min count (styled - place)
+-- a range with one more place behind it, if there is a range
+abbrev pub widened : ℕ → Option (ℕ × ℕ) → Option (ℕ × ℕ)
+widened place None = Some (place, 1)
+widened place (Some range) = Some (range.0, place + 1 - range.0)
 
 -- What it costs one gap buffer that `count` items, at least one, go in at a place or out from there on: no more moves than the
 -- gap's way to the place and the items. The gap then lies at the place or behind what went in.
@@ -43,7 +48,8 @@ pub record CostsAtMost (place count gap moved gap' moved' : ℕ) : Type 0 where
   pub cost : moved' ≤ moved + ((place - gap) + (gap - place)) + count
   pub at_an_end : 0 < count → (gap' ≡ place) ⊎ (gap' ≡ place + count)
 
--- both gap buffers keep to that, with so many bytes and so many stored styles
-pub record CostsBoth (place count stored : ℕ) (old new : Buffer) : Type 0 where
+-- Both gap buffers keep to that, or that of the bytes alone where no styles are stored.
+pub record CostsBoth (place count : ℕ) (old new : Buffer) : Type 0 where
   pub bytes : CostsAtMost place count old.gaps.0 old.moved.0 new.gaps.0 new.moved.0
-  pub styles : CostsAtMost place stored old.gaps.1 old.moved.1 new.gaps.1 new.moved.1
+  pub styles : old.keeps_styles ≡ true → CostsAtMost place count old.gaps.1 old.moved.1 new.gaps.1 new.moved.1
+  pub no_styles : old.keeps_styles ≡ false → (new.gaps.1 ≡ old.gaps.1) × (new.moved.1 ≡ old.moved.1)

@@ -3,10 +3,11 @@ use Rattle.std.specs.Prelude.{◌≡◌, ℕ, ◌+◌, ⊤}
 use Rattle.std.specs.Borrow.{Fml, MutBor, follows_so}
 use mathlib.Core.Option.{none}
 use Rattle.split_vector.specs.Split.{gap_beside}
-use Rattle.cell_buffer.specs.Buffer.{Buffer, buffer}
+use Rattle.cell_buffer.specs.Buffer.{Buffer}
 use Rattle.cell_buffer.specs.contracts.cells.Cells.{the_row}
 
 -- all is as it was, but that the gap of the bytes lies outside the lent range
 abbrev pub lent_and_back : MutBor Buffer → ℕ → ℕ → Fml
 lent_and_back c start count =
-    follows_so the_row the_row c.ghost_name none (λ _ _. ⊤) (λ n. n ≡ buffer c.now.cells c.now.styled c.now.room (gap_beside start (start + count) c.now.gaps.0, c.now.gaps.1) c.now.moved)
+    let now = c.now in
+    follows_so the_row the_row c.ghost_name none (λ _ _. ⊤) (λ n. n ≡ record now { gaps = (gap_beside start (start + count) now.gaps.0, now.gaps.1) })

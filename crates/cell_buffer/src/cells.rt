@@ -1,87 +1,65 @@
-//! `Cells` and its calls. A clause sees them as their `cells`, `styled`, `room`, `gaps` and `moved`.
+//! `Cells` and its calls. A clause sees them as their `cells`, whether they keep styles (`keeps_styles`), their `room`, and the
+//! `spare`, `gaps` and `moved` of both gap buffers.
 
-ghost use Rattle.std.specs.Prelude.{◌≡◌, ◌<◌, ◌≤◌, ◌+◌, ◌-◌, ◌^◌, [], ◌++◌, length, take, drop, replicate, max, slice_get, slice_range, vec_len, vec_capacity, OnOk, OnErr, IsOk};
-ghost use Rattle.ed_model.specs.Text.{bytes_of, styles_of};
+ghost use Rattle.std.specs.Prelude.{◌≡◌, ◌<◌, ◌≤◌, ◌+◌, ◌^◌, true, false, ◌++◌, length, take, drop, replicate, max, slice_get, slice_range, vec_len, vec_capacity, OnOk, OnErr, IsOk};
+ghost use Rattle.ed_model.specs.Text.{bytes_of, styles_of, plain_cells};
 ghost use Rattle.ed_model.specs.Steps.{Insert, edited_cells};
 ghost use Rattle.ed_model.specs.Changes.{restyled};
-ghost use Rattle.split_vector.specs.Split.{gap_after, moved_after, gap_closed, moved_closed};
-ghost use Rattle.cell_buffer.specs.Buffer.{buffer, padded, overwritten, styles_in, styles_out, CostsAtMost, CostsBoth};
+ghost use Rattle.ed_model.specs.Indicators.{changed_range};
+ghost use Rattle.split_vector.specs.Split.{most_room, gap_after, moved_after, gap_closed, moved_closed};
+ghost use Rattle.cell_buffer.specs.Buffer.{no_cells, stored, CostsBoth};
 
+use crate::styling::{fill, overwrite};
 use split_vector::SplitVector;
 use std::alloc::{AllocError, Global};
 use std::marker::Model;
 
 /// The cells of a document, each a byte and its style, in two gap buffers: editing at one place again costs little,
-/// however long the text. Styles are stored for the first cells only, as far as any were set, so that a plain text costs
-/// no styles.
+/// however long the text. Styles are stored from `keep_styles` on; until then there is one gap buffer, and all styles are 0.
 #[derive(Drop)]
 pub struct Cells {
     bytes: SplitVector<u8>,
-    // Those of the first cells. All cells behind them have style 0.
+    // Empty where no styles are kept.
     styles: SplitVector<u8>,
-    // How many more cells were asked for and are there. Both buffers may have room for more.
+    keeps_styles: bool,
+    // How many more cells were asked for and are there. Both blocks may hold more.
     room: usize,
 }
 
 impl Model for Cells {
-    ghost use Rattle.std.specs.Prelude.{◌≤◌, ◌+◌, length};
-    ghost use Rattle.cell_buffer.specs.Buffer.{Buffer, buffer, paired, padded};
+    ghost use Rattle.std.specs.Prelude.{◌≡◌, ◌≤◌, length};
+    ghost use Rattle.cell_buffer.specs.Buffer.{Buffer, cells_of, stored};
 
     ghost Value = { Buffer };
 
-    ghost view = { λ c. buffer (paired c.bytes.items (padded (length c.bytes.items) c.styles.items)) (length c.styles.items) c.room (c.bytes.gap, c.styles.gap) (c.bytes.moved, c.styles.moved) };
+    ghost view = { λ c. record {
+      cells = cells_of c.keeps_styles c.bytes.items c.styles.items;
+      keeps_styles = c.keeps_styles;
+      room = c.room;
+      spare = (c.bytes.spare, c.styles.spare);
+      gaps = (c.bytes.gap, c.styles.gap);
+      moved = (c.bytes.moved, c.styles.moved);
+    } };
 
-    ghost invariant = { λ c. record { no_longer : length c.styles.items ≤ length c.bytes.items; byte_room : c.room ≤ c.bytes.spare; style_room : length c.bytes.items + c.room ≤ length c.styles.items + c.styles.spare } };
-}
-
-// Appends zeros up to `len` items, where there are fewer.
-fn pad(items: &mut SplitVector<u8>, len: usize)
-    requires { len ≤ length items.old.items + items.old.spare }
-    ensures items { items.new.items ≡ padded len items.old.items }
-    ensures len { length items.new.items ≡ max (length items.old.items) len }
-    ensures spare { length items.new.items + items.new.spare ≡ length items.old.items + items.old.spare }
-    ensures gap { items.new.gap ≡ gap_after (length items.old.items) (len - length items.old.items) items.old.gap }
-    ensures moved { items.new.moved ≡ moved_after (length items.old.items) (len - length items.old.items) items.old.gap items.old.moved }
-{
-    let stored = items.len();
-    items.insert_fill_reserved(stored, len.saturating_sub(stored), 0);
-}
-
-// Puts `new` in place of the items from `start` on.
-#[tactic(auto, using(crate::proofs::Pairs::overwritten_push, std::proofs::lemmas::List::take_more))]
-fn overwrite(items: &mut SplitVector<u8>, start: usize, new: &[u8])
-    requires { start + length new.now ≤ length items.old.items }
-    ensures { items.new ≡ record items.old { items = overwritten items.old.items start new.now } }
-{
-    let _ = items.len();
-    for (i, item) in new.iter().enumerate() {
-        items.set(start + i, *item);
-    }
-}
-
-// Puts `item` in place of `count` items from `start` on.
-#[tactic(auto, using(crate::proofs::Pairs::overwritten_push, std::proofs::lemmas::List::replicate_more))]
-fn fill(items: &mut SplitVector<u8>, start: usize, count: usize, item: u8)
-    requires { start + count ≤ length items.old.items }
-    ensures { items.new ≡ record items.old { items = overwritten items.old.items start (replicate count item) } }
-{
-    let _ = items.len();
-    for i in 0..count {
-        items.set(start + i, item);
-    }
+    ghost invariant = { λ c. record {
+      style_count : length c.styles.items ≡ stored c.keeps_styles (length c.bytes.items);
+      byte_room : c.room ≤ c.bytes.spare;
+      style_room : stored c.keeps_styles c.room ≤ c.styles.spare;
+    } };
 }
 
 impl Cells {
     ghost use Rattle.std.specs.Borrow.{sem};
     ghost use Rattle.cell_buffer.specs.Lends.{lent_and_back};
 
-    /// No cells and no room. Takes no memory.
+    /// No cells, no styles and no room. Takes no memory.
     pub fn new(alloc: Global) -> Self
-        ensures { result ≡ buffer [] 0 0 (0, 0) (0, 0) }
+        ensures { result ≡ no_cells }
     {
         Cells {
             bytes: SplitVector::new(alloc),
             styles: SplitVector::new(alloc),
+            keeps_styles: false,
             room: 0,
         }
     }
@@ -106,6 +84,15 @@ impl Cells {
         room
     }
 
+    /// Whether styles are stored. If not, all are 0.
+    #[tactic(auto, using(crate::proofs::Stored::plain_where_none_kept))]
+    pub fn keeps_styles(&self) -> bool
+        ensures keeps { result ≡ self.now.keeps_styles }
+        ensures plain { self.now.keeps_styles ≡ false → self.now.cells ≡ plain_cells (bytes_of self.now.cells) }
+    {
+        self.keeps_styles
+    }
+
     /// The byte at a place.
     #[tactic(auto, using(crate::proofs::Stored::cells_length, crate::proofs::Stored::cells_byte))]
     pub fn byte(&self, place: usize) -> u8
@@ -116,121 +103,142 @@ impl Cells {
     }
 
     /// The style of the byte at a place.
-    #[tactic(auto, using(crate::proofs::Stored::cells_length, crate::proofs::Stored::cells_style, crate::proofs::Stored::cells_style_behind))]
+    #[tactic(auto, using(crate::proofs::Stored::cells_length, crate::proofs::Stored::kept_style, crate::proofs::Stored::plain_style))]
     pub fn style(&self, place: usize) -> u8
         requires { place < length self.now.cells }
         ensures style { slice_get (styles_of self.now.cells) place ≡ Some result }
-        ensures plain { self.now.styled ≤ place → result ≡ 0 }
+        ensures plain { self.now.keeps_styles ≡ false → result ≡ 0 }
     {
-        if place < self.styles.len() {
+        if self.keeps_styles {
             self.styles.get(place)
         } else {
             0
         }
     }
 
-    /// Makes room for `count` more bytes.
+    /// Makes room for `count` more bytes, and for their styles where styles are kept, and gives none back. A block that is too
+    /// small grows to twice its size, or to what was asked where that is more.
     ///
     /// # Errors
     ///
-    /// `AllocError` where memory is refused. All is then as it was.
+    /// `AllocError` where memory is refused. All but `spare` is then as it was.
     #[tactic(auto, using(crate::proofs::Stored::cells_length))]
     pub fn reserve(&mut self, count: usize) -> Result<(), AllocError>
-        ensures ok { OnOk result (self.new ≡ record self.old { room = max self.old.room count }) }
-        ensures room_is_there { count ≤ self.old.room → IsOk result }
-        ensures err { OnErr result (self.new ≡ self.old) }
+        ensures ok { OnOk result (self.new ≡ record self.old { room = max self.old.room count; spare = self.new.spare }) }
+        ensures room_is_there { count ≤ self.old.room → IsOk result × (self.new ≡ self.old) }
+        ensures at_most { self.new.spare.0 ≤ most_room (length self.old.cells) self.old.spare.0 count }
+        ensures styles_at_most { self.new.spare.1 ≤ most_room (stored self.old.keeps_styles (length self.old.cells)) self.old.spare.1 (stored self.old.keeps_styles count) }
+        ensures err { OnErr result (self.new ≡ record self.old { spare = self.new.spare }) }
         ensures within { length self.new.cells + self.new.room < 2 ^ 63 }
     {
         if count <= self.room {
-            let _ = self.bytes.spare();
+            let _ = self.bytes.spare(); // it says that the sum is small
             return Ok(());
         }
         let Ok(()) = self.bytes.reserve(count) else {
             return Err(AllocError);
         };
-        // Room as for a text that is styled throughout, so that styling takes no memory.
-        let unstyled = self.bytes.len() - self.styles.len();
-        let Ok(()) = self.styles.reserve(unstyled + count) else {
-            return Err(AllocError);
-        };
+        if self.keeps_styles {
+            let Ok(()) = self.styles.reserve(count) else {
+                return Err(AllocError);
+            };
+        }
         self.room = count;
         Ok(())
     }
 
+    /// Stores styles from now on, all 0 so far, if none are stored yet.
+    ///
+    /// # Errors
+    ///
+    /// `AllocError` where memory is refused. All is then as it was.
+    #[tactic(auto, using(crate::proofs::Stored::cells_length, crate::proofs::Stored::kept_from_now_on, crate::proofs::Stored::plain_where_none_kept))]
+    pub fn keep_styles(&mut self) -> Result<(), AllocError>
+        ensures ok { OnOk result (self.new ≡ record self.old { keeps_styles = true; spare = (self.old.spare.0, self.new.spare.1); gaps = (self.old.gaps.0, self.new.gaps.1); moved = (self.old.moved.0, self.new.moved.1) }) }
+        ensures plain { self.old.keeps_styles ≡ false → self.new.cells ≡ plain_cells (bytes_of self.new.cells) }
+        ensures stored { self.old.keeps_styles ≡ false → OnOk result ((self.new.gaps.1 ≡ gap_after 0 (length self.old.cells) self.old.gaps.1) × (self.new.moved.1 ≡ moved_after 0 (length self.old.cells) self.old.gaps.1 self.old.moved.1)) }
+        ensures at_most { self.old.keeps_styles ≡ false → OnOk result (length self.old.cells + self.new.spare.1 ≤ most_room 0 self.old.spare.1 (length self.old.cells + self.old.room)) }
+        ensures kept { self.old.keeps_styles ≡ true → IsOk result × (self.new ≡ self.old) }
+        ensures err { OnErr result (self.new ≡ self.old) }
+    {
+        if self.keeps_styles {
+            return Ok(());
+        }
+        let len = self.bytes.len();
+        let _ = self.bytes.spare(); // it says that the sum is small
+        let Ok(()) = self.styles.reserve(len + self.room) else {
+            return Err(AllocError);
+        };
+        self.styles.insert_fill_reserved(0, len, 0);
+        self.keeps_styles = true;
+        Ok(())
+    }
+
     /// Puts bytes in at a place, with style 0. There must be room for them.
-    #[tactic(auto, using(crate::proofs::Stored::cells_length, crate::proofs::Stored::inserted_cells, crate::proofs::Stored::inserted_cells_behind, crate::proofs::Stored::inserted_cells_length, crate::proofs::Costs::insertion_costs))]
+    #[tactic(auto, using(crate::proofs::Stored::cells_length, crate::proofs::Stored::inserted_kept, crate::proofs::Stored::inserted_plain, crate::proofs::Stored::inserted_cells_length, crate::proofs::Costs::insertion_costs))]
     pub fn insert_reserved(&mut self, place: usize, bytes: &[u8])
         requires { (place ≤ length self.old.cells) × (length bytes.now ≤ self.old.room) }
         ensures cells { self.new.cells ≡ edited_cells (Insert place bytes.now) self.old.cells }
         ensures len { length self.new.cells ≡ length self.old.cells + length bytes.now }
+        ensures keeps { self.new.keeps_styles ≡ self.old.keeps_styles }
         ensures room { self.new.room + length bytes.now ≡ self.old.room }
-        ensures gaps { self.new.gaps ≡ (gap_after place (length bytes.now) self.old.gaps.0, gap_after place (styles_in self.old.styled place (length bytes.now)) self.old.gaps.1) }
-        ensures moved { self.new.moved ≡ (moved_after place (length bytes.now) self.old.gaps.0 self.old.moved.0, moved_after place (styles_in self.old.styled place (length bytes.now)) self.old.gaps.1 self.old.moved.1) }
-        ensures styled { self.new.styled ≡ self.old.styled + styles_in self.old.styled place (length bytes.now) }
-        ensures cost { CostsBoth place (length bytes.now) (styles_in self.old.styled place (length bytes.now)) self.old self.new }
+        ensures spare { (self.new.spare.0 + length bytes.now ≡ self.old.spare.0) × (self.new.spare.1 + stored self.old.keeps_styles (length bytes.now) ≡ self.old.spare.1) }
+        ensures gaps { self.new.gaps ≡ (gap_after place (length bytes.now) self.old.gaps.0, gap_after place (stored self.old.keeps_styles (length bytes.now)) self.old.gaps.1) }
+        ensures moved { self.new.moved ≡ (moved_after place (length bytes.now) self.old.gaps.0 self.old.moved.0, moved_after place (stored self.old.keeps_styles (length bytes.now)) self.old.gaps.1 self.old.moved.1) }
+        ensures cost { CostsBoth place (length bytes.now) self.old self.new }
     {
         self.bytes.insert_slice_reserved(place, bytes);
-        if place < self.styles.len() {
+        if self.keeps_styles {
             self.styles.insert_fill_reserved(place, bytes.len(), 0);
         }
         self.room -= bytes.len();
     }
 
     /// Deletes `count` cells from a place on. Their room can be used again.
-    #[tactic(auto, using(crate::proofs::Stored::cells_length, crate::proofs::Stored::deleted_cells, crate::proofs::Stored::deleted_cells_behind, crate::proofs::Stored::deleted_cells_length, crate::proofs::Stored::shrunk, crate::proofs::Costs::deletion_costs))]
+    #[tactic(auto, using(crate::proofs::Stored::cells_length, crate::proofs::Stored::deleted_kept, crate::proofs::Stored::deleted_plain, crate::proofs::Stored::deleted_cells_length, crate::proofs::Stored::shrunk, crate::proofs::Costs::deletion_costs))]
     pub fn delete(&mut self, place: usize, count: usize)
         requires { place + count ≤ length self.old.cells }
         ensures cells { self.new.cells ≡ take place self.old.cells ++ drop (place + count) self.old.cells }
         ensures len { length self.new.cells + count ≡ length self.old.cells }
+        ensures keeps { self.new.keeps_styles ≡ self.old.keeps_styles }
         ensures room { self.new.room ≡ self.old.room + count }
-        ensures gaps { self.new.gaps ≡ (gap_closed place count self.old.gaps.0, gap_closed place (styles_out self.old.styled place count) self.old.gaps.1) }
-        ensures moved { self.new.moved ≡ (moved_closed place count self.old.gaps.0 self.old.moved.0, moved_closed place (styles_out self.old.styled place count) self.old.gaps.1 self.old.moved.1) }
-        ensures styled { self.new.styled + styles_out self.old.styled place count ≡ self.old.styled }
-        ensures cost { CostsBoth place count (styles_out self.old.styled place count) self.old self.new }
+        ensures spare { self.new.spare ≡ (self.old.spare.0 + count, self.old.spare.1 + stored self.old.keeps_styles count) }
+        ensures gaps { self.new.gaps ≡ (gap_closed place count self.old.gaps.0, gap_closed place (stored self.old.keeps_styles count) self.old.gaps.1) }
+        ensures moved { self.new.moved ≡ (moved_closed place count self.old.gaps.0 self.old.moved.0, moved_closed place (stored self.old.keeps_styles count) self.old.gaps.1 self.old.moved.1) }
+        ensures cost { CostsBoth place count self.old self.new }
     {
         let _ = self.bytes.len(); // it says that the sum is small
         self.bytes.delete(place, count);
-        let styled = self.styles.len();
-        if place < styled {
-            self.styles.delete(place, count.min(styled - place));
+        if self.keeps_styles {
+            self.styles.delete(place, count);
         }
         self.room += count;
     }
 
-    /// Puts `styles` on the cells from `start` on. Where these reach past the stored styles, all styles up to their end are
-    /// stored, which costs the distance and the gap's way; else nothing moves.
-    #[tactic(auto, using(crate::proofs::Stored::cells_length, crate::proofs::Pairs::overwritten_length, crate::proofs::Stored::restyled_cells, crate::proofs::Costs::insertion_costs))]
-    pub fn set_styles(&mut self, start: usize, styles: &[u8])
-        requires { start + length styles.now ≤ length self.old.cells }
-        ensures cells { self.new.cells ≡ take start self.old.cells ++ restyled styles.now (drop start self.old.cells) }
+    /// Puts `styles` on the cells from `start` on, and answers where the smallest range with all changed styles begins and how
+    /// long it is, if any changed. Styles must be kept. Nothing moves.
+    #[tactic(auto, using(crate::proofs::Stored::cells_length, crate::proofs::Stored::restyled_kept, crate::proofs::Stored::changed_of_kept, crate::proofs::Pairs::overwritten_length))]
+    pub fn set_styles(&mut self, start: usize, styles: &[u8]) -> Option<(usize, usize)>
+        requires within { start + length styles.now ≤ length self.old.cells }
+        requires kept { self.old.keeps_styles ≡ true }
+        ensures cells { self.new ≡ record self.old { cells = take start self.old.cells ++ restyled styles.now (drop start self.old.cells) } }
         ensures len { length self.new.cells ≡ length self.old.cells }
-        ensures room { self.new.room ≡ self.old.room }
-        ensures styled { self.new.styled ≡ max self.old.styled (start + length styles.now) }
-        ensures gaps { self.new.gaps ≡ (self.old.gaps.0, gap_after self.old.styled (self.new.styled - self.old.styled) self.old.gaps.1) }
-        ensures moved { self.new.moved ≡ (self.old.moved.0, moved_after self.old.styled (self.new.styled - self.old.styled) self.old.gaps.1 self.old.moved.1) }
-        ensures cost { CostsAtMost self.old.styled (self.new.styled - self.old.styled) self.old.gaps.1 self.old.moved.1 self.new.gaps.1 self.new.moved.1 }
+        ensures changed { result ≡ changed_range (styles_of self.old.cells) (styles_of self.new.cells) }
     {
-        let _ = self.bytes.len(); // it says that the sum is small
-        pad(&mut self.styles, start + styles.len());
-        overwrite(&mut self.styles, start, styles);
+        overwrite(&mut self.styles, start, styles)
     }
 
-    /// Puts one style on the `count` cells from `start` on. Where these reach past the stored styles, all styles up to their
-    /// end are stored, which costs the distance and the gap's way; else nothing moves.
-    #[tactic(auto, using(crate::proofs::Stored::cells_length, crate::proofs::Pairs::overwritten_length, crate::proofs::Stored::restyled_cells, crate::proofs::Costs::insertion_costs, std::proofs::lemmas::Grind::common_steps))]
-    pub fn set_style_run(&mut self, start: usize, count: usize, style: u8)
-        requires { start + count ≤ length self.old.cells }
-        ensures cells { self.new.cells ≡ take start self.old.cells ++ restyled (replicate count style) (drop start self.old.cells) }
+    /// Puts one style on the `count` cells from `start` on, and answers where the smallest range with all changed styles begins
+    /// and how long it is, if any changed. Styles must be kept. Nothing moves.
+    #[tactic(auto, using(crate::proofs::Stored::cells_length, crate::proofs::Stored::restyled_kept, crate::proofs::Stored::changed_of_kept, crate::proofs::Pairs::overwritten_length, std::proofs::lemmas::Grind::common_steps))]
+    pub fn set_style_run(&mut self, start: usize, count: usize, style: u8) -> Option<(usize, usize)>
+        requires within { start + count ≤ length self.old.cells }
+        requires kept { self.old.keeps_styles ≡ true }
+        ensures cells { self.new ≡ record self.old { cells = take start self.old.cells ++ restyled (replicate count style) (drop start self.old.cells) } }
         ensures len { length self.new.cells ≡ length self.old.cells }
-        ensures room { self.new.room ≡ self.old.room }
-        ensures styled { self.new.styled ≡ max self.old.styled (start + count) }
-        ensures gaps { self.new.gaps ≡ (self.old.gaps.0, gap_after self.old.styled (self.new.styled - self.old.styled) self.old.gaps.1) }
-        ensures moved { self.new.moved ≡ (self.old.moved.0, moved_after self.old.styled (self.new.styled - self.old.styled) self.old.gaps.1 self.old.moved.1) }
-        ensures cost { CostsAtMost self.old.styled (self.new.styled - self.old.styled) self.old.gaps.1 self.old.moved.1 self.new.gaps.1 self.new.moved.1 }
+        ensures changed { result ≡ changed_range (styles_of self.old.cells) (styles_of self.new.cells) }
     {
-        let _ = self.bytes.len(); // it says that the sum is small
-        pad(&mut self.styles, start + count);
-        fill(&mut self.styles, start, count, style);
+        fill(&mut self.styles, start, count, style)
     }
 
     /// Copies the bytes from `start` on into `target`, as many as it is long.
@@ -247,7 +255,7 @@ impl Cells {
     /// # Errors
     ///
     /// `AllocError` where memory is refused. `target` has then the same bytes.
-    #[tactic(auto, using(crate::proofs::Stored::cells_length, crate::proofs::Stored::cells_bytes))]
+    #[tactic(auto, using(crate::proofs::Stored::cells_length, crate::proofs::Stored::cells_bytes, crate::proofs::Stored::range_of_halves))]
     pub fn append_text_to(
         &self,
         start: usize,
@@ -262,11 +270,18 @@ impl Cells {
         let Ok(()) = target.reserve(count) else {
             return Err(AllocError);
         };
-        let before = target.len();
-        let Ok(()) = target.resize(before + count, 0) else {
-            return Err(AllocError);
+        let _ = self.bytes.len(); // it says that the sum is small
+        let end = start + count;
+        let (before, behind) = self.bytes.halves();
+        let gap = before.len();
+        let Ok(()) = target.extend_from_slice(&before[start.min(gap)..end.min(gap)]) else {
+            unreachable!();
         };
-        self.bytes.copy_out(start, &mut target[before..]);
+        let first = start.saturating_sub(gap);
+        let past = end.saturating_sub(gap);
+        let Ok(()) = target.extend_from_slice(&behind[first..past]) else {
+            unreachable!();
+        };
         Ok(())
     }
 
@@ -290,7 +305,7 @@ impl Cells {
     }
 
     /// How many items insertions and deletions moved or wrote so far, among the bytes and among the styles, or
-    /// `u64::MAX` for any number above it.
+    /// `u64::MAX` for any number above it. Growth and lending are not counted.
     pub fn moved(&self) -> (u64, u64)
         ensures { result ≡ self.now.moved }
     {

@@ -2,7 +2,6 @@
 #![tactic(auto)]
 
 mod cells;
-#[cfg(test)]
-mod tests;
+mod styling;
 
 pub use cells::Cells;

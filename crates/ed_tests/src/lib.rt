@@ -2,6 +2,8 @@
 #![tactic(auto)]
 
 #[cfg(test)]
+mod cell_buffer;
+#[cfg(test)]
 mod char_cut;
 #[cfg(test)]
 mod document;
