@@ -16,8 +16,10 @@
 mod adding;
 mod change;
 mod edit;
+mod edits;
 mod halves;
 mod index;
+mod laws;
 mod marks;
 mod room;
 mod starts;
@@ -25,7 +27,9 @@ mod steps;
 #[cfg(test)]
 mod tests;
 
-pub use change::{LineChange, NearLines};
+pub use change::{LineChange, LinesAbout, NearLines};
 pub use edit::LineEdit;
+pub use edits::LineEdits;
 pub use index::LineIndex;
+pub use laws::edits_of_steps;
 pub use room::{lines_in, room_for_steps};

@@ -5,6 +5,7 @@ ghost use Rattle.ed_model.specs.Lines.{line_of};
 ghost use Rattle.partitioning.specs.Partitions.{IsFloorLog, IsLastAtMost};
 ghost use Rattle.line_index.specs.Index.{IsFree, starts_within};
 ghost use Rattle.line_index.specs.Change.{near_lines};
+ghost use Rattle.line_index.specs.StepEdits.{SmallLines};
 
 use crate::adding::{add_at, add_marked, marks_near, place_behind};
 use crate::change::NearLines;
@@ -77,6 +78,7 @@ pub(crate) fn lines_near<P: Place>(
 ) -> NearLines
     ensures lines { result ≡ near_lines starts.now.starts place }
     ensures within { result.two_behind < length starts.now.starts }
+    ensures small_lines { SmallLines result }
     ensures small { length starts.now.starts + starts.now.room < 2 ^ 63 }
 {
     let at = line_behind(starts, place, 0, likely);

@@ -5,6 +5,7 @@ ghost use Rattle.ed_model.specs.Lines.{line_starts, line_count};
 ghost use Rattle.ed_model.specs.Steps.{moved_back};
 ghost use Rattle.line_index.specs.Index.{IsIndexOf, WasInserted, WasDeleted, index};
 ghost use Rattle.line_index.specs.Change.{MovesLines, change_about, moved_on};
+ghost use Rattle.line_index.specs.StepEdits.{SmallLines};
 
 use crate::change::LineChange;
 use crate::index::LineIndex;
@@ -43,9 +44,10 @@ fn put_in<P: Place>(
     ensures starts { starts.new.starts ≡ line_starts types (before.now ++ after.now) }
     ensures length { starts.new.length ≡ length (before.now ++ after.now) }
     ensures room { starts.new.room + length starts.new.starts ≡ starts.old.room + length starts.old.starts }
-    ensures change { result ≡ change_about place place (place + count) starts.old.starts starts.new.starts }
+    ensures change { result ≡ change_about place place (place + count) starts.old.starts starts.new.starts starts.new.length }
     ensures moves { MovesLines (moved_on place count) starts.old.starts starts.new.starts result }
     ensures lines { (result.old_lines.two_behind < length starts.old.starts) × (result.new_lines.two_behind < length starts.new.starts) }
+    ensures small { SmallLines result.old_lines × SmallLines result.new_lines }
 {
     let edited = starts.step_at();
     let first = line_behind(starts, place.saturating_sub(1), 0, edited) + 1;
@@ -60,6 +62,7 @@ fn put_in<P: Place>(
         before: lines_before(place, first),
         old_lines,
         new_lines,
+        emptied: starts.length() == 0,
     }
 }
 
@@ -78,9 +81,10 @@ fn take_out<P: Place>(
     ensures starts { starts.new.starts ≡ line_starts types (before.now ++ after.now) }
     ensures length { starts.new.length ≡ length (before.now ++ after.now) }
     ensures room { starts.new.room + length starts.new.starts ≡ starts.old.room + length starts.old.starts }
-    ensures change { result ≡ change_about place (place + count) place starts.old.starts starts.new.starts }
+    ensures change { result ≡ change_about place (place + count) place starts.old.starts starts.new.starts starts.new.length }
     ensures moves { MovesLines (moved_back place count) starts.old.starts starts.new.starts result }
     ensures lines { (result.old_lines.two_behind < length starts.old.starts) × (result.new_lines.two_behind < length starts.new.starts) }
+    ensures small { SmallLines result.old_lines × SmallLines result.new_lines }
 {
     let _ = starts.length(); // it says that the text is not too long
     let edited = starts.step_at();
@@ -95,6 +99,7 @@ fn take_out<P: Place>(
         before: lines_before(place, first),
         old_lines,
         new_lines,
+        emptied: starts.length() == 0,
     }
 }
 
@@ -115,9 +120,10 @@ impl<P: Place> LineIndex<P> {
         ensures types { self.new.types ≡ self.old.types }
         ensures index { IsIndexOf (before.now ++ after.now) self.new }
         ensures room { self.new.room + length self.new.starts ≡ self.old.room + length self.old.starts }
-        ensures change { result ≡ change_about place place (place + count) self.old.starts self.new.starts }
+        ensures change { result ≡ change_about place place (place + count) self.old.starts self.new.starts self.new.length }
         ensures moves { MovesLines (moved_on place count) self.old.starts self.new.starts result }
         ensures lines { (result.old_lines.two_behind < length self.old.starts) × (result.new_lines.two_behind < length self.new.starts) }
+        ensures small { SmallLines result.old_lines × SmallLines result.new_lines }
     {
         put_in(&mut self.starts, self.types, place, count, before, after)
     }
@@ -131,9 +137,10 @@ impl<P: Place> LineIndex<P> {
         ensures types { self.new.types ≡ self.old.types }
         ensures index { IsIndexOf (before.now ++ after.now) self.new }
         ensures room { self.new.room + length self.new.starts ≡ self.old.room + length self.old.starts }
-        ensures change { result ≡ change_about place (place + count) place self.old.starts self.new.starts }
+        ensures change { result ≡ change_about place (place + count) place self.old.starts self.new.starts self.new.length }
         ensures moves { MovesLines (moved_back place count) self.old.starts self.new.starts result }
         ensures lines { (result.old_lines.two_behind < length self.old.starts) × (result.new_lines.two_behind < length self.new.starts) }
+        ensures small { SmallLines result.old_lines × SmallLines result.new_lines }
     {
         take_out(&mut self.starts, self.types, place, count, before, after)
     }
