@@ -26,10 +26,11 @@ mod starts;
 mod steps;
 #[cfg(test)]
 mod tests;
+mod whole;
 
 pub use change::{LineChange, LinesAbout, NearLines};
 pub use edit::LineEdit;
 pub use edits::LineEdits;
 pub use index::LineIndex;
 pub use laws::edits_of_steps;
-pub use room::{lines_in, room_for_steps};
+pub use room::{lines_for_deletion, lines_for_insertion, lines_in, room_for_steps};

@@ -6,6 +6,7 @@ ghost use Rattle.partitioning.specs.Partitions.{IsFloorLog, IsLastAtMost};
 ghost use Rattle.line_index.specs.Index.{IsFree, starts_within};
 ghost use Rattle.line_index.specs.Change.{near_lines};
 ghost use Rattle.line_index.specs.StepEdits.{SmallLines};
+ghost use Rattle.ed_model.specs.NeighbourLaws.{count_before};
 
 use crate::adding::{add_at, add_marked, marks_near, place_behind};
 use crate::change::NearLines;
@@ -68,6 +69,15 @@ pub(crate) fn line_behind<P: Place>(
     let _ = starts.count();
     let _ = starts.length();
     line_from(starts, place.saturating_add(behind), likely)
+}
+
+// How many lines start in front of the place, where this is the line of the byte before it.
+pub(crate) fn lines_before<P: Place>(starts: &Partitioning<P>, place: usize, line: usize) -> usize
+    requires { line ≡ line_of starts.now.starts (place - 1) }
+    ensures { result ≡ count_before place starts.now.starts }
+{
+    let _ = starts.count(); // it says that the first line starts at 0
+    if place == 0 { 0 } else { line + 1 }
 }
 
 // The lines of a place and of the two behind it, of which the first is likely this line or the next.

@@ -1,6 +1,6 @@
 //! Steps: what an insertion or a deletion does to the lines about it.
 
-ghost use Rattle.std.specs.Prelude.{◌≡◌, ◌+◌, ◌-◌, ◌≤◌, ◌<◌, ◌++◌, ◌==◌, min, length, if◌then◌else◌};
+ghost use Rattle.std.specs.Prelude.{◌≡◌, ◌+◌, ◌-◌, ◌≤◌, ◌<◌, ◌++◌, min, length};
 ghost use Rattle.ed_model.specs.Lines.{line_starts, line_count};
 ghost use Rattle.ed_model.specs.Steps.{moved_back};
 ghost use Rattle.line_index.specs.Index.{IsIndexOf, WasInserted, WasDeleted, index};
@@ -9,7 +9,7 @@ ghost use Rattle.line_index.specs.StepEdits.{SmallLines};
 
 use crate::change::LineChange;
 use crate::index::LineIndex;
-use crate::starts::{add_starts, line_behind, lines_near, remove_starts};
+use crate::starts::{add_starts, line_behind, lines_before, lines_near, remove_starts};
 use ed_model::LineEndTypes;
 use partitioning::{Partitioning, Place};
 
@@ -20,13 +20,6 @@ fn look_to(end: usize, before: &[u8], after: &[u8]) -> usize
 {
     let rest = before.len() + after.len() - end;
     end + 1 + rest.min(2)
-}
-
-// How many lines start before the place, where `first` is the one after that of the byte before it.
-fn lines_before(place: usize, first: usize) -> usize
-    ensures { result ≡ (if place == 0 then 0 else first) }
-{
-    if place == 0 { 0 } else { first }
 }
 
 // Puts `count` bytes into the text at `place`, and the line starts about them in the place of those that were there.
@@ -51,6 +44,7 @@ fn put_in<P: Place>(
 {
     let edited = starts.step_at();
     let first = line_behind(starts, place.saturating_sub(1), 0, edited) + 1;
+    let in_front = lines_before(starts, place, first - 1);
     let old_lines = lines_near(starts, place, first - 1);
     remove_starts(starts, first, old_lines.two_behind + 1);
     starts.insert_text(first - 1, count);
@@ -59,7 +53,7 @@ fn put_in<P: Place>(
     add_starts(starts, types, before, after, first, place.max(1), to);
     let new_lines = lines_near(starts, end, first - 1);
     LineChange {
-        before: lines_before(place, first),
+        before: in_front,
         old_lines,
         new_lines,
         emptied: starts.length() == 0,
@@ -89,6 +83,7 @@ fn take_out<P: Place>(
     let _ = starts.length(); // it says that the text is not too long
     let edited = starts.step_at();
     let first = line_behind(starts, place.saturating_sub(1), 0, edited) + 1;
+    let in_front = lines_before(starts, place, first - 1);
     let old_lines = lines_near(starts, place + count, first - 1);
     remove_starts(starts, first, old_lines.two_behind + 1);
     starts.delete_text(first - 1, count);
@@ -96,7 +91,7 @@ fn take_out<P: Place>(
     add_starts(starts, types, before, after, first, place.max(1), to);
     let new_lines = lines_near(starts, place, first - 1);
     LineChange {
-        before: lines_before(place, first),
+        before: in_front,
         old_lines,
         new_lines,
         emptied: starts.length() == 0,
