@@ -11,4 +11,5 @@ mod pieces;
 mod tests;
 
 pub use held::Document;
-pub use lines::lines_in;
+pub use line_index::lines_for_deletion;
+pub use lines::{lines_for_insertion, lines_in};
