@@ -10,6 +10,7 @@ ghost use Rattle.ed_model.specs.NeighbourLaws.{count_before};
 
 use crate::adding::{add_at, add_marked, marks_near, place_behind};
 use crate::change::NearLines;
+use crate::halves::next_start;
 use ed_model::LineEndTypes;
 use partitioning::{Partitioning, Place, Probes};
 
@@ -140,7 +141,7 @@ pub(crate) fn add_starts<P: Place>(
             place = place_behind(types, before, after, place, to, marks);
         } else {
             line = add_at(starts, types, before, after, line, place);
-            place += 1;
+            place = next_start(types, before, after, place + 1, to);
         }
     }
 }
