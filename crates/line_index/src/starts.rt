@@ -3,6 +3,7 @@
 ghost use Rattle.std.specs.Prelude.{ℕ, ◌≡◌, ◌+◌, ◌-◌, ◌^◌, ◌≤◌, ◌<◌, ◌++◌, IsTrue, length, take, drop};
 ghost use Rattle.ed_model.specs.Lines.{line_of};
 ghost use Rattle.partitioning.specs.Partitions.{IsFloorLog, IsLastAtMost};
+ghost use Rattle.split_vector.specs.Split.{counted};
 ghost use Rattle.line_index.specs.Index.{IsFree, starts_within};
 ghost use Rattle.line_index.specs.Change.{near_lines};
 ghost use Rattle.line_index.specs.StepEdits.{SmallLines};
@@ -24,6 +25,7 @@ pub(crate) fn line_at<P: Place>(
     ensures within { result < length starts.now.starts }
     ensures counted { probes.old ≤ probes.new }
     ensures few { (k : ℕ) → IsFloorLog k (length starts.now.starts) → probes.new ≤ probes.old + (2 + k) }
+    ensures many { (k : ℕ) → IsFloorLog k (length starts.now.starts) → counted probes.old k ≤ probes.new }
 {
     let _ = starts.count(); // it says that the starts rise
     starts.partition_of(place, probes)
