@@ -24,8 +24,6 @@ mod marks;
 mod room;
 mod starts;
 mod steps;
-#[cfg(test)]
-mod tests;
 mod whole;
 
 pub use change::{LineChange, LinesAbout, NearLines};
