@@ -6,11 +6,14 @@ use Rattle.ed_model.specs.declared.plan.LineEndTypes.{LineEndTypes}
 use Rattle.ed_model.specs.declared.plan.LineEndTypes.TheVariants.{Default}
 use Rattle.ed_model.specs.Text.{Cell, bytes_of}
 use Rattle.ed_model.specs.Lines.{line_starts, line_count, line_end_length, start_after_line, end_of_line}
-use Rattle.ed_model.specs.Steps.{Insert, edited, edited_cells}
+use Rattle.ed_model.specs.MergeLaws.{end_of, put_in}
+use Rattle.ed_model.specs.Steps.{Step, Insert, Delete, place_of, edited, edited_cells}
 use Rattle.ed_model.proofs.LineLemmas.{line_starts_in_range}
 use Rattle.ed_model.proofs.StepLemmas.{bytes_of_edited_cells}
 use Rattle.line_index.specs.Index.{Index, IsIndexOf, WasInserted, WasDeleted}
-use Rattle.line_index.specs.RoomLaws.{DeletionAddsFewLines}
+use Rattle.line_index.specs.RoomLaws.{lines_for_insertion, lines_for_deletion, InsertionAddsFewLines, DeletionAddsFewLines}
+use Rattle.line_index.specs.Change.{change_about}
+use Rattle.line_index.specs.StepEdits.{change_of}
 use Rattle.document.specs.Held.{HasLinesOf}
 
 -- The end of a line lies in the text.
@@ -70,7 +73,7 @@ told_of_deletion cells new lines place count text has within is read = record {
 }
 
 pub deletion_fits : (cells new : List Cell) (lines : Index) (place count : ℕ) (text : List ℕ) → DeletionAddsFewLines → HasLinesOf cells lines → place + count ≤ length cells →
-    3 ≤ lines.room → new ≡ take place cells ++ drop (place + count) cells → text ≡ bytes_of new → line_count lines.types text ≤ length lines.starts + lines.room
+    lines_for_deletion ≤ lines.room → new ≡ take place cells ++ drop (place + count) cells → text ≡ bytes_of new → line_count lines.types text ≤ length lines.starts + lines.room
 deletion_fits cells new lines place count text few has within room is read =
     let starts : length lines.starts ≡ line_count Default (bytes_of cells) = ap length has.index.starts ∙ ap (λ t. line_count t (bytes_of cells)) has.types in
     let after : line_count Default (take place (bytes_of cells) ++ drop (place + count) (bytes_of cells)) ≡ line_count lines.types text = ap (line_count Default) (bytes_deleted cells new place count text is read) ∙ ap (λ t. line_count t text) (sym has.types) in
@@ -83,7 +86,7 @@ lines_of_index text i is types = ap length is.starts ∙ ap (λ t. line_count t 
 
 pub deletion_takes : (cells new : List Cell) (lines after : Index) (place count : ℕ) (text : List ℕ) → DeletionAddsFewLines → HasLinesOf cells lines → place + count ≤ length cells →
     new ≡ take place cells ++ drop (place + count) cells → text ≡ bytes_of new → IsIndexOf text after → after.types ≡ lines.types → after.room + length after.starts ≡ lines.room + length lines.starts →
-    lines.room ≤ after.room + 3
+    lines.room ≤ after.room + lines_for_deletion
 deletion_takes cells new lines after place count text few has within is read index types sum =
     let old = lines_of_index (bytes_of cells) lines has.index has.types in
     let lines_after = lines_of_index text after index (types ∙ has.types) in
@@ -94,3 +97,54 @@ pub deleted_count : (cells : List Cell) (place count : ℕ) → place + count �
 deleted_count cells place count h =
     let long : length (bytes_of cells) ≡ length cells = length-map cells (λ (c : Cell). c.byte) in
     simp (length-take, length-drop) (omega (arith, long))
+
+-- What a step did to the lines.
+
+pub change_of_step :
+    (step : Step) (cells new : List Cell) (old lines : Index) → HasLinesOf cells old → HasLinesOf new lines → new ≡ edited_cells step cells
+    → change_about (place_of step) (end_of step) (place_of step + length (put_in step)) old.starts lines.starts lines.length ≡ change_of Default step (bytes_of cells)
+change_of_step step cells new old lines has now is =
+    let before : old.starts ≡ line_starts Default (bytes_of cells) = has.index.starts ∙ ap (λ t. line_starts t (bytes_of cells)) has.types in
+    let text : bytes_of new ≡ edited step (bytes_of cells) = ap bytes_of is ∙ bytes_of_edited_cells step cells in
+    let after : lines.starts ≡ line_starts Default (edited step (bytes_of cells)) = now.index.starts ∙ ap (λ t. line_starts t (bytes_of new)) now.types ∙ ap (line_starts Default) text in
+    let long : lines.length ≡ length (edited step (bytes_of cells)) = now.index.length ∙ ap length text in
+    rw (before, after, long) refl
+
+pub change_of_deletion :
+    (cells new : List Cell) (old lines : Index) (place count : ℕ) → place + count ≤ length cells → HasLinesOf cells old → HasLinesOf new lines
+    → new ≡ edited_cells (Delete place (slice_range (bytes_of cells) place (place + count))) cells
+    → change_about place (place + count) place old.starts lines.starts lines.length ≡ change_of Default (Delete place (slice_range (bytes_of cells) place (place + count))) (bytes_of cells)
+change_of_deletion cells new old lines place count h has now is =
+    let bytes : List ℕ = slice_range (bytes_of cells) place (place + count) in
+    let counted : length bytes ≡ count = deleted_count cells place count h in
+    let end : place + count ≡ place + length bytes = omega arith in
+    let none : place ≡ place + 0 = omega arith in
+    ap (λ e. change_about place e place old.starts lines.starts lines.length) end
+    ∙ ap (λ n. change_about place (place + length bytes) n old.starts lines.starts lines.length) none
+    ∙ change_of_step (Delete place bytes) cells new old lines has now is
+
+-- the lines of an insertion fit in
+pub insertion_fits :
+    (cells : List Cell) (lines : Index) (place : ℕ) (bytes : List ℕ) → InsertionAddsFewLines → HasLinesOf cells lines → place ≤ length cells → lines_for_insertion Default bytes ≤ lines.room
+    → line_count Default (bytes_of (edited_cells (Insert place bytes) cells)) ≤ length lines.starts + lines.room
+insertion_fits cells lines place bytes few has p room =
+    omega (
+      arith,
+      lines_of_index (bytes_of cells) lines has.index has.types,
+      ap (line_count Default) (bytes_of_edited_cells (Insert place bytes) cells),
+      few Default place bytes (bytes_of cells) (place_in_bytes cells place p),
+    )
+
+pub insertion_takes :
+    (cells new : List Cell) (lines after : Index) (place : ℕ) (bytes : List ℕ) → InsertionAddsFewLines → HasLinesOf cells lines → HasLinesOf new after → place ≤ length cells
+    → new ≡ edited_cells (Insert place bytes) cells → after.room + length after.starts ≡ lines.room + length lines.starts → lines.room ≤ after.room + lines_for_insertion Default bytes
+insertion_takes cells new lines after place bytes few has now p is sum =
+    omega (
+      arith,
+      sum,
+      lines_of_index (bytes_of cells) lines has.index has.types,
+      lines_of_index (bytes_of new) after now.index now.types,
+      ap (λ cs. line_count Default (bytes_of cs)) is,
+      ap (line_count Default) (bytes_of_edited_cells (Insert place bytes) cells),
+      few Default place bytes (bytes_of cells) (place_in_bytes cells place p),
+    )

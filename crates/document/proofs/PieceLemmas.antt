@@ -13,7 +13,7 @@ use Rattle.ed_model.proofs.NeighbourLemmas.{slice_get_take, take_and_next}
 use Rattle.ed_model.proofs.RisingLemmas.{filter_range_agree}
 use Rattle.ed_model.proofs.StepLemmas.{bytes_of_edited_cells}
 use Rattle.line_index.specs.Index.{Index, starts_within}
-use Rattle.line_index.specs.RoomLaws.{InsertionAddsFewLines}
+use Rattle.line_index.specs.RoomLaws.{lines_for_insertion, InsertionAddsFewLines}
 use Rattle.line_index.proofs.Added.{front_of, back_of}
 use Rattle.line_index.proofs.StartLists.{starts_apart, one_start, no_starts}
 use Rattle.document.specs.Held.{HasLinesOf}
@@ -128,7 +128,7 @@ piece_behind cells now place done end bytes p d e is =
 
 pub lines_with_first :
     (cells now : List Cell) (place n : ℕ) (bytes : List ℕ) → InsertionAddsFewLines → place ≤ length cells → n ≤ length bytes → now ≡ edited_cells (Insert place (take n bytes)) cells
-    → line_count Default (bytes_of now) ≤ line_count Default (bytes_of cells) + (line_count Default bytes + 5)
+    → line_count Default (bytes_of now) ≤ line_count Default (bytes_of cells) + lines_for_insertion Default bytes
 lines_with_first cells now place n bytes few p l is =
     let text = ap (λ cs. line_count Default (bytes_of cs)) is ∙ ap (line_count Default) (bytes_of_edited_cells (Insert place (take n bytes)) cells) in
     omega (arith, text, few Default place (take n bytes) (bytes_of cells) (omega (arith, length-map cells (λ (c : Cell). c.byte))), fewer_at_first Default bytes n l)
@@ -136,7 +136,7 @@ lines_with_first cells now place n bytes few p l is =
 -- so a piece's lines fit in where those of all bytes do
 pub piece_fits :
     (cells now : List Cell) (old lines : Index) (place done end : ℕ) (bytes : List ℕ) → InsertionAddsFewLines → HasLinesOf cells old → place ≤ length cells → done ≤ end → end ≤ length bytes
-    → now ≡ edited_cells (Insert place (take done bytes)) cells → lines.room + length lines.starts ≡ old.room + length old.starts → line_count Default bytes + 5 ≤ old.room
+    → now ≡ edited_cells (Insert place (take done bytes)) cells → lines.room + length lines.starts ≡ old.room + length old.starts → lines_for_insertion Default bytes ≤ old.room
     → line_count Default (bytes_of (edited_cells (Insert (place + done) (slice_range bytes done end)) now)) ≤ length lines.starts + lines.room
 piece_fits cells now old lines place done end bytes few has p d e is sum room =
     omega (
@@ -150,7 +150,7 @@ piece_fits cells now old lines place done end bytes few has p d e is sum room =
 -- and when all are in, no more room was taken than that
 pub pieces_take :
     (cells now : List Cell) (old lines : Index) (place done : ℕ) (bytes : List ℕ) → InsertionAddsFewLines → HasLinesOf cells old → HasLinesOf now lines → place ≤ length cells → done ≤ length bytes
-    → now ≡ edited_cells (Insert place (take done bytes)) cells → lines.room + length lines.starts ≡ old.room + length old.starts → old.room ≤ lines.room + (line_count Default bytes + 5)
+    → now ≡ edited_cells (Insert place (take done bytes)) cells → lines.room + length lines.starts ≡ old.room + length old.starts → old.room ≤ lines.room + lines_for_insertion Default bytes
 pieces_take cells now old lines place done bytes few has is_now p l is sum =
     omega (
       arith,

@@ -2,15 +2,16 @@
 
 ghost use Rattle.std.specs.Prelude.{◌≡◌, ◌≤◌, ◌<◌, ◌+◌, ◌^◌, ◌∷◌, ◌++◌, [], length, slice_get, slice_range, vec_len, vec_capacity, OnOk, OnErr, IsOk, IfOk, Some, nat_lt};
 ghost use Rattle.ed_model.specs.Text.{bytes_of};
-ghost use Rattle.ed_model.specs.Lines.{line_count};
 ghost use Rattle.ed_model.specs.Steps.{Insert, Delete};
 ghost use Rattle.ed_model.specs.Session.{new_document, without};
+ghost use Rattle.line_index.specs.RoomLaws.{lines_for_deletion, lines_for_insertion};
+ghost use Rattle.line_index.specs.StepEdits.{SmallLines, change_of};
 ghost use Rattle.document.specs.Held.{document_of, step_on, HasRoom, TakesRoom};
 
 use crate::pieces::put_in;
 use cell_buffer::Cells;
 use ed_model::LineEndTypes;
-use line_index::{LineIndex, room_for_steps};
+use line_index::{LineChange, LineIndex, room_for_steps};
 use std::alloc::{AllocError, Global};
 use std::marker::Model;
 use undo_history::{StepKind, UndoHistory};
@@ -164,30 +165,35 @@ impl Document {
     }
 
     /// Puts bytes in at a place, as a step that is appended to the history; `later` says that it is a later step of its
-    /// message. There must be room for it, that is for its bytes, for five more lines than they have by themselves, and in
-    /// the history. It takes no more, so that room can be made for several steps at once.
+    /// message. Returns what became of the lines. There must be room for it, that is for its bytes, for the lines that they
+    /// need, and in the history. It takes no more, so that room can be made for several steps at once.
     #[tactic(auto, using(crate::proofs::PlainLemmas::plain_step))]
-    pub fn insert_reserved(&mut self, later: bool, place: usize, bytes: &[u8])
+    pub fn insert_reserved(&mut self, later: bool, place: usize, bytes: &[u8]) -> LineChange
         requires place { place ≤ length self.old.cells }
-        requires room { HasRoom self.old (length bytes.now) (line_count LineEndTypes.Default bytes.now + 5) 1 (length bytes.now) }
+        requires room { HasRoom self.old (length bytes.now) (lines_for_insertion LineEndTypes.Default bytes.now) 1 (length bytes.now) }
         ensures id { self.new.id ≡ self.old.id }
         ensures document { document_of self.new ≡ step_on later (Insert place bytes.now) (document_of self.old) }
-        ensures room_left { TakesRoom self.old self.new (length bytes.now) (line_count LineEndTypes.Default bytes.now + 5) 1 (length bytes.now) }
+        ensures room_left { TakesRoom self.old self.new (length bytes.now) (lines_for_insertion LineEndTypes.Default bytes.now) 1 (length bytes.now) }
+        ensures lines { result ≡ change_of LineEndTypes.Default (Insert place bytes.now) (bytes_of self.old.cells) }
+        ensures small { SmallLines result.old_lines × SmallLines result.new_lines }
     {
         self.history
             .append_reserved(later, StepKind::Insert, place, bytes);
-        put_in(&mut self.cells, &mut self.lines, place, bytes);
+        put_in(&mut self.cells, &mut self.lines, place, bytes)
     }
 
     /// Deletes `count` bytes from a place on, as a step that is appended to the history; `later` says that it is a later
-    /// step of its message. There must be room for it in the history, and for three more lines. It takes no more.
+    /// step of its message. Returns what became of the lines. There must be room for it in the history, and for the lines
+    /// that a deletion needs. It takes no more.
     #[tactic(auto, using(crate::proofs::PlainLemmas::plain_step))]
-    pub fn delete_reserved(&mut self, later: bool, place: usize, count: usize)
+    pub fn delete_reserved(&mut self, later: bool, place: usize, count: usize) -> LineChange
         requires place { place + count ≤ length self.old.cells }
-        requires room { HasRoom self.old 0 3 1 count }
+        requires room { HasRoom self.old 0 lines_for_deletion 1 count }
         ensures id { self.new.id ≡ self.old.id }
         ensures document { document_of self.new ≡ step_on later (Delete place (slice_range (bytes_of self.old.cells) place (place + count))) (document_of self.old) }
-        ensures room_left { TakesRoom self.old self.new 0 3 1 count }
+        ensures room_left { TakesRoom self.old self.new 0 lines_for_deletion 1 count }
+        ensures lines { result ≡ change_of LineEndTypes.Default (Delete place (slice_range (bytes_of self.old.cells) place (place + count))) (bytes_of self.old.cells) }
+        ensures small { SmallLines result.old_lines × SmallLines result.new_lines }
     {
         let deleted = self.cells.lend(place, count);
         self.history
@@ -195,6 +201,6 @@ impl Document {
         self.cells.delete(place, count);
         room_for_steps();
         let (before, after) = self.cells.halves();
-        self.lines.deleted(place, count, before, after);
+        self.lines.deleted(place, count, before, after)
     }
 }

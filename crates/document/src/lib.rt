@@ -9,4 +9,5 @@ mod lines;
 mod pieces;
 
 pub use held::Document;
-pub use lines::lines_in;
+pub use line_index::lines_for_deletion;
+pub use lines::{lines_for_insertion, lines_in};

@@ -3,17 +3,26 @@
 ghost use Rattle.std.specs.Prelude.{◌≡◌, ◌≤◌, ◌<◌, ◌+◌, ◌^◌, length, slice_range};
 ghost use Rattle.ed_model.specs.Text.{bytes_of};
 ghost use Rattle.ed_model.specs.Lines.{line_starts, line_count, line_of, start_of_line, start_after_line, end_of_line};
+ghost use Rattle.line_index.specs.RoomLaws.{lines_for_insertion};
 
 use crate::held::Document;
 use ed_model::LineEndTypes;
 use partitioning::Probes;
 
-/// How many lines the bytes have by themselves, which is at least 1. To put them into a document needs room for five more.
+/// How many lines the bytes have by themselves, which is at least 1.
 pub fn lines_in(bytes: &[u8]) -> usize
     ensures lines { result ≡ line_count LineEndTypes.Default bytes.now }
     ensures within { result ≤ length bytes.now + 1 }
 {
     line_index::lines_in(LineEndTypes::Default, bytes)
+}
+
+/// For how many lines there has to be room before the bytes are put in.
+pub fn lines_for_insertion(bytes: &[u8]) -> usize
+    ensures lines { result ≡ lines_for_insertion LineEndTypes.Default bytes.now }
+    ensures within { result ≤ length bytes.now + 6 }
+{
+    line_index::lines_for_insertion(LineEndTypes::Default, bytes)
 }
 
 impl Document {

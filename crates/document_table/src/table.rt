@@ -2,7 +2,7 @@
 
 ghost use Rattle.std.specs.Prelude.{◌≡◌, ◌≤◌, ◌<◌, ◌+◌, ◌^◌, ◌∷◌, ◌++◌, [], length, map, slice_range, OnOk, OnErr, IfOk, IfSome, IsOk, IsSome, IsSomeAnd, IsTrue, IsFalse, option_copied, option_map};
 ghost use Rattle.ed_model.specs.Text.{bytes_of};
-ghost use Rattle.ed_model.specs.Lines.{line_count};
+ghost use Rattle.line_index.specs.RoomLaws.{lines_for_deletion, lines_for_insertion};
 ghost use Rattle.ed_model.specs.Steps.{Insert, Delete};
 ghost use Rattle.ed_model.specs.Session.{new_document, document_at, with_document, living, left_by};
 ghost use Rattle.ed_model.specs.SoundLaws.{Rise};
@@ -180,15 +180,15 @@ impl DocumentTable {
     }
 
     /// Puts bytes into a document at a place, as a step that is appended to its history; `later` says that it is a later
-    /// step of its message. There must be room for it, that is for its bytes, for five more lines than they have by
-    /// themselves, and in the history.
+    /// step of its message. There must be room for it, that is for its bytes, for the lines that they need, and in the
+    /// history.
     #[tactic(auto, using(crate::proofs::OrderLemmas::found_key, crate::proofs::OrderLemmas::found_none, crate::proofs::DocumentLemmas::document_found))]
     pub fn insert_reserved(&mut self, id: u32, later: bool, place: usize, bytes: &[u8])
         requires place { IsSomeAnd (document_at (documents_of self.old.held) id) (λ d. place ≤ length d.cells) }
-        requires room { IsSomeAnd (held_at self.old.held id) (λ h. HasRoom h (length bytes.now) (line_count LineEndTypes.Default bytes.now + 5) 1 (length bytes.now)) }
+        requires room { IsSomeAnd (held_at self.old.held id) (λ h. HasRoom h (length bytes.now) (lines_for_insertion LineEndTypes.Default bytes.now) 1 (length bytes.now)) }
         ensures documents { IfSome (document_at (documents_of self.old.held) id) (λ d. documents_of self.new.held ≡ with_document (step_on later (Insert place bytes.now) d) (documents_of self.old.held)) }
         ensures next { self.new.next ≡ self.old.next }
-        ensures room_left { IfSome (held_at self.old.held id) (λ h. IsSomeAnd (held_at self.new.held id) (λ left. TakesRoom h left (length bytes.now) (line_count LineEndTypes.Default bytes.now + 5) 1 (length bytes.now))) }
+        ensures room_left { IfSome (held_at self.old.held id) (λ h. IsSomeAnd (held_at self.new.held id) (λ left. TakesRoom h left (length bytes.now) (lines_for_insertion LineEndTypes.Default bytes.now) 1 (length bytes.now))) }
     {
         let Some(key) = key_of(&self.order, id) else {
             unreachable!()
@@ -197,14 +197,14 @@ impl DocumentTable {
     }
 
     /// Deletes `count` bytes of a document from a place on, as a step that is appended to its history; `later` says that it
-    /// is a later step of its message. There must be room for it in the history, and for three more lines.
+    /// is a later step of its message. There must be room for it in the history, and for the lines that a deletion needs.
     #[tactic(auto, using(crate::proofs::OrderLemmas::found_key, crate::proofs::OrderLemmas::found_none, crate::proofs::DocumentLemmas::document_found))]
     pub fn delete_reserved(&mut self, id: u32, later: bool, place: usize, count: usize)
         requires place { IsSomeAnd (document_at (documents_of self.old.held) id) (λ d. place + count ≤ length d.cells) }
-        requires room { IsSomeAnd (held_at self.old.held id) (λ h. HasRoom h 0 3 1 count) }
+        requires room { IsSomeAnd (held_at self.old.held id) (λ h. HasRoom h 0 lines_for_deletion 1 count) }
         ensures documents { IfSome (document_at (documents_of self.old.held) id) (λ d. documents_of self.new.held ≡ with_document (step_on later (Delete place (slice_range (bytes_of d.cells) place (place + count))) d) (documents_of self.old.held)) }
         ensures next { self.new.next ≡ self.old.next }
-        ensures room_left { IfSome (held_at self.old.held id) (λ h. IsSomeAnd (held_at self.new.held id) (λ left. TakesRoom h left 0 3 1 count)) }
+        ensures room_left { IfSome (held_at self.old.held id) (λ h. IsSomeAnd (held_at self.new.held id) (λ left. TakesRoom h left 0 lines_for_deletion 1 count)) }
     {
         let Some(key) = key_of(&self.order, id) else {
             unreachable!()

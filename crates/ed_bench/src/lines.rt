@@ -3,7 +3,7 @@
 ghost use Rattle.std.specs.Prelude.{◌≤◌, length};
 
 use crate::tell;
-use document::{Document, lines_in};
+use document::{Document, lines_for_insertion};
 use memchr::memchr_iter;
 use std::alloc::AllocError;
 use std::io;
@@ -18,7 +18,7 @@ fn byte_at(place: usize) -> u8 {
 fn put(document: &mut Document, place: usize, bytes: &[u8]) -> Result<(), AllocError>
     requires { place ≤ length document.old.cells }
 {
-    document.reserve(bytes.len(), lines_in(bytes) + 5, 1, bytes.len())?;
+    document.reserve(bytes.len(), lines_for_insertion(bytes), 1, bytes.len())?;
     document.insert_reserved(false, place, bytes);
     Ok(())
 }

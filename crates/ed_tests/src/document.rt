@@ -1,5 +1,5 @@
 //! Each call that takes memory once on its happy path, and lines about CR LF.
-use document::{Document, lines_in};
+use document::{Document, lines_for_deletion, lines_for_insertion};
 use std::alloc::AllocError;
 use std::process::Abort;
 use std::test::Fail;
@@ -12,7 +12,7 @@ fn put(
     bytes: &[u8],
 ) -> Result<(), AllocError> {
     assert!(rt; place <= document.len());
-    document.reserve(bytes.len(), lines_in(bytes) + 5, 1, bytes.len())?;
+    document.reserve(bytes.len(), lines_for_insertion(bytes), 1, bytes.len())?;
     document.insert_reserved(false, place, bytes);
     Ok(())
 }
@@ -26,7 +26,7 @@ fn cut(
 ) -> Result<(), AllocError> {
     assert!(rt; place <= document.len());
     assert!(rt; count <= document.len() - place);
-    document.reserve(0, 3, 1, count)?;
+    document.reserve(0, lines_for_deletion(), 1, count)?;
     document.delete_reserved(false, place, count);
     Ok(())
 }
@@ -124,7 +124,7 @@ fn views_and_text(rt: HostRuntime) -> Result<(), Fail> {
 #[test]
 fn room_for_two_steps(rt: HostRuntime) -> Result<(), Fail> {
     let mut document = Document::new(rt.alloc(), 3)?;
-    let lines = lines_in(b"cde") + lines_in(b"ab") + 10;
+    let lines = lines_for_insertion(b"cde") + lines_for_insertion(b"ab");
     document.reserve(5, lines, 2, 5)?;
     document.insert_reserved(false, 0, b"cde");
     document.insert_reserved(true, 0, b"ab");

@@ -1,5 +1,5 @@
 //! Each call that takes memory once on its happy path.
-use document::lines_in;
+use document::lines_for_insertion;
 use document_table::DocumentTable;
 use std::alloc::AllocError;
 use std::test::Fail;
@@ -9,7 +9,7 @@ fn put(table: &mut DocumentTable, id: u32, bytes: &[u8]) -> Result<bool, AllocEr
     if table.get(id).is_none() {
         return Ok(false);
     }
-    table.reserve(id, bytes.len(), lines_in(bytes) + 5, 1, bytes.len())?;
+    table.reserve(id, bytes.len(), lines_for_insertion(bytes), 1, bytes.len())?;
     table.insert_reserved(id, false, 0, bytes);
     Ok(true)
 }
@@ -80,7 +80,7 @@ fn room_for_two_steps(rt: HostRuntime) -> Result<(), Fail> {
     let mut table = DocumentTable::new(rt.alloc());
     let id = table.create(7)?;
     assert!(rt; table.get(id).is_some());
-    table.reserve(id, 5, lines_in(b"cde") + lines_in(b"ab") + 10, 2, 5)?;
+    table.reserve(id, 5, lines_for_insertion(b"cde") + lines_for_insertion(b"ab"), 2, 5)?;
     table.insert_reserved(id, false, 0, b"cde");
     assert!(rt; table.get(id).is_some());
     table.insert_reserved(id, true, 0, b"ab");

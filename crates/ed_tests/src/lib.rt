@@ -16,6 +16,8 @@ mod editor_session;
 #[cfg(test)]
 mod lending;
 #[cfg(test)]
+mod line_index;
+#[cfg(test)]
 mod macro_script;
 #[cfg(test)]
 mod notify;

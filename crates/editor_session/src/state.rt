@@ -18,7 +18,7 @@ ghost use Rattle.editor_session.specs.Plans.{planned_at, Does, IsEarlyPlan, IsEa
 use crate::movement::Movement;
 use crate::plan::{is_known, plan_of};
 use crate::view::{OpenView, move_views, view_among};
-use document::lines_in;
+use document::{lines_for_deletion, lines_for_insertion};
 use document_table::DocumentTable;
 use ed_model::{Edit, Follow, Plan, Planned, Source};
 use ed_types::{Bytes, Kind, Limits, Message, Refusal, Reply};
@@ -299,7 +299,7 @@ impl State {
         }
         let need = Need {
             text: count,
-            lines: lines_in(bytes) + 5,
+            lines: lines_for_insertion(bytes),
             steps: 1,
             bytes: count,
         };
@@ -329,7 +329,7 @@ impl State {
         }
         let need = Need {
             text: 0,
-            lines: 3,
+            lines: lines_for_deletion(),
             steps: 1,
             bytes: count,
         };

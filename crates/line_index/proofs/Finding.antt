@@ -1,8 +1,10 @@
 -- The last start at a place or before it is that of the place's line.
-use Rattle.std.proofs.Common.{◌≡◌, ℕ, ◌+◌, ◌-◌, ◌^◌, ◌<◌, ◌≤◌, min, List, length, arith}
+use Rattle.std.proofs.Common.{◌≡◌, ℕ, ◌+◌, ◌-◌, ◌^◌, ◌<◌, ◌≤◌, min, Bool, List, [], ◌∷◌, length, get_or, count_by, cond, leb, ltb, refl, sym, ◌∙◌, inl, inr, arith}
+use Rattle.std.proofs.lemmas.Bool.{cases_lt, lt-ltb, le-ltb, le-leb, lt-leb}
 use Rattle.std.specs.Prelude.{slice_index}
 use Rattle.ed_model.specs.Lines.{line_of}
-use Rattle.ed_model.proofs.RisingLemmas.{Climbs, Climbs_from_rises, count_is}
+use Rattle.ed_model.specs.NeighbourLaws.{count_before}
+use Rattle.ed_model.proofs.RisingLemmas.{Climbs, Climbs_from_rises, count-cons, count_is, count_back}
 use Rattle.ed_model.proofs.JoinLemmas.{rises_from_increasing}
 use Rattle.partitioning.specs.Partitions.{ArePartitions, IsLastAtMost}
 use Rattle.partitioning.proofs.Parts.{rising_or_same}
@@ -41,3 +43,30 @@ next_behind starts end place line sound low inside high = record {
   at_most = low;
   last = λ k a b. omega (arith, rising_or_same starts sound.rising (line + 1) k (omega arith) b);
 }
+
+count_same : (p q : ℕ → Bool) (xs : List ℕ) → ((x : ℕ) → p x ≡ q x) → count_by p xs ≡ count_by q xs
+count_same p q [] h = refl
+count_same p q (x ∷ xs) h = rw (count-cons p x xs, count-cons q x xs, h x, count_same p q xs h) refl
+
+below_is_upto : (place s : ℕ) → 0 < place → ltb s place ≡ leb s (place - 1)
+below_is_upto place s h =
+    elim (cases_lt s place) [
+      | inl less ↦ lt-ltb s place less ∙ sym (le-leb s (place - 1) (omega arith))
+      | inr more ↦ le-ltb s place more ∙ sym (lt-leb s (place - 1) (omega arith))
+    ]
+
+-- as many lines start in front of a place as there are up to that of the byte before it
+pub lines_in_front : (starts : List ℕ) (end place line : ℕ) → ArePartitions starts end → 0 < place → line ≡ line_of starts (place - 1) → line + 1 ≡ count_before place starts
+lines_in_front starts end place line sound h e =
+    let same : count_before place starts ≡ count_by (λ s. leb s (place - 1)) starts = count_same (λ s. ltb s place) (λ s. leb s (place - 1)) starts (λ s. below_is_upto place s h) in
+    elim (cases_lt 0 (count_by (λ s. leb s (place - 1)) starts)) [
+      | inl some ↦ omega arith
+      | inr none ↦ absurd (omega (arith, sound.first, count_back 0 (place - 1) starts 0 (climbs starts end sound) (omega arith) sound.some))
+    ]
+
+none_below : (xs : List ℕ) → count_before 0 xs ≡ 0
+none_below [] = refl
+none_below (x ∷ xs) = rw (count-cons (λ s. ltb s 0) x xs, le-ltb x 0 (omega arith), none_below xs) refl
+
+pub none_in_front : (starts : List ℕ) (place : ℕ) → place ≡ 0 → 0 ≡ count_before place starts
+none_in_front starts place e = rw e (sym (none_below starts))

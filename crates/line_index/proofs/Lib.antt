@@ -1,11 +1,15 @@
+pub mod Abouts
 pub mod Added
 pub mod Blocks
 pub mod DeletedLines
 pub mod Finding
 pub mod InsertedLines
+pub mod Keyed
 pub mod MarkedBytes
 pub mod MovedLines
 pub mod RoomLemmas
+pub mod Settling
 pub mod StartLists
+pub mod StepCarries
 pub mod StepLists
 pub mod TextBytes

@@ -7,13 +7,16 @@ use Rattle.ed_model.specs.declared.plan.LineEndTypes.{LineEndTypes}
 use Rattle.ed_model.specs.Lines.{line_starts, line_of}
 use Rattle.ed_model.specs.Steps.{Insert, Delete, moved_back}
 use Rattle.ed_model.specs.NeighbourLaws.{count_before}
-use Rattle.ed_model.proofs.RisingLemmas.{Climbs_from_rises, count_is}
-use Rattle.ed_model.proofs.LineLemmas.{line_starts_rise, line_of_start}
+use Rattle.ed_model.proofs.RisingLemmas.{Climbs_from_rises, count_is, increasing_at}
+use Rattle.ed_model.proofs.LineLemmas.{line_starts_rise, line_of_start, line_of_monotone, line_of_lt, line_from_start, some_line}
 use Rattle.line_index.specs.Index.{WasInserted, index, starts_within}
 use Rattle.line_index.specs.declared.change.LineChange.{LineChange}
-use Rattle.line_index.specs.Change.{MovesLines, change_about, moved_on}
+use Rattle.line_index.specs.Change.{MovesLines, change_about, moved_on, near_lines}
+use Rattle.line_index.specs.Edits.{fresh_lines}
+use Rattle.line_index.specs.StepEdits.{settling}
+use Rattle.line_index.proofs.Abouts.{AreAbout, chosen, settling_few, settling_fewer}
 use Rattle.line_index.proofs.StartLists.{starts_lie}
-use Rattle.line_index.proofs.StepLists.{Deletion, at_most, behind, lines_before_some, none_below_zero, found_in, found_out, longer, shorter, range}
+use Rattle.line_index.proofs.StepLists.{Deletion, at_most, behind, lines_before_some, none_below_zero, first_line_is, found_in, found_out, longer, shorter, range}
 
 -- a place among what was deleted, or at its end, falls to the deletion's place
 fallen : (place count s : ℕ) → place ≤ s → s ≤ place + count → moved_back place count s ≡ place
@@ -23,23 +26,16 @@ fallen place count s h l =
       | inr past ↦ rw (le-ltb s place h, le-ltb s (place + count) past) (omega arith)
     ]
 
-chosen :
-    (before o0 o1 o2 n0 n1 n2 k r : ℕ) → (k < before → k ≡ r) → (before ≤ k → k ≤ o0 → n0 ≡ r) → (before ≤ k → o0 < k → k ≤ o1 → n1 ≡ r)
-    → (before ≤ k → o1 < k → k ≤ o2 → n2 ≡ r) → (before ≤ k → o2 < k → k - o2 + n2 ≡ r)
-    → cond (ltb k before) k (cond (leb k o0) n0 (cond (leb k o1) n1 (cond (leb k o2) n2 (k - o2 + n2)))) ≡ r
-chosen before o0 o1 o2 n0 n1 n2 k r f g0 g1 g2 h =
-    elim (cases_lt k before) [
-      | inl stays ↦ rw (lt-ltb k before stays) (f stays)
-      | inr moves ↦ rw (le-ltb k before moves) (elim (cases_lt o0 k) [
-        | inr at ↦ rw (le-leb k o0 at) (g0 moves at)
-        | inl past ↦ rw (lt-leb k o0 past) (elim (cases_lt o1 k) [
-          | inr at ↦ rw (le-leb k o1 at) (g1 moves past at)
-          | inl further ↦ rw (lt-leb k o1 further) (elim (cases_lt o2 k) [
-            | inr at ↦ rw (le-leb k o2 at) (g2 moves further at)
-            | inl last ↦ rw (lt-leb k o2 last) (h moves last)
-          ])
-        ])
-      ])
+-- the next place is on the same line or on the next
+next_line : (types : LineEndTypes) (text : List ℕ) (q : ℕ) → line_of (line_starts types text) (q + 1) ≤ line_of (line_starts types text) q + 1
+next_line types text q =
+    let starts : List ℕ = line_starts types text in
+    let k : ℕ = line_of starts q + 1 in
+    elim (cases_lt k (line_of starts (q + 1))) [
+      | inl past ↦
+          let there : k + 1 < length starts = omega (arith, line_of_lt starts (q + 1) (some_line types text)) in
+          absurd (omega (arith, behind types text q k (omega arith) (omega arith), at_most types text (q + 1) (k + 1) there (omega arith), increasing_at 0 starts k (line_starts_rise types text) there))
+      | inr upto ↦ upto
     ]
 
 module _ (types : LineEndTypes) (old new : List ℕ) (p e e' i j from to : ℕ) (f moved : ℕ → ℕ) (o : p ≤ e) (q : p ≤ e')
@@ -148,8 +144,8 @@ module _ (types : LineEndTypes) (old new : List ℕ) (p e e' i j from to : ℕ) 
       ap (line_of news) here ∙ line_of_start 0 news (length front + n) (line_starts_rise types new) (omega (arith, new_size)) in
       omega (arith, there, front_lines)
 
-  pub lines_move : MovesLines moved olds news (change_about p e e' olds news)
-  lines_move k h =
+  pub lines_move : (end : ℕ) → MovesLines moved olds news (change_about p e e' olds news end)
+  lines_move end k h =
       let s : ℕ = get_or olds k 0 in
       chosen (count_before p olds) (line_of olds e) (line_of olds (e + 1)) (line_of olds (e + 2)) (line_of news e') (line_of news (e' + 1)) (line_of news (e' + 2)) k
       (line_of news (moved s))
@@ -159,10 +155,58 @@ module _ (types : LineEndTypes) (old new : List ℕ) (p e e' i j from to : ℕ) 
       (λ l m n. let there : s ≡ e + 2 = omega (arith, behind types old (e + 1) k h m, at_most types old (e + 2) k h n) in sym (ap (λ x. line_of news (moved x)) there ∙ ap (line_of news) two))
       (λ l m. far_moves k h m)
 
+  before_old : count_before p olds ≤ line_of olds e + 1
+  before_old =
+      elim (cases_lt 0 p) [
+        | inl some ↦ omega (arith, before_some some, line_of_monotone olds (p - 1) e (omega arith))
+        | inr none ↦ omega (arith, before_none (let z : p ≡ 0 = omega arith in z))
+      ]
+
+  before_new : count_before p olds ≤ line_of news e' + 1
+  before_new =
+      elim (cases_lt 0 p) [
+        | inl some ↦
+            let size = length-append (take i olds) (starts_within types new from to) in
+            let near : get_or olds (i - 1) 0 ≤ p - 1 = at_most types old (p - 1) (i - 1) (omega (arith, within)) (omega (arith, a)) in
+            let there : i - 1 < length news = omega (arith, new_size, size, front_kept, within) in
+            let here : get_or news (i - 1) 0 ≤ e' = omega (arith, new_kept (i - 1) (omega (arith, within))) in
+            omega (arith, before_some some, line_from_start 0 news e' (i - 1) (Climbs_from_rises 0 news (line_starts_rise types new)) there here)
+        | inr none ↦ omega (arith, before_none (let z : p ≡ 0 = omega arith in z))
+      ]
+
+  pub lines_about_step : (end : ℕ) → AreAbout (change_about p e e' olds news end) (length olds) (length news)
+  lines_about_step end =
+      record {
+        old_one = line_of_monotone olds e (e + 1) (omega arith);
+        old_two = line_of_monotone olds (e + 1) (e + 2) (omega arith);
+        old_end = line_of_lt olds (e + 2) (some_line types old);
+        new_one = line_of_monotone news e' (e' + 1) (omega arith);
+        new_two = line_of_monotone news (e' + 1) (e' + 2) (omega arith);
+        next_one = next_line types new e';
+        next_two = let two : e' + 1 + 1 ≡ e' + 2 = omega arith in rw two at (next_line types new (e' + 1));
+        before_old = before_old;
+        before_new = before_new;
+        others = omega (arith, new_size, front_lines, within);
+      }
+
+  -- as many lines as were found are behind those that stay
+  pub found_lines : line_of news (e' + 2) + 1 ≡ i + length (starts_within types new from to)
+  found_lines = omega (arith, front_lines, front_kept, length-append (take i olds) (starts_within types new from to))
+
+  -- no more fresh lines come than were found
+  pub few_fresh : (end : ℕ) → (p ≡ 0 → i ≡ 1) → fresh_lines (settling (count_before p olds) (near_lines olds e) (near_lines news e')) ≤ length (starts_within types new from to)
+  few_fresh end first =
+      elim (cases_lt 0 p) [
+        | inl some ↦ omega (arith, found_lines, before_some some, settling_few (change_about p e e' olds news end) (length olds) (length news) (lines_about_step end))
+        | inr none ↦
+            let z : p ≡ 0 = omega arith in
+            omega (arith, found_lines, first z, settling_fewer (change_about p e e' olds news end) (length olds) (length news) (lines_about_step end) (before_none z))
+      ]
+
 -- after an insertion
 module _ (types : LineEndTypes) (place count end room : ℕ) (text starts : List ℕ) (w : WasInserted place count text (index types starts end room)) where
-  moves_in_old : MovesLines (moved_on place count) (line_starts types w.old) (line_starts types text) (change_about place place (place + count) (line_starts types w.old) (line_starts types text))
-  moves_in_old =
+  pub moves_in_old : (end' : ℕ) → MovesLines (moved_on place count) (line_starts types w.old) (line_starts types text) (change_about place place (place + count) (line_starts types w.old) (line_starts types text) end')
+  moves_in_old end' =
       let i : ℕ = line_of (line_starts types w.old) (place - 1) + 1 in
       let j : ℕ = line_of (line_starts types w.old) (place + 2) + 1 in
       let size = longer types place count end room text starts w in
@@ -175,15 +219,47 @@ module _ (types : LineEndTypes) (place count end room : ℕ) (text starts : List
       (λ s h l. rw (le-ltb s place h) (omega arith))
       (rw (le-ltb (place + 1) place (omega arith)) (omega arith))
       (rw (le-ltb (place + 2) place (omega arith)) (omega arith))
-      (λ s h. (rw (le-ltb s place (omega arith)) refl, omega arith))
+      (λ s h. (rw (le-ltb s place (omega arith)) refl, omega arith)) end'
 
-  pub moves_in : (news : List ℕ) (change : LineChange) → news ≡ line_starts types text → change ≡ change_about place place (place + count) starts news → MovesLines (moved_on place count) starts news change
-  moves_in news change e f = rw (f, e, w.index.starts) moves_in_old
+  pub about_in : (end' : ℕ) → AreAbout (change_about place place (place + count) (line_starts types w.old) (line_starts types text) end') (length (line_starts types w.old)) (length (line_starts types text))
+  about_in end' =
+      let i : ℕ = line_of (line_starts types w.old) (place - 1) + 1 in
+      let j : ℕ = line_of (line_starts types w.old) (place + 2) + 1 in
+      let size = longer types place count end room text starts w in
+      let low : max place 1 ≤ min (place + count + 3) (length text + 1) = omega (arith, w.within, w.index.length) in
+      let found = found_in types place count end room text starts w i j (max place 1) (min (place + count + 3) (length text + 1)) (rw w.index.starts refl) (rw w.index.starts refl) refl refl in
+      lines_about_step types w.old text place place (place + count) i j (max place 1) (min (place + count + 3) (length text + 1)) (λ s. s + count) (moved_on place count) (omega arith) (omega arith)
+      refl refl (λ z. rw z (none_below_zero (line_starts types w.old))) (λ h. lines_before_some types (Insert place w.bytes) w.old i refl h) low (omega arith)
+      (rw w.index.starts at found)
+      (λ s h. rw (lt-ltb s place h) refl)
+      (λ s h l. rw (le-ltb s place h) (omega arith))
+      (rw (le-ltb (place + 1) place (omega arith)) (omega arith))
+      (rw (le-ltb (place + 2) place (omega arith)) (omega arith))
+      (λ s h. (rw (le-ltb s place (omega arith)) refl, omega arith)) end'
+
+  pub fresh_in : (end' : ℕ) → fresh_lines (settling (count_before place (line_starts types w.old)) (near_lines (line_starts types w.old) place) (near_lines (line_starts types text) (place + count))) ≤ length (starts_within types text (max place 1) (min (place + count + 3) (length text + 1)))
+  fresh_in end' =
+      let i : ℕ = line_of (line_starts types w.old) (place - 1) + 1 in
+      let j : ℕ = line_of (line_starts types w.old) (place + 2) + 1 in
+      let size = longer types place count end room text starts w in
+      let low : max place 1 ≤ min (place + count + 3) (length text + 1) = omega (arith, w.within, w.index.length) in
+      let found = found_in types place count end room text starts w i j (max place 1) (min (place + count + 3) (length text + 1)) (rw w.index.starts refl) (rw w.index.starts refl) refl refl in
+      few_fresh types w.old text place place (place + count) i j (max place 1) (min (place + count + 3) (length text + 1)) (λ s. s + count) (moved_on place count) (omega arith) (omega arith)
+      refl refl (λ z. rw z (none_below_zero (line_starts types w.old))) (λ h. lines_before_some types (Insert place w.bytes) w.old i refl h) low (omega arith)
+      (rw w.index.starts at found)
+      (λ s h. rw (lt-ltb s place h) refl)
+      (λ s h l. rw (le-ltb s place h) (omega arith))
+      (rw (le-ltb (place + 1) place (omega arith)) (omega arith))
+      (rw (le-ltb (place + 2) place (omega arith)) (omega arith))
+      (λ s h. (rw (le-ltb s place (omega arith)) refl, omega arith)) end' (λ z. omega (arith, first_line_is types w.old place z))
+
+  pub moves_in : (news : List ℕ) (end' : ℕ) (change : LineChange) → news ≡ line_starts types text → change ≡ change_about place place (place + count) starts news end' → MovesLines (moved_on place count) starts news change
+  moves_in news end' change e f = rw (f, e, w.index.starts) (moves_in_old end')
 
 -- after a deletion
 module _ (types : LineEndTypes) (place count end room : ℕ) (text starts : List ℕ) (w : Deletion place count text (index types starts end room)) where
-  moves_out_old : MovesLines (moved_back place count) (line_starts types w.old) (line_starts types text) (change_about place (place + count) place (line_starts types w.old) (line_starts types text))
-  moves_out_old =
+  pub moves_out_old : (end' : ℕ) → MovesLines (moved_back place count) (line_starts types w.old) (line_starts types text) (change_about place (place + count) place (line_starts types w.old) (line_starts types text) end')
+  moves_out_old end' =
       let i : ℕ = line_of (line_starts types w.old) (place - 1) + 1 in
       let j : ℕ = line_of (line_starts types w.old) (place + count + 2) + 1 in
       let size = shorter types place count end room text starts w in
@@ -196,7 +272,39 @@ module _ (types : LineEndTypes) (place count end room : ℕ) (text starts : List
       (λ s h l. fallen place count s h l)
       (rw (le-ltb (place + count + 1) place (omega arith), le-ltb (place + count + 1) (place + count) (omega arith)) (omega arith))
       (rw (le-ltb (place + count + 2) place (omega arith), le-ltb (place + count + 2) (place + count) (omega arith)) (omega arith))
-      (λ s h. (rw (le-ltb s place (omega arith), le-ltb s (place + count) (omega arith)) refl, omega arith))
+      (λ s h. (rw (le-ltb s place (omega arith), le-ltb s (place + count) (omega arith)) refl, omega arith)) end'
 
-  pub moves_out : (news : List ℕ) (change : LineChange) → news ≡ line_starts types text → change ≡ change_about place (place + count) place starts news → MovesLines (moved_back place count) starts news change
-  moves_out news change e f = rw (f, e, w.index.starts) moves_out_old
+  pub about_out : (end' : ℕ) → AreAbout (change_about place (place + count) place (line_starts types w.old) (line_starts types text) end') (length (line_starts types w.old)) (length (line_starts types text))
+  about_out end' =
+      let i : ℕ = line_of (line_starts types w.old) (place - 1) + 1 in
+      let j : ℕ = line_of (line_starts types w.old) (place + count + 2) + 1 in
+      let size = shorter types place count end room text starts w in
+      let low : max place 1 ≤ min (place + 3) (length text + 1) = omega (arith, w.within, w.index.length) in
+      let found = found_out types place count end room text starts w i j (max place 1) (min (place + 3) (length text + 1)) (rw w.index.starts refl) (rw w.index.starts refl) refl refl in
+      lines_about_step types w.old text place (place + count) place i j (max place 1) (min (place + 3) (length text + 1)) (λ s. s - count) (moved_back place count) (omega arith) (omega arith)
+      refl refl (λ z. rw z (none_below_zero (line_starts types w.old))) (λ h. lines_before_some types (Delete place w.bytes) w.old i refl h) low (omega arith)
+      (rw w.index.starts at found)
+      (λ s h. rw (lt-ltb s place h) refl)
+      (λ s h l. fallen place count s h l)
+      (rw (le-ltb (place + count + 1) place (omega arith), le-ltb (place + count + 1) (place + count) (omega arith)) (omega arith))
+      (rw (le-ltb (place + count + 2) place (omega arith), le-ltb (place + count + 2) (place + count) (omega arith)) (omega arith))
+      (λ s h. (rw (le-ltb s place (omega arith), le-ltb s (place + count) (omega arith)) refl, omega arith)) end'
+
+  pub fresh_out : (end' : ℕ) → fresh_lines (settling (count_before place (line_starts types w.old)) (near_lines (line_starts types w.old) (place + count)) (near_lines (line_starts types text) place)) ≤ length (starts_within types text (max place 1) (min (place + 3) (length text + 1)))
+  fresh_out end' =
+      let i : ℕ = line_of (line_starts types w.old) (place - 1) + 1 in
+      let j : ℕ = line_of (line_starts types w.old) (place + count + 2) + 1 in
+      let size = shorter types place count end room text starts w in
+      let low : max place 1 ≤ min (place + 3) (length text + 1) = omega (arith, w.within, w.index.length) in
+      let found = found_out types place count end room text starts w i j (max place 1) (min (place + 3) (length text + 1)) (rw w.index.starts refl) (rw w.index.starts refl) refl refl in
+      few_fresh types w.old text place (place + count) place i j (max place 1) (min (place + 3) (length text + 1)) (λ s. s - count) (moved_back place count) (omega arith) (omega arith)
+      refl refl (λ z. rw z (none_below_zero (line_starts types w.old))) (λ h. lines_before_some types (Delete place w.bytes) w.old i refl h) low (omega arith)
+      (rw w.index.starts at found)
+      (λ s h. rw (lt-ltb s place h) refl)
+      (λ s h l. fallen place count s h l)
+      (rw (le-ltb (place + count + 1) place (omega arith), le-ltb (place + count + 1) (place + count) (omega arith)) (omega arith))
+      (rw (le-ltb (place + count + 2) place (omega arith), le-ltb (place + count + 2) (place + count) (omega arith)) (omega arith))
+      (λ s h. (rw (le-ltb s place (omega arith), le-ltb s (place + count) (omega arith)) refl, omega arith)) end' (λ z. omega (arith, first_line_is types w.old place z))
+
+  pub moves_out : (news : List ℕ) (end' : ℕ) (change : LineChange) → news ≡ line_starts types text → change ≡ change_about place (place + count) place starts news end' → MovesLines (moved_back place count) starts news change
+  moves_out news end' change e f = rw (f, e, w.index.starts) (moves_out_old end')

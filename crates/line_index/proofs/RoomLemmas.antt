@@ -8,11 +8,12 @@ use Rattle.ed_model.specs.Lines.{is_line_start, line_starts, line_count, line_of
 use Rattle.ed_model.specs.Steps.{Insert, edited}
 use Rattle.ed_model.proofs.LineLemmas.{moved_start_test, some_line}
 use Rattle.ed_model.proofs.RisingLemmas.{filter_range_moved}
+use Rattle.ed_model.proofs.StepLemmas.{length-inserted}
 use Rattle.ed_model.proofs.NeighbourLemmas.{slice_get_append_left, slice_get_append_right}
 use Rattle.line_index.specs.Index.{Index, WasInserted, index, starts_within}
-use Rattle.line_index.specs.RoomLaws.{InsertionAddsFewLines, DeletionAddsFewLines}
+use Rattle.line_index.specs.RoomLaws.{lines_for_insertion, lines_for_deletion, InsertionAddsFewLines, DeletionAddsFewLines}
 use Rattle.line_index.proofs.StartLists.{starts_apart, one_start, no_starts, one_more}
-use Rattle.line_index.proofs.StepLists.{Deletion, deletion_of, range_about, counted_about, found_in, found_out, longer}
+use Rattle.line_index.proofs.StepLists.{Deletion, deletion_of, range_about, counted_about, found_in, found_out}
 
 -- no more numbers pass a test than there are
 few_pass : (p : ℕ → Bool) (a n : ℕ) → length (filter p (range_with_len a n)) ≤ n
@@ -72,6 +73,37 @@ own_starts types bytes l =
       length-append (starts_within types bytes 3 (length bytes)) (starts_within types bytes (length bytes) (length bytes + 1)),
     )
 
+-- how many starts are found about an insertion
+pub few_found_in :
+    (types : LineEndTypes) (place : ℕ) (bytes text : List ℕ) → place ≤ length text
+    → length (starts_within types (edited (Insert place bytes) text) (max place 1) (min (place + length bytes + 3) (length (edited (Insert place bytes) text) + 1))) ≤ lines_for_insertion types bytes
+few_found_in types place bytes text h =
+    let new : List ℕ = edited (Insert place bytes) text in
+    let from : ℕ = max place 1 in
+    let to : ℕ = min (place + length bytes + 3) (length new + 1) in
+    let long : length new ≡ length text + length bytes = length-inserted place bytes text in
+    elim (cases_lt (length bytes) 3) [
+      | inl short ↦ omega (arith, few_starts types new from to, some_line types bytes)
+      | inr more ↦
+          let a = starts_apart types new from (place + 3) to (omega arith) (omega arith) in
+          let b = starts_apart types new (place + 3) (place + length bytes) to (omega arith) (omega arith) in
+          omega (
+            arith,
+            ap length a,
+            ap length b,
+            few_starts types new from (place + 3),
+            few_starts types new (place + length bytes) to,
+            inner_starts types place bytes text h more,
+            own_starts types bytes more,
+            length-append (starts_within types new from (place + 3)) (starts_within types new (place + 3) to),
+            length-append (starts_within types new (place + 3) (place + length bytes)) (starts_within types new (place + length bytes) to),
+          )
+    ]
+
+-- .. and about a deletion
+pub few_found_out : (types : LineEndTypes) (place : ℕ) (new : List ℕ) → length (starts_within types new (max place 1) (min (place + 3) (length new + 1))) ≤ lines_for_deletion
+few_found_out types place new = omega (arith, few_starts types new (max place 1) (min (place + 3) (length new + 1)))
+
 pub few_inserted : InsertionAddsFewLines
 few_inserted types place bytes text h =
     let new : List ℕ = edited (Insert place bytes) text in
@@ -84,26 +116,11 @@ few_inserted types place bytes text h =
     let to : ℕ = min (place + length bytes + 3) (length new + 1) in
     let within = range_about types text starts place place i j refl (omega arith) refl refl in
     let found = found_in types place (length bytes) (length text) 0 new starts w i j from to refl refl refl refl in
-    let size = counted_about (λ s. s + length bytes) starts (starts_within types new from to) (line_starts types new) i j (omega (arith, within)) (omega (arith, within)) found in
-    let long : length new ≡ length text + length bytes = longer types place (length bytes) (length text) 0 new starts w in
-    elim (cases_lt (length bytes) 3) [
-      | inl short ↦ omega (arith, size, few_starts types new from to, some_line types bytes)
-      | inr more ↦
-          let a = starts_apart types new from (place + 3) to (omega arith) (omega arith) in
-          let b = starts_apart types new (place + 3) (place + length bytes) to (omega arith) (omega arith) in
-          omega (
-            arith,
-            size,
-            ap length a,
-            ap length b,
-            few_starts types new from (place + 3),
-            few_starts types new (place + length bytes) to,
-            inner_starts types place bytes text h more,
-            own_starts types bytes more,
-            length-append (starts_within types new from (place + 3)) (starts_within types new (place + 3) to),
-            length-append (starts_within types new (place + 3) (place + length bytes)) (starts_within types new (place + length bytes) to),
-          )
-    ]
+    omega (
+      arith,
+      counted_about (λ s. s + length bytes) starts (starts_within types new from to) (line_starts types new) i j (omega (arith, within)) (omega (arith, within)) found,
+      few_found_in types place bytes text h,
+    )
 
 pub few_deleted : DeletionAddsFewLines
 few_deleted types place count text h =
@@ -114,10 +131,15 @@ few_deleted types place count text h =
     deletion_of place count new old record { old = text; within = h; index = record { starts = refl; length = refl }; deleted = refl } in
     let i : ℕ = line_of starts (place - 1) + 1 in
     let j : ℕ = line_of starts (place + count + 2) + 1 in
+    let from : ℕ = max place 1 in
+    let to : ℕ = min (place + 3) (length new + 1) in
     let within = range_about types text starts place (place + count) i j refl (omega arith) refl refl in
-    let found = found_out types place count (length text) 0 new starts w i j (max place 1) (min (place + 3) (length new + 1)) refl refl refl refl in
-    let size = counted_about (λ s. s - count) starts (starts_within types new (max place 1) (min (place + 3) (length new + 1))) (line_starts types new) i j (omega (arith, within)) (omega (arith, within)) found in
-    omega (arith, size, few_starts types new (max place 1) (min (place + 3) (length new + 1)))
+    let found = found_out types place count (length text) 0 new starts w i j from to refl refl refl refl in
+    omega (
+      arith,
+      counted_about (λ s. s - count) starts (starts_within types new from to) (line_starts types new) i j (omega (arith, within)) (omega (arith, within)) found,
+      few_found_out types place new,
+    )
 
 -- the lines of bytes, counted one start after another
 

@@ -139,18 +139,10 @@ pub lines_before_some : (types : LineEndTypes) (step : Step) (text : List ℕ) (
 lines_before_some types step text i a h =
     omega (arith, first_line_about_is types step text, some_before (place_of step) (line_starts types text) (some_line types text) (first_line_start types text) h)
 
-first_line_is : (types : LineEndTypes) (text : List ℕ) (p : ℕ) → p ≡ 0 → line_of (line_starts types text) (p - 1) ≡ 0
+pub first_line_is : (types : LineEndTypes) (text : List ℕ) (p : ℕ) → p ≡ 0 → line_of (line_starts types text) (p - 1) ≡ 0
 first_line_is types text p e =
     let z : p - 1 ≡ 0 = omega arith in
     rw z (sym (first_line_about_is types (Insert 0 []) text) ∙ ap (λ n. n - 1) (none_below_zero (line_starts types text)))
-
--- .. by the line of the byte before it
-pub lines_before_is : (types : LineEndTypes) (step : Step) (text : List ℕ) (i : ℕ) → i ≡ line_of (line_starts types text) (place_of step - 1) + 1 → count_before (place_of step) (line_starts types text) ≡ (if place_of step == 0 then 0 else i)
-lines_before_is types step text i a =
-    elim (cases_eq (place_of step) 0) [
-      | inl none ↦ rw none (none_below_zero (line_starts types text))
-      | inr some ↦ rw (ne_eqb (place_of step) 0 some) (lines_before_some types step text i a (omega arith))
-    ]
 
 -- the first starts of the new text: those before the step, and 0 where the step is there
 front_starts :
@@ -251,9 +243,6 @@ module _ (types : LineEndTypes) (place count end room : ℕ) (text starts : List
       (found_all types (Insert place w.bytes) w.old text (starts_about types place place w.bytes w.old) (λ s. s + count) count i j from to law_in about_in
       (rw w.index.starts at a) (rw w.index.starts at b) c d (omega (arith, longer, w.within, w.index.length)))
 
-  pub before_in : (i : ℕ) → i ≡ line_of starts (place - 1) + 1 → count_before place starts ≡ (if place == 0 then 0 else i)
-  before_in i a = rw w.index.starts (lines_before_is types (Insert place w.bytes) w.old i (rw w.index.starts at a))
-
 -- A deletion, with the bytes that went.
 pub record Deletion (place count : ℕ) (text : List ℕ) (i : Index) : Type 0 where
   pub old : List ℕ
@@ -300,6 +289,3 @@ module _ (types : LineEndTypes) (place count end room : ℕ) (text starts : List
       λ n. j ≡ line_of (line_starts types w.old) (place + n + 2) + 1 → take i (line_starts types w.old) ++ starts_within types text from to ++ map (λ s. s - n) (drop j (line_starts types w.old)) ≡ line_starts types text in
       let says : Says (length w.bytes) = λ e. found_out_bytes i j from to (rw w.index.starts at a) e c d in
       rw w.index.starts (subst Says w.counted says (rw w.index.starts at b))
-
-  pub before_out : (i : ℕ) → i ≡ line_of starts (place - 1) + 1 → count_before place starts ≡ (if place == 0 then 0 else i)
-  before_out i a = rw w.index.starts (lines_before_is types (Delete place w.bytes) w.old i (rw w.index.starts at a))

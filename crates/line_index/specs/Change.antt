@@ -1,8 +1,9 @@
 -- What a step does to lines: which new line each old one comes to.
-use Rattle.std.specs.Prelude.{◌≡◌, ℕ, ◌+◌, ◌-◌, ◌<◌, nat_lt, nat_le, if◌then◌else◌, List, length, slice_index}
+use Rattle.std.specs.Prelude.{◌≡◌, ℕ, ◌+◌, ◌-◌, ◌<◌, ◌==◌, nat_lt, nat_le, if◌then◌else◌, List, length, slice_index}
 use Rattle.ed_model.specs.Lines.{line_of}
 use Rattle.ed_model.specs.NeighbourLaws.{count_before}
 use Rattle.line_index.specs.declared.change.NearLines.{NearLines}
+use Rattle.line_index.specs.declared.change.LinesAbout.{LinesAbout}
 use Rattle.line_index.specs.declared.change.LineChange.{LineChange}
 
 -- the lines of a place and of the two places behind it
@@ -10,10 +11,18 @@ abbrev pub near_lines : List ℕ → ℕ → NearLines
 near_lines starts place =
     record { at = line_of starts place; one_behind = line_of starts (place + 1); two_behind = line_of starts (place + 2) }
 
--- what a step at `place` leaves, which put text that ends at `new_end` in the place of what ended at `old_end`
-abbrev pub change_about : ℕ → ℕ → ℕ → List ℕ → List ℕ → LineChange
-change_about place old_end new_end old new =
-    record { before = count_before place old; old_lines = near_lines old old_end; new_lines = near_lines new new_end }
+-- the lines about a step, before it: how many start in front of its place, and those at the end of what it takes away
+abbrev pub lines_about : ℕ → ℕ → List ℕ → LinesAbout
+lines_about place end starts = record { before = count_before place starts; old_lines = near_lines starts end }
+
+-- what the step did to lines, told by those and by the new ones at the end of what it put in; the text is now so long
+abbrev pub change_since : LinesAbout → ℕ → List ℕ → ℕ → LineChange
+change_since about new_end starts length =
+    record { before = about.before; old_lines = about.old_lines; new_lines = near_lines starts new_end; emptied = length == 0 }
+
+-- what a step at `place` did, which put text that ends at `new_end` in the place of what ended at `old_end`
+abbrev pub change_about : ℕ → ℕ → ℕ → List ℕ → List ℕ → ℕ → LineChange
+change_about place old_end new_end old new length = change_since (lines_about place old_end old) new_end new length
 
 -- the new line that an old one comes to
 abbrev pub line_after : LineChange → ℕ → ℕ

@@ -1,5 +1,6 @@
 pub mod Index
 pub mod Change
 pub mod Edits
+pub mod StepEdits
 pub mod Ends
 pub mod RoomLaws

@@ -1,17 +1,28 @@
--- Laws of how many lines a step adds at most, for which room has to be there.
+-- How many lines a step adds at most, for which room has to be there.
 use Rattle.std.specs.Prelude.{ℕ, ◌+◌, ◌≤◌, List, ◌++◌, length, take, drop}
 use Rattle.ed_model.specs.declared.plan.LineEndTypes.{LineEndTypes}
 use Rattle.ed_model.specs.Lines.{line_count}
-use Rattle.ed_model.specs.Steps.{Insert, edited}
+use Rattle.ed_model.specs.Steps.{Step, Insert, Delete, edited}
 
--- an insertion adds no more lines than the bytes have by themselves and five, as ends may come about on either side
+-- an insertion: as many lines as the bytes have by themselves and five, as ends may come about on either side
+abbrev pub lines_for_insertion : LineEndTypes → List ℕ → ℕ
+lines_for_insertion types bytes = line_count types bytes + 5
+
+-- a deletion: three, as an end may come about of what it brings together
+abbrev pub lines_for_deletion : ℕ
+lines_for_deletion = 3
+
+abbrev pub lines_for_step : LineEndTypes → Step → ℕ
+lines_for_step types (Insert place bytes) = lines_for_insertion types bytes
+lines_for_step types (Delete place bytes) = lines_for_deletion
+
+-- they add no more
 abbrev pub InsertionAddsFewLines : Type 0
 InsertionAddsFewLines =
     (types : LineEndTypes) (place : ℕ) (bytes text : List ℕ) → place ≤ length text
-    → line_count types (edited (Insert place bytes) text) ≤ line_count types text + (line_count types bytes + 5)
+    → line_count types (edited (Insert place bytes) text) ≤ line_count types text + lines_for_insertion types bytes
 
--- a deletion adds no more than three, as an end may come about of what it brings together
 abbrev pub DeletionAddsFewLines : Type 0
 DeletionAddsFewLines =
     (types : LineEndTypes) (place count : ℕ) (text : List ℕ) → place + count ≤ length text
-    → line_count types (take place text ++ drop (place + count) text) ≤ line_count types text + 3
+    → line_count types (take place text ++ drop (place + count) text) ≤ line_count types text + lines_for_deletion

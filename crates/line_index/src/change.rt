@@ -14,6 +14,15 @@ pub struct NearLines {
     pub two_behind: usize,
 }
 
+/// What is looked up of lines before a step.
+#[derive(Clone, Copy, Debug, PartialEq, Eq)]
+pub struct LinesAbout {
+    /// How many lines start in front of the step.
+    pub before: usize,
+    /// The lines at the end of what the step takes away, which for an insertion is its place.
+    pub old_lines: NearLines,
+}
+
 /// Which new line each old one comes to, after a step.
 ///
 /// Old lines from `before - 1` up to `old_lines.two_behind` are those about the step, and new lines up to
@@ -26,6 +35,8 @@ pub struct LineChange {
     pub old_lines: NearLines,
     /// The new lines at the end of what the step put in, which for a deletion is its place.
     pub new_lines: NearLines,
+    /// Whether no text is left. What was kept of lines is then gone, and the one line is fresh.
+    pub emptied: bool,
 }
 
 impl LineChange {

@@ -3,6 +3,7 @@
 ghost use Rattle.std.specs.Prelude.{◌≡◌, ℕ, ◌+◌, ◌^◌, ◌≤◌, ◌<◌, ◌++◌, [], length, slice_index, IfOk, OnOk, OnErr, IsOk};
 ghost use Rattle.ed_model.specs.Lines.{line_starts, line_of, end_of_line};
 ghost use Rattle.partitioning.specs.Partitions.{IsFloorLog};
+ghost use Rattle.split_vector.specs.Split.{counted, most_room};
 ghost use Rattle.line_index.specs.Index.{IsIndexOf};
 
 use crate::halves::end_length;
@@ -97,6 +98,7 @@ impl<P: Place> LineIndex<P> {
         ensures within { result < length self.now.starts }
         ensures counted { probes.old ≤ probes.new }
         ensures few { (k : ℕ) → IsFloorLog k (length self.now.starts) → probes.new ≤ probes.old + (2 + k) }
+        ensures many { (k : ℕ) → IsFloorLog k (length self.now.starts) → counted probes.old k ≤ probes.new }
     {
         line_at(&self.starts, place, probes)
     }
@@ -109,6 +111,8 @@ impl<P: Place> LineIndex<P> {
     pub fn reserve(&mut self, count: usize) -> Result<(), AllocError>
         ensures ok { OnOk result ((count ≤ self.new.room) × (self.new ≡ record self.old { room = self.new.room })) }
         ensures room_is_there { count ≤ self.old.room → IsOk result × (self.new ≡ self.old) }
+        ensures room_stays { self.old.room ≤ self.new.room }
+        ensures at_most { OnOk result (self.new.room ≤ most_room (length self.old.starts) self.old.room count) }
         ensures err { OnErr result (self.new ≡ self.old) }
     {
         self.starts.reserve(count)

@@ -16,16 +16,19 @@
 mod adding;
 mod change;
 mod edit;
+mod edits;
 mod halves;
 mod index;
+mod laws;
 mod marks;
 mod room;
 mod starts;
 mod steps;
-#[cfg(test)]
-mod tests;
+mod whole;
 
-pub use change::{LineChange, NearLines};
+pub use change::{LineChange, LinesAbout, NearLines};
 pub use edit::LineEdit;
+pub use edits::LineEdits;
 pub use index::LineIndex;
-pub use room::{lines_in, room_for_steps};
+pub use laws::edits_of_steps;
+pub use room::{lines_for_deletion, lines_for_insertion, lines_in, room_for_steps};

@@ -4,7 +4,7 @@ ghost use Rattle.std.specs.Prelude.{◌≡◌, ◌≤◌, ◌<◌, ◌+◌, ◌=
 ghost use Rattle.ed_model.specs.Lines.{line_count};
 ghost use Rattle.ed_model.specs.Text.{carriage_return, line_feed};
 ghost use Rattle.line_index.specs.Index.{starts_within};
-ghost use Rattle.line_index.specs.RoomLaws.{DeletionAddsFewLines, InsertionAddsFewLines};
+ghost use Rattle.line_index.specs.RoomLaws.{DeletionAddsFewLines, InsertionAddsFewLines, lines_for_deletion, lines_for_insertion};
 
 use crate::halves::next_start;
 use ed_model::LineEndTypes;
@@ -120,7 +120,24 @@ pub fn lines_in(types: LineEndTypes, bytes: &[u8]) -> usize
     lines
 }
 
-/// An insertion needs room for as many lines as its bytes have by themselves, and five more; a deletion for three.
+/// Returns for how many lines there has to be room before the bytes are put in: as many as they have by themselves and
+/// five, as line ends may come about on either side.
+pub fn lines_for_insertion(types: LineEndTypes, bytes: &[u8]) -> usize
+    ensures lines { result ≡ lines_for_insertion types bytes.now }
+    ensures within { result ≤ length bytes.now + 6 }
+{
+    lines_in(types, bytes) + 5
+}
+
+/// Returns for how many lines there has to be room before bytes are deleted: three, as a line end may come about of what
+/// comes together.
+pub const fn lines_for_deletion() -> usize
+    ensures { result ≡ lines_for_deletion }
+{
+    3
+}
+
+/// No step adds more lines than that.
 pub fn room_for_steps()
     ensures insertion { InsertionAddsFewLines }
     ensures deletion { DeletionAddsFewLines }

@@ -3,11 +3,15 @@
 ghost use Rattle.std.specs.Prelude.{ℕ, ◌≡◌, ◌+◌, ◌-◌, ◌^◌, ◌≤◌, ◌<◌, ◌++◌, IsTrue, length, take, drop};
 ghost use Rattle.ed_model.specs.Lines.{line_of};
 ghost use Rattle.partitioning.specs.Partitions.{IsFloorLog, IsLastAtMost};
+ghost use Rattle.split_vector.specs.Split.{counted};
 ghost use Rattle.line_index.specs.Index.{IsFree, starts_within};
 ghost use Rattle.line_index.specs.Change.{near_lines};
+ghost use Rattle.line_index.specs.StepEdits.{SmallLines};
+ghost use Rattle.ed_model.specs.NeighbourLaws.{count_before};
 
 use crate::adding::{add_at, add_marked, marks_near, place_behind};
 use crate::change::NearLines;
+use crate::halves::next_start;
 use ed_model::LineEndTypes;
 use partitioning::{Partitioning, Place, Probes};
 
@@ -21,6 +25,7 @@ pub(crate) fn line_at<P: Place>(
     ensures within { result < length starts.now.starts }
     ensures counted { probes.old ≤ probes.new }
     ensures few { (k : ℕ) → IsFloorLog k (length starts.now.starts) → probes.new ≤ probes.old + (2 + k) }
+    ensures many { (k : ℕ) → IsFloorLog k (length starts.now.starts) → counted probes.old k ≤ probes.new }
 {
     let _ = starts.count(); // it says that the starts rise
     starts.partition_of(place, probes)
@@ -69,6 +74,15 @@ pub(crate) fn line_behind<P: Place>(
     line_from(starts, place.saturating_add(behind), likely)
 }
 
+// How many lines start in front of the place, where this is the line of the byte before it.
+pub(crate) fn lines_before<P: Place>(starts: &Partitioning<P>, place: usize, line: usize) -> usize
+    requires { line ≡ line_of starts.now.starts (place - 1) }
+    ensures { result ≡ count_before place starts.now.starts }
+{
+    let _ = starts.count(); // it says that the first line starts at 0
+    if place == 0 { 0 } else { line + 1 }
+}
+
 // The lines of a place and of the two behind it, of which the first is likely this line or the next.
 pub(crate) fn lines_near<P: Place>(
     starts: &Partitioning<P>,
@@ -77,6 +91,7 @@ pub(crate) fn lines_near<P: Place>(
 ) -> NearLines
     ensures lines { result ≡ near_lines starts.now.starts place }
     ensures within { result.two_behind < length starts.now.starts }
+    ensures small_lines { SmallLines result }
     ensures small { length starts.now.starts + starts.now.room < 2 ^ 63 }
 {
     let at = line_behind(starts, place, 0, likely);
@@ -128,7 +143,7 @@ pub(crate) fn add_starts<P: Place>(
             place = place_behind(types, before, after, place, to, marks);
         } else {
             line = add_at(starts, types, before, after, line, place);
-            place += 1;
+            place = next_start(types, before, after, place + 1, to);
         }
     }
 }

@@ -1,14 +1,15 @@
 //! Steps: what an insertion or a deletion does to the lines about it.
 
-ghost use Rattle.std.specs.Prelude.{◌≡◌, ◌+◌, ◌-◌, ◌≤◌, ◌<◌, ◌++◌, ◌==◌, min, length, if◌then◌else◌};
+ghost use Rattle.std.specs.Prelude.{◌≡◌, ◌+◌, ◌-◌, ◌≤◌, ◌<◌, ◌++◌, min, length};
 ghost use Rattle.ed_model.specs.Lines.{line_starts, line_count};
 ghost use Rattle.ed_model.specs.Steps.{moved_back};
 ghost use Rattle.line_index.specs.Index.{IsIndexOf, WasInserted, WasDeleted, index};
 ghost use Rattle.line_index.specs.Change.{MovesLines, change_about, moved_on};
+ghost use Rattle.line_index.specs.StepEdits.{SmallLines};
 
 use crate::change::LineChange;
 use crate::index::LineIndex;
-use crate::starts::{add_starts, line_behind, lines_near, remove_starts};
+use crate::starts::{add_starts, line_behind, lines_before, lines_near, remove_starts};
 use ed_model::LineEndTypes;
 use partitioning::{Partitioning, Place};
 
@@ -19,13 +20,6 @@ fn look_to(end: usize, before: &[u8], after: &[u8]) -> usize
 {
     let rest = before.len() + after.len() - end;
     end + 1 + rest.min(2)
-}
-
-// How many lines start before the place, where `first` is the one after that of the byte before it.
-fn lines_before(place: usize, first: usize) -> usize
-    ensures { result ≡ (if place == 0 then 0 else first) }
-{
-    if place == 0 { 0 } else { first }
 }
 
 // Puts `count` bytes into the text at `place`, and the line starts about them in the place of those that were there.
@@ -43,12 +37,14 @@ fn put_in<P: Place>(
     ensures starts { starts.new.starts ≡ line_starts types (before.now ++ after.now) }
     ensures length { starts.new.length ≡ length (before.now ++ after.now) }
     ensures room { starts.new.room + length starts.new.starts ≡ starts.old.room + length starts.old.starts }
-    ensures change { result ≡ change_about place place (place + count) starts.old.starts starts.new.starts }
+    ensures change { result ≡ change_about place place (place + count) starts.old.starts starts.new.starts starts.new.length }
     ensures moves { MovesLines (moved_on place count) starts.old.starts starts.new.starts result }
     ensures lines { (result.old_lines.two_behind < length starts.old.starts) × (result.new_lines.two_behind < length starts.new.starts) }
+    ensures small { SmallLines result.old_lines × SmallLines result.new_lines }
 {
     let edited = starts.step_at();
     let first = line_behind(starts, place.saturating_sub(1), 0, edited) + 1;
+    let in_front = lines_before(starts, place, first - 1);
     let old_lines = lines_near(starts, place, first - 1);
     remove_starts(starts, first, old_lines.two_behind + 1);
     starts.insert_text(first - 1, count);
@@ -57,9 +53,10 @@ fn put_in<P: Place>(
     add_starts(starts, types, before, after, first, place.max(1), to);
     let new_lines = lines_near(starts, end, first - 1);
     LineChange {
-        before: lines_before(place, first),
+        before: in_front,
         old_lines,
         new_lines,
+        emptied: starts.length() == 0,
     }
 }
 
@@ -78,13 +75,15 @@ fn take_out<P: Place>(
     ensures starts { starts.new.starts ≡ line_starts types (before.now ++ after.now) }
     ensures length { starts.new.length ≡ length (before.now ++ after.now) }
     ensures room { starts.new.room + length starts.new.starts ≡ starts.old.room + length starts.old.starts }
-    ensures change { result ≡ change_about place (place + count) place starts.old.starts starts.new.starts }
+    ensures change { result ≡ change_about place (place + count) place starts.old.starts starts.new.starts starts.new.length }
     ensures moves { MovesLines (moved_back place count) starts.old.starts starts.new.starts result }
     ensures lines { (result.old_lines.two_behind < length starts.old.starts) × (result.new_lines.two_behind < length starts.new.starts) }
+    ensures small { SmallLines result.old_lines × SmallLines result.new_lines }
 {
     let _ = starts.length(); // it says that the text is not too long
     let edited = starts.step_at();
     let first = line_behind(starts, place.saturating_sub(1), 0, edited) + 1;
+    let in_front = lines_before(starts, place, first - 1);
     let old_lines = lines_near(starts, place + count, first - 1);
     remove_starts(starts, first, old_lines.two_behind + 1);
     starts.delete_text(first - 1, count);
@@ -92,9 +91,10 @@ fn take_out<P: Place>(
     add_starts(starts, types, before, after, first, place.max(1), to);
     let new_lines = lines_near(starts, place, first - 1);
     LineChange {
-        before: lines_before(place, first),
+        before: in_front,
         old_lines,
         new_lines,
+        emptied: starts.length() == 0,
     }
 }
 
@@ -115,9 +115,10 @@ impl<P: Place> LineIndex<P> {
         ensures types { self.new.types ≡ self.old.types }
         ensures index { IsIndexOf (before.now ++ after.now) self.new }
         ensures room { self.new.room + length self.new.starts ≡ self.old.room + length self.old.starts }
-        ensures change { result ≡ change_about place place (place + count) self.old.starts self.new.starts }
+        ensures change { result ≡ change_about place place (place + count) self.old.starts self.new.starts self.new.length }
         ensures moves { MovesLines (moved_on place count) self.old.starts self.new.starts result }
         ensures lines { (result.old_lines.two_behind < length self.old.starts) × (result.new_lines.two_behind < length self.new.starts) }
+        ensures small { SmallLines result.old_lines × SmallLines result.new_lines }
     {
         put_in(&mut self.starts, self.types, place, count, before, after)
     }
@@ -131,9 +132,10 @@ impl<P: Place> LineIndex<P> {
         ensures types { self.new.types ≡ self.old.types }
         ensures index { IsIndexOf (before.now ++ after.now) self.new }
         ensures room { self.new.room + length self.new.starts ≡ self.old.room + length self.old.starts }
-        ensures change { result ≡ change_about place (place + count) place self.old.starts self.new.starts }
+        ensures change { result ≡ change_about place (place + count) place self.old.starts self.new.starts self.new.length }
         ensures moves { MovesLines (moved_back place count) self.old.starts self.new.starts result }
         ensures lines { (result.old_lines.two_behind < length self.old.starts) × (result.new_lines.two_behind < length self.new.starts) }
+        ensures small { SmallLines result.old_lines × SmallLines result.new_lines }
     {
         take_out(&mut self.starts, self.types, place, count, before, after)
     }

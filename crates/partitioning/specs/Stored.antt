@@ -1,4 +1,5 @@
 -- How a `Partitioning` stores its starts: up to the step as they are, and behind it as their distances to the end.
+use Rattle.split_vector.specs.Split.{apart}
 use Rattle.std.specs.Prelude.{◌≡◌, ℕ, ◌+◌, ◌-◌, ◌<◌, ◌≤◌, min, List, length, slice_index}
 use Rattle.partitioning.specs.Partitions.{ArePartitions, map_from}
 
@@ -9,6 +10,10 @@ starts_of end step stored = map_from (λ distance. end - distance) (step + 1) st
 -- how many of the starts are stored as they are
 abbrev pub near_count : ℕ → ℕ → ℕ
 near_count step count = min count (step + 1)
+
+-- how many of so many starts are stored anew where the step moves from one partition to another
+abbrev pub steps_between : ℕ → ℕ → ℕ → ℕ
+steps_between from to count = apart (near_count to count) (near_count from count)
 
 -- none of the numbers is past the end
 abbrev pub AreWithin : ℕ → List ℕ → Type 0

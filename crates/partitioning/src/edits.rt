@@ -1,7 +1,8 @@
 //! The calls that change partitions. Each moves the step to the partition that it names.
-ghost use Rattle.std.specs.Prelude.{◌≡◌, ◌≤◌, ◌<◌, ◌+◌, length, insert, remove};
+ghost use Rattle.std.specs.Prelude.{◌≡◌, ◌≤◌, ◌<◌, ◌+◌, ◌-◌, length, insert, remove};
 ghost use Rattle.partitioning.specs.Partitions.{ArePartitions, CanStart, CanLose, raised_behind, lowered_behind};
-ghost use Rattle.split_vector.specs.Split.{apart};
+ghost use Rattle.partitioning.specs.Stored.{steps_between};
+ghost use Rattle.split_vector.specs.Split.{apart, counted};
 
 use crate::places::Place;
 use crate::table::Partitioning;
@@ -17,6 +18,7 @@ impl<P: Place, A: Allocator> Partitioning<P, A> {
         ensures room { self.new.room + 1 ≡ self.old.room }
         ensures step_at { self.new.step_at ≡ index }
         ensures counted { self.old.stepped ≤ self.new.stepped }
+        ensures stepped { self.new.stepped ≡ counted self.old.stepped (steps_between self.old.step_at (index - 1) (length self.old.starts)) }
         ensures few { self.new.stepped ≤ self.old.stepped + (apart index self.old.step_at + 1) }
         ensures sound { ArePartitions self.new.starts self.new.length }
     {
@@ -33,6 +35,7 @@ impl<P: Place, A: Allocator> Partitioning<P, A> {
         ensures room { self.new.room ≡ self.old.room + 1 }
         ensures step_at { self.new.step_at ≡ index }
         ensures counted { self.old.stepped ≤ self.new.stepped }
+        ensures stepped { self.new.stepped ≡ counted self.old.stepped (steps_between self.old.step_at (index + 1) (length self.old.starts)) }
         ensures few { self.new.stepped ≤ self.old.stepped + (apart index self.old.step_at + 1) }
         ensures sound { ArePartitions self.new.starts self.new.length }
     {
@@ -52,6 +55,7 @@ impl<P: Place, A: Allocator> Partitioning<P, A> {
         ensures room { self.new.room ≡ self.old.room }
         ensures step_at { self.new.step_at ≡ index }
         ensures counted { self.old.stepped ≤ self.new.stepped }
+        ensures stepped { self.new.stepped ≡ counted self.old.stepped (steps_between self.old.step_at index (length self.old.starts)) }
         ensures few { self.new.stepped ≤ self.old.stepped + (apart index self.old.step_at + 1) }
         ensures sound { ArePartitions self.new.starts self.new.length }
     {
@@ -69,6 +73,7 @@ impl<P: Place, A: Allocator> Partitioning<P, A> {
         ensures room { self.new.room ≡ self.old.room }
         ensures step_at { self.new.step_at ≡ index }
         ensures counted { self.old.stepped ≤ self.new.stepped }
+        ensures stepped { self.new.stepped ≡ counted self.old.stepped (steps_between self.old.step_at index (length self.old.starts)) }
         ensures few { self.new.stepped ≤ self.old.stepped + (apart index self.old.step_at + 1) }
         ensures sound { ArePartitions self.new.starts self.new.length }
     {

@@ -143,6 +143,7 @@ impl<P: Place, A: Allocator> Partitioning<P, A> {
         ensures last { IsLastAtMost self.now.starts place result }
         ensures counted { probes.old ≤ probes.new }
         ensures few { (k : ℕ) → IsFloorLog k (length self.now.starts) → probes.new ≤ probes.old + (2 + k) }
+        ensures many { (k : ℕ) → IsFloorLog k (length self.now.starts) → counted probes.old k ≤ probes.new }
     {
         let wanted = P::from_usize(place.min(self.length()));
         let mut low = 0;

@@ -35,10 +35,15 @@ add_at-line-requires g c =
 
 pub adding-preserved : goal.adding-preserved
 adding-preserved g c =
+    let text = c.args.before.now ++ c.args.after.now in
     let inv = c.adding.invariant in
+    let next = c.next_start-place.result in
+    let to_next = added_both c.args.types text c.args.from c.adding.place (c.adding.place + 1) c.args.first c.adding.line c.add_at-line.result
+    c.args.starts.now c.adding.starts c.add_at-line.new.starts c.requires.free.within inv.low (omega arith) inv.added c.add_at-line.ensures in
     record {
-      added = added_both c.args.types (c.args.before.now ++ c.args.after.now) c.args.from c.adding.place (c.adding.place + 1) c.args.first c.adding.line c.add_at-line.result
-          c.args.starts.now c.adding.starts c.add_at-line.new.starts c.requires.free.within inv.low (omega arith) inv.added c.add_at-line.ensures;
-      low = omega (arith, inv.low);
-      high = omega arith;
+      added = added_both c.args.types text c.args.from (c.adding.place + 1) next c.args.first c.add_at-line.result c.add_at-line.result
+          c.args.starts.now c.add_at-line.new.starts c.add_at-line.new.starts c.requires.free.within (omega (arith, inv.low)) c.next_start-place.ensures.within.0
+          to_next (added_none c.args.types text (c.adding.place + 1) next c.add_at-line.result c.add_at-line.new.starts c.next_start-place.ensures.none);
+      low = omega (arith, inv.low, c.next_start-place.ensures.within.0);
+      high = c.next_start-place.ensures.within.1;
     }

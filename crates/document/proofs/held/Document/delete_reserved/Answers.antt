@@ -4,9 +4,13 @@ use Rattle.cell_buffer.specs.Buffer.{Buffer}
 use Rattle.ed_model.specs.Text.{Cell, bytes_of}
 use Rattle.ed_model.specs.Steps.{Delete}
 use Rattle.ed_model.specs.History.{TextStep, appended}
-use Rattle.document.specs.Held.{Held, document_of, step_on}
+use Rattle.ed_model.specs.declared.plan.LineEndTypes.TheVariants.{Default}
+use Rattle.line_index.specs.RoomLaws.{lines_for_deletion}
+use Rattle.line_index.specs.declared.change.LineChange.{LineChange}
+use Rattle.line_index.specs.StepEdits.{change_of}
+use Rattle.document.specs.Held.{Held, HasLinesOf, document_of, step_on}
 use Rattle.document.proofs.PlainStep.{stepped_parts, deleted_cells}
-use Rattle.document.proofs.LineSteps.{told_of_deletion, deletion_fits, deletion_takes, deleted_count}
+use Rattle.document.proofs.LineSteps.{told_of_deletion, deletion_fits, deletion_takes, deleted_count, change_of_deletion}
 use Rattle.document.proofs.held.Document.delete_reserved.Goals as goal
 
 pub returns-clause-document : goal.returns-clause-document
@@ -36,7 +40,7 @@ deleted-requires-clause-room c =
     let place = c.args.place in
     let count = c.args.count in
     let within : place + count ≤ length c.self.inside.cells.cells = subst (λ (h : Held). place + count ≤ length h.cells) (sym c.self.view_is) c.requires.place in
-    let room : 3 ≤ c.self.inside.lines.room = subst (λ (h : Held). 3 ≤ h.line_room) (sym c.self.view_is) c.requires.room.1 in
+    let room : lines_for_deletion ≤ c.self.inside.lines.room = subst (λ (h : Held). lines_for_deletion ≤ h.line_room) (sym c.self.view_is) c.requires.room.1 in
     let left = c.delete.ensures.cells ∙ ap (λ (b : Buffer). take place b.cells ++ drop (place + count) b.cells) c.lend-deleted.follows.holds-at-none in
     deletion_fits c.self.inside.cells.cells c.delete.new.self.cells c.self.inside.lines place count _ c.room_for_steps.ensures.deletion c.self.invariant.lines within room left c.halves.ensures.joined
 
@@ -51,3 +55,15 @@ returns-clause-room_left c =
     let counted = ap length c.lend-deleted.ensures.value ∙ deleted_count c.self.inside.cells.cells place count within in
     let bytes_left : c.self.inside.history.byte_room ≤ c.append_reserved.new.self.byte_room + count = omega (arith, c.append_reserved.ensures.bytes_left, counted) in
     rw (← c.self.view_is) (record { collects = search rules; text_left = search rules; lines_left = taken; steps_left = search rules; bytes_left = bytes_left })
+
+pub returns-clause-lines : goal.returns-clause-lines
+returns-clause-lines c =
+    let place = c.args.place in
+    let count = c.args.count in
+    let within : place + count ≤ length c.self.inside.cells.cells = subst (λ (h : Held). place + count ≤ length h.cells) (sym c.self.view_is) c.requires.place in
+    let left = c.delete.ensures.cells ∙ ap (λ (b : Buffer). take place b.cells ++ drop (place + count) b.cells) c.lend-deleted.follows.holds-at-none in
+    let cells = deleted_cells c.self.inside.cells.cells c.delete.new.self.cells place count within left in
+    let same = ap (λ (h : Held). change_of Default (Delete place (slice_range (bytes_of h.cells) place (place + count))) (bytes_of h.cells)) c.self.view_is in
+    c.deleted.ensures.change
+    ∙ change_of_deletion c.self.inside.cells.cells c.delete.new.self.cells c.self.inside.lines c.deleted.new.self place count within c.self.invariant.lines (search rules) cells
+    ∙ same

@@ -1,5 +1,5 @@
-use Rattle.std.proofs.Common.{◌≡◌, ◌+◌, ◌-◌, ◌/◌, min, length, refl, ap, ◌∙◌, arith}
-use Rattle.partitioning.proofs.Halving.{halved, found, above_later, below_where_not}
+use Rattle.std.proofs.Common.{rules, ◌≡◌, ◌+◌, ◌-◌, ◌/◌, min, length, refl, ap, ◌∙◌, arith}
+use Rattle.partitioning.proofs.Halving.{halved, halved_again, read_enough, found, above_later, below_where_not}
 use Rattle.partitioning.proofs.table.Partitioning.partition_of.Goals as goal
 
 pub halving-preserved-then-is_at_most : goal.halving-preserved-then-is_at_most
@@ -11,6 +11,9 @@ halving-preserved-then-is_at_most g c =
       at_most = let t = c.if-is_at_most.ensures in omega (arith, t.0 refl, c.probe.ensures.start);
       above = rw q h.invariant.above;
       counted = omega arith;
+      many =
+          halved_again (length c.args.self.now.starts) c.args.probes.now h.probes c.probe.new.probes h.width (h.width - h.width / 2) (omega arith)
+          c.probe.ensures.probes (omega arith) h.invariant.many;
       few =
           halved (length c.args.self.now.starts) c.args.probes.now h.probes c.probe.new.probes h.width (h.width - h.width / 2) (omega arith)
           (omega arith) (omega arith) h.invariant.few;
@@ -29,6 +32,7 @@ halving-preserved g c =
           above_later s c.args.self.now.length w (h.low + h.width / 2) (h.low + (h.width - h.width / 2)) c.length.ensures.sound
           (omega (arith, below_where_not _ _ t.1, c.probe.ensures.start)) (omega arith) b;
       counted = omega arith;
+      many = halved_again (length s) c.args.probes.now h.probes c.probe.new.probes h.width (h.width - h.width / 2) (omega arith) c.probe.ensures.probes (omega arith) h.invariant.many;
       few =
           halved (length s) c.args.probes.now h.probes c.probe.new.probes h.width (h.width - h.width / 2) (omega arith) (omega arith)
           (omega arith) h.invariant.few;
@@ -40,3 +44,16 @@ returns-clause-last g c =
     found c.args.self.now.starts c.args.self.now.length c.args.place (g.P.Place.number c.from_usize-wanted.result) h.low h.width
     c.length.ensures.sound (c.from_usize-wanted.ensures ∙ c.min.ensures ∙ ap (min c.args.place) c.length.ensures.length)
     h.invariant.in_range (omega arith) h.invariant.at_most h.invariant.above
+
+pub returns-clause-many : goal.returns-clause-many
+returns-clause-many g c = λ k log. read_enough (length c.args.self.now.starts) c.args.probes.now c.halving.probes c.halving.width k (omega arith) c.halving.invariant.many log
+
+pub halving-init : goal.halving-init
+halving-init g c = record {
+  in_range = search rules;
+  at_most = search rules;
+  above = search rules;
+  counted = omega arith;
+  many = λ k log. (k, omega (arith, log, c.count-width.ensures.count), omega arith);
+  few = search rules;
+}

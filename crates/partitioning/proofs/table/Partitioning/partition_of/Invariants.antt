@@ -1,5 +1,5 @@
 use Rattle.std.proofs.Common.{◌+◌, ◌<◌, ◌≤◌, length, get_or}
-use Rattle.partitioning.proofs.Halving.{MayRead}
+use Rattle.partitioning.proofs.Halving.{MayRead, MustRead}
 use Rattle.partitioning.proofs.table.Partitioning.partition_of.Given as goal
 
 abbrev pub invariant-halving : goal.invariant-halving
@@ -9,6 +9,7 @@ invariant-halving g l =
       at_most : get_or l.self.starts l.low 0 ≤ g.P.Place.number l.wanted;
       above : l.low + l.width < length l.self.starts → g.P.Place.number l.wanted < get_or l.self.starts (l.low + l.width) 0;
       counted : l.initial.probes ≤ l.probes;
+      many : MustRead (length l.self.starts) l.initial.probes l.probes l.width;
       few : MayRead (length l.self.starts) l.initial.probes l.probes l.width;
     }
 

@@ -2,7 +2,9 @@
 ghost use Rattle.std.specs.Prelude.{◌≡◌, ◌+◌, ◌≤◌, length, IfOk};
 ghost use Rattle.line_index.specs.Index.{IsIndexOf};
 
-use crate::{LineChange, LineIndex, lines_in, room_for_steps};
+use line_index::{
+    LineChange, LineEdit, LineIndex, lines_for_deletion, lines_for_insertion, lines_in, room_for_steps,
+};
 use ed_model::LineEndTypes;
 use partitioning::{Place, Probes};
 use std::alloc::{AllocError, Global};
@@ -28,7 +30,7 @@ fn insert<P: Place>(
     new.extend_from_slice(&old[place..])?;
     let types = index.types();
     room_for_steps();
-    index.reserve(lines_in(types, bytes) + 5)?;
+    index.reserve(lines_for_insertion(types, bytes))?;
     let text = new.as_slice();
     assert!(rt; text.len() <= P::GREATEST);
     assert!(rt; cut <= text.len());
@@ -55,7 +57,7 @@ fn delete<P: Place>(
     new.extend_from_slice(&old[..place])?;
     new.extend_from_slice(&old[place + count..])?;
     room_for_steps();
-    index.reserve(3)?;
+    index.reserve(lines_for_deletion())?;
     let text = new.as_slice();
     assert!(rt; cut <= text.len());
     let (before, after) = text.split_at(cut);
@@ -129,6 +131,18 @@ fn line_ends_of_unicode(rt: HostRuntime) -> Result<(), Fail> {
     let (_, _) = delete(&rt, alloc, &mut index, text.as_slice(), 2, 1, 2)?;
     assert_starts(&rt, &index, &[0, 3, 7], 8);
     Ok(())
+}
+
+// What is kept of each line is told of the step by these edits.
+fn assert_edits(rt: &impl Abort, change: &LineChange, wanted: &[LineEdit]) {
+    assert!(rt; change.old_lines.at < 1 << 63);
+    assert!(rt; change.old_lines.one_behind < 1 << 63);
+    assert!(rt; change.old_lines.two_behind < 1 << 63);
+    assert!(rt; change.new_lines.at < 1 << 63);
+    assert!(rt; change.new_lines.one_behind < 1 << 63);
+    assert!(rt; change.new_lines.two_behind < 1 << 63);
+    let edits = change.edits();
+    assert_eq!(rt; edits.as_slice(), wanted);
 }
 
 // The old lines come to these new ones.
@@ -228,4 +242,68 @@ fn a_refused_growth_changes_nothing(rt: HostRuntime) -> Result<(), Fail> {
     assert!(rt; index.reserve(usize::MAX).is_err());
     assert_starts(&rt, &index, &[0], 0);
     Ok(())
+}
+
+fn row_of_changes<P: Place>(rt: &impl Abort, alloc: Global) -> Result<(), Fail> {
+    let mut index: LineIndex<P> = LineIndex::new(alloc, LineEndTypes::Default)?;
+    let (text, change) = insert(rt, alloc, &mut index, b"", 0, b"x\nY", 1)?;
+    assert_edits(rt, &change, &[LineEdit::Come { line: 0, count: 1 }]);
+    let (text, change) = insert(rt, alloc, &mut index, text.as_slice(), 2, b"abc\n", 3)?;
+    assert_edits(rt, &change, &[LineEdit::Come { line: 1, count: 1 }]);
+    let (text, change) = insert(rt, alloc, &mut index, text.as_slice(), 1, b"z", 3)?;
+    assert_edits(rt, &change, &[]);
+    let (text, change) = delete(rt, alloc, &mut index, text.as_slice(), 1, 6, 1)?;
+    assert_eq!(rt; text.as_slice(), b"xY".as_slice());
+    assert_edits(rt, &change, &[LineEdit::Join { line: 0, count: 2 }]);
+    let (_, change) = delete(rt, alloc, &mut index, text.as_slice(), 0, 2, 0)?;
+    assert_edits(rt, &change, &[LineEdit::Restart]);
+    Ok(())
+}
+
+#[test]
+fn edits_of_steps_in_small_places(rt: HostRuntime) -> Result<(), Fail> {
+    row_of_changes::<u32>(&rt, rt.alloc())
+}
+
+#[test]
+fn edits_of_steps_in_large_places(rt: HostRuntime) -> Result<(), Fail> {
+    row_of_changes::<u64>(&rt, rt.alloc())
+}
+
+// A CR LF is split and joined again, and an LF comes behind a CR alone: its row stays with the line behind it.
+#[test]
+fn edits_about_line_ends(rt: HostRuntime) -> Result<(), Fail> {
+    let alloc = rt.alloc();
+    let mut index: LineIndex<u32> = LineIndex::new(alloc, LineEndTypes::Default)?;
+    let (text, _) = insert(&rt, alloc, &mut index, b"", 0, b"x\r\na", 2)?;
+    let (text, change) = insert(&rt, alloc, &mut index, text.as_slice(), 2, b"z", 3)?;
+    assert_edits(&rt, &change, &[LineEdit::Come { line: 1, count: 1 }]);
+    let (text, change) = delete(&rt, alloc, &mut index, text.as_slice(), 2, 1, 2)?;
+    assert_edits(&rt, &change, &[LineEdit::Join { line: 0, count: 1 }]);
+    let (text, _) = delete(&rt, alloc, &mut index, text.as_slice(), 2, 1, 2)?;
+    assert_eq!(rt; text.as_slice(), b"x\ra".as_slice());
+    let (_, change) = insert(&rt, alloc, &mut index, text.as_slice(), 2, b"\n", 2)?;
+    assert_edits(&rt, &change, &[]);
+    Ok(())
+}
+
+// The bytes of one step come piece after piece: the row of line 1 goes with `Y`.
+fn row_of_pieces<P: Place>(rt: &impl Abort, alloc: Global) -> Result<(), Fail> {
+    let mut index: LineIndex<P> = LineIndex::new(alloc, LineEndTypes::Default)?;
+    let (text, _) = insert(rt, alloc, &mut index, b"", 0, b"x\nY", 1)?;
+    let about = index.lines_about(2, 2);
+    let (text, first) = insert(rt, alloc, &mut index, text.as_slice(), 2, b"ab", 3)?;
+    assert_edits(rt, &first, &[]);
+    let (text, last) = insert(rt, alloc, &mut index, text.as_slice(), 4, b"c\n", 3)?;
+    assert_eq!(rt; text.as_slice(), b"x\nabc\nY".as_slice());
+    assert_edits(rt, &last, &[LineEdit::Come { line: 2, count: 1 }]);
+    let whole = index.change_since(about, 6);
+    assert_edits(rt, &whole, &[LineEdit::Come { line: 1, count: 1 }]);
+    Ok(())
+}
+
+#[test]
+fn one_change_of_many_pieces(rt: HostRuntime) -> Result<(), Fail> {
+    row_of_pieces::<u32>(&rt, rt.alloc())?;
+    row_of_pieces::<u64>(&rt, rt.alloc())
 }

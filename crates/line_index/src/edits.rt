@@ -1,0 +1,158 @@
+//! What a step does to lines, as edits: a short list, for which no memory is taken.
+
+ghost use Rattle.std.specs.Prelude.{◌≡◌, ◌+◌, ◌-◌, ◌^◌, ◌≤◌, ◌<◌, ◌∷◌, ◌++◌, [], length};
+ghost use Rattle.line_index.specs.StepEdits.{SmallLines, came, edits_of, joined, last_at, last_one_behind, settled};
+
+use crate::change::{LineChange, NearLines};
+use crate::edit::LineEdit;
+use std::marker::Model;
+
+// How many edits there are at most: two for each of three places.
+const MOST: usize = 6;
+
+/// The edits of a step, in the order in which they are made.
+#[derive(Drop)]
+pub struct LineEdits {
+    edits: [LineEdit; MOST],
+    count: usize,
+}
+
+impl Model for LineEdits {
+    ghost use Rattle.std.specs.Prelude.{◌≤◌, List, take};
+    ghost use Rattle.line_index.specs.declared.edit.LineEdit.{LineEdit};
+
+    ghost Value = { List LineEdit };
+
+    ghost view = { λ e. take e.count e.edits };
+
+    ghost invariant = { λ e. e.count ≤ 6 };
+}
+
+impl LineEdits {
+    // No edits.
+    fn none() -> Self
+        ensures { result ≡ [] }
+    {
+        LineEdits {
+            edits: [LineEdit::Restart; MOST],
+            count: 0,
+        }
+    }
+
+    // Appends one.
+    fn push(&mut self, edit: LineEdit)
+        requires { length self.old < 6 }
+        ensures { self.new ≡ self.old ++ edit ∷ [] }
+    {
+        self.edits[self.count] = edit;
+        self.count += 1;
+    }
+
+    /// The edits, the first one first.
+    pub fn as_slice(&self) -> &[LineEdit]
+        ensures { result.now ≡ self.now }
+    {
+        &self.edits[..self.count]
+    }
+}
+
+// The `count` lines behind the line are joined to it, if there are some.
+fn join(edits: &mut LineEdits, line: usize, count: usize)
+    requires { length edits.old < 6 }
+    ensures edits { edits.new ≡ edits.old ++ joined line count }
+    ensures few { length edits.new ≤ length edits.old + 1 }
+{
+    if count != 0 {
+        edits.push(LineEdit::Join { line, count });
+    }
+}
+
+// Fresh lines come before the line, if there are some.
+fn come(edits: &mut LineEdits, line: usize, count: usize)
+    requires { length edits.old < 6 }
+    ensures edits { edits.new ≡ edits.old ++ came line count }
+    ensures few { length edits.new ≤ length edits.old + 1 }
+{
+    if count != 0 {
+        edits.push(LineEdit::Come { line, count });
+    }
+}
+
+// The next `count` old lines settle on a new line, where those in front of `next` are settled.
+fn settle(edits: &mut LineEdits, next: usize, line: usize, count: usize)
+    requires room { length edits.old ≤ 4 }
+    requires small { line < 2 ^ 63 }
+    ensures edits { edits.new ≡ edits.old ++ settled next line count }
+    ensures few { length edits.new ≤ length edits.old + 2 }
+{
+    if line < next {
+        join(edits, line, count);
+    } else if count == 0 {
+        come(edits, next, line + 1 - next);
+    } else {
+        join(edits, next, count - 1);
+        come(edits, next, line - next);
+    }
+}
+
+// The last old line that comes to the new line of the step's end.
+fn last_line_at(old: &NearLines, new: &NearLines) -> usize
+    ensures { result ≡ last_at old.now new.now }
+{
+    if new.two_behind == new.at {
+        old.two_behind
+    } else if new.one_behind == new.at {
+        old.one_behind
+    } else {
+        old.at
+    }
+}
+
+// The last old line that comes to the new line of the place one byte behind the step's end.
+fn last_line_one_behind(old: &NearLines, new: &NearLines) -> usize
+    ensures { result ≡ last_one_behind old.now new.now }
+{
+    if new.two_behind == new.one_behind {
+        old.two_behind
+    } else {
+        old.one_behind
+    }
+}
+
+impl LineChange {
+    /// The edits that make of what was kept of each old line what is to be kept of each new one. An ordinary step inside
+    /// a line has none.
+    pub fn edits(&self) -> LineEdits
+        requires { SmallLines self.now.old_lines × SmallLines self.now.new_lines }
+        ensures { result ≡ edits_of self.now }
+    {
+        let mut edits = LineEdits::none();
+        if self.emptied {
+            edits.push(LineEdit::Restart);
+            return edits;
+        }
+        let old = &self.old_lines;
+        let new = &self.new_lines;
+        let first = last_line_at(old, new);
+        let second = last_line_one_behind(old, new);
+        settle(
+            &mut edits,
+            self.before,
+            new.at,
+            (first + 1).saturating_sub(self.before),
+        );
+        settle(
+            &mut edits,
+            new.at + 1,
+            new.one_behind,
+            second.saturating_sub(first),
+        );
+        settle(
+            &mut edits,
+            new.one_behind + 1,
+            new.two_behind,
+            old.two_behind.saturating_sub(second),
+        );
+        edits
+    }
+}

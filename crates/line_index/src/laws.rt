@@ -1,0 +1,13 @@
+//! Laws, each a public function with an empty body whose contract says what holds of all texts, steps and rows.
+
+ghost use Rattle.ed_model.specs.Rows.{Flags, Row};
+ghost use Rattle.line_index.specs.StepEdits.{EditsBringFewLines, EditsCarryRows, EditsFitLines};
+
+/// The edits of what a step did to lines make of the rows of the old lines those of the new ones, and so with a view's
+/// flags. They name lines that there are, and bring no more fresh ones than there has to be room for.
+pub fn edits_of_steps()
+    ensures rows { EditsCarryRows Row }
+    ensures flags { EditsCarryRows Flags }
+    ensures fit { EditsFitLines }
+    ensures few { EditsBringFewLines }
+{}
