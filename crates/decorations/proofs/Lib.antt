@@ -1,1 +1,7 @@
+pub mod Changed
+pub mod Kept
+pub mod Numbered
+pub mod RunEnds
+pub mod Shown
 pub mod SlotLists
+pub mod Values

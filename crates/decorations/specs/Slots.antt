@@ -91,3 +91,7 @@ pub record IsLeft (place count : ℕ) (old new : Runs ℕ) : Type 0 where
 abbrev pub GaveAway : ℕ → ℕ → Option (Runs ℕ) → Option (Runs ℕ) → Type 0
 GaveAway place count None new = new ≡ None
 GaveAway place count (Some old) new = MatchOption new (IsClear (deleted old.values place count)) (IsLeft place count old)
+
+-- a slot of an indicator with the values after a fill
+abbrev pub WasFilled : List ℕ → Option (Runs ℕ) → Type 0
+WasFilled values slot = MatchOption slot (IsClear values) (λ (runs : Runs ℕ). (runs.values ≡ values) × (runs.default ≡ 0) × (IsClear values → ⊥))

@@ -4,7 +4,7 @@
 //! indicators costs its length alone, and a step costs the indicators in use.
 #![tactic(auto)]
 
-// mod decorations;
+mod decorations;
 mod slots;
 
-// pub use decorations::Decorations;
+pub use decorations::{Decorations, INDICATORS};
