@@ -8,7 +8,7 @@ use Rattle.std.proofs.lemmas.Bool.{ne_eqb, cond_both}
 use Rattle.ed_model.specs.Indicators.{changed_places, changed_range, extent}
 use Rattle.run_styles.specs.Runs.{IsChangedRange}
 
-range-append : (a m n : ℕ) → range_with_len a (m + n) ≡ range_with_len a m ++ range_with_len (a + m) n
+pub range-append : (a m n : ℕ) → range_with_len a (m + n) ≡ range_with_len a m ++ range_with_len (a + m) n
 range-append a zero n = rw (zero-add, add-zero)
 range-append a (suc m) n =
     let e : suc m + n ≡ suc (m + n) = omega arith in

@@ -1,5 +1,6 @@
 pub mod Changed
 pub mod Kept
+pub mod Masks
 pub mod Numbered
 pub mod RunEnds
 pub mod Shown

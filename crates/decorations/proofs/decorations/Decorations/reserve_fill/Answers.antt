@@ -8,7 +8,7 @@ invariant_of-self-2 g c =
     let d = c.self.inside in
     let after = c.reserve_one.new in
     let made = c.in-Ok.ensures.ok in
-    ready_slots g.P.Place.GREATEST d.size d.room c.in-Some.runs c.args.indicator d.ready after.slots.items after.spare ?
+    ready_slots g.P.Place.GREATEST d.size d.room c.in-Some.runs c.args.indicator d.ready after.slots.items after.spare c.in-Some.ensures.1
     (grown_slots g.P.Place.GREATEST d.size d.room d.ready d.slots.items after.slots.items d.spare after.spare c.self.invariant c.in-Ok.ensures.same c.in-Ok.ensures.length.0 c.in-Ok.ensures.length.1 c.in-Ok.ensures.unused c.in-Ok.ensures.stays)
     made.0 made.1
 
