@@ -1,11 +1,11 @@
 -- The smallest range that holds all changes is the model's.
-use Rattle.std.proofs.Common.{◌≡◌, ◌≢◌, ℕ, zero, suc, ◌+◌, ◌-◌, ◌<◌, ◌≤◌, ◌==◌, not, Bool, true, false, List, [], ◌∷◌, ◌++◌, length, take, drop, get_or, filter, Option, Some, None, IfNone, IfSome, unwrap_or, refl, sym, ap, ◌∙◌, arith, inl, inr, eq-eqb, add-zero, zero-add, append-nil}
+use Rattle.std.proofs.Common.{◌≡◌, ◌≢◌, ℕ, zero, suc, ◌+◌, ◌-◌, ◌<◌, ◌≤◌, ◌==◌, not, Bool, true, false, List, [], ◌∷◌, ◌++◌, length, get_or, filter, Option, Some, None, IfNone, IfSome, refl, sym, ap, ◌∙◌, arith, eq-eqb, add-zero, zero-add, append-nil}
 use Rattle.std.specs.List.{range_with_len, last_or, slice_get}
 use Rattle.std.proofs.lemmas.Option.{slice_get-get_or}
 use Rattle.std.proofs.lemmas.List.{get_or-take, get_or-drop}
 use Rattle.std.proofs.lemmas.List.Elements.{filter-append}
 use Rattle.std.proofs.lemmas.Bool.{ne_eqb, cond_both}
-use Rattle.ed_model.specs.Indicators.{changed_places, changed_range, extent}
+use Rattle.ed_model.specs.Indicators.{changed_range, extent}
 use Rattle.run_styles.specs.Runs.{IsChangedRange}
 
 pub range-append : (a m n : ℕ) → range_with_len a (m + n) ≡ range_with_len a m ++ range_with_len (a + m) n

@@ -1,13 +1,13 @@
 -- Slots stay slots through the steps.
-use Rattle.std.proofs.Common.{◌≡◌, ◌≢◌, ℕ, ◌+◌, ◌-◌, ◌<◌, ◌≤◌, ◌==◌, if◌then◌else◌, List, length, set, map, replicate, Option, Some, None, IfSome, IfNone, MatchOption, is_some, refl, sym, ap, ◌∙◌, subst, arith, inl, inr}
+use Rattle.std.proofs.Common.{◌≡◌, ℕ, ◌+◌, ◌-◌, ◌<◌, ◌≤◌, List, length, set, replicate, Option, Some, None, IfSome, IfNone, MatchOption, refl, sym, ap, ◌∙◌, subst, arith, inl, inr}
 use Rattle.std.proofs.lemmas.List.{get_or-set_same, get_or-set_other, length-set}
 use Rattle.std.proofs.lemmas.Bool.{cases_eq}
-use Rattle.ed_model.specs.Indicators.{indicator_after, indicators_after, filled}
+use Rattle.ed_model.specs.Indicators.{indicator_after, indicators_after}
 use Rattle.ed_model.specs.Steps.{Insert, Delete}
 use Rattle.run_styles.specs.Runs.{Runs}
-use Rattle.decorations.specs.Decorated.{IsClear, values_of}
-use Rattle.decorations.specs.Slots.{slot_at, shown, all_shown, AreKept, IsKept, AreSpare, HasSpare, CanFill, AreSlots, for_fill, InBoth, InEach, HaveRoomOf, TookIn, CanTakeIn, GaveAway, WasFilled}
-use Rattle.decorations.proofs.Numbered.{numbered_both, numbered_same, numbered_set, numbered_at}
+use Rattle.decorations.specs.Decorated.{IsClear}
+use Rattle.decorations.specs.Slots.{slot_at, shown, all_shown, AreKept, IsKept, AreSpare, HasSpare, CanFill, AreSlots, for_fill, InBoth, InEach, HaveRoomOf, TookIn, GaveAway, WasFilled}
+use Rattle.decorations.proofs.Numbered.{numbered_both, numbered_same, numbered_set}
 use Rattle.decorations.proofs.Values.{took_kept, took_shown, gave_shown, clear_zeros}
 
 -- Room was made.
@@ -72,32 +72,6 @@ less_kept : (size room room' : ℕ) (slot : Option (Runs ℕ)) → room' ≤ roo
 less_kept size room room' None le kept = tt
 less_kept size room room' (Some runs) le kept = record { sized = kept.sized; default = kept.default; has_room = omega (arith, kept.has_room); used = kept.used }
 
-less_spare : (room room' : ℕ) (spare : Option (Runs ℕ)) → room' ≤ room → IfSome spare (AreSpare room) → IfSome spare (AreSpare room')
-less_spare room room' None le h = tt
-less_spare room room' (Some runs) le h = record { empty = h.empty; default = h.default; has_room = omega (arith, h.has_room) }
-
-spare_has : (room less : ℕ) (spare : Option (Runs ℕ)) → HasSpare less spare → IfSome spare (AreSpare room) → HasSpare room spare
-spare_has room less None has h = has
-spare_has room less (Some runs) has h = h
-
-roomy_can : (room room' : ℕ) (ready : Option ℕ) (slots : List (Option (Runs ℕ))) (spare : Option (Runs ℕ)) → IfSome ready (CanFill room slots spare) → IfSome spare (AreSpare (room' + 3)) → IfSome ready (CanFill room' slots spare)
-roomy_can room room' None slots spare can h = tt
-roomy_can room room' (Some k) slots spare can h = record {
-  slot = can.slot;
-  runs = none_map (slot_at slots k) (HasSpare (room + 3) spare) (HasSpare (room' + 3) spare) (λ has. spare_has (room' + 3) (room + 3) spare has h) can.runs;
-}
-
--- so much that there is room for more insertions
-pub roomy_slots : (greatest size room room' need : ℕ) (ready : Option ℕ) (slots : List (Option (Runs ℕ))) (spare : Option (Runs ℕ)) → need ≡ room' + 3 → AreSlots greatest size room ready slots spare →
-    ((k : ℕ) → IfSome (slot_at slots k) (λ (runs : Runs ℕ). need ≤ runs.room)) → IfSome spare (AreSpare need) → AreSlots greatest size room' ready slots spare
-roomy_slots greatest size room room' need ready slots spare e are roomy has = record {
-  fits = are.fits;
-  few = are.few;
-  kept = λ k. let two = for_fill_two ready k in less_kept size need (room' + for_fill ready k) (slot_at slots k) (omega arith) (roomy_kept size (room + for_fill ready k) need (slot_at slots k) (are.kept k) (roomy k));
-  unused = are.unused;
-  can_fill = roomy_can room room' ready slots spare are.can_fill (let Q : ℕ → Type 0 = λ n. IfSome spare (AreSpare n) in subst Q e has);
-}
-
 match_none : (slot : Option (Runs ℕ)) (A : Type 0) (P : Runs ℕ → Type 0) → MatchOption slot A P → IfNone slot A
 match_none None A P h = h
 match_none (Some runs) A P h = tt
@@ -113,11 +87,11 @@ ready_slots greatest size room need indicator ready slots spare e are inside has
   fits = are.fits;
   few = are.few;
   kept = λ k. elim (cases_eq indicator k) [
-    inl same ↦
-    let here : MatchOption (slot_at slots k) (HasSpare need spare) (λ (runs : Runs ℕ). need ≤ runs.room) = let Q : ℕ → Type 0 = λ j. MatchOption (slot_at slots j) (HasSpare need spare) (λ (runs : Runs ℕ). need ≤ runs.room) in subst Q same has in
-    let two = for_fill_two (Some indicator) k in
-    less_kept size need (room + for_fill (Some indicator) k) (slot_at slots k) (omega arith) (roomy_kept size (room + for_fill ready k) need (slot_at slots k) (are.kept k) (match_some (slot_at slots k) (HasSpare need spare) (λ (runs : Runs ℕ). need ≤ runs.room) here))
-  | inr apart ↦ let none : for_fill (Some indicator) k ≡ 0 = grind arith in less_kept size (room + for_fill ready k) (room + for_fill (Some indicator) k) (slot_at slots k) (omega arith) (are.kept k)
+    | inl same ↦
+        let here : MatchOption (slot_at slots k) (HasSpare need spare) (λ (runs : Runs ℕ). need ≤ runs.room) = let Q : ℕ → Type 0 = λ j. MatchOption (slot_at slots j) (HasSpare need spare) (λ (runs : Runs ℕ). need ≤ runs.room) in subst Q same has in
+        let two = for_fill_two (Some indicator) k in
+        less_kept size need (room + for_fill (Some indicator) k) (slot_at slots k) (omega arith) (roomy_kept size (room + for_fill ready k) need (slot_at slots k) (are.kept k) (match_some (slot_at slots k) (HasSpare need spare) (λ (runs : Runs ℕ). need ≤ runs.room) here))
+    | inr apart ↦ let none : for_fill (Some indicator) k ≡ 0 = grind arith in less_kept size (room + for_fill ready k) (room + for_fill (Some indicator) k) (slot_at slots k) (omega arith) (are.kept k)
   ];
   unused = are.unused;
   can_fill = record {
@@ -127,10 +101,6 @@ ready_slots greatest size room need indicator ready slots spare e are inside has
 }
 
 -- Places were put in.
-
-pub takes_in : (greatest size room place count : ℕ) (slot : Option (Runs ℕ)) → IsKept size room slot → place ≤ size → size + count ≤ greatest → 0 < room → IfSome slot (CanTakeIn greatest place count)
-takes_in greatest size room place count None kept h f r = tt
-takes_in greatest size room place count (Some runs) kept h f r = record { within = omega (arith, kept.sized); fits = omega (arith, kept.sized); room = omega (arith, kept.has_room) }
 
 took_one : (size room place count : ℕ) (old new : Option (Runs ℕ)) → place ≤ size → IsKept size (room + 1) old → InBoth (TookIn place count) old new → IsKept (size + count) room new
 took_one size room place count None None h kept took = tt
@@ -144,8 +114,8 @@ took_slots greatest size room place count ready old new spare are h fits some to
   fits = fits;
   few = omega (arith, are.few);
   kept = λ k. let none : room - 1 + for_fill None k ≡ room - 1 = omega arith in
-  let one = less_kept size (room + for_fill ready k) (room - 1 + 1) (slot_at old k) (omega arith) (are.kept k) in
-  rw none (took_one size (room - 1) place count (slot_at old k) (slot_at new k) h one (took k));
+      let one = less_kept size (room + for_fill ready k) (room - 1 + 1) (slot_at old k) (omega arith) (are.kept k) in
+      rw none (took_one size (room - 1) place count (slot_at old k) (slot_at new k) h one (took k));
   unused = are.unused;
   can_fill = tt;
 }
@@ -183,16 +153,16 @@ filled_slots greatest size room indicator values slots slot spare spare' are e w
   fits = are.fits;
   few = omega (arith, are.few, length-set slots indicator slot);
   kept = λ k. let none : room + for_fill None k ≡ room = omega arith in
-  rw none (elim (cases_eq k indicator) [
-    inl same ↦
-    let here : slot_at (set slots indicator slot) k ≡ slot = rw same (get_or-set_same slots indicator slot None are.can_fill.slot) in
-    let Q : Option (Runs ℕ) → Type 0 = IsKept size room in
-    subst Q (sym here) (filled_kept size room values slot e was roomy)
-  | inr apart ↦
-    let there : slot_at (set slots indicator slot) k ≡ slot_at slots k = get_or-set_other slots indicator k slot None apart in
-    let Q : Option (Runs ℕ) → Type 0 = IsKept size room in
-    subst Q (sym there) (less_kept size (room + for_fill (Some indicator) k) room (slot_at slots k) (omega arith) (are.kept k))
-  ]);
+      rw none (elim (cases_eq k indicator) [
+        | inl same ↦
+            let here : slot_at (set slots indicator slot) k ≡ slot = rw same (get_or-set_same slots indicator slot None are.can_fill.slot) in
+            let Q : Option (Runs ℕ) → Type 0 = IsKept size room in
+            subst Q (sym here) (filled_kept size room values slot e was roomy)
+        | inr apart ↦
+            let there : slot_at (set slots indicator slot) k ≡ slot_at slots k = get_or-set_other slots indicator k slot None apart in
+            let Q : Option (Runs ℕ) → Type 0 = IsKept size room in
+            subst Q (sym there) (less_kept size (room + for_fill (Some indicator) k) room (slot_at slots k) (omega arith) (are.kept k))
+      ]);
   unused = unused;
   can_fill = tt;
 }
@@ -211,13 +181,6 @@ fill_kept greatest size room indicator slots spare are =
 pub fill_runs : (greatest size room indicator : ℕ) (slots : List (Option (Runs ℕ))) (spare : Option (Runs ℕ)) → AreSlots greatest size room (Some indicator) slots spare →
     IfSome (slot_at slots indicator) (AreKept size 2)
 fill_runs greatest size room indicator slots spare are = less_kept size (room + 2) 2 (slot_at slots indicator) (omega arith) (fill_kept greatest size room indicator slots spare are)
-
-more_spare : (room less : ℕ) (spare : Option (Runs ℕ)) → less ≤ room → HasSpare room spare → HasSpare less spare
-more_spare room less None le h = h
-more_spare room less (Some runs) le h = record { empty = h.empty; default = h.default; has_room = omega (arith, h.has_room) }
-
-pub fill_spare : (greatest size room indicator : ℕ) (slots : List (Option (Runs ℕ))) (spare : Option (Runs ℕ)) → AreSlots greatest size room (Some indicator) slots spare → IfNone (slot_at slots indicator) (HasSpare 3 spare)
-fill_spare greatest size room indicator slots spare are = none_map (slot_at slots indicator) (HasSpare (room + 3) spare) (HasSpare 3 spare) (more_spare (room + 3) 3 spare (omega arith)) are.can_fill.runs
 
 match_both : (slot : Option (Runs ℕ)) (A : Type 0) (P : Runs ℕ → Type 0) → IfNone slot A → IfSome slot P → MatchOption slot A P
 match_both None A P a p = a

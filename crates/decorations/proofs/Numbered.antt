@@ -1,10 +1,10 @@
 -- Lists with an item for each indicator.
-use Rattle.std.proofs.Common.{◌≡◌, ◌≢◌, ℕ, zero, suc, ◌+◌, ◌<◌, ◌≤◌, List, [], ◌∷◌, length, map, get_or, set, replicate, refl, ap, ◌∙◌, sym, arith, inl, inr, zero-add}
+use Rattle.std.proofs.Common.{◌≡◌, ◌≢◌, ℕ, zero, suc, ◌+◌, ◌<◌, List, [], ◌∷◌, length, map, get_or, set, replicate, refl, ap, ◌∙◌, sym, arith, inl, inr, zero-add}
 use Rattle.std.specs.List.{range_with_len, AllByRecursion}
 use Rattle.std.proofs.lemmas.List.{get_or-set_same, get_or-set_other, length-set, ext_get_or}
-use Rattle.std.proofs.lemmas.List.FromFn.{length-range_with_len, length-map-range_with_len, get_or-map-range_with_len}
+use Rattle.std.proofs.lemmas.List.FromFn.{length-map-range_with_len, get_or-map-range_with_len}
 use Rattle.std.proofs.lemmas.Bool.{cases_eq}
-use Rattle.decorations.specs.Decorated.{indicators, values_of}
+use Rattle.decorations.specs.Decorated.{indicators}
 
 module _ {X : Type 0} where
   map_both : {Y : Type 0} (h : X → Y) (f : ℕ → X) (g : ℕ → Y) → ((k : ℕ) → g k ≡ h (f k)) → (ks : List ℕ) → map g ks ≡ map h (map f ks)
@@ -30,8 +30,8 @@ module _ {X : Type 0} where
       let inside : k < n = omega (arith, length-map-range_with_len g 0 n) in
       get_or-map-range_with_len g 0 n k k (g i) inside (zero-add k)
       ∙ elim (cases_eq k i) [
-        inl same ↦ rw same (sym (get_or-set_same (map f (range_with_len 0 n)) i (g i) (g i) (omega (arith, long))))
-      | inr apart ↦ e k apart ∙ sym (get_or-set_other (map f (range_with_len 0 n)) i k (g i) (g i) apart ∙ get_or-map-range_with_len f 0 n k k (g i) inside (zero-add k))
+        | inl same ↦ rw same (sym (get_or-set_same (map f (range_with_len 0 n)) i (g i) (g i) (omega (arith, long))))
+        | inr apart ↦ e k apart ∙ sym (get_or-set_other (map f (range_with_len 0 n)) i k (g i) (g i) apart ∙ get_or-map-range_with_len f 0 n k k (g i) inside (zero-add k))
       ])
 
   -- the same change of each

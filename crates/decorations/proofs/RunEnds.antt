@@ -1,8 +1,8 @@
 -- The ends of a run of one value are where the model's are.
-use Rattle.std.proofs.Common.{◌≡◌, ◌≢◌, ℕ, zero, suc, ◌+◌, ◌-◌, ◌<◌, ◌≤◌, List, [], ◌∷◌, length, take, drop, replicate, reverse, get_or, Some, None, unwrap_or, refl, sym, ap, ◌∙◌, arith, eq-eqb}
+use Rattle.std.proofs.Common.{◌≡◌, ◌≢◌, ℕ, zero, suc, ◌+◌, ◌-◌, ◌<◌, ◌≤◌, List, [], ◌∷◌, length, take, drop, replicate, reverse, get_or, Some, unwrap_or, sym, ap, ◌∙◌, arith, eq-eqb}
 use Rattle.std.specs.List.{slice_get}
 use Rattle.std.proofs.lemmas.Option.{slice_get-get_or, slice_get_past, unwrap_or-slice_get}
-use Rattle.std.proofs.lemmas.List.{length-take, length-drop, length-reverse, length-take-le, length-replicate, get_or-reverse, get_or-take, get_or-drop, get_or-replicate}
+use Rattle.std.proofs.lemmas.List.{length-drop, length-reverse, length-take-le, length-replicate, get_or-reverse, get_or-take, get_or-drop}
 use Rattle.std.proofs.lemmas.Bool.{ne_eqb}
 use Rattle.ed_model.specs.DocumentPlans.{run_length, run_start, run_past}
 use Rattle.run_styles.specs.Runs.{IsRunStart, IsRunEnd}

@@ -1,14 +1,13 @@
 -- What is read of one indicator.
-use Rattle.std.proofs.Common.{◌≡◌, ℕ, ◌<◌, ◌≤◌, List, length, replicate, Option, Some, None, is_some, unwrap_or, refl, sym, ap, ◌∙◌, subst, arith}
-use Rattle.std.specs.List.{slice_get}
+use Rattle.std.proofs.Common.{◌≡◌, ℕ, ◌<◌, ◌≤◌, List, length, replicate, Option, unwrap_or, sym, ap, ◌∙◌}
 use Rattle.std.specs.Prelude.{pos}
 use Rattle.std.proofs.lemmas.Option.{slice_get_past, unwrap_or-slice_get}
 use Rattle.ed_model.specs.TextPlans.{at_place}
 use Rattle.run_styles.specs.Runs.{Runs}
-use Rattle.decorations.specs.Decorated.{decorated, Decorated, values_of, IsClear}
-use Rattle.decorations.specs.Slots.{slot_at, shown, all_shown, AreKept, IsKept}
+use Rattle.decorations.specs.Decorated.{decorated, Decorated, values_of}
+use Rattle.decorations.specs.Slots.{slot_at, shown, all_shown}
 use Rattle.decorations.proofs.Numbered.{numbered_at}
-use Rattle.decorations.proofs.Values.{shown_length, zeros_at}
+use Rattle.decorations.proofs.Values.{zeros_at}
 
 -- the values of an indicator
 pub values_are : (d : Decorated) (size room : ℕ) (ready : Option ℕ) (slots : List (Option (Runs ℕ))) (k : ℕ) (slot : Option (Runs ℕ)) → k < 32 → decorated size (all_shown size slots) room ready ≡ d → slot ≡ slot_at slots k →

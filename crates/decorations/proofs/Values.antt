@@ -1,6 +1,5 @@
 -- What a step does to the values of one indicator, whether its runs are kept or it is 0 everywhere.
-use Rattle.std.proofs.Common.{◌≡◌, ℕ, zero, suc, ◌+◌, ◌-◌, ◌<◌, ◌≤◌, ◌==◌, nat_eq, ◌||◌, Bool, true, false, cond, if◌then◌else◌, List, [], ◌∷◌, ◌++◌, length, take, drop, replicate, get_or, Option, Some, None, is_some, IfSome, IfNone, MatchOption, true≢false, refl, sym, ap, ◌∙◌, subst, arith, inl, inr, take-append-drop, append_assoc}
-use Rattle.std.specs.List.{All}
+use Rattle.std.proofs.Common.{◌≡◌, ℕ, ◌+◌, ◌-◌, ◌≤◌, ◌==◌, nat_eq, ◌||◌, Bool, true, false, if◌then◌else◌, List, ◌++◌, length, take, drop, replicate, get_or, Option, Some, None, is_some, IfSome, IfNone, MatchOption, true≢false, refl, sym, ap, ◌∙◌, subst, arith, inl, inr, take-append-drop, append_assoc}
 use Rattle.std.proofs.lemmas.Bool.{cond_both, cases_lt}
 use Rattle.std.proofs.lemmas.List.{length-append, length-take, length-drop, length-replicate, take-replicate, drop-replicate, replicate-append-replicate, get_or-replicate, get_or_past, get_or_append_left, get_or-append-add, ext_get_or}
 use Rattle.std.proofs.lemmas.List.Elements.{All-append, All-replicate}
@@ -9,7 +8,7 @@ use Rattle.ed_model.specs.Indicators.{inserted_value, indicator_after, filled}
 use Rattle.ed_model.specs.Steps.{Insert, Delete}
 use Rattle.run_styles.specs.Runs.{Runs, inserted, deleted, filled as runs_filled, inserted_value as runs_value}
 use Rattle.decorations.specs.Decorated.{IsClear}
-use Rattle.decorations.specs.Slots.{shown, AreKept, IsKept, HasSpare, TookIn, IsLeft, InBoth, GaveAway}
+use Rattle.decorations.specs.Slots.{shown, AreKept, IsKept, HasSpare, TookIn, InBoth, GaveAway}
 
 -- Zeros.
 
@@ -77,7 +76,7 @@ pub took_shown : (size room place count : ℕ) (bytes : List ℕ) (old new : Opt
     shown (size + count) new ≡ indicator_after (Insert place bytes) (shown size old)
 took_shown size room place count bytes None new h e kept took = rw (took, ← e) (sym (zeros_inserted size place bytes h))
 took_shown size room place count bytes (Some old) None h e kept took = absurd took
-took_shown size room place count bytes (Some old) (Some new) h e kept took = 
+took_shown size room place count bytes (Some old) (Some new) h e kept took =
     rw (took.values, kept.default, inserted_same old.values place, ← e) (sym (append_assoc (take place old.values) (replicate (length bytes) (inserted_value old.values place)) (drop place old.values)))
 
 -- A deletion.
@@ -95,7 +94,6 @@ gave_shown size room place count bytes (Some old) (Some new) h e kept gave = rw 
 pub shown_length : (size room : ℕ) (slot : Option (Runs ℕ)) → IsKept size room slot → length (shown size slot) ≡ size
 shown_length size room None kept = length-replicate {A = ℕ} size 0
 shown_length size room (Some runs) kept = kept.sized
-
 
 -- so whether runs are kept tells whether the indicator is used
 pub tells_used : (size room : ℕ) (slot : Option (Runs ℕ)) (values : List ℕ) (b : Bool) → IsKept size room slot → b ≡ is_some slot → values ≡ shown size slot → (IsTrue b → IsClear values → ⊥) × ((IsClear values → ⊥) → IsTrue b)

@@ -1,5 +1,5 @@
 -- What a contract sees of `Decorations`.
-use Rattle.std.specs.Prelude.{ℕ, ◌≡◌, ◌^◌, ◌==◌, not, List, [], map, filter, length, sum, pos, slice_index_or, All, Option}
+use Rattle.std.specs.Prelude.{ℕ, ◌≡◌, ◌^◌, ◌==◌, not, List, [], map, filter, sum, pos, slice_index_or, All, Option}
 use Rattle.std.specs.List.{range_with_len}
 use Rattle.ed_model.specs.TextPlans.{at_place}
 use Rattle.ed_model.specs.DocumentPlans.{run_start, run_past}

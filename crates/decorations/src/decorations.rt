@@ -155,7 +155,13 @@ impl<P: Place> Decorations<P> {
         let Some(runs) = self.room.checked_add(3) else {
             return Err(AllocError);
         };
-        let Ok(()) = reserve_one(&mut self.slots, &mut self.spare, indicator, self.alloc, runs) else {
+        let Ok(()) = reserve_one(
+            &mut self.slots,
+            &mut self.spare,
+            indicator,
+            self.alloc,
+            runs,
+        ) else {
             return Err(AllocError);
         };
         self.ready = Some(indicator);

@@ -13,7 +13,10 @@ use std::alloc::{AllocError, Global};
 pub(crate) type Slot<P> = Option<RunStyles<P, u32>>;
 
 /// Returns the runs of an indicator, if it has another value than 0 somewhere.
-pub(crate) fn runs_in<P: Place>(slots: &Vec<Slot<P>>, indicator: usize) -> Option<&RunStyles<P, u32>>
+pub(crate) fn runs_in<P: Place>(
+    slots: &Vec<Slot<P>>,
+    indicator: usize,
+) -> Option<&RunStyles<P, u32>>
     ensures runs { option_copied result ≡ slot_at slots.now.items indicator }
     ensures some { is_some result ≡ is_some (slot_at slots.now.items indicator) }
 {
@@ -21,10 +24,7 @@ pub(crate) fn runs_in<P: Place>(slots: &Vec<Slot<P>>, indicator: usize) -> Optio
 }
 
 /// Makes slots up to `count`, where there are fewer.
-fn reserve_slots<P: Place>(
-    slots: &mut Vec<Slot<P>>,
-    count: usize,
-) -> Result<(), AllocError>
+fn reserve_slots<P: Place>(slots: &mut Vec<Slot<P>>, count: usize) -> Result<(), AllocError>
     ensures same { (k : ℕ) → slot_at slots.new.items k ≡ slot_at slots.old.items k }
     ensures more { length slots.old.items ≤ length slots.new.items }
     ensures ok { OnOk result (count ≤ length slots.new.items) }
@@ -37,10 +37,7 @@ fn reserve_slots<P: Place>(
 }
 
 /// Makes room for `room` more runs in each slot that has any.
-fn reserve_runs<P: Place>(
-    slots: &mut Vec<Slot<P>>,
-    room: usize,
-) -> Result<(), AllocError>
+fn reserve_runs<P: Place>(slots: &mut Vec<Slot<P>>, room: usize) -> Result<(), AllocError>
     ensures same { InEach (InBoth HaveRoomOf) slots.old.items slots.new.items }
     ensures length { length slots.new.items ≡ length slots.old.items }
     ensures ok { OnOk result ((k : ℕ) → IfSome (slot_at slots.new.items k) (λ runs. room ≤ runs.room)) }
@@ -137,11 +134,7 @@ fn reserve_slot<P: Place>(
 }
 
 /// Takes the runs out of a slot, or, where it has none, the spare ones, with so many places of value 0.
-fn taken<P: Place>(
-    slot: &mut Slot<P>,
-    spare: &mut Slot<P>,
-    size: usize,
-) -> RunStyles<P, u32>
+fn taken<P: Place>(slot: &mut Slot<P>, spare: &mut Slot<P>, size: usize) -> RunStyles<P, u32>
     requires fits { size ≤ P.GREATEST }
     requires spare { IfNone slot.old (HasSpare 3 spare.old) }
     ensures values { result.values ≡ shown size slot.old }
@@ -222,7 +215,8 @@ pub(crate) fn fill_slot<P: Place>(
 {
     let mut runs = taken(slot, spare, size);
     let changed = runs.fill(start, count, value);
-    if !runs.is_all(0) {
+    let is_clear = runs.is_all(0);
+    if !is_clear {
         *slot = Some(runs);
     }
     changed

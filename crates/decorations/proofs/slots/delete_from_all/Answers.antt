@@ -1,4 +1,4 @@
-use Rattle.std.proofs.Common.{◌≡◌, ℕ, ◌+◌, ◌<◌, ◌≤◌, List, Option, Some, None, IfSome, length, get_or, take, drop, ◌++◌, subst, sym, ap, ◌∙◌, refl, arith}
+use Rattle.std.proofs.Common.{◌≡◌, ℕ, ◌+◌, ◌<◌, ◌≤◌, List, Option, None, IfSome, length, get_or, take, drop, ◌++◌, subst, sym, ap, ◌∙◌, refl, arith}
 use Rattle.std.proofs.lemmas.List.{get_or_default}
 use Rattle.run_styles.specs.Runs.{Runs}
 use Rattle.decorations.specs.Slots.{slot_at, GaveAway}

@@ -1,4 +1,4 @@
-use Rattle.std.proofs.Common.{◌≡◌, ℕ, ◌<◌, ◌≤◌, length}
+use Rattle.std.proofs.Common.{◌≡◌, ℕ, ◌<◌, ◌≤◌}
 use Rattle.decorations.specs.Slots.{slot_at, GaveAway}
 use Rattle.decorations.proofs.slots.delete_from_all.Given as goal
 

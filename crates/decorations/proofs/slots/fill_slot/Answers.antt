@@ -1,4 +1,4 @@
-use Rattle.std.proofs.Common.{◌≡◌, ◌+◌, ◌≤◌, ℕ, List, length, Option, None, ap, sym, ◌∙◌, subst, arith, true≢false}
+use Rattle.std.proofs.Common.{◌≡◌, ◌+◌, ◌≤◌, ℕ, List, length, Option, ap, sym, ◌∙◌, subst, arith, true≢false}
 use Rattle.ed_model.specs.Indicators.{filled, changed_range}
 use Rattle.run_styles.specs.Runs.{Runs, filled as runs_filled}
 use Rattle.decorations.specs.Decorated.{IsClear}
@@ -11,17 +11,19 @@ pub fill-changed-requires-clause-room : goal.fill-changed-requires-clause-room
 fill-changed-requires-clause-room g c =
     c.taken-runs.ensures.room 0 (room_for_fill c.args.size c.args.slot.now c.args.spare.now c.requires.kept c.requires.spare)
 
-pub returns-then-not-is_all-clause-filled : goal.returns-then-not-is_all-clause-filled
-returns-then-not-is_all-clause-filled g c =
+pub returns-then-not-is_clear-clause-filled : goal.returns-then-not-is_clear-clause-filled
+returns-then-not-is_clear-clause-filled g c =
     let before = shown c.args.size c.args.slot.now in
     let values : c.fill-changed.new.self.values ≡ filled c.args.start c.args.count c.args.value before =
     c.fill-changed.ensures.values ∙ ap (λ vs. runs_filled vs c.args.start c.args.count c.args.value) c.taken-runs.ensures.values ∙ filled_same before c.args.start c.args.count c.args.value in
-    let Q : List ℕ → Type 0 = IsClear in
-    (values, c.fill-changed.ensures.default ∙ c.taken-runs.ensures.default (default_of c.args.size c.args.slot.now c.requires.kept),
-    λ clear. true≢false (sym (c.is_all.ensures.1 (subst Q (sym values) clear)) ∙ c.if-not-is_all.true))
+    let Q : List ℕ → Type 0 = IsClear in (
+      values,
+      c.fill-changed.ensures.default ∙ c.taken-runs.ensures.default (default_of c.args.size c.args.slot.now c.requires.kept),
+      λ clear. true≢false (sym (c.is_all-is_clear.ensures.1 (subst Q (sym values) clear)) ∙ c.if-not-is_clear.true),
+    )
 
-pub returns-then-not-is_all-clause-changed : goal.returns-then-not-is_all-clause-changed
-returns-then-not-is_all-clause-changed g c =
+pub returns-then-not-is_clear-clause-changed : goal.returns-then-not-is_clear-clause-changed
+returns-then-not-is_clear-clause-changed g c =
     let before = shown c.args.size c.args.slot.now in
     let values : c.fill-changed.new.self.values ≡ filled c.args.start c.args.count c.args.value before =
     c.fill-changed.ensures.values ∙ ap (λ vs. runs_filled vs c.args.start c.args.count c.args.value) c.taken-runs.ensures.values ∙ filled_same before c.args.start c.args.count c.args.value in
@@ -32,17 +34,17 @@ returns-then-not-is_all-clause-changed g c =
     answer_is c.fill-changed.result c.taken-runs.result.values c.fill-changed.new.self.values long c.fill-changed.ensures.none c.fill-changed.ensures.changed
     ∙ ap (λ vs. changed_range vs c.fill-changed.new.self.values) c.taken-runs.ensures.values ∙ ap (changed_range before) values
 
-pub returns-else-not-is_all-clause-filled : goal.returns-else-not-is_all-clause-filled
-returns-else-not-is_all-clause-filled g c =
+pub returns-else-not-is_clear-clause-filled : goal.returns-else-not-is_clear-clause-filled
+returns-else-not-is_clear-clause-filled g c =
     let before = shown c.args.size c.args.slot.now in
     let values : c.fill-changed.new.self.values ≡ filled c.args.start c.args.count c.args.value before =
     c.fill-changed.ensures.values ∙ ap (λ vs. runs_filled vs c.args.start c.args.count c.args.value) c.taken-runs.ensures.values ∙ filled_same before c.args.start c.args.count c.args.value in
     let Q : List ℕ → Type 0 = IsClear in
     let R : Option (Runs ℕ) → Type 0 = WasFilled (filled c.args.start c.args.count c.args.value before) in
-    subst R (sym c.taken-runs.ensures.slot) (subst Q values (c.is_all.ensures.0 c.if-not-is_all.false))
+    subst R (sym c.taken-runs.ensures.slot) (subst Q values (c.is_all-is_clear.ensures.0 c.if-not-is_clear.false))
 
-pub returns-else-not-is_all-clause-changed : goal.returns-else-not-is_all-clause-changed
-returns-else-not-is_all-clause-changed g c =
+pub returns-else-not-is_clear-clause-changed : goal.returns-else-not-is_clear-clause-changed
+returns-else-not-is_clear-clause-changed g c =
     let before = shown c.args.size c.args.slot.now in
     let values : c.fill-changed.new.self.values ≡ filled c.args.start c.args.count c.args.value before =
     c.fill-changed.ensures.values ∙ ap (λ vs. runs_filled vs c.args.start c.args.count c.args.value) c.taken-runs.ensures.values ∙ filled_same before c.args.start c.args.count c.args.value in

@@ -1,4 +1,4 @@
-use Rattle.std.proofs.Common.{◌≡◌, ℕ, ◌<◌, ◌≤◌, List, Option, Some, None, IfSome, length, take, drop, ◌++◌, subst, sym, ap, ◌∙◌, refl, arith}
+use Rattle.std.proofs.Common.{◌≡◌, ℕ, ◌<◌, ◌≤◌, List, Option, IfSome, length, take, drop, ◌++◌, subst, sym, ap, ◌∙◌, refl, arith}
 use Rattle.run_styles.specs.Runs.{Runs}
 use Rattle.decorations.specs.Slots.{slot_at, InBoth, TookIn, CanTakeIn}
 use Rattle.decorations.proofs.SlotLists.{slot_read, in_each, looped}

@@ -1,4 +1,4 @@
-use Rattle.std.proofs.Common.{◌≡◌, ℕ, ◌<◌, ◌≤◌, length}
+use Rattle.std.proofs.Common.{◌≡◌, ℕ, ◌<◌, ◌≤◌}
 use Rattle.decorations.specs.Slots.{slot_at, InBoth, TookIn}
 use Rattle.decorations.proofs.slots.insert_into_all.Given as goal
 

@@ -1,4 +1,4 @@
-use Rattle.std.proofs.Common.{◌≡◌, ℕ, ◌<◌, ◌≤◌, length, IfSome}
+use Rattle.std.proofs.Common.{ℕ, ◌<◌, ◌≤◌, IfSome}
 use Rattle.decorations.specs.Slots.{slot_at, InBoth, HaveRoomOf}
 use Rattle.decorations.proofs.slots.reserve_runs.Given as goal
 

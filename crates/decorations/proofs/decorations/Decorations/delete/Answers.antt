@@ -1,4 +1,4 @@
-use Rattle.std.proofs.Common.{◌≡◌, ℕ, ◌+◌, ap, ◌∙◌, arith}
+use Rattle.std.proofs.Common.{◌≡◌, ◌+◌, ap, ◌∙◌, arith}
 use Rattle.ed_model.specs.Indicators.{indicators_after}
 use Rattle.ed_model.specs.Steps.{Delete}
 use Rattle.decorations.specs.Decorated.{Decorated}

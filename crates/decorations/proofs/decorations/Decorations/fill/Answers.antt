@@ -1,4 +1,4 @@
-use Rattle.std.proofs.Common.{◌≡◌, ◌+◌, ◌<◌, ◌≤◌, ℕ, List, length, Option, Some, None, MatchOption, set, refl, ap, sym, ◌∙◌, subst, arith}
+use Rattle.std.proofs.Common.{◌≡◌, ◌+◌, ◌≤◌, ℕ, length, Option, Some, None, MatchOption, set, ap, sym, ◌∙◌, subst, arith}
 use Rattle.ed_model.specs.Indicators.{filled, changed_range}
 use Rattle.run_styles.specs.Runs.{Runs}
 use Rattle.decorations.specs.Decorated.{Decorated, decorated, values_of}

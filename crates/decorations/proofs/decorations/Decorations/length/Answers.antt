@@ -1,9 +1,5 @@
-use Rattle.std.proofs.Common.{◌≡◌, ℕ, List, length, replicate, Option, Some, None, sym, ap, ◌∙◌, subst}
-use Rattle.std.specs.List.{AllByRecursion}
-use Rattle.std.proofs.lemmas.List.{length-replicate}
-use Rattle.run_styles.specs.Runs.{Runs}
-use Rattle.decorations.specs.Decorated.{indicators}
-use Rattle.decorations.specs.Slots.{slot_at, shown, IsKept}
+use Rattle.std.proofs.Common.{◌≡◌, length, sym, ap, ◌∙◌}
+use Rattle.decorations.specs.Slots.{slot_at, shown}
 use Rattle.decorations.proofs.Numbered.{numbered_length, numbered_all}
 use Rattle.decorations.proofs.Values.{shown_length}
 use Rattle.decorations.proofs.decorations.Decorations.length.Goals as goal

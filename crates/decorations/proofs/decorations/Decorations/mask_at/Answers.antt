@@ -1,4 +1,4 @@
-use Rattle.std.proofs.Common.{◌≡◌, ℕ, sym, ◌∙◌, arith}
+use Rattle.std.proofs.Common.{◌≡◌, sym, ◌∙◌, arith}
 use Rattle.decorations.proofs.Masks.{mask_none, mask_all, mask_step, mask_same, mask_room}
 use Rattle.decorations.proofs.decorations.Decorations.mask_at.Goals as goal
 use Rattle.decorations.proofs.decorations.Decorations.mask_at.Goals.{then-value-ne0, else-value-ne0}
@@ -13,10 +13,10 @@ overflow_add-mask g c =
 pub loop-indicator-preserved : goal.loop-indicator-preserved
 loop-indicator-preserved g c =
     elim c.if-value-ne0.branch [
-      then-value-ne0 w ↦
-      w.mask-is ∙ mask_step c.loop-indicator.indicator c.value.result c.loop-indicator.mask c.args.self.now.values c.args.place c.loop-indicator-test.true c.value.ensures w.if-value-ne0.true c.loop-indicator.invariant
-    | else-value-ne0 w ↦
-      w.mask-is ∙ mask_same c.loop-indicator.indicator c.value.result c.loop-indicator.mask c.args.self.now.values c.args.place c.value.ensures w.if-value-ne0.false c.loop-indicator.invariant
+      | then-value-ne0 w ↦
+          w.mask-is ∙ mask_step c.loop-indicator.indicator c.value.result c.loop-indicator.mask c.args.self.now.values c.args.place c.loop-indicator-test.true c.value.ensures w.if-value-ne0.true c.loop-indicator.invariant
+      | else-value-ne0 w ↦
+          w.mask-is ∙ mask_same c.loop-indicator.indicator c.value.result c.loop-indicator.mask c.args.self.now.values c.args.place c.value.ensures w.if-value-ne0.false c.loop-indicator.invariant
     ]
 
 pub returns : goal.returns

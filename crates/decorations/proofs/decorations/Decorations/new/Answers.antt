@@ -2,8 +2,6 @@ use Rattle.std.proofs.Common.{List, ℕ, [], None, ap, ◌∙◌}
 use Rattle.decorations.specs.Decorated.{decorated}
 use Rattle.decorations.specs.Slots.{all_shown}
 use Rattle.decorations.proofs.Numbered.{numbered_replicate}
-use Rattle.decorations.proofs.Changed as changed
-use Rattle.decorations.proofs.RunEnds as run_ends
 use Rattle.decorations.proofs.decorations.Decorations.new.Goals as goal
 
 pub returns : goal.returns

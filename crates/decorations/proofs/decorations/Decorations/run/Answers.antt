@@ -1,4 +1,4 @@
-use Rattle.std.proofs.Common.{◌≡◌, ℕ, ◌+◌, ◌<◌, List, length, Option, Some, None, ap, sym, ◌∙◌, subst, arith}
+use Rattle.std.proofs.Common.{◌≡◌, ℕ, ◌+◌, List, Option, Some, None, ap, sym, ◌∙◌, subst, arith}
 use Rattle.run_styles.specs.Runs.{Runs}
 use Rattle.decorations.specs.Decorated.{Decorated, run_about}
 use Rattle.decorations.specs.Slots.{IsKept, for_fill}

@@ -1,0 +1,5 @@
+//! Tests of the libraries, over their public calls alone.
+#![tactic(auto)]
+
+#[cfg(test)]
+mod decorations;
