@@ -6,6 +6,8 @@ mod cell_buffer;
 #[cfg(test)]
 mod char_cut;
 #[cfg(test)]
+mod decorations;
+#[cfg(test)]
 mod document;
 #[cfg(test)]
 mod document_table;

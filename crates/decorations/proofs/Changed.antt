@@ -1,0 +1,76 @@
+-- The smallest range that holds all changes is the model's.
+use Rattle.std.proofs.Common.{◌≡◌, ◌≢◌, ℕ, zero, suc, ◌+◌, ◌-◌, ◌<◌, ◌≤◌, ◌==◌, not, Bool, true, false, List, [], ◌∷◌, ◌++◌, length, get_or, filter, Option, Some, None, IfNone, IfSome, refl, sym, ap, ◌∙◌, arith, eq-eqb, add-zero, zero-add, append-nil}
+use Rattle.std.specs.List.{range_with_len, last_or, slice_get}
+use Rattle.std.proofs.lemmas.Option.{slice_get-get_or}
+use Rattle.std.proofs.lemmas.List.{get_or-take, get_or-drop}
+use Rattle.std.proofs.lemmas.List.Elements.{filter-append}
+use Rattle.std.proofs.lemmas.Bool.{ne_eqb, cond_both}
+use Rattle.ed_model.specs.Indicators.{changed_range, extent}
+use Rattle.run_styles.specs.Runs.{IsChangedRange}
+
+pub range-append : (a m n : ℕ) → range_with_len a (m + n) ≡ range_with_len a m ++ range_with_len (a + m) n
+range-append a zero n = rw (zero-add, add-zero)
+range-append a (suc m) n =
+    let e : suc m + n ≡ suc (m + n) = omega arith in
+    let f : a + suc m ≡ (a + 1) + m = omega arith in
+    rw (e, f) (ap (λ l. a ∷ l) (range-append (a + 1) m n))
+
+filter_none : (p : ℕ → Bool) (a n : ℕ) → ((k : ℕ) → a ≤ k → k < a + n → p k ≡ false) → filter p (range_with_len a n) ≡ []
+filter_none p a zero h = refl
+filter_none p a (suc n) h = rw (h a (omega arith) (omega arith)) (filter_none p (a + 1) n (λ k l m. h k (omega arith) (omega arith)))
+
+-- the last number of a range passes, so it is the last that does
+last_passes : (p : ℕ → Bool) (a n x : ℕ) → p (a + n) ≡ true → last_or (Some x) (filter p (range_with_len a (suc n))) ≡ Some (a + n)
+last_passes p a zero x h = let e : a + 0 ≡ a = omega arith in let here : p a ≡ true = ap p (sym e) ∙ h in rw (here, e)
+last_passes p a (suc n) x h =
+    let e : a + suc n ≡ a + 1 + n = omega arith in
+    let last : p (a + 1 + n) ≡ true = ap p (sym e) ∙ h in
+    rw e (cond_both (p a) (a ∷ filter p (range_with_len (a + 1) (suc n))) (filter p (range_with_len (a + 1) (suc n))) (λ l. last_or (Some x) l ≡ Some (a + 1 + n)) (λ _. last_passes p (a + 1) n a last) (λ _. last_passes p (a + 1) n x last))
+
+last_behind : (p : ℕ → Bool) (a n : ℕ) → p (a + n) ≡ true → last_or (Some a) (filter p (range_with_len (a + 1) n)) ≡ Some (a + n)
+last_behind p a zero h = ap Some (sym (add-zero a))
+last_behind p a (suc n) h =
+    let e : a + suc n ≡ a + 1 + n = omega arith in
+    let last : p (a + 1 + n) ≡ true = ap p (sym e) ∙ h in
+    rw e (last_passes p (a + 1) n a last)
+
+extent_is : (p : ℕ → Bool) (a n : ℕ) → p a ≡ true → p (a + n) ≡ true → extent (filter p (range_with_len a (suc n))) ≡ Some (a, suc n)
+extent_is p a n first last =
+    let count : a + n + 1 - a ≡ suc n = omega arith in
+    rw (first, last_behind p a n last, count)
+
+-- all that passes lies between
+extent_within : (p : ℕ → Bool) (a n r : ℕ) → p a ≡ true → p (a + n) ≡ true → ((k : ℕ) → k < a → p k ≡ false) → ((k : ℕ) → a + suc n ≤ k → p k ≡ false) → extent (filter p (range_with_len 0 (a + (suc n + r)))) ≡ Some (a, suc n)
+extent_within p a n r first last before behind =
+    rw (range-append 0 a (suc n + r), zero-add a, range-append a (suc n) r, filter-append p, filter-append p, filter_none p 0 a (λ k l m. before k (omega arith)), filter_none p (a + suc n) r (λ k l m. behind k l), append-nil (filter p (range_with_len a (suc n))))
+    (extent_is p a n first last)
+
+same_place : (old new : List ℕ) (k : ℕ) → get_or old k 0 ≡ get_or new k 0 → not (get_or old k 0 == get_or new k 0) ≡ false
+same_place old new k e = ap not (eq-eqb (get_or old k 0) (get_or new k 0) e)
+
+other_place : (old new : List ℕ) (k : ℕ) → k < length old → length new ≡ length old → slice_get new k ≢ slice_get old k → not (get_or old k 0 == get_or new k 0) ≡ true
+other_place old new k h e apart =
+    ap not (ne_eqb (get_or old k 0) (get_or new k 0) (λ same. apart (slice_get-get_or new k 0 (omega arith) ∙ ap Some (sym same) ∙ sym (slice_get-get_or old k 0 h))))
+
+-- nothing changed
+pub unchanged : (values : List ℕ) → changed_range values values ≡ None
+unchanged values = ap extent (filter_none (λ k. not (get_or values k 0 == get_or values k 0)) 0 (length values) (λ k l m. same_place values values k refl))
+
+pub changed_is : (old new : List ℕ) (range : ℕ × ℕ) → length new ≡ length old → IsChangedRange old new range → changed_range old new ≡ Some range
+changed_is old new (a, zero) e range = absurd (omega (arith, range.some))
+changed_is old new (a, suc n) e range =
+    let whole : length old ≡ a + (suc n + (length old - (a + suc n))) = omega (arith, range.within) in
+    let last : a + suc n - 1 ≡ a + n = omega arith in
+    let p : ℕ → Bool = λ k. not (get_or old k 0 == get_or new k 0) in
+    ap (λ m. extent (filter p (range_with_len 0 m))) whole
+    ∙ extent_within p a n (length old - (a + suc n))
+    (other_place old new a (omega (arith, range.within)) e range.first)
+    (other_place old new (a + n) (omega (arith, range.within)) e (rw last at range.last))
+    (λ k l. same_place old new k (sym (get_or-take a old k 0 l) ∙ ap (λ xs. get_or xs k 0) (sym range.before) ∙ get_or-take a new k 0 l))
+    (λ k l. let j : a + suc n + (k - (a + suc n)) ≡ k = omega arith in
+    same_place old new k (ap (λ i. get_or old i 0) (sym j) ∙ sym (get_or-drop (a + suc n) old (k - (a + suc n)) 0) ∙ ap (λ xs. get_or xs (k - (a + suc n)) 0) (sym range.behind) ∙ get_or-drop (a + suc n) new (k - (a + suc n)) 0 ∙ ap (λ i. get_or new i 0) j))
+
+-- what a fill of runs answers
+pub answer_is : (answer : Option (ℕ × ℕ)) (old new : List ℕ) → length new ≡ length old → IfNone answer (new ≡ old) → IfSome answer (IsChangedRange old new) → answer ≡ changed_range old new
+answer_is None old new e none some = sym (ap (changed_range old) none ∙ unchanged old)
+answer_is (Some range) old new e none some = sym (changed_is old new range e some)

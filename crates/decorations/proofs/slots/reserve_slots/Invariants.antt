@@ -1,0 +1,13 @@
+use Rattle.std.proofs.Common.{◌≡◌, ◌≤◌, ◌-◌, ℕ, length}
+use Rattle.decorations.specs.Slots.{slot_at}
+use Rattle.decorations.proofs.slots.reserve_slots.Given as goal
+
+abbrev pub invariant-loop-slots : goal.invariant-loop-slots
+invariant-loop-slots g l = record {
+  same : (k : ℕ) → slot_at l.slots.items k ≡ slot_at l.initial.slots.items k;
+  more : length l.initial.slots.items ≤ length l.slots.items;
+  few : (most : ℕ) → length l.initial.slots.items ≤ most → l.count ≤ most → length l.slots.items ≤ most;
+}
+
+abbrev pub decreases-loop-slots : goal.decreases-loop-slots
+decreases-loop-slots g l = l.count - length l.slots.items

@@ -1,0 +1,2 @@
+pub mod Decorated
+pub mod Slots

@@ -1,0 +1,97 @@
+-- How the lists are kept: a slot for each indicator, up to the last that ever had a value, and in it the runs while there are any.
+use Rattle.std.specs.Prelude.{ℕ, ◌≡◌, ◌+◌, ◌<◌, ◌≤◌, ◌==◌, if◌then◌else◌, nat_eq, List, length, map, replicate, slice_index_or, Option, Some, None, IfSome, IfNone, MatchOption}
+use Rattle.run_styles.specs.Runs.{Runs, inserted, deleted, inserted_value}
+use Rattle.decorations.specs.Decorated.{indicators, IsClear}
+
+abbrev pub slot_at : List (Option (Runs ℕ)) → ℕ → Option (Runs ℕ)
+slot_at slots k = slice_index_or slots k None
+
+-- the values of an indicator in a text of the length
+abbrev pub shown : ℕ → Option (Runs ℕ) → List ℕ
+shown size None = replicate size 0
+shown size (Some runs) = runs.values
+
+abbrev pub all_shown : ℕ → List (Option (Runs ℕ)) → List (List ℕ)
+all_shown size slots = map (λ k. shown size (slot_at slots k)) indicators
+
+-- Runs that are kept have a value other than 0 somewhere, and room for so many more.
+pub record AreKept (size room : ℕ) (runs : Runs ℕ) : Type 0 where
+  pub sized : length runs.values ≡ size
+  pub default : runs.default ≡ 0
+  pub has_room : room ≤ runs.room
+  pub used : IsClear runs.values → ⊥
+
+abbrev pub IsKept : ℕ → ℕ → Option (Runs ℕ) → Type 0
+IsKept size room slot = IfSome slot (AreKept size room)
+
+-- how many runs a fill of the indicator may add, where one is to come
+abbrev pub for_fill : Option ℕ → ℕ → ℕ
+for_fill None indicator = 0
+for_fill (Some ready) indicator = if ready == indicator then 2 else 0
+
+-- runs of no place, which become those of an indicator by its first fill
+pub record AreSpare (room : ℕ) (runs : Runs ℕ) : Type 0 where
+  pub empty : length runs.values ≡ 0
+  pub default : runs.default ≡ 0
+  pub has_room : room ≤ runs.room
+
+-- spare runs are there with so much room
+abbrev pub HasSpare : ℕ → Option (Runs ℕ) → Type 0
+HasSpare room spare = MatchOption spare ⊥ (AreSpare room)
+
+-- an indicator can be filled: its slot is there, and either its runs or spare ones
+pub record CanFill (room : ℕ) (slots : List (Option (Runs ℕ))) (spare : Option (Runs ℕ)) (indicator : ℕ) : Type 0 where
+  pub slot : indicator < length slots
+  pub runs : IfNone (slot_at slots indicator) (HasSpare (room + 3) spare)
+
+pub record AreSlots (greatest size room : ℕ) (ready : Option ℕ) (slots : List (Option (Runs ℕ))) (spare : Option (Runs ℕ)) : Type 0 where
+  pub fits : size ≤ greatest
+  pub few : length slots ≤ 32
+  pub kept : (k : ℕ) → IsKept size (room + for_fill ready k) (slot_at slots k)
+  pub unused : IfSome spare (AreSpare 0)
+  pub can_fill : IfSome ready (CanFill room slots spare)
+
+-- What becomes of the runs of all indicators.
+
+-- the runs of an indicator are there in both, and as the relation says, or in none
+abbrev pub InBoth : (Runs ℕ → Runs ℕ → Type 0) → Option (Runs ℕ) → Option (Runs ℕ) → Type 0
+InBoth R None new = new ≡ None
+InBoth R (Some old) new = MatchOption new ⊥ (R old)
+
+-- in each slot
+abbrev pub InEach : (Option (Runs ℕ) → Option (Runs ℕ) → Type 0) → List (Option (Runs ℕ)) → List (Option (Runs ℕ)) → Type 0
+InEach R old new = (k : ℕ) → R (slot_at old k) (slot_at new k)
+
+-- they have no less room
+pub record HaveRoomOf (old new : Runs ℕ) : Type 0 where
+  pub values : new.values ≡ old.values
+  pub default : new.default ≡ old.default
+  pub room : old.room ≤ new.room
+
+-- places can be put in
+pub record CanTakeIn (greatest place count : ℕ) (runs : Runs ℕ) : Type 0 where
+  pub within : place ≤ length runs.values
+  pub fits : length runs.values + count ≤ greatest
+  pub room : 1 ≤ runs.room
+
+-- places were put in
+pub record TookIn (place count : ℕ) (old new : Runs ℕ) : Type 0 where
+  pub values : new.values ≡ inserted old.values place count (inserted_value nat_eq old.default old.values place)
+  pub default : new.default ≡ old.default
+  pub room : old.room ≤ new.room + 1
+
+-- what places were taken from, if it is still used
+pub record IsLeft (place count : ℕ) (old new : Runs ℕ) : Type 0 where
+  pub values : new.values ≡ deleted old.values place count
+  pub default : new.default ≡ old.default
+  pub room : old.room ≤ new.room
+  pub used : IsClear new.values → ⊥
+
+-- places were taken away; runs that are all 0 then are gone
+abbrev pub GaveAway : ℕ → ℕ → Option (Runs ℕ) → Option (Runs ℕ) → Type 0
+GaveAway place count None new = new ≡ None
+GaveAway place count (Some old) new = MatchOption new (IsClear (deleted old.values place count)) (IsLeft place count old)
+
+-- a slot of an indicator with the values after a fill
+abbrev pub WasFilled : List ℕ → Option (Runs ℕ) → Type 0
+WasFilled values slot = MatchOption slot (IsClear values) (λ (runs : Runs ℕ). (runs.values ≡ values) × (runs.default ≡ 0) × (IsClear values → ⊥))

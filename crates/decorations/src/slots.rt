@@ -1,0 +1,223 @@
+//! What a step does to the runs of all indicators in use. A slot without runs stands for an indicator that is 0
+//! everywhere.
+ghost use Rattle.std.specs.Prelude.{◌≡◌, ◌≤◌, ◌<◌, ◌+◌, ℕ, length, Some, None, IfSome, IfNone, MatchOption, OnOk};
+ghost use Rattle.ed_model.specs.Indicators.{filled, changed_range};
+ghost use Rattle.std.specs.Option.{is_some, option_copied};
+ghost use Rattle.decorations.specs.Slots.{slot_at, AreSpare, HasSpare, InBoth, InEach, HaveRoomOf, AreKept, CanTakeIn, TookIn, GaveAway, WasFilled, shown};
+
+use partitioning::Place;
+use run_styles::RunStyles;
+use std::alloc::{AllocError, Global};
+
+/// The values of one indicator, if it has another than 0 somewhere.
+pub(crate) type Slot<P> = Option<RunStyles<P, u32>>;
+
+/// Returns the runs of an indicator, if it has another value than 0 somewhere.
+pub(crate) fn runs_in<P: Place>(
+    slots: &Vec<Slot<P>>,
+    indicator: usize,
+) -> Option<&RunStyles<P, u32>>
+    ensures runs { option_copied result ≡ slot_at slots.now.items indicator }
+    ensures some { is_some result ≡ is_some (slot_at slots.now.items indicator) }
+{
+    slots.get(indicator)?.as_ref()
+}
+
+/// Makes slots up to `count`, where there are fewer.
+fn reserve_slots<P: Place>(slots: &mut Vec<Slot<P>>, count: usize) -> Result<(), AllocError>
+    ensures same { (k : ℕ) → slot_at slots.new.items k ≡ slot_at slots.old.items k }
+    ensures more { length slots.old.items ≤ length slots.new.items }
+    ensures ok { OnOk result (count ≤ length slots.new.items) }
+    ensures few { (most : ℕ) → length slots.old.items ≤ most → count ≤ most → length slots.new.items ≤ most }
+{
+    while slots.len() < count {
+        slots.push(None)?;
+    }
+    Ok(())
+}
+
+/// Makes room for `room` more runs in each slot that has any.
+fn reserve_runs<P: Place>(slots: &mut Vec<Slot<P>>, room: usize) -> Result<(), AllocError>
+    ensures same { InEach (InBoth HaveRoomOf) slots.old.items slots.new.items }
+    ensures length { length slots.new.items ≡ length slots.old.items }
+    ensures ok { OnOk result ((k : ℕ) → IfSome (slot_at slots.new.items k) (λ runs. room ≤ runs.room)) }
+{
+    for slot in slots.iter_mut() {
+        if let Some(runs) = slot {
+            runs.reserve(room)?;
+        }
+    }
+    Ok(())
+}
+
+/// Makes spare runs with room for `room` more, or gives the spare runs that there are so much.
+fn reserve_spare<P: Place>(
+    spare: &mut Slot<P>,
+    alloc: Global,
+    room: usize,
+) -> Result<(), AllocError>
+    requires { IfSome spare.old (AreSpare 0) }
+    ensures ok { OnOk result (HasSpare room spare.new) }
+    ensures unused { IfSome spare.new (AreSpare 0) }
+    ensures stays { (less : ℕ) → HasSpare less spare.old → HasSpare less spare.new }
+{
+    if let Some(runs) = spare {
+        return runs.reserve(room);
+    }
+    let mut runs = RunStyles::new(alloc, 0)?;
+    runs.reserve(room)?;
+    *spare = Some(runs);
+    Ok(())
+}
+
+fn insert_into<P: Place>(slot: &mut Slot<P>, place: usize, count: usize)
+    requires { IfSome slot.old (CanTakeIn P.GREATEST place count) }
+    ensures { InBoth (TookIn place count) slot.old slot.new }
+{
+    if let Some(runs) = slot {
+        runs.insert_space(place, count);
+    }
+}
+
+/// Puts `count` places in before `place`, into the runs of each indicator in use.
+pub(crate) fn insert_into_all<P: Place>(slots: &mut Vec<Slot<P>>, place: usize, count: usize)
+    requires { (k : ℕ) → IfSome (slot_at slots.old.items k) (CanTakeIn P.GREATEST place count) }
+    ensures runs { InEach (InBoth (TookIn place count)) slots.old.items slots.new.items }
+    ensures length { length slots.new.items ≡ length slots.old.items }
+{
+    for slot in slots.iter_mut() {
+        insert_into(slot, place, count);
+    }
+}
+
+fn delete_from<P: Place>(slot: &mut Slot<P>, place: usize, count: usize)
+    requires { IfSome slot.old (λ runs. place + count ≤ length runs.values) }
+    ensures { GaveAway place count slot.old slot.new }
+{
+    let Some(mut runs) = slot.take() else {
+        return;
+    };
+    runs.delete_range(place, count);
+    if !runs.is_all(0) {
+        *slot = Some(runs);
+    }
+}
+
+/// Takes `count` places away, from `place` on, from the runs of each indicator in use. Those that are all 0 then go.
+pub(crate) fn delete_from_all<P: Place>(slots: &mut Vec<Slot<P>>, place: usize, count: usize)
+    requires { (k : ℕ) → IfSome (slot_at slots.old.items k) (λ runs. place + count ≤ length runs.values) }
+    ensures runs { InEach (GaveAway place count) slots.old.items slots.new.items }
+    ensures length { length slots.new.items ≡ length slots.old.items }
+{
+    for slot in slots.iter_mut() {
+        delete_from(slot, place, count);
+    }
+}
+
+/// Makes room for `room` more runs in a slot, or, where it has none, in the spare runs.
+fn reserve_slot<P: Place>(
+    slot: &mut Slot<P>,
+    spare: &mut Slot<P>,
+    alloc: Global,
+    room: usize,
+) -> Result<(), AllocError>
+    requires { IfSome spare.old (AreSpare 0) }
+    ensures same { InBoth HaveRoomOf slot.old slot.new }
+    ensures ok { OnOk result (MatchOption slot.new (HasSpare room spare.new) (λ runs. room ≤ runs.room)) }
+    ensures unused { IfSome spare.new (AreSpare 0) }
+    ensures stays { (less : ℕ) → HasSpare less spare.old → HasSpare less spare.new }
+{
+    if let Some(runs) = slot {
+        return runs.reserve(room);
+    }
+    reserve_spare(spare, alloc, room)
+}
+
+/// Takes the runs out of a slot, or, where it has none, the spare ones, with so many places of value 0.
+fn taken<P: Place>(slot: &mut Slot<P>, spare: &mut Slot<P>, size: usize) -> RunStyles<P, u32>
+    requires fits { size ≤ P.GREATEST }
+    requires spare { IfNone slot.old (HasSpare 3 spare.old) }
+    ensures values { result.values ≡ shown size slot.old }
+    ensures default { IfSome slot.old (λ runs. runs.default ≡ 0) → result.default ≡ 0 }
+    ensures room { (room : ℕ) → MatchOption slot.old (HasSpare (room + 3) spare.old) (λ runs. room + 2 ≤ runs.room) → room + 2 ≤ result.room }
+    ensures slot { slot.new ≡ None }
+    ensures spare { MatchOption slot.old (spare.new ≡ None) (λ _. spare.new ≡ spare.old) }
+{
+    if let Some(runs) = slot.take() {
+        return runs;
+    }
+    let Some(mut runs) = spare.take() else {
+        unreachable!()
+    };
+    runs.insert_space(0, size);
+    runs
+}
+
+/// Makes room for `room` more runs in each slot that has any, and in the spare runs, if there are any.
+pub(crate) fn reserve_all<P: Place>(
+    slots: &mut Vec<Slot<P>>,
+    spare: &mut Slot<P>,
+    room: usize,
+) -> Result<(), AllocError>
+    requires { IfSome spare.old (AreSpare 0) }
+    ensures same { InEach (InBoth HaveRoomOf) slots.old.items slots.new.items }
+    ensures length { length slots.new.items ≡ length slots.old.items }
+    ensures ok { OnOk result (((k : ℕ) → IfSome (slot_at slots.new.items k) (λ runs. room ≤ runs.room)) × IfSome spare.new (AreSpare room)) }
+    ensures unused { IfSome spare.new (AreSpare 0) }
+    ensures stays { (less : ℕ) → HasSpare less spare.old → HasSpare less spare.new }
+{
+    reserve_runs(slots, room)?;
+    if let Some(runs) = spare {
+        return runs.reserve(room);
+    }
+    Ok(())
+}
+
+/// Makes room for `room` more runs of one indicator, with a slot for it.
+pub(crate) fn reserve_one<P: Place>(
+    slots: &mut Vec<Slot<P>>,
+    spare: &mut Slot<P>,
+    indicator: usize,
+    alloc: Global,
+    room: usize,
+) -> Result<(), AllocError>
+    requires indicator { indicator < 32 }
+    requires few { length slots.old.items ≤ 32 }
+    requires unused { IfSome spare.old (AreSpare 0) }
+    ensures same { InEach (InBoth HaveRoomOf) slots.old.items slots.new.items }
+    ensures length { (length slots.old.items ≤ length slots.new.items) × (length slots.new.items ≤ 32) }
+    ensures ok { OnOk result ((indicator < length slots.new.items) × MatchOption (slot_at slots.new.items indicator) (HasSpare room spare.new) (λ runs. room ≤ runs.room)) }
+    ensures unused { IfSome spare.new (AreSpare 0) }
+    ensures stays { (less : ℕ) → HasSpare less spare.old → HasSpare less spare.new }
+{
+    reserve_slots(slots, indicator + 1)?;
+    reserve_slot(&mut slots[indicator], spare, alloc, room)
+}
+
+/// Sets `count` places of an indicator to a value, in its runs, or, where it has none, in the spare ones. Its runs go if
+/// they are all 0 then. Returns the smallest range that holds all places that changed.
+pub(crate) fn fill_slot<P: Place>(
+    slot: &mut Slot<P>,
+    spare: &mut Slot<P>,
+    size: usize,
+    start: usize,
+    count: usize,
+    value: u32,
+) -> Option<(usize, usize)>
+    requires fits { size ≤ P.GREATEST }
+    requires within { start + count ≤ size }
+    requires kept { IfSome slot.old (AreKept size 2) }
+    requires spare { IfNone slot.old (HasSpare 3 spare.old) }
+    ensures filled { WasFilled (filled start count value (shown size slot.old)) slot.new }
+    ensures room { (room : ℕ) → MatchOption slot.old (HasSpare (room + 3) spare.old) (λ runs. room + 2 ≤ runs.room) → IfSome slot.new (λ runs. room ≤ runs.room) }
+    ensures changed { result ≡ changed_range (shown size slot.old) (filled start count value (shown size slot.old)) }
+    ensures unused { IfSome spare.old (AreSpare 0) → IfSome spare.new (AreSpare 0) }
+{
+    let mut runs = taken(slot, spare, size);
+    let changed = runs.fill(start, count, value);
+    let is_clear = runs.is_all(0);
+    if !is_clear {
+        *slot = Some(runs);
+    }
+    changed
+}
