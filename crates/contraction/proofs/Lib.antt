@@ -1,1 +1,4 @@
+pub mod Changed
+pub mod Kept
 pub mod LineSets
+pub mod Outside

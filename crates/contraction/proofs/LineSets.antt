@@ -6,6 +6,7 @@ use Rattle.std.proofs.lemmas.Bool.Decides.{nat_tests}
 use Rattle.std.proofs.lemmas.List.{get_or-take, get_or-drop, length-take, length-take-le, length-drop, take-append-drop}
 use Rattle.std.proofs.lemmas.List.Edits.{remove-append_right}
 use Rattle.partitioning.specs.Partitions.{ArePartitions, IsLastAtMost, CanStart, CanLose, raised_behind, lowered_behind}
+use Rattle.ed_model.specs.Folding.{is_between}
 use Rattle.contraction.specs.LineSets.{starts_at, holds, holds_with_fresh, holds_without, holds_outside}
 
 pub same_tests : (a b : Bool) → (a ≡ true → b ≡ true) → (b ≡ true → a ≡ true) → a ≡ b
@@ -297,3 +298,23 @@ went s t end line c i k sound last gone =
     or_and_none true y = refl
     or_and_none false true = refl
     or_and_none false false = refl
+
+-- ranges of lines
+
+pub between_none : (first past k : ℕ) (b : Bool) → past ≤ first → (is_between first past k || b) ≡ b
+between_none first past k b h =
+    elim (cases_lt k first) [
+      | inl l ↦ rw (lt-leb first k l) refl
+      | inr l ↦ rw (le-leb first k l, le-ltb k past (omega arith)) refl
+    ]
+
+pub between_more : (first line k : ℕ) (b : Bool) → first ≤ line → (eqb k line || (is_between first line k || b)) ≡ (is_between first (line + 1) k || b)
+between_more first line k b h =
+    elim (cases_eq k line) [
+      | inl e ↦ rw (eq-eqb k line e, le-leb first k (omega arith), lt-ltb k (line + 1) (omega arith)) refl
+      | inr ne ↦
+        elim (cases_lt k line) [
+          | inl l ↦ rw (ne_eqb k line ne, lt-ltb k line l, lt-ltb k (line + 1) (omega arith)) refl
+          | inr l ↦ rw (ne_eqb k line ne, le-ltb k line l, le-ltb k (line + 1) (omega arith)) refl
+        ]
+    ]

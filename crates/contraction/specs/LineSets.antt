@@ -1,5 +1,6 @@
 -- A set of lines, as the starts of partitions: 0, and behind it one more than each line of the set, rising.
-use Rattle.std.specs.Prelude.{ℕ, ◌+◌, ◌-◌, ◌==◌, ◌||◌, nat_lt, if◌then◌else◌, Bool, false, List, [], ◌∷◌}
+use Rattle.std.specs.Prelude.{ℕ, ◌+◌, ◌-◌, ◌==◌, ◌||◌, not, nat_lt, if◌then◌else◌, Bool, false, List, [], ◌∷◌, filter}
+use Rattle.std.specs.List.{range_with_len}
 use Rattle.ed_model.specs.Folding.{is_between}
 
 -- whether one of the starts is at the place
@@ -23,3 +24,7 @@ holds_without starts line count k = if nat_lt k line then holds starts k else ho
 -- .. and without the lines from `first` up to `past`
 abbrev pub holds_outside : List ℕ → ℕ → ℕ → ℕ → Bool
 holds_outside starts first past k = if is_between first past k then false else holds starts k
+
+-- the lines that are not in the set, of so many
+abbrev pub lines_outside : List ℕ → ℕ → List ℕ
+lines_outside starts lines = filter (λ line. not (holds starts line)) (range_with_len 0 lines)

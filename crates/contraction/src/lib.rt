@@ -10,4 +10,8 @@
 //! look-up reads some of the numbers, as many as halving needs.
 #![tactic(auto)]
 
+mod changes;
+mod contraction;
 mod line_set;
+
+pub use contraction::Contraction;

@@ -1,7 +1,8 @@
 //! A set of lines, as the starts of partitions: 0, and behind it one more than each line of the set, rising.
 
-ghost use Rattle.std.specs.Prelude.{ℕ, ◌≡◌, ◌+◌, ◌-◌, ◌^◌, ◌≤◌, ◌<◌, ◌==◌, ◌||◌, false, length};
-ghost use Rattle.contraction.specs.LineSets.{holds, holds_with_fresh, holds_without, holds_outside};
+ghost use Rattle.std.specs.Prelude.{ℕ, ◌≡◌, ◌+◌, ◌-◌, ◌^◌, ◌≤◌, ◌<◌, ◌==◌, ◌||◌, false, length, slice_index, slice_get, unwrap_or};
+ghost use Rattle.ed_model.specs.Folding.{is_between};
+ghost use Rattle.contraction.specs.LineSets.{holds, holds_with_fresh, holds_without, holds_outside, lines_outside};
 ghost use Rattle.partitioning.specs.Partitions.{ArePartitions, IsLastAtMost};
 
 use partitioning::{Partitioning, Place, Probes};
@@ -35,6 +36,7 @@ pub(crate) fn insert<P: Place>(starts: &mut Partitioning<P>, line: usize)
     ensures length { starts.new.length ≡ starts.old.length }
     ensures room { length starts.new.starts + starts.new.room ≡ length starts.old.starts + starts.old.room }
     ensures few { starts.old.room ≤ starts.new.room + 1 }
+    ensures sound { ArePartitions starts.new.starts starts.new.length }
 {
     let _ = starts.length();
     let index = lines_before(starts, line + 1);
@@ -44,14 +46,31 @@ pub(crate) fn insert<P: Place>(starts: &mut Partitioning<P>, line: usize)
     starts.insert_reserved(index + 1, line + 1);
 }
 
+/// Puts the lines from `first` up to `past` into the set. There must be room for all lines.
+pub(crate) fn insert_range<P: Place>(starts: &mut Partitioning<P>, first: usize, past: usize)
+    requires range { past ≤ starts.old.length }
+    requires room { starts.old.length < length starts.old.starts + starts.old.room }
+    ensures lines { (k : ℕ) → holds starts.new.starts k ≡ (is_between first past k || holds starts.old.starts k) }
+    ensures length { starts.new.length ≡ starts.old.length }
+    ensures room { length starts.new.starts + starts.new.room ≡ length starts.old.starts + starts.old.room }
+{
+    let _ = starts.count(); // it says that the starts rise
+    for line in first..past {
+        insert(starts, line);
+    }
+}
+
 /// Takes the lines from `first` up to `past` out of the set.
 pub(crate) fn remove_range<P: Place>(starts: &mut Partitioning<P>, first: usize, past: usize)
-    requires range { (first ≤ past) × (past ≤ starts.old.length) }
+    requires range { past ≤ starts.old.length }
     ensures lines { (k : ℕ) → holds starts.new.starts k ≡ holds_outside starts.old.starts first past k }
     ensures length { starts.new.length ≡ starts.old.length }
     ensures room { length starts.new.starts + starts.new.room ≡ length starts.old.starts + starts.old.room }
     ensures more { starts.old.room ≤ starts.new.room }
 {
+    if past <= first {
+        return;
+    }
     let before = lines_before(starts, first);
     let last = lines_before(starts, past);
     for index in before..last {
@@ -84,4 +103,33 @@ pub(crate) fn take_lines_out<P: Place>(starts: &mut Partitioning<P>, line: usize
     remove_range(starts, line, line + count);
     let index = lines_before(starts, line);
     starts.delete_text(index, count);
+}
+
+/// The last start that lies at most so far behind its own index: of the lines in front of it, so many are not in the set.
+fn starts_before_nth<P: Place>(starts: &Partitioning<P>, n: usize) -> usize
+    ensures within { result < length starts.now.starts }
+    ensures at_most { slice_index starts.now.starts result ≤ n + result }
+    ensures next { result + 1 < length starts.now.starts → n + (result + 1) < slice_index starts.now.starts (result + 1) }
+    ensures sound { ArePartitions starts.now.starts starts.now.length }
+{
+    let mut low = 0;
+    let mut width = starts.count();
+    'halving: while width > 1 {
+        let half = width / 2;
+        let middle = low + half;
+        width -= half;
+        if starts.start_of(middle) - middle <= n {
+            low = middle;
+        }
+    }
+    low
+}
+
+/// The line that is not in the set and has `n` such lines in front of it, or how many lines there are.
+pub(crate) fn nth_line_outside<P: Place>(starts: &Partitioning<P>, n: usize) -> usize
+    ensures { result ≡ unwrap_or (slice_get (lines_outside starts.now.starts starts.now.length) n) starts.now.length }
+{
+    let lines = starts.length();
+    let inside = starts_before_nth(starts, n);
+    n.saturating_add(inside).min(lines)
 }

@@ -29,8 +29,9 @@ returns-clause-lines g c = λ k.
     let one = c.lines_before-before in
     let two = c.lines_before-last in
     let s = c.args.starts.now.starts in
-    let order = found_later s c.args.first c.args.past one.result two.result one.ensures.last two.ensures.last c.requires.range.0 in
+    let order = found_later s c.args.first c.args.past one.result two.result one.ensures.last two.ensures.last (omega arith) in
+    let high = c.loop-index.auto.index-end order in
     let e : c.loop-index.index ≡ two.result = omega arith in
     ap (λ l. starts_at l (k + 1)) c.loop-index.invariant.starts
     ∙ ap (λ j. starts_at (take (one.result + 1) s ++ drop (j + 1) s) (k + 1)) e
-    ∙ left s c.args.starts.now.length c.args.first c.args.past one.result two.result k one.ensures.sound one.ensures.last two.ensures.last c.requires.range.0
+    ∙ left s c.args.starts.now.length c.args.first c.args.past one.result two.result k one.ensures.sound one.ensures.last two.ensures.last (omega arith)
