@@ -1,3 +1,4 @@
+pub mod Carried
 pub mod Changed
 pub mod Kept
 pub mod LineSets

@@ -10,6 +10,7 @@
 //! look-up reads some of the numbers, as many as halving needs.
 #![tactic(auto)]
 
+mod carry;
 mod changes;
 mod contraction;
 mod line_set;
