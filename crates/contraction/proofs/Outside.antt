@@ -10,7 +10,7 @@ use Rattle.partitioning.specs.Partitions.{ArePartitions, IsLastAtMost}
 use Rattle.contraction.specs.LineSets.{starts_at, holds, lines_outside}
 use Rattle.contraction.proofs.LineSets.{rising_to, there, not_there}
 
-range-append : (a m n : ℕ) → range_with_len a (m + n) ≡ range_with_len a m ++ range_with_len (a + m) n
+pub range-append : (a m n : ℕ) → range_with_len a (m + n) ≡ range_with_len a m ++ range_with_len (a + m) n
 range-append a zero n = rw (zero-add n, add-zero) refl
 range-append a (suc m) n =
     let e : suc m + n ≡ suc (m + n) = omega arith in

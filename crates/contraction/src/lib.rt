@@ -13,6 +13,9 @@
 mod carry;
 mod changes;
 mod contraction;
+pub mod folds;
+mod levels;
 mod line_set;
 
 pub use contraction::Contraction;
+pub use levels::Levels;
