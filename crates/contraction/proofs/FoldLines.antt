@@ -1,0 +1,33 @@
+-- The lines of folds: what is found first behind a line, and before it.
+use Rattle.std.proofs.Common.{◌≡◌, ℕ, zero, suc, ◌+◌, ◌-◌, ◌<◌, ◌≤◌, Bool, true, false, not, ◌&&◌, cond, ltb, leb, List, [], ◌∷◌, ◌++◌, length, reverse, Option, Some, None, sym, refl, ap, ◌∙◌, ◌⊎◌, inl, inr, arith, zero-add}
+use Rattle.std.specs.Prelude.{find}
+use Rattle.std.specs.List.{range_with_len}
+use Rattle.std.proofs.lemmas.List.{reverse-append}
+use Rattle.contraction.proofs.Outside.{range-append}
+
+-- what is sought from a number on, up to another
+abbrev pub first_from : (ℕ → Bool) → ℕ → ℕ → Option ℕ
+first_from test n a = find test (range_with_len a (n - a))
+
+pub first_here : (test : ℕ → Bool) (n a : ℕ) → a < n → test a ≡ true → first_from test n a ≡ Some a
+first_here test n a l t = let e : n - a ≡ suc (n - (a + 1)) = omega arith in rw (e, t) refl
+
+pub first_later : (test : ℕ → Bool) (n a : ℕ) → a < n → test a ≡ false → first_from test n a ≡ first_from test n (a + 1)
+first_later test n a l t = let e : n - a ≡ suc (n - (a + 1)) = omega arith in rw (e, t) refl
+
+pub first_none : (test : ℕ → Bool) (n a : ℕ) → n ≤ a → first_from test n a ≡ None
+first_none test n a h = let e : n - a ≡ 0 = omega arith in rw e refl
+
+-- what is sought from a number back
+abbrev pub last_before : (ℕ → Bool) → ℕ → Option ℕ
+last_before test a = find test (reverse (range_with_len 0 a))
+
+pub reverse_more : (m : ℕ) → reverse (range_with_len 0 (m + 1)) ≡ m ∷ reverse (range_with_len 0 m)
+reverse_more m =
+    ap reverse (range-append 0 m 1) ∙ reverse-append (range_with_len 0 m) (range_with_len (0 + m) 1) ∙ rw (zero-add m) refl
+
+pub last_here : (test : ℕ → Bool) (a m : ℕ) → m + 1 ≡ a → test m ≡ true → last_before test a ≡ Some m
+last_here test a m e t = rw (← e) (ap (find test) (reverse_more m) ∙ rw t refl)
+
+pub last_earlier : (test : ℕ → Bool) (a m : ℕ) → m + 1 ≡ a → test m ≡ false → last_before test a ≡ last_before test m
+last_earlier test a m e t = rw (← e) (ap (find test) (reverse_more m) ∙ rw t refl)

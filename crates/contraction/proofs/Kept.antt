@@ -1,0 +1,185 @@
+-- The flags that two sets of lines stand for.
+use Rattle.std.proofs.Common.{◌≡◌, ℕ, zero, suc, ◌+◌, ◌-◌, ◌<◌, ◌≤◌, Bool, true, false, not, ◌&&◌, ◌||◌, cond, ltb, leb, eqb, List, [], ◌∷◌, ◌++◌, length, get_or, set, take, drop, map, replicate, filter, count_by, refl, sym, ap, ◌∙◌, ◌⊎◌, inl, inr, arith, add-one}
+use Rattle.std.specs.List.{range_with_len, list_all}
+use Rattle.std.specs.Prelude.{slice_get, unwrap_or, Result, Ok, Err, OnOk}
+use Rattle.std.proofs.lemmas.Bool.{cases_lt, cases_eq, eq-eqb, ne_eqb, false≢true}
+use Rattle.std.proofs.lemmas.List.Folds.{list_all_at}
+use Rattle.std.proofs.lemmas.List.Sums.{list_all-from_AllPass, sum_by-cons}
+use Rattle.contraction.proofs.LineSets.{same_tests, index_of, rising_to, there}
+use Rattle.contraction.proofs.Outside.{outside_before}
+use Rattle.std.proofs.lemmas.List.{get_or_default, ext_get_or, length-replicate, get_or-replicate, length-set, get_or-set_same, get_or-set_other}
+use Rattle.std.proofs.lemmas.List.FromFn.{length-map-range_with_len, get_or-map-range_with_len, fill_by_all, take-map-range_with_len}
+use Rattle.ed_model.specs.Rows.{Flags, fresh_flags}
+use Rattle.ed_model.specs.Folding.{flags_at, is_visible, is_expanded, with_visible, with_expanded}
+use Rattle.ed_model.specs.DisplayLines.{display_line, line_shown, all_visible}
+use Rattle.partitioning.specs.Partitions.{Partitions, ArePartitions, IsLastAtMost}
+use Rattle.contraction.specs.LineSets.{starts_at, holds, lines_outside}
+use Rattle.contraction.specs.ViewLines.{ViewLines, view_lines, flags_kept, room_in_all}
+
+pub length-kept : (h c : List ℕ) (n : ℕ) → length (flags_kept h c n) ≡ n
+length-kept h c n = length-map-range_with_len (λ line. record { visible = not (holds h line); expanded = not (holds c line) }) 0 n
+
+abbrev pub flags_of : List ℕ → List ℕ → ℕ → Flags
+flags_of h c k = record { visible = not (holds h k); expanded = not (holds c k) }
+
+pub kept_at : (h c : List ℕ) (n k : ℕ) → k < n → get_or (flags_kept h c n) k fresh_flags ≡ flags_of h c k
+kept_at h c n k l = get_or-map-range_with_len (flags_of h c) 0 n k k fresh_flags l (omega arith)
+
+-- the value of a struct, and what its fields say
+
+pub lines_of : (h c : Partitions) (v : ViewLines) → view_lines h c ≡ v → length v.flags ≡ h.length
+lines_of h c v e = sym (ap (λ w. length w.flags) e) ∙ length-kept h.starts c.starts h.length
+
+pub visible_in : (h c : Partitions) (v : ViewLines) (k : ℕ) → view_lines h c ≡ v → k < h.length → is_visible v.flags k ≡ not (holds h.starts k)
+visible_in h c v k e l = sym (ap (λ w. is_visible w.flags k) e) ∙ ap (λ f. f.visible) (kept_at h.starts c.starts h.length k l)
+
+pub expanded_in : (h c : Partitions) (v : ViewLines) (k : ℕ) → view_lines h c ≡ v → k < h.length → is_expanded v.flags k ≡ not (holds c.starts k)
+expanded_in h c v k e l = sym (ap (λ w. is_expanded w.flags k) e) ∙ ap (λ f. f.expanded) (kept_at h.starts c.starts h.length k l)
+
+-- a set with no start but the first holds no line
+pub none_in : (s : List ℕ) (k : ℕ) → length s ≡ 1 → get_or s 0 0 ≡ 0 → holds s k ≡ false
+none_in s k one first = same_tests (holds s k) false
+    (λ t.
+      let i = index_of s (k + 1) t in
+      let z : i.0 ≡ 0 = omega (arith, i.1) in
+      let f : get_or s 0 0 ≡ k + 1 = ap (λ j. get_or s j 0) (sym z) ∙ i.2 in
+      absurd (omega arith))
+    (λ t. absurd (false≢true t))
+
+-- all are visible exactly where no line is hidden
+pub all_visible_in : (h c : Partitions) (v : ViewLines) → view_lines h c ≡ v → ArePartitions h.starts h.length → all_visible v.flags ≡ eqb (length h.starts) 1
+all_visible_in h c v e sound =
+    sym (ap (λ w. all_visible w.flags) e)
+    ∙ elim (cases_lt 1 (length h.starts)) [
+      | inl some ↦
+        let rises = rising_to h.starts sound.rising 0 1 (omega arith) some in
+        let start : ℕ = get_or h.starts 1 0 in
+        let line : ℕ = start - 1 in
+        let back : start - 1 + 1 ≡ start = omega arith in
+        let inside : start - 1 < h.length = omega (arith, sound.within 1 some) in
+        let hidden : holds h.starts (start - 1) ≡ true = there h.starts 1 (start - 1 + 1) some (sym back) in
+        let flags = kept_at h.starts c.starts h.length (start - 1) inside in
+        list_all_at (λ (f : Flags). f.visible) (flags_kept h.starts c.starts h.length) (start - 1) fresh_flags (omega (arith, length-kept h.starts c.starts h.length))
+        (ap (λ f. f.visible) flags ∙ ap not hidden)
+        ∙ sym (ne_eqb (length h.starts) 1 (λ q. omega arith))
+      | inr one ↦
+        let only : length h.starts ≡ 1 = omega (arith, sound.some) in
+        list_all-from_AllPass (λ (f : Flags). f.visible) (flags_kept h.starts c.starts h.length)
+        (λ k d l.
+          let inside : k < h.length = omega (arith, length-kept h.starts c.starts h.length) in
+          let none : holds h.starts k ≡ false = none_in h.starts k only sound.first in
+          ap (λ f. f.visible) (get_or_default (flags_kept h.starts c.starts h.length) k d fresh_flags l ∙ kept_at h.starts c.starts h.length k inside) ∙ ap not none)
+        ∙ sym (eq-eqb (length h.starts) 1 only)
+    ]
+
+count_map : (p : Flags → Bool) (f : ℕ → Flags) (ks : List ℕ) → count_by p (map f ks) ≡ length (filter (λ k. p (f k)) ks)
+count_map p f [] = refl
+count_map p f (k ∷ ks) = sum_by-cons (λ x. cond (p x) 1 0) (f k) (map f ks) ∙ go (p (f k)) (count_map p f ks)
+  where
+    go : (b : Bool) → count_by p (map f ks) ≡ length (filter (λ k. p (f k)) ks)
+        → cond b 1 0 + count_by p (map f ks) ≡ length (cond b (k ∷ filter (λ k. p (f k)) ks) (filter (λ k. p (f k)) ks))
+    go true e = omega arith
+    go false e = omega arith
+
+filter_within : (p q : ℕ → Bool) (a n : ℕ) → ((k : ℕ) → a ≤ k → k < a + n → p k ≡ q k) → filter p (range_with_len a n) ≡ filter q (range_with_len a n)
+filter_within p q a zero same = refl
+filter_within p q a (suc n) same =
+    rw (same a (omega arith) (omega arith), filter_within p q (a + 1) n (λ k l m. same k (omega arith) (omega arith))) refl
+
+-- the visible lines before a line are those that are not hidden
+visible_count : (h c : List ℕ) (n m : ℕ) → m ≤ n → count_by (λ (f : Flags). f.visible) (take m (flags_kept h c n)) ≡ length (filter (λ line. not (holds h line)) (range_with_len 0 m))
+visible_count h c n m l =
+    ap (count_by (λ (f : Flags). f.visible)) (take-map-range_with_len (flags_of h c) 0 n m l)
+    ∙ count_map (λ (f : Flags). f.visible) (flags_of h c) (range_with_len 0 m)
+
+pub display_in : (h c : Partitions) (v : ViewLines) (line i : ℕ) → view_lines h c ≡ v → ArePartitions h.starts h.length → IsLastAtMost h.starts (line + 1) i → line < h.length
+    → (i ≤ line + 1) × (display_line v.flags line ≡ line + 1 - i - 1)
+display_in h c v line i e sound last l =
+    let count = visible_count h.starts c.starts h.length (line + 1) (omega arith) in
+    let all = outside_before h.starts h.length sound (line + 1) i last in
+    let q = ap (λ w. display_line w.flags line) e in
+    (omega arith, omega (arith, q, count, all))
+
+pub shown_in : (h c : Partitions) (v : ViewLines) (n : ℕ) → view_lines h c ≡ v → line_shown v.flags n ≡ unwrap_or (slice_get (lines_outside h.starts h.length) n) h.length
+shown_in h c v n e =
+    let lines = length-kept h.starts c.starts h.length in
+    let each : (k : ℕ) → 0 ≤ k → k < 0 + h.length → is_visible (flags_kept h.starts c.starts h.length) k ≡ not (holds h.starts k) =
+    λ k l m. ap (λ f. f.visible) (kept_at h.starts c.starts h.length k (omega arith)) in
+    let same : filter (is_visible (flags_kept h.starts c.starts h.length)) (range_with_len 0 h.length) ≡ lines_outside h.starts h.length =
+    filter_within (is_visible (flags_kept h.starts c.starts h.length)) (λ k. not (holds h.starts k)) 0 h.length each in
+    sym (ap (λ w. line_shown w.flags n) e) ∙ rw (lines, same) refl
+
+-- the flags of lines of which none is hidden or contracted
+pub fresh_kept : (h c : List ℕ) (n m : ℕ) → h ≡ 0 ∷ [] → c ≡ 0 ∷ [] → n ≡ m → flags_kept h c n ≡ replicate m fresh_flags
+fresh_kept h c n m p q r =
+    rw (p, q, r)
+    (sym (fill_by_all (flags_of (0 ∷ []) (0 ∷ [])) (replicate m fresh_flags) m fresh_flags (length-replicate m fresh_flags)
+    (λ k l. get_or-replicate m k fresh_flags fresh_flags l ∙ sym (fresh_at k))))
+  where
+    fresh_at : (k : ℕ) → flags_of (0 ∷ []) (0 ∷ []) k ≡ fresh_flags
+    fresh_at k = let none : holds (0 ∷ []) k ≡ false = none_in (0 ∷ []) k refl refl in rw none refl
+
+-- room was made
+
+pub contracted_reserved : {T E : Type 0} (r : Result T E) (h c c' : Partitions) (v : ViewLines) (n : ℕ) → view_lines h c ≡ v
+    → OnOk r ((n ≤ c'.room) × (c' ≡ record c { room = c'.room }))
+    → OnOk r ((n ≤ c'.room) × (view_lines h c' ≡ record v { room = record v.room { contracted = c'.room } }))
+contracted_reserved (Err x) h c c' v n e ok = tt
+contracted_reserved (Ok x) h c c' v n e ok =
+    (ok.0, ap (λ w. view_lines h w) ok.1 ∙ ap (λ (w : ViewLines). record w { room = record w.room { contracted = c'.room } }) e)
+
+pub hidden_reserved : {T E : Type 0} (r : Result T E) (h h' c : Partitions) (v : ViewLines) (n m : ℕ) → view_lines h c ≡ v → 0 < length h.starts → n ≡ m - (length h.starts - 1)
+    → OnOk r ((n ≤ h'.room) × (h' ≡ record h { room = h'.room }))
+    → OnOk r ((m ≤ room_in_all h') × (view_lines h' c ≡ record v { room = record v.room { hidden = room_in_all h' } }))
+hidden_reserved (Err x) h h' c v n m e some q ok = tt
+hidden_reserved (Ok x) h h' c v n m e some q ok =
+    let size : length h'.starts ≡ length h.starts = ap (λ w. length w.starts) ok.1 in
+    let room : room_in_all (record h { room = h'.room }) ≡ room_in_all h' = ap (λ k. k + h'.room - 1) (sym size) in
+    (omega (arith, ok.0),
+    ap (λ w. view_lines w c) ok.1 ∙ ap (λ (w : ViewLines). record w { room = record w.room { hidden = room_in_all (record h { room = h'.room }) } }) e
+    ∙ ap (λ k. record v { room = record v.room { hidden = k } }) room)
+
+-- lines shown and hidden, expanded and contracted
+
+pub with_visible_kept : (h h' c : List ℕ) (n : ℕ) (passes shown : ℕ → Bool) → ((k : ℕ) → holds h' k ≡ cond (passes k) (not (shown k)) (holds h k))
+    → flags_kept h' c n ≡ with_visible passes shown (flags_kept h c n)
+with_visible_kept h h' c n passes shown same =
+    let changed : ℕ → Flags = λ line. let f = flags_at (flags_kept h c n) line in cond (passes line) (record f { visible = shown line }) f in
+    fill_by_all changed (flags_kept h' c n) n fresh_flags (length-kept h' c n) (λ k l. kept_at h' c n k l ∙ at_line k l)
+    ∙ ap (λ m. map changed (range_with_len 0 m)) (sym (length-kept h c n))
+  where
+    one : (k : ℕ) (b : Bool) → holds h' k ≡ cond b (not (shown k)) (holds h k) → flags_of h' c k ≡ cond b (record (flags_of h c k) { visible = shown k }) (flags_of h c k)
+    one k true e = rw e (ap (λ v. record { visible = v; expanded = not (holds c k) }) (twice (shown k)))
+      where
+        twice : (b : Bool) → not (not b) ≡ b
+        twice true = refl
+        twice false = refl
+    one k false e = rw e refl
+
+    at_line : (k : ℕ) → k < n → flags_of h' c k ≡ cond (passes k) (record (flags_at (flags_kept h c n) k) { visible = shown k }) (flags_at (flags_kept h c n) k)
+    at_line k l = one k (passes k) (same k) ∙ ap (λ (f : Flags). cond (passes k) (record f { visible = shown k }) f) (sym (kept_at h c n k l))
+
+pub with_expanded_kept : (h c c' : List ℕ) (n line : ℕ) (on : Bool) → line < n → ((k : ℕ) → holds c' k ≡ cond (eqb k line) (not on) (holds c k))
+    → flags_kept h c' n ≡ with_expanded line on (flags_kept h c n)
+with_expanded_kept h c c' n line on l same =
+    let old = flags_at (flags_kept h c n) line in
+    ext_get_or fresh_flags (flags_kept h c' n) (set (flags_kept h c n) line (record old { expanded = on }))
+    (length-kept h c' n ∙ sym (length-kept h c n) ∙ sym (length-set (flags_kept h c n) line (record old { expanded = on })))
+    (λ k m. at_line k (omega (arith, length-kept h c' n)) (cases_eq k line))
+  where
+    twice : (b : Bool) → not (not b) ≡ b
+    twice true = refl
+    twice false = refl
+
+    at_line : (k : ℕ) → k < n → (k ≡ line) ⊎ (k ≡ line → ⊥)
+        → get_or (flags_kept h c' n) k fresh_flags ≡ get_or (set (flags_kept h c n) line (record (flags_at (flags_kept h c n) line) { expanded = on })) k fresh_flags
+    at_line k m (inl e) =
+        let q : holds c' line ≡ not on = same line ∙ rw (eq-eqb line line refl) refl in
+        rw e
+        (kept_at h c' n line l ∙ rw q (ap (λ v. record { visible = not (holds h line); expanded = v }) (twice on))
+        ∙ ap (λ (f : Flags). record f { expanded = on }) (sym (kept_at h c n line l))
+        ∙ sym (get_or-set_same (flags_kept h c n) line (record (flags_at (flags_kept h c n) line) { expanded = on }) fresh_flags (omega (arith, length-kept h c n))))
+    at_line k m (inr ne) =
+        let q : holds c' k ≡ holds c k = same k ∙ rw (ne_eqb k line ne) refl in
+        kept_at h c' n k m ∙ rw q refl ∙ sym (kept_at h c n k m)
+        ∙ sym (get_or-set_other (flags_kept h c n) line k (record (flags_at (flags_kept h c n) line) { expanded = on }) fresh_flags ne)

@@ -1,0 +1,132 @@
+-- The lines that are not in a set: how many there are before a line, and which is the nth.
+use Rattle.std.proofs.Common.{◌≡◌, ℕ, zero, suc, ◌+◌, ◌-◌, ◌<◌, ◌≤◌, Bool, true, false, not, cond, min, List, [], ◌∷◌, ◌++◌, length, get_or, filter, refl, sym, ap, ◌∙◌, ◌⊎◌, inl, inr, arith, add-one, add-zero, zero-add, eqb}
+use Rattle.std.specs.Prelude.{slice_get, unwrap_or}
+use Rattle.std.specs.List.{range_with_len}
+use Rattle.std.proofs.lemmas.Bool.{cases_lt, cases_eq, eq-eqb, ne_eqb}
+use Rattle.std.proofs.lemmas.List.{length-append, get_or_at, get_or_past}
+use Rattle.std.proofs.lemmas.List.Elements.{filter-append}
+use Rattle.std.proofs.lemmas.Option.{unwrap_or-slice_get}
+use Rattle.partitioning.specs.Partitions.{ArePartitions, IsLastAtMost}
+use Rattle.contraction.specs.LineSets.{starts_at, holds, lines_outside}
+use Rattle.contraction.proofs.LineSets.{rising_to, there, not_there}
+
+pub range-append : (a m n : ℕ) → range_with_len a (m + n) ≡ range_with_len a m ++ range_with_len (a + m) n
+range-append a zero n = rw (zero-add n, add-zero) refl
+range-append a (suc m) n =
+    let e : suc m + n ≡ suc (m + n) = omega arith in
+    let f : a + 1 + m ≡ a + suc m = omega arith in
+    rw e (ap (λ l. a ∷ l) (range-append (a + 1) m n ∙ ap (λ k. range_with_len (a + 1) m ++ range_with_len k n) f))
+
+-- the start behind the place is not there
+last_before : (s : List ℕ) (end m i : ℕ) → ArePartitions s end → IsLastAtMost s (m + 1) i → (get_or s i 0 ≡ m + 1 → ⊥) → IsLastAtMost s m i
+last_before s end m i sound last ne = record {
+  within = last.within;
+  at_most = omega (arith, last.at_most);
+  last = λ k a b. omega (arith, last.last k a b);
+}
+
+-- .. or it is, and has the one before it
+last_before_start : (s : List ℕ) (end m i : ℕ) → ArePartitions s end → IsLastAtMost s (m + 1) i → get_or s i 0 ≡ m + 1 → (0 < i) × IsLastAtMost s m (i - 1)
+last_before_start s end m i sound last e =
+    let some : 0 < i = elim (cases_lt 0 i) [
+      | inl h ↦ h
+      | inr h ↦ let z : i ≡ 0 = omega arith in let f : get_or s 0 0 ≡ m + 1 = rw z at e in absurd (omega (arith, sound.first))
+    ] in (some, record {
+      within = omega (arith, last.within);
+      at_most = omega (arith, rising_to s sound.rising (i - 1) i (omega arith) last.within);
+      last = λ k a b. omega (arith, rising_to s sound.rising i k (omega arith) b);
+    })
+
+module _ (s : List ℕ) (end : ℕ) (sound : ArePartitions s end) where
+  outside_one : (m : ℕ) → length (filter (λ line. not (holds s line)) (range_with_len 0 (m + 1)))
+      ≡ length (filter (λ line. not (holds s line)) (range_with_len 0 m)) + length (cond (not (starts_at s (m + 1))) (m ∷ []) [])
+  outside_one m =
+      let test : ℕ → Bool = λ line. not (holds s line) in
+      ap (λ l. length (filter test l)) (range-append 0 m 1) ∙ ap length (filter-append test (range_with_len 0 m) (range_with_len (0 + m) 1))
+      ∙ length-append (filter test (range_with_len 0 m)) (filter test (range_with_len (0 + m) 1))
+      ∙ rw (zero-add m) refl
+
+  -- of the lines before one, each is in the set or outside
+  pub outside_before : (m i : ℕ) → IsLastAtMost s m i → length (filter (λ line. not (holds s line)) (range_with_len 0 m)) + i ≡ m
+  outside_before zero i last = omega (arith, last.at_most, rising_to s sound.rising 0 i (omega arith) last.within)
+  outside_before (suc m) i last =
+      let next : m + 1 ≡ suc m = omega arith in
+      let last' : IsLastAtMost s (m + 1) i = rw next last in
+      let all : length (filter (λ line. not (holds s line)) (range_with_len 0 (m + 1))) + i ≡ m + 1 =
+      elim (cases_eq (get_or s i 0) (m + 1)) [
+        | inl e ↦
+          let before = last_before_start s end m i sound last' e in
+          let in_set : starts_at s (m + 1) ≡ true = there s i (m + 1) last.within e in
+          let step : length (filter (λ line. not (holds s line)) (range_with_len 0 (m + 1))) ≡ length (filter (λ line. not (holds s line)) (range_with_len 0 m)) + 0
+          = outside_one m ∙ rw in_set refl in
+          omega (arith, step, before.0, outside_before m (i - 1) before.1)
+        | inr ne ↦
+          let not_in_set : starts_at s (m + 1) ≡ false = not_there s end (m + 1) i (get_or s i 0) sound last' refl ne in
+          let step : length (filter (λ line. not (holds s line)) (range_with_len 0 (m + 1))) ≡ length (filter (λ line. not (holds s line)) (range_with_len 0 m)) + 1
+          = outside_one m ∙ rw not_in_set refl in
+          omega (arith, step, outside_before m i (last_before s end m i sound last' ne))
+      ] in
+      rw next at all
+
+  -- the last of all starts is at most any place from the end on
+  last_of_all : IsLastAtMost s end (length s - 1)
+  last_of_all = record {
+    within = omega (arith, sound.some);
+    at_most = sound.within (length s - 1) (omega (arith, sound.some));
+    last = λ k a b. absurd (omega arith);
+  }
+
+  -- the nth of the lines outside, or how many lines there are
+  pub nth_outside : (n i : ℕ) → i < length s → get_or s i 0 ≤ n + i → (i + 1 < length s → n + (i + 1) < get_or s (i + 1) 0)
+      → unwrap_or (slice_get (lines_outside s end) n) end ≡ min (n + i) end
+  nth_outside n i h low next =
+      unwrap_or-slice_get (lines_outside s end) n end
+      ∙ elim (cases_lt (n + i) end) [
+        | inl inside ↦
+          let test : ℕ → Bool = λ line. not (holds s line) in
+          let last : IsLastAtMost s (n + i) i = record {
+            within = h;
+            at_most = low;
+            last = λ k a b. omega (arith, next (omega arith), rising_to s sound.rising (i + 1) k (omega arith) b);
+          } in
+          let last' : IsLastAtMost s (n + i + 1) i = record {
+            within = h;
+            at_most = omega arith;
+            last = λ k a b. omega (arith, next (omega arith), rising_to s sound.rising (i + 1) k (omega arith) b);
+          } in
+          let out : starts_at s (n + i + 1) ≡ false = not_there s end (n + i + 1) i (get_or s i 0) sound last' refl (λ e. omega arith) in
+          let count : length (filter test (range_with_len 0 (n + i))) ≡ n = omega (arith, outside_before (n + i) i last) in
+          let cut : end ≡ (n + i) + suc (end - (n + i) - 1) = omega arith in
+          let parts : lines_outside s end ≡ filter test (range_with_len 0 (n + i)) ++ (n + i) ∷ filter test (range_with_len (n + i + 1) (end - (n + i) - 1)) =
+          ap (λ e. filter test (range_with_len 0 e)) cut ∙ ap (filter test) (range-append 0 (n + i) (suc (end - (n + i) - 1)))
+          ∙ filter-append test (range_with_len 0 (n + i)) (range_with_len (0 + (n + i)) (suc (end - (n + i) - 1)))
+          ∙ rw (zero-add (n + i), out) refl in
+          let least : min (n + i) end ≡ n + i = omega arith in
+          rw (parts, least) (get_or_at (filter test (range_with_len 0 (n + i))) (n + i) (filter test (range_with_len (n + i + 1) (end - (n + i) - 1))) end n count)
+        | inr past ↦
+          let least : min (n + i) end ≡ end = omega arith in
+          let all : length (lines_outside s end) + (length s - 1) ≡ end = outside_before end (length s - 1) last_of_all in
+          let top : i + 1 ≡ length s = elim (cases_lt (i + 1) (length s)) [
+            | inl l ↦ absurd (omega (arith, next l, sound.within (i + 1) l))
+            | inr l ↦ omega arith
+          ] in
+          rw least (get_or_past (lines_outside s end) n end (omega arith))
+      ]
+
+some_pass : (p : ℕ → Bool) (a n x : ℕ) → a ≤ x → x < a + n → p x ≡ true → 0 < length (filter p (range_with_len a n))
+some_pass p a zero x h l t = absurd (omega arith)
+some_pass p a (suc n) x h l t =
+    elim (cases_eq a x) [
+      | inl e ↦ let here : p a ≡ true = rw e t in rw here (omega arith)
+      | inr ne ↦ longer (p a) (some_pass p (a + 1) n x (omega arith) (omega arith) t)
+    ]
+  where
+    longer : (b : Bool) → 0 < length (filter p (range_with_len (a + 1) n)) → 0 < length (cond b (a ∷ filter p (range_with_len (a + 1) n)) (filter p (range_with_len (a + 1) n)))
+    longer true h = omega arith
+    longer false h = h
+
+-- where a line is not in the set, there is room for one more start than there are lines
+pub room_for : (s : List ℕ) (end line : ℕ) → ArePartitions s end → line < end → holds s line ≡ false → length s ≤ end
+room_for s end line sound l out =
+    let some = some_pass (λ line. not (holds s line)) 0 end line (omega arith) (omega arith) (ap not out) in
+    omega (arith, outside_before s end sound end (length s - 1) (last_of_all s end sound))

@@ -1,0 +1,25 @@
+use Rattle.std.proofs.Common.{◌≡◌, ◌+◌, ◌∷◌, List, get_or, drop, sym, ap, ◌∙◌, arith}
+use Rattle.std.proofs.lemmas.List.{drop_more}
+use Rattle.ed_model.specs.Rows.{Flags, flags_together}
+use Rattle.line_index.specs.declared.edit.LineEdit.{LineEdit}
+use Rattle.line_index.specs.declared.edit.LineEdit.TheVariants.{Come}
+use Rattle.line_index.specs.Edits.{after_edits}
+use Rattle.contraction.proofs.Carried.{MayFollow, one_more}
+use Rattle.contraction.proofs.contraction.Contraction.carry.Goals as goal
+
+pub loop-edit-preserved : goal.loop-edit-preserved
+loop-edit-preserved g c =
+    let inv = c.loop-edit.invariant in
+    let edits : List LineEdit = c.args.edits.now in
+    let i = c.loop-edit.edit-index in
+    let edit : LineEdit = get_or edits i (Come 0 0) in
+    let next : drop i edits ≡ edit ∷ drop (i + 1) edits = drop_more edits i (Come 0 0) (omega arith) in
+    let may : MayFollow g.P.Place.GREATEST c.loop-edit.self.flags (edit ∷ drop (i + 1) edits) = rw next at inv.left in
+    record {
+      done =
+          ap (λ (fs : List Flags). after_edits flags_together (drop (i + 1) edits) fs) c.carry_edit.ensures.flags
+          ∙ ap (λ (es : List LineEdit). after_edits flags_together es c.loop-edit.self.flags) (sym next) ∙ inv.done;
+      left = rw c.carry_edit.ensures.flags (one_more g.P.Place.GREATEST c.loop-edit.self.flags edit (drop (i + 1) edits) may);
+      hidden = c.carry_edit.ensures.hidden ∙ inv.hidden;
+      contracted = omega (arith, c.carry_edit.ensures.contracted, inv.contracted);
+    }

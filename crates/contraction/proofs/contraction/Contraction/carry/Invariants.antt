@@ -1,0 +1,14 @@
+use Rattle.std.proofs.Common.{◌≡◌, ◌≤◌, drop}
+use Rattle.ed_model.specs.Rows.{flags_together}
+use Rattle.line_index.specs.Edits.{after_edits}
+use Rattle.contraction.proofs.Carried.{MayFollow}
+use Rattle.contraction.proofs.contraction.Contraction.carry.Given as goal
+
+abbrev pub invariant-loop-edit : goal.invariant-loop-edit
+invariant-loop-edit g l =
+    record {
+      done : after_edits flags_together (drop l.edit-index l.edits) l.self.flags ≡ after_edits flags_together l.edits l.initial.self.flags;
+      left : MayFollow g.P.Place.GREATEST l.self.flags (drop l.edit-index l.edits);
+      hidden : l.self.room.hidden ≡ l.initial.self.room.hidden;
+      contracted : l.initial.self.room.contracted ≤ l.self.room.contracted;
+    }

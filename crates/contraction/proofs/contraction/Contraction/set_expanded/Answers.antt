@@ -1,0 +1,36 @@
+use Rattle.std.proofs.Common.{◌<◌, ap, sym, ◌∙◌, arith}
+use Rattle.ed_model.specs.Folding.{with_expanded}
+use Rattle.contraction.proofs.Kept.{lines_of}
+use Rattle.contraction.proofs.Changed.{expanded_after, contracted_after}
+use Rattle.contraction.proofs.contraction.Contraction.set_expanded.Goals as goal
+
+pub overflow_add-line : goal.overflow_add-line
+overflow_add-line g c =
+    omega (arith, c.requires.line, c.length.type_inv, c.length.ensures.length, c.self.invariant.lines,
+    lines_of c.self.inside.hidden c.self.inside.contracted c.args.self.now c.self.view_is)
+
+pub remove_range-requires : goal.remove_range-requires
+remove_range-requires g c =
+    record {
+      range = omega (arith, c.requires.line, c.self.invariant.lines, lines_of c.self.inside.hidden c.self.inside.contracted c.args.self.now c.self.view_is);
+    }
+
+pub insert-requires-clause-line : goal.insert-requires-clause-line
+insert-requires-clause-line g c =
+    omega (arith, c.requires.line, c.self.invariant.lines, lines_of c.self.inside.hidden c.self.inside.contracted c.args.self.now c.self.view_is)
+
+pub returns-then-on-clause-flags : goal.returns-then-on-clause-flags
+returns-then-on-clause-flags g c =
+    let inside : c.args.line < c.self.inside.hidden.length =
+    omega (arith, c.requires.line, lines_of c.self.inside.hidden c.self.inside.contracted c.args.self.now c.self.view_is) in
+    expanded_after c.self.inside.hidden c.self.inside.contracted c.remove_range.new.starts c.args.self.now c.args.line c.self.view_is inside
+    c.remove_range.ensures.lines
+    ∙ ap (λ b. with_expanded c.args.line b c.args.self.now.flags) (sym c.if-on.true)
+
+pub returns-else-on-clause-flags : goal.returns-else-on-clause-flags
+returns-else-on-clause-flags g c =
+    let inside : c.args.line < c.self.inside.hidden.length =
+    omega (arith, c.requires.line, lines_of c.self.inside.hidden c.self.inside.contracted c.args.self.now c.self.view_is) in
+    contracted_after c.self.inside.hidden c.self.inside.contracted c.insert.new.starts c.args.self.now c.args.line c.self.view_is inside
+    c.insert.ensures.lines
+    ∙ ap (λ b. with_expanded c.args.line b c.args.self.now.flags) (sym c.if-on.false)

@@ -1,0 +1,15 @@
+use Rattle.std.proofs.Common.{◌≡◌, ℕ, ◌+◌, ◌≤◌, ◌||◌, length}
+use Rattle.ed_model.specs.Folding.{is_between}
+use Rattle.partitioning.specs.Partitions.{ArePartitions}
+use Rattle.contraction.specs.LineSets.{holds}
+use Rattle.contraction.proofs.line_set.insert_range.Given as goal
+
+abbrev pub invariant-loop-line : goal.invariant-loop-line
+invariant-loop-line g l =
+    record {
+      lines : (k : ℕ) → holds l.starts.starts k ≡ (is_between l.first l.line k || holds l.initial.starts.starts k);
+      whole : l.starts.length ≡ l.initial.starts.length;
+      room : length l.starts.starts + l.starts.room ≡ length l.initial.starts.starts + l.initial.starts.room;
+      empty : l.past ≤ l.first → l.line ≡ l.first;
+      sound : ArePartitions l.starts.starts l.starts.length;
+    }

@@ -1,0 +1,11 @@
+use Rattle.std.proofs.Common.{◌≡◌, ◌+◌, ◌++◌, ◌≤◌, length, take, drop}
+use Rattle.contraction.proofs.line_set.remove_range.Given as goal
+
+abbrev pub invariant-loop-index : goal.invariant-loop-index
+invariant-loop-index g l =
+    record {
+      starts : l.starts.starts ≡ take (l.before + 1) l.initial.starts.starts ++ drop (l.index + 1) l.initial.starts.starts;
+      whole : l.starts.length ≡ l.initial.starts.length;
+      room : length l.starts.starts + l.starts.room ≡ length l.initial.starts.starts + l.initial.starts.room;
+      more : l.initial.starts.room ≤ l.starts.room;
+    }

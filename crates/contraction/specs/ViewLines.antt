@@ -1,0 +1,36 @@
+-- What a contract sees of a `Contraction`.
+use Rattle.std.specs.Prelude.{◌≡◌, ℕ, ◌+◌, ◌-◌, not, List, length, map, refl}
+use Rattle.std.specs.List.{range_with_len}
+use Rattle.ed_model.specs.Rows.{Flags}
+use Rattle.partitioning.specs.Partitions.{Partitions}
+use Rattle.contraction.specs.LineSets.{holds}
+
+-- for how many lines in all there is room to be hidden, and for how many more lines to be contracted
+pub record FoldRoom : Type 0 where
+  pub hidden : ℕ
+  pub contracted : ℕ
+
+-- the flags of each line, and the room
+pub record ViewLines : Type 0 where
+  pub flags : List Flags
+  pub room : FoldRoom
+
+-- the flags of so many lines, of which some are in the set of hidden lines and some in that of contracted ones
+abbrev pub flags_kept : List ℕ → List ℕ → ℕ → List Flags
+flags_kept hidden contracted lines =
+    map (λ line. record { visible = not (holds hidden line); expanded = not (holds contracted line) }) (range_with_len 0 lines)
+
+-- each line of the set has a start, and there is one more
+abbrev pub room_in_all : Partitions → ℕ
+room_in_all set = length set.starts + set.room - 1
+
+abbrev pub view_lines : Partitions → Partitions → ViewLines
+view_lines hidden contracted =
+    record {
+      flags = flags_kept hidden.starts contracted.starts hidden.length;
+      room = record { hidden = room_in_all hidden; contracted = contracted.room };
+    }
+
+-- both sets are of as many lines
+pub record AreViewLines (hidden contracted : Partitions) : Type 0 where
+  pub lines : contracted.length ≡ hidden.length

@@ -1,0 +1,80 @@
+//! Where the flags of lines go when the text changes.
+
+ghost use Rattle.std.specs.Prelude.{◌≡◌, ◌+◌, ◌≤◌, ◌<◌, [], ◌∷◌, length};
+ghost use Rattle.ed_model.specs.Rows.{flags_together, fresh_flags};
+ghost use Rattle.line_index.specs.Edits.{with_fresh, with_joined, after_edit, after_edits, lines_after_edit, FitsLines, FitLines, fresh_by, fresh_lines};
+
+use crate::contraction::Contraction;
+use crate::line_set::{put_lines_in, take_lines_out};
+use line_index::LineEdit;
+use partitioning::Place;
+
+impl<P: Place> Contraction<P> {
+    // Fresh lines come before a line.
+    fn put_in(&mut self, line: usize, count: usize)
+        requires line { line ≤ length self.old.flags }
+        requires fits { length self.old.flags + count ≤ P.GREATEST }
+        ensures flags { self.new.flags ≡ with_fresh flags_together line count self.old.flags }
+        ensures hidden { self.new.room.hidden ≡ self.old.room.hidden }
+        ensures contracted { self.old.room.contracted ≤ self.new.room.contracted }
+    {
+        put_lines_in(&mut self.hidden, line, count);
+        put_lines_in(&mut self.contracted, line, count);
+    }
+
+    // The lines behind a line join it, and it keeps its flags.
+    fn join(&mut self, line: usize, count: usize)
+        requires { line + count < length self.old.flags }
+        ensures flags { self.new.flags ≡ with_joined flags_together line count self.old.flags }
+        ensures hidden { self.new.room.hidden ≡ self.old.room.hidden }
+        ensures contracted { self.old.room.contracted ≤ self.new.room.contracted }
+    {
+        let _ = self.hidden.length(); // it says that the number behind the line is not too great
+        take_lines_out(&mut self.hidden, line + 1, count);
+        take_lines_out(&mut self.contracted, line + 1, count);
+    }
+
+    // All lines go, and one fresh line comes.
+    fn restart(&mut self)
+        requires { 1 ≤ P.GREATEST }
+        ensures flags { self.new.flags ≡ fresh_flags ∷ [] }
+        ensures hidden { self.new.room.hidden ≡ self.old.room.hidden }
+        ensures contracted { self.old.room.contracted ≤ self.new.room.contracted }
+    {
+        let lines = self.hidden.length();
+        take_lines_out(&mut self.hidden, 0, lines);
+        take_lines_out(&mut self.contracted, 0, lines);
+        put_lines_in(&mut self.hidden, 0, 1);
+        put_lines_in(&mut self.contracted, 0, 1);
+    }
+
+    // What one edit of the lines does.
+    fn carry_edit(&mut self, edit: LineEdit)
+        requires fit { FitsLines (length self.old.flags) edit }
+        requires fits { length self.old.flags + fresh_by edit ≤ P.GREATEST }
+        ensures flags { self.new.flags ≡ after_edit flags_together self.old.flags edit }
+        ensures hidden { self.new.room.hidden ≡ self.old.room.hidden }
+        ensures contracted { self.old.room.contracted ≤ self.new.room.contracted }
+    {
+        match edit {
+            LineEdit::Come { line, count } => self.put_in(line, count),
+            LineEdit::Join { line, count } => self.join(line, count),
+            LineEdit::Restart => self.restart(),
+        }
+    }
+
+    /// Carries the flags through what became of the lines, one edit after the other: fresh lines are visible and expanded,
+    /// and a line that others join keeps its flags. It needs no memory, and costs a look-up for each edit and what it
+    /// takes to move about in the hidden and the contracted lines.
+    pub fn carry(&mut self, edits: &[LineEdit])
+        requires fit { FitLines (length self.old.flags) edits.now }
+        requires fits { length self.old.flags + fresh_lines edits.now ≤ P.GREATEST }
+        ensures flags { self.new.flags ≡ after_edits flags_together edits.now self.old.flags }
+        ensures hidden { self.new.room.hidden ≡ self.old.room.hidden }
+        ensures contracted { self.old.room.contracted ≤ self.new.room.contracted }
+    {
+        for edit in edits {
+            self.carry_edit(*edit);
+        }
+    }
+}

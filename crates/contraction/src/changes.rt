@@ -1,0 +1,49 @@
+//! What changes flags: lines are shown and hidden, expanded and contracted.
+
+ghost use Rattle.std.specs.Prelude.{◌≡◌, ◌+◌, ◌≤◌, ◌<◌, false, length};
+ghost use Rattle.ed_model.specs.Folding.{lines_shown, lines_hidden, with_expanded};
+
+use crate::contraction::Contraction;
+use crate::line_set::{insert, insert_range, remove_range};
+use partitioning::Place;
+
+impl<P: Place> Contraction<P> {
+    /// Shows the lines from `first` up to `past`. It needs no room.
+    pub fn show(&mut self, first: usize, past: usize)
+        requires { past ≤ length self.old.flags }
+        ensures flags { self.new.flags ≡ lines_shown first past self.old.flags }
+        ensures room { self.new.room ≡ self.old.room }
+    {
+        let _ = &self.contracted;
+        remove_range(&mut self.hidden, first, past);
+    }
+
+    /// Hides the lines from `first` up to `past`, but never line 0. There must be room for all lines to be hidden.
+    pub fn hide(&mut self, first: usize, past: usize)
+        requires within { past ≤ length self.old.flags }
+        requires room { length self.old.flags ≤ self.old.room.hidden }
+        ensures flags { self.new.flags ≡ lines_hidden first past self.old.flags }
+        ensures room { self.new.room ≡ self.old.room }
+    {
+        let _ = &self.contracted;
+        let _ = self.hidden.count(); // it says that there is a start
+        insert_range(&mut self.hidden, first.max(1), past);
+    }
+
+    /// Expands a line or contracts it, and leaves its children as they are. Contracting needs room for one more line.
+    pub fn set_expanded(&mut self, line: usize, on: bool)
+        requires line { line < length self.old.flags }
+        requires room { on ≡ false → 0 < self.old.room.contracted }
+        ensures flags { self.new.flags ≡ with_expanded line on self.old.flags }
+        ensures hidden { self.new.room.hidden ≡ self.old.room.hidden }
+        ensures contracted { self.old.room.contracted ≤ self.new.room.contracted + 1 }
+    {
+        let _ = &self.hidden;
+        let _ = self.contracted.length(); // it says that the number behind the line is not too great
+        if on {
+            remove_range(&mut self.contracted, line, line + 1);
+        } else {
+            insert(&mut self.contracted, line);
+        }
+    }
+}

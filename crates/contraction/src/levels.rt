@@ -1,0 +1,65 @@
+//! The fold levels of all lines, lent.
+
+ghost use Rattle.std.specs.Prelude.{◌≡◌, ◌+◌, ◌≤◌, ◌<◌, length, slice_index};
+ghost use Rattle.contraction.specs.Levels.{all_levels};
+
+use std::marker::Model;
+
+// SC_FOLDLEVELBASE
+const BASE: u32 = 0x400;
+
+/// The fold levels of all lines of a document: two slices, and behind them lines of the base level.
+#[derive(Drop)]
+pub struct Levels<'a> {
+    before: &'a [u32],
+    after: &'a [u32],
+    count: usize,
+}
+
+impl<'a> Model for Levels<'a> {
+    ghost use Rattle.std.specs.Prelude.{List, ℕ, ◌+◌, ◌≤◌, length};
+
+    ghost Value = { List ℕ };
+
+    ghost use Rattle.contraction.specs.Levels.{all_levels};
+
+    ghost view = { λ levels. all_levels levels.before.now levels.after.now levels.count };
+
+    ghost invariant = { λ levels. length levels.before.now + length levels.after.now ≤ levels.count };
+}
+
+impl<'a> Levels<'a> {
+    /// Returns the levels of `count` lines, of which the first have those of two slices.
+    pub fn new(before: &'a [u32], after: &'a [u32], count: usize) -> Self
+        requires { length before.now + length after.now ≤ count }
+        ensures { result ≡ all_levels before.now after.now count }
+    {
+        Levels {
+            before,
+            after,
+            count,
+        }
+    }
+
+    /// Returns the number of lines.
+    pub fn count(&self) -> usize
+        ensures { result ≡ length self.now }
+    {
+        self.count
+    }
+
+    /// Returns the level of a line.
+    pub fn level(&self, line: usize) -> u32
+        requires { line < length self.now }
+        ensures { result ≡ slice_index self.now line }
+    {
+        let first = self.before.len();
+        if line < first {
+            return self.before[line];
+        }
+        if line - first < self.after.len() {
+            return self.after[line - first];
+        }
+        BASE
+    }
+}

@@ -1,0 +1,135 @@
+//! A set of lines, as the starts of partitions: 0, and behind it one more than each line of the set, rising.
+
+ghost use Rattle.std.specs.Prelude.{ℕ, ◌≡◌, ◌+◌, ◌-◌, ◌^◌, ◌≤◌, ◌<◌, ◌==◌, ◌||◌, false, length, slice_index, slice_get, unwrap_or};
+ghost use Rattle.ed_model.specs.Folding.{is_between};
+ghost use Rattle.contraction.specs.LineSets.{holds, holds_with_fresh, holds_without, holds_outside, lines_outside};
+ghost use Rattle.partitioning.specs.Partitions.{ArePartitions, IsLastAtMost};
+
+use partitioning::{Partitioning, Place, Probes};
+
+/// The index of the last start at the place or before it: how many lines of the set lie before the line of that number.
+pub(crate) fn lines_before<P: Place>(starts: &Partitioning<P>, line: usize) -> usize
+    ensures last { IsLastAtMost starts.now.starts line result }
+    ensures sound { ArePartitions starts.now.starts starts.now.length }
+    ensures small { length starts.now.starts < 2 ^ 63 }
+{
+    let _ = starts.count();
+    let mut probes = Probes::new();
+    starts.partition_of(line, &mut probes)
+}
+
+/// Whether the line is in the set.
+pub(crate) fn contains<P: Place>(starts: &Partitioning<P>, line: usize) -> bool
+    requires { line < starts.now.length }
+    ensures { result ≡ holds starts.now.starts line }
+{
+    let _ = starts.length(); // it says that the number behind the line is not too great
+    let index = lines_before(starts, line + 1);
+    starts.start_of(index) == line + 1
+}
+
+/// Puts the line into the set. There must be room for it, unless it is there already.
+pub(crate) fn insert<P: Place>(starts: &mut Partitioning<P>, line: usize)
+    requires line { line < starts.old.length }
+    requires room { holds starts.old.starts line ≡ false → 0 < starts.old.room }
+    ensures lines { (k : ℕ) → holds starts.new.starts k ≡ (k == line || holds starts.old.starts k) }
+    ensures length { starts.new.length ≡ starts.old.length }
+    ensures room { length starts.new.starts + starts.new.room ≡ length starts.old.starts + starts.old.room }
+    ensures few { starts.old.room ≤ starts.new.room + 1 }
+    ensures sound { ArePartitions starts.new.starts starts.new.length }
+{
+    let _ = starts.length();
+    let index = lines_before(starts, line + 1);
+    if starts.start_of(index) == line + 1 {
+        return;
+    }
+    starts.insert_reserved(index + 1, line + 1);
+}
+
+/// Puts the lines from `first` up to `past` into the set. There must be room for all lines.
+pub(crate) fn insert_range<P: Place>(starts: &mut Partitioning<P>, first: usize, past: usize)
+    requires range { past ≤ starts.old.length }
+    requires room { starts.old.length < length starts.old.starts + starts.old.room }
+    ensures lines { (k : ℕ) → holds starts.new.starts k ≡ (is_between first past k || holds starts.old.starts k) }
+    ensures length { starts.new.length ≡ starts.old.length }
+    ensures room { length starts.new.starts + starts.new.room ≡ length starts.old.starts + starts.old.room }
+{
+    let _ = starts.count(); // it says that the starts rise
+    for line in first..past {
+        insert(starts, line);
+    }
+}
+
+/// Takes the lines from `first` up to `past` out of the set.
+pub(crate) fn remove_range<P: Place>(starts: &mut Partitioning<P>, first: usize, past: usize)
+    requires range { past ≤ starts.old.length }
+    ensures lines { (k : ℕ) → holds starts.new.starts k ≡ holds_outside starts.old.starts first past k }
+    ensures length { starts.new.length ≡ starts.old.length }
+    ensures room { length starts.new.starts + starts.new.room ≡ length starts.old.starts + starts.old.room }
+    ensures more { starts.old.room ≤ starts.new.room }
+{
+    if past <= first {
+        return;
+    }
+    let before = lines_before(starts, first);
+    let last = lines_before(starts, past);
+    for index in before..last {
+        starts.remove(before + 1);
+    }
+}
+
+/// Moves the lines from `line` on by `count`, as many as come before it. They are not in the set.
+pub(crate) fn put_lines_in<P: Place>(starts: &mut Partitioning<P>, line: usize, count: usize)
+    requires line { line ≤ starts.old.length }
+    requires fits { starts.old.length + count ≤ P.GREATEST }
+    ensures lines { (k : ℕ) → holds starts.new.starts k ≡ holds_with_fresh starts.old.starts line count k }
+    ensures length { starts.new.length ≡ starts.old.length + count }
+    ensures room { length starts.new.starts + starts.new.room ≡ length starts.old.starts + starts.old.room }
+    ensures more { starts.old.room ≤ starts.new.room }
+{
+    let index = lines_before(starts, line);
+    starts.insert_text(index, count);
+}
+
+/// Takes `count` lines away, from `line` on, and moves those behind them.
+pub(crate) fn take_lines_out<P: Place>(starts: &mut Partitioning<P>, line: usize, count: usize)
+    requires { line + count ≤ starts.old.length }
+    ensures lines { (k : ℕ) → holds starts.new.starts k ≡ holds_without starts.old.starts line count k }
+    ensures length { starts.new.length + count ≡ starts.old.length }
+    ensures room { length starts.new.starts + starts.new.room ≡ length starts.old.starts + starts.old.room }
+    ensures more { starts.old.room ≤ starts.new.room }
+{
+    let _ = starts.length(); // it says that the number behind the lines is not too great
+    remove_range(starts, line, line + count);
+    let index = lines_before(starts, line);
+    starts.delete_text(index, count);
+}
+
+/// The last start that lies at most so far behind its own index: of the lines in front of it, so many are not in the set.
+fn starts_before_nth<P: Place>(starts: &Partitioning<P>, n: usize) -> usize
+    ensures within { result < length starts.now.starts }
+    ensures at_most { slice_index starts.now.starts result ≤ n + result }
+    ensures next { result + 1 < length starts.now.starts → n + (result + 1) < slice_index starts.now.starts (result + 1) }
+    ensures sound { ArePartitions starts.now.starts starts.now.length }
+{
+    let mut low = 0;
+    let mut width = starts.count();
+    'halving: while width > 1 {
+        let half = width / 2;
+        let middle = low + half;
+        width -= half;
+        if starts.start_of(middle) - middle <= n {
+            low = middle;
+        }
+    }
+    low
+}
+
+/// The line that is not in the set and has `n` such lines in front of it, or how many lines there are.
+pub(crate) fn nth_line_outside<P: Place>(starts: &Partitioning<P>, n: usize) -> usize
+    ensures { result ≡ unwrap_or (slice_get (lines_outside starts.now.starts starts.now.length) n) starts.now.length }
+{
+    let lines = starts.length();
+    let inside = starts_before_nth(starts, n);
+    n.saturating_add(inside).min(lines)
+}
