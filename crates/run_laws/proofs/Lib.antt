@@ -1,0 +1,4 @@
+-- Lemmas on whole runs.
+pub mod PlanShapes
+pub mod TableWays
+pub mod SmallLemmas

@@ -1,0 +1,228 @@
+-- What the plan of each message may be, kind by kind, and what it hangs on.
+use Rattle.std.proofs.Common.{◌≡◌, ℕ, Bool, true, false, cond, List, refl, Option, Some, None, Result, Ok, Err}
+use Rattle.std.specs.Prelude.{ℤ, nat_lt}
+use Rattle.ed_types.specs.declared.kind.Kind.{Kind}
+use Rattle.ed_types.specs.declared.kind.Kind.TheVariants.{AddText, InsertText, ClearAll, GetLength, GetCharAt, GetCurrentPos, GetAnchor, GetStyleAt, Redo, SetUndoCollection, SelectAll, SetSavePoint, GetStyledText, CanRedo, MarkerLineFromHandle, MarkerDeleteHandle, GetUndoCollection, GotoLine, GotoPos, SetAnchor, GetCurLine, GetEndStyled, ConvertEols, GetEolMode, SetEolMode, StartStyling, SetStyling, MarkerAdd, MarkerDelete, MarkerDeleteAll, MarkerGet, MarkerNext, MarkerPrevious, SetStylingEx, BeginUndoAction, EndUndoAction, SetLineState, GetLineState, GetLineEndPosition, GetReadOnly, SetCurrentPos, SetSelectionStart, GetSelectionStart, SetSelectionEnd, GetSelectionEnd, GetLine, GetLineCount, GetModify, SetSel, GetSelText, GetTextRange, LineFromPosition, PositionFromLine, ReplaceSel, SetReadOnly, CanPaste, CanUndo, EmptyUndoBuffer, Undo, Cut, Copy, Paste, Clear, SetText, GetText, GetTextLength, SetTargetStart, GetTargetStart, SetTargetEnd, GetTargetEnd, ReplaceTarget, SearchInTarget, SetSearchFlags, GetSearchFlags, VisibleFromDocLine, DocLineFromVisible, SetFoldLevel, GetFoldLevel, GetLastChild, GetFoldParent, ShowLines, HideLines, GetLineVisible, SetFoldExpanded, GetFoldExpanded, ToggleFold, EnsureVisible, GetAllLinesVisible, FoldLine, AppendText, TargetFromSelection, CharLeft, CharLeftExtend, CharRight, CharRightExtend, Home, HomeExtend, LineEnd, LineEndExtend, DocumentStart, DocumentStartExtend, DocumentEnd, DocumentEndExtend, DeleteBack, NewLine, LineLength, GetDocPointer, SetDocPointer, SetModEventMask, CreateDocument, AddRefDocument, ReleaseDocument, GetModEventMask, GetDocumentOptions, PositionBefore, PositionAfter, CopyRange, CopyText, MarkerAddSet, SetPasteConvertEndings, GetPasteConvertEndings, SetIndicatorCurrent, GetIndicatorCurrent, SetIndicatorValue, GetIndicatorValue, IndicatorFillRange, IndicatorClearRange, IndicatorAllOnFor, IndicatorValueAt, IndicatorStart, IndicatorEnd, SetEmptySelection, AddUndoAction, DeleteRange, GetSelectionEmpty, SetLineEndTypesAllowed, GetLineEndTypesAllowed, GetLineEndTypesActive, SetTargetRange, GetTargetText, TargetWholeDocument, StartRecord, StopRecord, Colourise}
+use Rattle.ed_types.specs.declared.message.Message.{Message}
+use Rattle.ed_types.specs.declared.refusal.Refusal.{Refusal}
+use Rattle.ed_types.specs.declared.refusal.Refusal.TheVariants.{OutOfMemory, NoSuchDocument, TooMany}
+use Rattle.ed_model.specs.declared.plan.Follow.TheVariants as follow
+use Rattle.ed_model.specs.declared.plan.ViewChange.TheVariants as view_change
+use Rattle.ed_model.specs.declared.plan.SessionChange.{SessionChange}
+use Rattle.ed_model.specs.declared.plan.SessionChange.TheVariants as session_change
+use Rattle.ed_model.specs.declared.plan.Plan.{Plan}
+use Rattle.ed_model.specs.declared.plan.Plan.TheVariants as plan
+use Rattle.ed_model.specs.Session.{Session, View, Document, references}
+use Rattle.ed_model.specs.Requests.{Request, Planned, with_argument, with_line}
+use Rattle.ed_model.specs.DocumentPlans.{found_target, with_reference, release_of, fold_by, change_session}
+use Rattle.ed_model.specs.Table.{plan_of, request}
+use Rattle.run_laws.specs.MessageKinds.{is_copying, is_about_documents, is_about_recording}
+
+-- Whether a plan may take bytes to the clipboard, may make, attach, hold or release documents, and may start or stop a recording.
+pub record Leave : Type 0 where
+  pub copies : Bool
+  pub documents : Bool
+  pub recording : Bool
+
+abbrev pub leave_of : Kind → Leave
+leave_of kind = record { copies = is_copying kind; documents = is_about_documents kind; recording = is_about_recording kind }
+
+-- the plan keeps to its leave
+abbrev pub KeepsTo : Leave → Plan → Type 0
+KeepsTo l (plan.Edit edit value (follow.Clipboard start count)) = l.copies ≡ true
+KeepsTo l (plan.ChangeSession (session_change.Copy start count) value) = l.copies ≡ true
+KeepsTo l (plan.ChangeSession (session_change.CopyText count) value) = l.copies ≡ true
+KeepsTo l (plan.ChangeSession (session_change.Attach document) value) = l.documents ≡ true
+KeepsTo l (plan.ChangeSession session_change.AttachNew value) = l.documents ≡ true
+KeepsTo l (plan.ChangeSession (session_change.Create options) value) = l.documents ≡ true
+KeepsTo l (plan.ChangeSession (session_change.AddReference document) value) = l.documents ≡ true
+KeepsTo l (plan.ChangeSession (session_change.Release document) value) = l.documents ≡ true
+KeepsTo l (plan.ChangeView (view_change.SetRecording on) value) = l.recording ≡ true
+KeepsTo l other = Unit {0}
+
+-- and is not refused for want of memory
+abbrev pub IsShaped : Leave → Planned → Type 0
+IsShaped l (Err OutOfMemory) = ⊥
+IsShaped l (Err other) = Unit {0}
+IsShaped l (Ok p) = KeepsTo l p
+
+shaped_with_argument : {A : Type 0} (l : Leave) (a : Option A) (act : A → Planned) → ((x : A) → IsShaped l (act x)) → IsShaped l (with_argument a act)
+shaped_with_argument l None act h = tt
+shaped_with_argument l (Some x) act h = h x
+
+shaped_with_line : (l : Leave) (line : Option ℕ) (bad : Planned) (act : ℕ → Planned) → IsShaped l bad → ((n : ℕ) → IsShaped l (act n)) → IsShaped l (with_line line bad act)
+shaped_with_line l None bad act b h = b
+shaped_with_line l (Some n) bad act b h = h n
+
+shaped_either : (l : Leave) (b : Bool) (x y : Planned) → IsShaped l x → IsShaped l y → IsShaped l (cond b x y)
+shaped_either l true x y hx hy = hx
+shaped_either l false x y hx hy = hy
+
+shaped_target : (l : Leave) (size : ℕ) (found : Option ℕ) → IsShaped l (found_target size found)
+shaped_target l size None = tt
+shaped_target l size (Some place) = tt
+
+shaped_fold : (l : Leave) (r : Request) (action : ℕ) (header : Option ℕ) → IsShaped l (fold_by r action header)
+shaped_fold l r action None = tt
+shaped_fold l r action (Some header) = search (shaped_either)
+
+attach_shaped : (l : Leave) (r : Request) (d : Option Document) → l.documents ≡ true → IsShaped l (with_reference r d session_change.Attach)
+attach_shaped l r None e = tt
+attach_shaped l r (Some d) e = shaped_either l (nat_lt (references d) r.session.limits.refs) (change_session (session_change.Attach d.id)) (Err TooMany) e tt
+
+add_shaped : (l : Leave) (r : Request) (d : Option Document) → l.documents ≡ true → IsShaped l (with_reference r d session_change.AddReference)
+add_shaped l r None e = tt
+add_shaped l r (Some d) e = shaped_either l (nat_lt (references d) r.session.limits.refs) (change_session (session_change.AddReference d.id)) (Err TooMany) e tt
+
+release_shaped : (l : Leave) (d : Option Document) → l.documents ≡ true → IsShaped l (release_of d)
+release_shaped l None e = tt
+release_shaped l (Some d) e = shaped_either l (nat_lt 0 d.held) (change_session (session_change.Release d.id)) (Err NoSuchDocument) e tt
+
+ruleset shapes = (shaped_with_argument, shaped_with_line, shaped_either, shaped_target, shaped_fold, attach_shaped, add_shaped, release_shaped)
+
+-- the plan of each kind keeps to the leave of its kind
+pub plan_is_shaped : (kind : Kind) (r : Request) → IsShaped (leave_of kind) (plan_of kind r)
+plan_is_shaped AddText r = search shapes
+plan_is_shaped InsertText r = search shapes
+plan_is_shaped ClearAll r = search shapes
+plan_is_shaped GetLength r = search shapes
+plan_is_shaped GetCharAt r = search shapes
+plan_is_shaped GetCurrentPos r = search shapes
+plan_is_shaped GetAnchor r = search shapes
+plan_is_shaped GetStyleAt r = search shapes
+plan_is_shaped Redo r = search shapes
+plan_is_shaped SetUndoCollection r = search shapes
+plan_is_shaped SelectAll r = search shapes
+plan_is_shaped SetSavePoint r = search shapes
+plan_is_shaped GetStyledText r = search shapes
+plan_is_shaped CanRedo r = search shapes
+plan_is_shaped MarkerLineFromHandle r = search shapes
+plan_is_shaped MarkerDeleteHandle r = search shapes
+plan_is_shaped GetUndoCollection r = search shapes
+plan_is_shaped GotoLine r = search shapes
+plan_is_shaped GotoPos r = search shapes
+plan_is_shaped SetAnchor r = search shapes
+plan_is_shaped GetCurLine r = search shapes
+plan_is_shaped GetEndStyled r = search shapes
+plan_is_shaped ConvertEols r = search shapes
+plan_is_shaped GetEolMode r = search shapes
+plan_is_shaped SetEolMode r = search shapes
+plan_is_shaped StartStyling r = search shapes
+plan_is_shaped SetStyling r = search shapes
+plan_is_shaped MarkerAdd r = search shapes
+plan_is_shaped MarkerDelete r = search shapes
+plan_is_shaped MarkerDeleteAll r = search shapes
+plan_is_shaped MarkerGet r = search shapes
+plan_is_shaped MarkerNext r = search shapes
+plan_is_shaped MarkerPrevious r = search shapes
+plan_is_shaped SetStylingEx r = search shapes
+plan_is_shaped BeginUndoAction r = search shapes
+plan_is_shaped EndUndoAction r = search shapes
+plan_is_shaped SetLineState r = search shapes
+plan_is_shaped GetLineState r = search shapes
+plan_is_shaped GetLineEndPosition r = search shapes
+plan_is_shaped GetReadOnly r = search shapes
+plan_is_shaped SetCurrentPos r = search shapes
+plan_is_shaped SetSelectionStart r = search shapes
+plan_is_shaped GetSelectionStart r = search shapes
+plan_is_shaped SetSelectionEnd r = search shapes
+plan_is_shaped GetSelectionEnd r = search shapes
+plan_is_shaped GetLine r = search shapes
+plan_is_shaped GetLineCount r = search shapes
+plan_is_shaped GetModify r = search shapes
+plan_is_shaped SetSel r = search shapes
+plan_is_shaped GetSelText r = search shapes
+plan_is_shaped GetTextRange r = search shapes
+plan_is_shaped LineFromPosition r = search shapes
+plan_is_shaped PositionFromLine r = search shapes
+plan_is_shaped ReplaceSel r = search shapes
+plan_is_shaped SetReadOnly r = search shapes
+plan_is_shaped CanPaste r = search shapes
+plan_is_shaped CanUndo r = search shapes
+plan_is_shaped EmptyUndoBuffer r = search shapes
+plan_is_shaped Undo r = search shapes
+plan_is_shaped Cut r = search shapes
+plan_is_shaped Copy r = search shapes
+plan_is_shaped Paste r = search shapes
+plan_is_shaped Clear r = search shapes
+plan_is_shaped SetText r = search shapes
+plan_is_shaped GetText r = search shapes
+plan_is_shaped GetTextLength r = search shapes
+plan_is_shaped SetTargetStart r = search shapes
+plan_is_shaped GetTargetStart r = search shapes
+plan_is_shaped SetTargetEnd r = search shapes
+plan_is_shaped GetTargetEnd r = search shapes
+plan_is_shaped ReplaceTarget r = search shapes
+plan_is_shaped SearchInTarget r = search shapes
+plan_is_shaped SetSearchFlags r = search shapes
+plan_is_shaped GetSearchFlags r = search shapes
+plan_is_shaped VisibleFromDocLine r = search shapes
+plan_is_shaped DocLineFromVisible r = search shapes
+plan_is_shaped SetFoldLevel r = search shapes
+plan_is_shaped GetFoldLevel r = search shapes
+plan_is_shaped GetLastChild r = search shapes
+plan_is_shaped GetFoldParent r = search shapes
+plan_is_shaped ShowLines r = search shapes
+plan_is_shaped HideLines r = search shapes
+plan_is_shaped GetLineVisible r = search shapes
+plan_is_shaped SetFoldExpanded r = search shapes
+plan_is_shaped GetFoldExpanded r = search shapes
+plan_is_shaped ToggleFold r = search shapes
+plan_is_shaped EnsureVisible r = search shapes
+plan_is_shaped GetAllLinesVisible r = search shapes
+plan_is_shaped FoldLine r = search shapes
+plan_is_shaped AppendText r = search shapes
+plan_is_shaped TargetFromSelection r = search shapes
+plan_is_shaped CharLeft r = search shapes
+plan_is_shaped CharLeftExtend r = search shapes
+plan_is_shaped CharRight r = search shapes
+plan_is_shaped CharRightExtend r = search shapes
+plan_is_shaped Home r = search shapes
+plan_is_shaped HomeExtend r = search shapes
+plan_is_shaped LineEnd r = search shapes
+plan_is_shaped LineEndExtend r = search shapes
+plan_is_shaped DocumentStart r = search shapes
+plan_is_shaped DocumentStartExtend r = search shapes
+plan_is_shaped DocumentEnd r = search shapes
+plan_is_shaped DocumentEndExtend r = search shapes
+plan_is_shaped DeleteBack r = search shapes
+plan_is_shaped NewLine r = search shapes
+plan_is_shaped LineLength r = search shapes
+plan_is_shaped GetDocPointer r = search shapes
+plan_is_shaped SetDocPointer r = search shapes
+plan_is_shaped SetModEventMask r = search shapes
+plan_is_shaped CreateDocument r = search shapes
+plan_is_shaped AddRefDocument r = search shapes
+plan_is_shaped ReleaseDocument r = search shapes
+plan_is_shaped GetModEventMask r = search shapes
+plan_is_shaped GetDocumentOptions r = search shapes
+plan_is_shaped PositionBefore r = search shapes
+plan_is_shaped PositionAfter r = search shapes
+plan_is_shaped CopyRange r = search shapes
+plan_is_shaped CopyText r = search shapes
+plan_is_shaped MarkerAddSet r = search shapes
+plan_is_shaped SetPasteConvertEndings r = search shapes
+plan_is_shaped GetPasteConvertEndings r = search shapes
+plan_is_shaped SetIndicatorCurrent r = search shapes
+plan_is_shaped GetIndicatorCurrent r = search shapes
+plan_is_shaped SetIndicatorValue r = search shapes
+plan_is_shaped GetIndicatorValue r = search shapes
+plan_is_shaped IndicatorFillRange r = search shapes
+plan_is_shaped IndicatorClearRange r = search shapes
+plan_is_shaped IndicatorAllOnFor r = search shapes
+plan_is_shaped IndicatorValueAt r = search shapes
+plan_is_shaped IndicatorStart r = search shapes
+plan_is_shaped IndicatorEnd r = search shapes
+plan_is_shaped SetEmptySelection r = search shapes
+plan_is_shaped AddUndoAction r = search shapes
+plan_is_shaped DeleteRange r = search shapes
+plan_is_shaped GetSelectionEmpty r = search shapes
+plan_is_shaped SetLineEndTypesAllowed r = search shapes
+plan_is_shaped GetLineEndTypesAllowed r = search shapes
+plan_is_shaped GetLineEndTypesActive r = search shapes
+plan_is_shaped SetTargetRange r = search shapes
+plan_is_shaped GetTargetText r = search shapes
+plan_is_shaped TargetWholeDocument r = search shapes
+plan_is_shaped StartRecord r = search shapes
+plan_is_shaped StopRecord r = search shapes
+plan_is_shaped Colourise r = search shapes

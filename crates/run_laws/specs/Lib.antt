@@ -1,0 +1,5 @@
+-- The laws of whole runs, in the words of the definitions.
+pub mod MessageKinds
+pub mod Reached
+pub mod RefusalLaws
+pub mod HeldLaws

@@ -1,0 +1,7 @@
+//! The laws of whole runs: what holds over lists of commands, from every session that a run reaches. Each is a public function
+//! whose contract says it, and whose body does nothing but name the laws of `ed_model` that it rests on.
+#![tactic(auto)]
+
+mod small_laws;
+
+pub use small_laws::{documents_without_views_are_held, the_table_never_wants_memory};
