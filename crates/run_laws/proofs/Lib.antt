@@ -1,4 +1,7 @@
 -- Lemmas on whole runs.
 pub mod PlanShapes
 pub mod TableWays
+pub mod Finding
+pub mod Going
 pub mod SmallLemmas
+pub mod IdLemmas

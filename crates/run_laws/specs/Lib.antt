@@ -3,3 +3,4 @@ pub mod MessageKinds
 pub mod Reached
 pub mod RefusalLaws
 pub mod HeldLaws
+pub mod IdLaws

@@ -2,6 +2,8 @@
 //! whose contract says it, and whose body does nothing but name the laws of `ed_model` that it rests on.
 #![tactic(auto)]
 
+mod id_laws;
 mod small_laws;
 
+pub use id_laws::{ids_never_come_back, opened_views_have_rising_ids};
 pub use small_laws::{documents_without_views_are_held, the_table_never_wants_memory};
