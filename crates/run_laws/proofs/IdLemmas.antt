@@ -328,6 +328,9 @@ command_goes known files (LoadFile view file) s =
 command_goes known files (SendMessage view message) s = kept_goes s.session _ (after_message_keeps s.session _ (message_keeps known s.session view message))
 command_goes known files (Expect value) s = kept_goes s.session s.session (keeps_same s.session)
 
+pub next_document_rises : (known : Kind → Bool) (files : List (List ℕ)) (c : Command) (s : Running) → s.session.next_document ≤ (after_command known files c s).0.session.next_document
+next_document_rises known files c s = (command_goes known files c s).next_document
+
 -- Runs.
 
 pub next_ids_never_fall : NextIdsNeverFall

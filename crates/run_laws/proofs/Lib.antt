@@ -5,3 +5,6 @@ pub mod Finding
 pub mod Going
 pub mod SmallLemmas
 pub mod IdLemmas
+pub mod Invariants
+pub mod StyleLemmas
+pub mod HandleLemmas

@@ -3,4 +3,6 @@ pub mod MessageKinds
 pub mod Reached
 pub mod RefusalLaws
 pub mod HeldLaws
+pub mod StyleLaws
+pub mod HandleRunLaws
 pub mod IdLaws
