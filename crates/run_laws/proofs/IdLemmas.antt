@@ -207,7 +207,7 @@ history_keeps r who cs new = record {
       ∙ changes_ids who (notes.bit_if (nat_lt 1 (length cs)) notes.multi_step) false cs (scene_of r);
 }
 
-view_change_ids : (levels : List ℕ) (what : ViewChange) (v : View) → (changed_view levels what v).id ≡ v.id
+pub view_change_ids : (levels : List ℕ) (what : ViewChange) (v : View) → (changed_view levels what v).id ≡ v.id
 view_change_ids levels (view_change.Select anchor caret) v = refl
 view_change_ids levels (view_change.SetTarget start past) v = refl
 view_change_ids levels (view_change.SetSearchFlags flags) v = refl

@@ -5,6 +5,8 @@ pub mod Finding
 pub mod Going
 pub mod SmallLemmas
 pub mod IdLemmas
+pub mod Alike
+pub mod LeavingLemmas
 pub mod Invariants
 pub mod StyleLemmas
 pub mod HandleLemmas

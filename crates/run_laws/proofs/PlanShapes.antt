@@ -1,5 +1,5 @@
 -- What the plan of each message may be, kind by kind, and what it hangs on.
-use Rattle.std.proofs.Common.{◌≡◌, ℕ, Bool, true, false, cond, List, refl, Option, Some, None, Result, Ok, Err}
+use Rattle.std.proofs.Common.{◌≡◌, ℕ, Bool, true, false, cond, List, refl, ap, Option, Some, None, Result, Ok, Err}
 use Rattle.std.specs.Prelude.{ℤ, nat_lt}
 use Rattle.ed_types.specs.declared.kind.Kind.{Kind}
 use Rattle.ed_types.specs.declared.kind.Kind.TheVariants.{AddText, InsertText, ClearAll, GetLength, GetCharAt, GetCurrentPos, GetAnchor, GetStyleAt, Redo, SetUndoCollection, SelectAll, SetSavePoint, GetStyledText, CanRedo, MarkerLineFromHandle, MarkerDeleteHandle, GetUndoCollection, GotoLine, GotoPos, SetAnchor, GetCurLine, GetEndStyled, ConvertEols, GetEolMode, SetEolMode, StartStyling, SetStyling, MarkerAdd, MarkerDelete, MarkerDeleteAll, MarkerGet, MarkerNext, MarkerPrevious, SetStylingEx, BeginUndoAction, EndUndoAction, SetLineState, GetLineState, GetLineEndPosition, GetReadOnly, SetCurrentPos, SetSelectionStart, GetSelectionStart, SetSelectionEnd, GetSelectionEnd, GetLine, GetLineCount, GetModify, SetSel, GetSelText, GetTextRange, LineFromPosition, PositionFromLine, ReplaceSel, SetReadOnly, CanPaste, CanUndo, EmptyUndoBuffer, Undo, Cut, Copy, Paste, Clear, SetText, GetText, GetTextLength, SetTargetStart, GetTargetStart, SetTargetEnd, GetTargetEnd, ReplaceTarget, SearchInTarget, SetSearchFlags, GetSearchFlags, VisibleFromDocLine, DocLineFromVisible, SetFoldLevel, GetFoldLevel, GetLastChild, GetFoldParent, ShowLines, HideLines, GetLineVisible, SetFoldExpanded, GetFoldExpanded, ToggleFold, EnsureVisible, GetAllLinesVisible, FoldLine, AppendText, TargetFromSelection, CharLeft, CharLeftExtend, CharRight, CharRightExtend, Home, HomeExtend, LineEnd, LineEndExtend, DocumentStart, DocumentStartExtend, DocumentEnd, DocumentEndExtend, DeleteBack, NewLine, LineLength, GetDocPointer, SetDocPointer, SetModEventMask, CreateDocument, AddRefDocument, ReleaseDocument, GetModEventMask, GetDocumentOptions, PositionBefore, PositionAfter, CopyRange, CopyText, MarkerAddSet, SetPasteConvertEndings, GetPasteConvertEndings, SetIndicatorCurrent, GetIndicatorCurrent, SetIndicatorValue, GetIndicatorValue, IndicatorFillRange, IndicatorClearRange, IndicatorAllOnFor, IndicatorValueAt, IndicatorStart, IndicatorEnd, SetEmptySelection, AddUndoAction, DeleteRange, GetSelectionEmpty, SetLineEndTypesAllowed, GetLineEndTypesAllowed, GetLineEndTypesActive, SetTargetRange, GetTargetText, TargetWholeDocument, StartRecord, StopRecord, Colourise}
@@ -15,6 +15,8 @@ use Rattle.ed_model.specs.declared.plan.Plan.TheVariants as plan
 use Rattle.ed_model.specs.Session.{Session, View, Document, references}
 use Rattle.ed_model.specs.Requests.{Request, Planned, with_argument, with_line}
 use Rattle.ed_model.specs.DocumentPlans.{found_target, with_reference, release_of, fold_by, change_session}
+use Rattle.ed_model.specs.LineEnds.{converted}
+use Rattle.ed_model.specs.Edits.{converted_if}
 use Rattle.ed_model.specs.Table.{plan_of, request}
 use Rattle.run_laws.specs.MessageKinds.{is_copying, is_about_documents, is_about_recording}
 
@@ -226,3 +228,159 @@ plan_is_shaped TargetWholeDocument r = search shapes
 plan_is_shaped StartRecord r = search shapes
 plan_is_shaped StopRecord r = search shapes
 plan_is_shaped Colourise r = search shapes
+
+-- line ends are converted by the document and its mode alone
+pub same_converted : (b : Bool) (r q : Request) (bytes : List ℕ) → q.document ≡ r.document → converted_if b q bytes ≡ converted_if b r bytes
+same_converted true r q bytes e = ap (λ (d : Document). converted d.line_end bytes) e
+same_converted false r q bytes e = refl
+
+-- A plan that is not about documents hangs on the session by its clipboard and limits alone.
+pub same_plan : (kind : Kind) (r : Request) (documents : List Document) (views : List View) (next_document next_view : ℕ) → is_about_documents kind ≡ false
+    → (let s = r.session in plan_of kind (record r { session = record s { documents = documents; views = views; next_document = next_document; next_view = next_view } })) ≡ plan_of kind r
+same_plan AddText r documents views next_document next_view e = refl
+same_plan InsertText r documents views next_document next_view e = refl
+same_plan ClearAll r documents views next_document next_view e = refl
+same_plan GetLength r documents views next_document next_view e = refl
+same_plan GetCharAt r documents views next_document next_view e = refl
+same_plan GetCurrentPos r documents views next_document next_view e = refl
+same_plan GetAnchor r documents views next_document next_view e = refl
+same_plan GetStyleAt r documents views next_document next_view e = refl
+same_plan Redo r documents views next_document next_view e = refl
+same_plan SetUndoCollection r documents views next_document next_view e = refl
+same_plan SelectAll r documents views next_document next_view e = refl
+same_plan SetSavePoint r documents views next_document next_view e = refl
+same_plan GetStyledText r documents views next_document next_view e = refl
+same_plan CanRedo r documents views next_document next_view e = refl
+same_plan MarkerLineFromHandle r documents views next_document next_view e = refl
+same_plan MarkerDeleteHandle r documents views next_document next_view e = refl
+same_plan GetUndoCollection r documents views next_document next_view e = refl
+same_plan GotoLine r documents views next_document next_view e = refl
+same_plan GotoPos r documents views next_document next_view e = refl
+same_plan SetAnchor r documents views next_document next_view e = refl
+same_plan GetCurLine r documents views next_document next_view e = refl
+same_plan GetEndStyled r documents views next_document next_view e = refl
+same_plan ConvertEols r documents views next_document next_view e = refl
+same_plan GetEolMode r documents views next_document next_view e = refl
+same_plan SetEolMode r documents views next_document next_view e = refl
+same_plan StartStyling r documents views next_document next_view e = refl
+same_plan SetStyling r documents views next_document next_view e = refl
+same_plan MarkerAdd r documents views next_document next_view e = refl
+same_plan MarkerDelete r documents views next_document next_view e = refl
+same_plan MarkerDeleteAll r documents views next_document next_view e = refl
+same_plan MarkerGet r documents views next_document next_view e = refl
+same_plan MarkerNext r documents views next_document next_view e = refl
+same_plan MarkerPrevious r documents views next_document next_view e = refl
+same_plan SetStylingEx r documents views next_document next_view e = refl
+same_plan BeginUndoAction r documents views next_document next_view e = refl
+same_plan EndUndoAction r documents views next_document next_view e = refl
+same_plan SetLineState r documents views next_document next_view e = refl
+same_plan GetLineState r documents views next_document next_view e = refl
+same_plan GetLineEndPosition r documents views next_document next_view e = refl
+same_plan GetReadOnly r documents views next_document next_view e = refl
+same_plan SetCurrentPos r documents views next_document next_view e = refl
+same_plan SetSelectionStart r documents views next_document next_view e = refl
+same_plan GetSelectionStart r documents views next_document next_view e = refl
+same_plan SetSelectionEnd r documents views next_document next_view e = refl
+same_plan GetSelectionEnd r documents views next_document next_view e = refl
+same_plan GetLine r documents views next_document next_view e = refl
+same_plan GetLineCount r documents views next_document next_view e = refl
+same_plan GetModify r documents views next_document next_view e = refl
+same_plan SetSel r documents views next_document next_view e = refl
+same_plan GetSelText r documents views next_document next_view e = refl
+same_plan GetTextRange r documents views next_document next_view e = refl
+same_plan LineFromPosition r documents views next_document next_view e = refl
+same_plan PositionFromLine r documents views next_document next_view e = refl
+same_plan ReplaceSel r documents views next_document next_view e = refl
+same_plan SetReadOnly r documents views next_document next_view e = refl
+same_plan CanPaste r documents views next_document next_view e = refl
+same_plan CanUndo r documents views next_document next_view e = refl
+same_plan EmptyUndoBuffer r documents views next_document next_view e = refl
+same_plan Undo r documents views next_document next_view e = refl
+same_plan Cut r documents views next_document next_view e = refl
+same_plan Copy r documents views next_document next_view e = refl
+same_plan Paste r documents views next_document next_view e =
+    let s = r.session in
+    let q = record r { session = record s { documents = documents; views = views; next_document = next_document; next_view = next_view } } in
+    rw (same_converted r.view.converts_pastes r q r.session.clipboard refl) refl
+same_plan Clear r documents views next_document next_view e = refl
+same_plan SetText r documents views next_document next_view e = refl
+same_plan GetText r documents views next_document next_view e = refl
+same_plan GetTextLength r documents views next_document next_view e = refl
+same_plan SetTargetStart r documents views next_document next_view e = refl
+same_plan GetTargetStart r documents views next_document next_view e = refl
+same_plan SetTargetEnd r documents views next_document next_view e = refl
+same_plan GetTargetEnd r documents views next_document next_view e = refl
+same_plan ReplaceTarget r documents views next_document next_view e = refl
+same_plan SearchInTarget r documents views next_document next_view e = refl
+same_plan SetSearchFlags r documents views next_document next_view e = refl
+same_plan GetSearchFlags r documents views next_document next_view e = refl
+same_plan VisibleFromDocLine r documents views next_document next_view e = refl
+same_plan DocLineFromVisible r documents views next_document next_view e = refl
+same_plan SetFoldLevel r documents views next_document next_view e = refl
+same_plan GetFoldLevel r documents views next_document next_view e = refl
+same_plan GetLastChild r documents views next_document next_view e = refl
+same_plan GetFoldParent r documents views next_document next_view e = refl
+same_plan ShowLines r documents views next_document next_view e = refl
+same_plan HideLines r documents views next_document next_view e = refl
+same_plan GetLineVisible r documents views next_document next_view e = refl
+same_plan SetFoldExpanded r documents views next_document next_view e = refl
+same_plan GetFoldExpanded r documents views next_document next_view e = refl
+same_plan ToggleFold r documents views next_document next_view e = refl
+same_plan EnsureVisible r documents views next_document next_view e = refl
+same_plan GetAllLinesVisible r documents views next_document next_view e = refl
+same_plan FoldLine r documents views next_document next_view e = refl
+same_plan AppendText r documents views next_document next_view e = refl
+same_plan TargetFromSelection r documents views next_document next_view e = refl
+same_plan CharLeft r documents views next_document next_view e = refl
+same_plan CharLeftExtend r documents views next_document next_view e = refl
+same_plan CharRight r documents views next_document next_view e = refl
+same_plan CharRightExtend r documents views next_document next_view e = refl
+same_plan Home r documents views next_document next_view e = refl
+same_plan HomeExtend r documents views next_document next_view e = refl
+same_plan LineEnd r documents views next_document next_view e = refl
+same_plan LineEndExtend r documents views next_document next_view e = refl
+same_plan DocumentStart r documents views next_document next_view e = refl
+same_plan DocumentStartExtend r documents views next_document next_view e = refl
+same_plan DocumentEnd r documents views next_document next_view e = refl
+same_plan DocumentEndExtend r documents views next_document next_view e = refl
+same_plan DeleteBack r documents views next_document next_view e = refl
+same_plan NewLine r documents views next_document next_view e = refl
+same_plan LineLength r documents views next_document next_view e = refl
+same_plan GetDocPointer r documents views next_document next_view e = refl
+same_plan SetDocPointer r documents views next_document next_view e = absurd (cc)
+same_plan SetModEventMask r documents views next_document next_view e = refl
+same_plan CreateDocument r documents views next_document next_view e = absurd (cc)
+same_plan AddRefDocument r documents views next_document next_view e = absurd (cc)
+same_plan ReleaseDocument r documents views next_document next_view e = absurd (cc)
+same_plan GetModEventMask r documents views next_document next_view e = refl
+same_plan GetDocumentOptions r documents views next_document next_view e = refl
+same_plan PositionBefore r documents views next_document next_view e = refl
+same_plan PositionAfter r documents views next_document next_view e = refl
+same_plan CopyRange r documents views next_document next_view e = refl
+same_plan CopyText r documents views next_document next_view e = refl
+same_plan MarkerAddSet r documents views next_document next_view e = refl
+same_plan SetPasteConvertEndings r documents views next_document next_view e = refl
+same_plan GetPasteConvertEndings r documents views next_document next_view e = refl
+same_plan SetIndicatorCurrent r documents views next_document next_view e = refl
+same_plan GetIndicatorCurrent r documents views next_document next_view e = refl
+same_plan SetIndicatorValue r documents views next_document next_view e = refl
+same_plan GetIndicatorValue r documents views next_document next_view e = refl
+same_plan IndicatorFillRange r documents views next_document next_view e = refl
+same_plan IndicatorClearRange r documents views next_document next_view e = refl
+same_plan IndicatorAllOnFor r documents views next_document next_view e = refl
+same_plan IndicatorValueAt r documents views next_document next_view e = refl
+same_plan IndicatorStart r documents views next_document next_view e = refl
+same_plan IndicatorEnd r documents views next_document next_view e = refl
+same_plan SetEmptySelection r documents views next_document next_view e = refl
+same_plan AddUndoAction r documents views next_document next_view e = refl
+same_plan DeleteRange r documents views next_document next_view e = refl
+same_plan GetSelectionEmpty r documents views next_document next_view e = refl
+same_plan SetLineEndTypesAllowed r documents views next_document next_view e = refl
+same_plan GetLineEndTypesAllowed r documents views next_document next_view e = refl
+same_plan GetLineEndTypesActive r documents views next_document next_view e = refl
+same_plan SetTargetRange r documents views next_document next_view e = refl
+same_plan GetTargetText r documents views next_document next_view e = refl
+same_plan TargetWholeDocument r documents views next_document next_view e = refl
+same_plan StartRecord r documents views next_document next_view e = refl
+same_plan StopRecord r documents views next_document next_view e = refl
+same_plan Colourise r documents views next_document next_view e = refl

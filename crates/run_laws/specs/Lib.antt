@@ -3,6 +3,7 @@ pub mod MessageKinds
 pub mod Reached
 pub mod RefusalLaws
 pub mod HeldLaws
+pub mod IsolationLaws
 pub mod StyleLaws
 pub mod HandleRunLaws
 pub mod IdLaws
