@@ -7,6 +7,7 @@ pub mod SmallLemmas
 pub mod IdLemmas
 pub mod Alike
 pub mod LeavingLemmas
+pub mod IsolationLemmas
 pub mod Invariants
 pub mod StyleLemmas
 pub mod HandleLemmas
