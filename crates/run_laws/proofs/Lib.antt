@@ -8,6 +8,7 @@ pub mod IdLemmas
 pub mod Alike
 pub mod LeavingLemmas
 pub mod IsolationLemmas
+pub mod NoteLemmas
 pub mod Invariants
 pub mod StyleLemmas
 pub mod HandleLemmas

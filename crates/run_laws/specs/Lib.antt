@@ -4,6 +4,7 @@ pub mod Reached
 pub mod RefusalLaws
 pub mod HeldLaws
 pub mod IsolationLaws
+pub mod MacroLaws
 pub mod StyleLaws
 pub mod HandleRunLaws
 pub mod IdLaws
