@@ -9,6 +9,7 @@ pub mod Alike
 pub mod LeavingLemmas
 pub mod IsolationLemmas
 pub mod NoteLemmas
+pub mod RecordingLemmas
 pub mod Invariants
 pub mod StyleLemmas
 pub mod HandleLemmas
