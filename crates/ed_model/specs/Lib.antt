@@ -50,6 +50,7 @@ pub mod HistoryLaws
 pub mod UndoLaws
 pub mod MergeLaws
 pub mod SoundLaws
+pub mod HandleLaws
 pub mod PlansFit
 pub mod Recording
 pub mod WorkedRecording

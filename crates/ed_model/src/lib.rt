@@ -5,6 +5,7 @@
 mod carry_laws;
 mod earlier_text_laws;
 mod examples;
+mod handle_laws;
 mod history_laws;
 mod inverse_laws;
 mod line_laws;
@@ -28,6 +29,7 @@ pub use examples::{
     examples_of_documents, examples_of_folding, examples_of_markers, examples_of_recording,
     examples_of_selection, examples_of_styles, examples_of_text, examples_of_undo,
 };
+pub use handle_laws::no_handle_is_given_anew;
 pub use history_laws::{
     a_change_is_appended, modified_or_saved, seals_and_groups, transactions_move,
 };

@@ -1,0 +1,301 @@
+-- How each document goes on, message by message: as the plan of its own view makes it, or as it was. `Goes` says how a document
+-- may go on; which views are attached to it, and how many references callers hold, do not count.
+use Rattle.std.proofs.Common.{◌≡◌, ℕ, ◌+◌, ◌≤◌, ◌<◌, ◌==◌, nat_lt, cond, Bool, true, false, List, [], ◌∷◌, ◌++◌, length, map, refl, ap, ◌∙◌, sym, subst, arith, Option, Some, None, Result, Ok, Err}
+use Rattle.std.specs.Prelude.{option_map, ◌||◌, nat_le}
+use Rattle.std.specs.Option.{option_or}
+use Rattle.std.proofs.lemmas.Bool.{eqb-true, eq-eqb}
+use Rattle.ed_types.specs.declared.kind.Kind.{Kind}
+use Rattle.ed_types.specs.declared.message.Message.{Message}
+use Rattle.ed_types.specs.declared.refusal.Refusal.{Refusal}
+use Rattle.ed_types.specs.declared.refusal.Refusal.TheVariants.{TooMany}
+use Rattle.ed_types.specs.Notices.{Response}
+use Rattle.ed_types.specs.Messages.{kind_of}
+use Rattle.ed_model.specs.declared.plan.Follow.{Follow}
+use Rattle.ed_model.specs.declared.plan.Follow.TheVariants as follow
+use Rattle.ed_model.specs.declared.plan.DocumentChange.{DocumentChange}
+use Rattle.ed_model.specs.declared.plan.DocumentChange.TheVariants as document_change
+use Rattle.ed_model.specs.declared.plan.SessionChange.{SessionChange}
+use Rattle.ed_model.specs.declared.plan.SessionChange.TheVariants as session_change
+use Rattle.ed_model.specs.declared.plan.Plan.{Plan}
+use Rattle.ed_model.specs.declared.plan.Plan.TheVariants as plan
+use Rattle.ed_model.specs.Steps.{Step}
+use Rattle.ed_model.specs.History.{Change, TextStep, ContainerStep, undo_changes, redo_changes, undone, redone}
+use Rattle.ed_model.specs.Session.{Session, Document, View, document_at, view_at, with_document, living, left_by, new_document, new_view}
+use Rattle.ed_model.specs.Notes as notes
+use Rattle.ed_model.specs.Requests.{Request, Planned, text}
+use Rattle.ed_model.specs.Edits.{steps_of}
+use Rattle.ed_model.specs.Performing.{Scene, scene_of, session_of, step_made, steps_made, sealed_scene, edit_made, followed, transaction_performed, changes_performed, change_performed, changes_lines, is_last}
+use Rattle.ed_model.specs.Changes.{changed_document, session_changed, with_attached, attached_last, with_new_document, held_more, held_less}
+use Rattle.ed_model.specs.Table.{table, answered, plan_of, performed, request, opened, closed_view}
+use Rattle.ed_model.specs.TableLaws.{Answered}
+use Rattle.ed_model.specs.SoundLaws.{IsSound, Rise}
+use Rattle.ed_model.specs.PlansFit.{IsSoundRequest, IsFitPlan, IsFitPlanned, PlansFit}
+use Rattle.run_laws.proofs.Finding.{either, document_id, view_id, replaced_found, replaced_other, mapped_at, mapped_ids, living_from, rise_pushed, pushed_at}
+use Rattle.run_laws.proofs.TableWays.{of_table}
+
+-- the request's document after its plan
+abbrev pub own_after : Request → Plan → Document
+own_after r (plan.Edit change value after) = (edit_made (steps_of r change) (scene_of r)).document
+own_after r plan.Undo = (transaction_performed notes.performed_undo (undo_changes r.document.history) (undone r.document.history) (scene_of r)).document
+own_after r plan.Redo = (transaction_performed notes.performed_redo (redo_changes r.document.history) (redone r.document.history) (scene_of r)).document
+own_after r (plan.ChangeDocument change value) = changed_document r.message.text change r.document
+own_after r other = r.document
+
+-- It keeps its id.
+
+steps_made_id : (later : Bool) (steps : List Step) (scene : Scene) → (steps_made later steps scene).document.id ≡ scene.document.id
+steps_made_id later [] scene = refl
+steps_made_id later (step ∷ steps) scene = steps_made_id true steps (step_made later step scene)
+
+pub edit_made_id : (steps : List Step) (scene : Scene) → (edit_made steps scene).document.id ≡ scene.document.id
+edit_made_id steps scene =
+    either (λ (x : Scene). x.document.id ≡ scene.document.id) (nat_lt 1 (length steps)) (sealed_scene (steps_made false steps (sealed_scene scene))) (steps_made false steps scene)
+    (steps_made_id false steps (sealed_scene scene)) (steps_made_id false steps scene)
+
+pub changes_performed_id : (who several : ℕ) (lines_changed : Bool) (cs : List Change) (scene : Scene) → (changes_performed who several lines_changed cs scene).document.id ≡ scene.document.id
+changes_performed_id who several lines_changed [] scene = refl
+changes_performed_id who several lines_changed (TextStep step ∷ cs) scene =
+    let changed = cond lines_changed true (changes_lines (TextStep step) scene.document) in
+    changes_performed_id who several changed cs (change_performed who several (is_last cs) changed (TextStep step) scene)
+changes_performed_id who several lines_changed (ContainerStep token coalesce ∷ cs) scene =
+    let changed = cond lines_changed true (changes_lines (ContainerStep token coalesce) scene.document) in
+    changes_performed_id who several changed cs (change_performed who several (is_last cs) changed (ContainerStep token coalesce) scene)
+
+pub changed_id : (bytes : List ℕ) (change : DocumentChange) (d : Document) → (changed_document bytes change d).id ≡ d.id
+changed_id bytes (document_change.SetReadOnly on) d = refl
+changed_id bytes (document_change.SetLineEnd to) d = refl
+changed_id bytes (document_change.SetLineEndTypes to) d = refl
+changed_id bytes document_change.SetSavePoint d = refl
+changed_id bytes document_change.BeginGroup d = refl
+changed_id bytes document_change.EndGroup d = refl
+changed_id bytes document_change.ForgetHistory d = refl
+changed_id bytes (document_change.CollectUndo on) d = refl
+changed_id bytes (document_change.AppendContainer token coalesce) d = refl
+changed_id bytes (document_change.AddMarker line number) d = refl
+changed_id bytes (document_change.AddMarkers line mask) d = refl
+changed_id bytes (document_change.DeleteMarker line number) d = refl
+changed_id bytes (document_change.DeleteMarkers number) d = refl
+changed_id bytes (document_change.DeleteHandle handle) d = refl
+changed_id bytes (document_change.SetLevel line level) d = refl
+changed_id bytes (document_change.SetState line state) d = refl
+changed_id bytes (document_change.SetEndStyled place) d = refl
+changed_id bytes (document_change.StyleRun count style) d = refl
+changed_id bytes (document_change.StyleBytes count) d = refl
+changed_id bytes (document_change.NeedStyle start past) d = refl
+changed_id bytes (document_change.FillIndicator indicator start count value) d = refl
+
+pub own_id : (r : Request) (p : Plan) → (own_after r p).id ≡ r.document.id
+own_id r (plan.Edit change value after) = edit_made_id (steps_of r change) (scene_of r)
+own_id r plan.Undo =
+    let cs = undo_changes r.document.history in changes_performed_id notes.performed_undo (notes.bit_if (nat_lt 1 (length cs)) notes.multi_step) false cs (scene_of r)
+own_id r plan.Redo =
+    let cs = redo_changes r.document.history in changes_performed_id notes.performed_redo (notes.bit_if (nat_lt 1 (length cs)) notes.multi_step) false cs (scene_of r)
+own_id r (plan.ChangeDocument change value) = changed_id r.message.text change r.document
+own_id r (plan.Answer value) = refl
+own_id r (plan.HandOut value start count) = refl
+own_id r (plan.HandOutStyled start count) = refl
+own_id r plan.Attempt = refl
+own_id r (plan.ChangeView change value) = refl
+own_id r (plan.ChangeSession change value) = refl
+
+-- a document that was made new, with whichever views and references
+abbrev pub IsMadeNew : Document → Type 0
+IsMadeNew e = (options : ℕ) × (e ≡ record (new_document e.id options) { views = e.views; held = e.held })
+
+module _ (Goes : Document → Document → Type 0) (same : (d : Document) → Goes d d)
+    (relisted : (d e : Document) (views : List ℕ) (held : ℕ) → Goes d e → Goes d (record e { views = views; held = held })) where
+  -- a document goes on from what it was, or it was made new, with an id from the next one on
+  abbrev pub From : ℕ → Option Document → Document → Type 0
+  From next None e = (next ≤ e.id) × IsMadeNew e
+  From next (Some d) e = Goes d e
+
+  abbrev pub AllFrom : ℕ → List Document → List Document → Type 0
+  AllFrom next ds es = (id : ℕ) (e : Document) → document_at es id ≡ Some e → From next (document_at ds id) e
+
+  pub all_same : (next : ℕ) (ds : List Document) → AllFrom next ds ds
+  all_same next ds id e f = subst (λ (o : Option Document). From next o e) (sym f) (same e)
+
+  -- one document replaced by one that goes on from it
+  pub all_replaced : (next : ℕ) (ds : List Document) (old new : Document) → document_at ds new.id ≡ Some old → Goes old new → AllFrom next ds (with_document new ds)
+  all_replaced next ds old new found goes id e f = go (id == new.id) refl
+    where
+      go : (b : Bool) → (id == new.id) ≡ b → From next (document_at ds id) e
+      go true t =
+          let at = eqb-true id new.id t in
+          let there : document_at (with_document new ds) id ≡ Some new = ap (document_at (with_document new ds)) at ∙ replaced_found ds old new found in
+          let is_new : new ≡ e = cc in
+          let was : Some old ≡ document_at ds id = sym (ap (document_at ds) at ∙ found) in
+          subst (λ (o : Option Document). From next o e) was (subst (λ (x : Document). Goes old x) is_new goes)
+      go false t =
+          let other : id ≡ new.id → ⊥ = λ at. let yes = eq-eqb id new.id at in absurd (cc) in
+          all_same next ds id e (sym (replaced_other ds new id other) ∙ f)
+
+  from_relisted : (next : ℕ) (o : Option Document) (e : Document) (views : List ℕ) (held : ℕ) → From next o e → From next o (record e { views = views; held = held })
+  from_relisted next None e views held h = (h.0, (h.1.0, ap (λ (x : Document). record x { views = views; held = held }) h.1.1))
+  from_relisted next (Some d) e views held h = relisted d e views held h
+
+  -- documents whose views and references change
+  pub all_mapped : (next : ℕ) (ds es : List Document) (views : Document → List ℕ) (held : Document → ℕ) → AllFrom next ds es
+      → AllFrom next ds (map (λ (d : Document). record d { views = views d; held = held d }) es)
+  all_mapped next ds es views held h id e f = go (document_at es id) refl (sym (mapped_at (λ (d : Document). record d { views = views d; held = held d }) (λ d. refl) es id) ∙ f)
+    where
+      go : (o : Option Document) → document_at es id ≡ o → option_map (λ (d : Document). record d { views = views d; held = held d }) o ≡ Some e → From next (document_at ds id) e
+      go None found g = absurd (cc)
+      go (Some x) found g =
+          let is : record x { views = views x; held = held x } ≡ e = cc in
+          subst (From next (document_at ds id)) is (from_relisted next (document_at ds id) x (views x) (held x) (h id x found))
+
+  pub all_living : (next : ℕ) (ds es : List Document) (low high : ℕ) → Rise low high (map (λ (x : Document). x.id) es) → AllFrom next ds es → AllFrom next ds (living es)
+  all_living next ds es low high rise h id e f = h id e (living_from low high es id e rise f)
+
+  pub all_relisted : (next : ℕ) (ds es : List Document) (views : Document → List ℕ) (held : Document → ℕ) (high : ℕ) → Rise 0 high (map (λ (x : Document). x.id) es) → AllFrom next ds es
+      → AllFrom next ds (living (map (λ (d : Document). record d { views = views d; held = held d }) es))
+  all_relisted next ds es views held high rise h =
+      let g : Document → Document = λ (d : Document). record d { views = views d; held = held d } in
+      all_living next ds (map g es) 0 high (subst (Rise 0 high) (sym (mapped_ids g (λ d. refl) es)) rise) (all_mapped next ds es views held h)
+
+  -- a new document comes last
+  pub all_pushed : (next : ℕ) (ds : List Document) (new : Document) → next ≤ new.id → IsMadeNew new → AllFrom next ds (ds ++ new ∷ [])
+  all_pushed next ds new le made id e f = go (document_at ds id) (sym (pushed_at ds new id) ∙ f)
+    where
+      alone : (b : Bool) → cond b (Some new) None ≡ Some e → From next None e
+      alone true g = let is : new ≡ e = cc in subst (λ (x : Document). From next None x) is (le, made)
+      alone false g = absurd (cc)
+
+      go : (o : Option Document) → option_or o (document_at (new ∷ []) id) ≡ Some e → From next o e
+      go None g = alone (new.id == id) g
+      go (Some x) g = let is : x ≡ e = cc in subst (λ (y : Document). From next (Some x) y) is (same x)
+
+  -- Relistings.
+
+  abbrev attached_views : ℕ → ℕ → Document → List ℕ
+  attached_views view id d = (attached_last view id d).views
+
+  attached_is : (view id : ℕ) (d : Document) → attached_last view id d ≡ record d { views = attached_views view id d; held = d.held }
+  attached_is view id d = go (d.id == id)
+    where
+      go : (b : Bool) → (let left = left_by view d in cond b (record left { views = left.views ++ view ∷ [] }) left)
+          ≡ record d { views = (let left = left_by view d in cond b (record left { views = left.views ++ view ∷ [] }) left).views; held = d.held }
+      go true = refl
+      go false = refl
+
+  held_more_is : (id : ℕ) (d : Document) → held_more id d ≡ record d { views = d.views; held = (held_more id d).held }
+  held_more_is id d = go (d.id == id)
+    where
+      go : (b : Bool) → cond b (record d { held = d.held + 1 }) d ≡ record d { views = d.views; held = (cond b (record d { held = d.held + 1 }) d).held }
+      go true = refl
+      go false = refl
+
+  held_less_is : (id : ℕ) (d : Document) → held_less id d ≡ record d { views = d.views; held = (held_less id d).held }
+  held_less_is id d = either (λ (e : Document). e ≡ record d { views = d.views; held = e.held }) (d.id == id) _ d refl refl
+
+  mapped_as : (g h : Document → Document) → ((d : Document) → g d ≡ h d) → (ds : List Document) → map g ds ≡ map h ds
+  mapped_as g h same [] = refl
+  mapped_as g h same (d ∷ ds) = ap (λ x. x ∷ map g ds) (same d) ∙ ap (λ xs. h d ∷ xs) (mapped_as g h same ds)
+
+  with_attached_from : (next : ℕ) (ds : List Document) (s : Session) (o : Option Document) (v : View) (high : ℕ) → Rise 0 high (map (λ (x : Document). x.id) s.documents) →
+      AllFrom next ds s.documents → AllFrom next ds (with_attached o v s).documents
+  with_attached_from next ds s None v high rise h = h
+  with_attached_from next ds s (Some d) v high rise h =
+      subst (λ (es : List Document). AllFrom next ds (living es)) (sym (mapped_as (attached_last v.id d.id) _ (attached_is v.id d.id) s.documents))
+      (all_relisted next ds s.documents (attached_views v.id d.id) (λ (x : Document). x.held) high rise h)
+
+  session_change_from : (r : Request) (what : SessionChange) → IsSound r.session → AllFrom r.session.next_document r.session.documents (session_changed r what).documents
+  session_change_from r (session_change.Copy start count) h = all_same r.session.next_document r.session.documents
+  session_change_from r (session_change.CopyText count) h = all_same r.session.next_document r.session.documents
+  session_change_from r (session_change.Attach id) h =
+      let s = r.session in
+      with_attached_from s.next_document s.documents s (document_at s.documents id) r.view s.next_document h.document_ids (all_same s.next_document s.documents)
+  session_change_from r session_change.AttachNew h =
+      let s = r.session in
+      let with = with_new_document (new_document s.next_document 0) s in
+      with_attached_from s.next_document s.documents with (document_at with.documents s.next_document) r.view (s.next_document + 1)
+      (rise_pushed 0 s.next_document s.documents (new_document s.next_document 0) (omega arith) refl h.document_ids)
+      (all_pushed s.next_document s.documents (new_document s.next_document 0) (omega arith) (0, refl))
+  session_change_from r (session_change.Create options) h =
+      let s = r.session in
+      let d = new_document s.next_document options in
+      all_pushed s.next_document s.documents (record d { held = 1 }) (omega arith) (options, refl)
+  session_change_from r (session_change.AddReference id) h =
+      let s = r.session in
+      subst (λ (es : List Document). AllFrom s.next_document s.documents es) (sym (mapped_as (held_more id) _ (held_more_is id) s.documents))
+      (all_mapped s.next_document s.documents s.documents (λ (d : Document). d.views) (λ (d : Document). (held_more id d).held) (all_same s.next_document s.documents))
+  session_change_from r (session_change.Release id) h =
+      let s = r.session in
+      subst (λ (es : List Document). AllFrom s.next_document s.documents (living es)) (sym (mapped_as (held_less id) _ (held_less_is id) s.documents))
+      (all_relisted s.next_document s.documents s.documents (λ (d : Document). d.views) (λ (d : Document). (held_less id d).held) s.next_document h.document_ids (all_same s.next_document s.documents))
+
+  -- What a plan does.
+
+  own_replaced : (r : Request) (new : Document) → IsSoundRequest r → new.id ≡ r.document.id → Goes r.document new → AllFrom r.session.next_document r.session.documents (with_document new r.session.documents)
+  own_replaced r new h at goes =
+      let own = document_id r.session.documents r.view.document r.document h.document in
+      all_replaced r.session.next_document r.session.documents r.document new (ap (document_at r.session.documents) (at ∙ own) ∙ h.document) goes
+
+  followed_documents : (view : ℕ) (before : List ℕ) (after : Follow) (s : Session) → (followed view before after s).documents ≡ s.documents
+  followed_documents view before follow.Nothing s = refl
+  followed_documents view before (follow.Caret place) s = refl
+  followed_documents view before (follow.Target start past) s = refl
+  followed_documents view before (follow.Clipboard start count) s = refl
+
+  pub performed_from : (r : Request) (p : Plan) → IsSoundRequest r → Goes r.document (own_after r p) → AllFrom r.session.next_document r.session.documents (performed r p).0.documents
+  performed_from r (plan.Answer value) h goes = all_same r.session.next_document r.session.documents
+  performed_from r (plan.HandOut value start count) h goes = all_same r.session.next_document r.session.documents
+  performed_from r (plan.HandOutStyled start count) h goes = all_same r.session.next_document r.session.documents
+  performed_from r plan.Attempt h goes = all_same r.session.next_document r.session.documents
+  performed_from r (plan.ChangeView change value) h goes = all_same r.session.next_document r.session.documents
+  performed_from r (plan.ChangeSession change value) h goes = session_change_from r change h.sound
+  performed_from r (plan.ChangeDocument change value) h goes = own_replaced r (own_after r (plan.ChangeDocument change value)) h (own_id r (plan.ChangeDocument change value)) goes
+  performed_from r (plan.Edit change value after) h goes =
+      subst (AllFrom r.session.next_document r.session.documents) (sym (followed_documents r.view.id (text r) after (session_of r.session (edit_made (steps_of r change) (scene_of r)))))
+      (own_replaced r (own_after r (plan.Edit change value after)) h (own_id r (plan.Edit change value after)) goes)
+  performed_from r plan.Undo h goes = own_replaced r (own_after r plan.Undo) h (own_id r plan.Undo) goes
+  performed_from r plan.Redo h goes = own_replaced r (own_after r plan.Redo) h (own_id r plan.Redo) goes
+
+  -- Messages.
+
+  abbrev pub AnsweredFrom : Session → Answered → Type 0
+  AnsweredFrom s (Ok done) = AllFrom s.next_document s.documents done.0.documents
+  AnsweredFrom s (Err refusal) = Unit {0}
+
+  answered_from : (kind : Kind) (r : Request) (p : Planned) → IsSoundRequest r → IsFitPlanned r p → ((what : Plan) → IsFitPlan r what → p ≡ Ok what → Goes r.document (own_after r what))
+      → AnsweredFrom r.session (answered kind r p)
+  answered_from kind r (Err refusal) h fit goes = tt
+  answered_from kind r (Ok what) h fit goes = performed_from r what h (goes what fit refl)
+
+  -- the request of a message to a sound session
+  abbrev pub Sent : (Kind → Bool) → Session → ℕ → Message → Kind → Request → Plan → Type 0
+  Sent known s view m kind r p = IsSoundRequest r × (r.session ≡ s) × (view_at s.views view ≡ Some r.view) × (r.message ≡ m) × (kind_of m.number ≡ Some kind) × (plan_of kind r ≡ Ok p) × IsFitPlan r p
+
+  -- a message to a sound session lets all documents go on, if its plan lets its own
+  pub table_from : PlansFit → (known : Kind → Bool) (s : Session) (view : ℕ) (m : Message) → IsSound s
+      → ((kind : Kind) (r : Request) (p : Plan) → Sent known s view m kind r p → Goes r.document (own_after r p)) → AnsweredFrom s (table known s view m)
+  table_from fits known s view m sound goes =
+      of_table (AnsweredFrom s) tt tt tt known s m view
+      (λ v sees kind is knows d finds.
+      let r = request s v d m in
+      let h : IsSoundRequest r = record { sound = sound; view = ap (view_at s.views) (view_id s.views view v sees) ∙ sees; document = finds } in
+      answered_from kind r (plan_of kind r) h (fits kind r h) (λ what fit e. goes kind r what (h, refl, sees, refl, is, e, fit)))
+
+  -- Views that are opened and closed.
+
+  abbrev pub OpenedFrom : Session → Result (Session × ℕ) Refusal → Type 0
+  OpenedFrom s (Ok done) = AllFrom s.next_document s.documents done.0.documents
+  OpenedFrom s (Err refusal) = Unit {0}
+
+  pub opening_from : (s : Session) → OpenedFrom s (opened s)
+  opening_from s =
+      let d = new_document s.next_document 0 in
+      let with = with_new_document (record d { views = s.next_view ∷ [] }) s in
+      either (OpenedFrom s) (nat_le s.limits.views (length s.views) || nat_lt s.limits.ids s.next_view || nat_lt s.limits.ids s.next_document) (Err TooMany)
+      (Ok (record with { views = s.views ++ new_view s.next_view d ∷ []; next_view = s.next_view + 1 }, s.next_view))
+      tt (all_pushed s.next_document s.documents (record d { views = s.next_view ∷ [] }) (omega arith) (0, refl))
+
+  abbrev pub ClosedFrom : Session → Result Session Refusal → Type 0
+  ClosedFrom s (Ok t) = AllFrom s.next_document s.documents t.documents
+  ClosedFrom s (Err refusal) = Unit {0}
+
+  pub closing_from : (s : Session) (o : Option View) → IsSound s → ClosedFrom s (closed_view s o)
+  closing_from s None h = tt
+  closing_from s (Some v) h =
+      all_relisted s.next_document s.documents s.documents (λ (d : Document). (left_by v.id d).views) (λ (d : Document). d.held) s.next_document h.document_ids (all_same s.next_document s.documents)

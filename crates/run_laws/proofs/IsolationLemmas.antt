@@ -1,0 +1,560 @@
+-- Two sessions that agree on a document: its own messages do the same to both, and others leave it in each.
+use Rattle.std.proofs.Common.{◌≡◌, ℕ, ◌==◌, nat_lt, cond, Bool, true, false, List, [], ◌∷◌, ◌++◌, length, map, refl, ap, ◌∙◌, sym, subst, Option, Some, None, Result, Ok, Err}
+use Rattle.std.specs.Prelude.{ℤ, pos, bit_or, reverse, filter_map, option_map, not}
+use Rattle.std.specs.List.{AllByRecursion}
+use Rattle.std.proofs.lemmas.Bool.{eqb-true, eqb-false, eq-eqb}
+use Rattle.ed_types.specs.declared.limits.Limits.{Limits}
+use Rattle.ed_types.specs.declared.script.Outcome.{Outcome}
+use Rattle.ed_types.specs.declared.script.Outcome.TheVariants.{Replied, Refused}
+use Rattle.ed_types.specs.declared.refusal.Refusal.TheVariants.{NoSuchView}
+use Rattle.ed_types.specs.declared.kind.Kind.{Kind}
+use Rattle.ed_types.specs.declared.message.Message.{Message}
+use Rattle.ed_types.specs.declared.refusal.Refusal.{Refusal}
+use Rattle.ed_types.specs.Notices.{Notice, Response}
+use Rattle.ed_types.specs.Messages.{kind_of}
+use Rattle.ed_model.specs.declared.plan.Edit.{Edit}
+use Rattle.ed_model.specs.declared.plan.Edit.TheVariants as edit
+use Rattle.ed_model.specs.declared.plan.Source.{Source}
+use Rattle.ed_model.specs.declared.plan.Source.TheVariants as source
+use Rattle.ed_model.specs.declared.plan.Follow.{Follow}
+use Rattle.ed_model.specs.declared.plan.Follow.TheVariants as follow
+use Rattle.ed_model.specs.declared.plan.DocumentChange.{DocumentChange}
+use Rattle.ed_model.specs.declared.plan.DocumentChange.TheVariants as document_change
+use Rattle.ed_model.specs.declared.plan.ViewChange.{ViewChange}
+use Rattle.ed_model.specs.declared.plan.ViewChange.TheVariants as view_change
+use Rattle.ed_model.specs.declared.plan.SessionChange.{SessionChange}
+use Rattle.ed_model.specs.declared.plan.SessionChange.TheVariants as session_change
+use Rattle.ed_model.specs.declared.plan.Plan.{Plan}
+use Rattle.ed_model.specs.declared.plan.Plan.TheVariants as plan
+use Rattle.ed_model.specs.Numbers.{growth}
+use Rattle.ed_model.specs.Steps.{Step, replacement}
+use Rattle.ed_model.specs.History.{History, Change, TextStep, ContainerStep, undo_changes, redo_changes, undone, redone, latest_text_step, at_save_point, begins_transaction}
+use Rattle.ed_model.specs.Session.{Session, Document, View, document_at, view_at, with_document, with_view, watching, lines_in}
+use Rattle.ed_model.specs.Notes as notes
+use Rattle.ed_model.specs.Requests.{Request, Planned, text}
+use Rattle.ed_model.specs.LineEnds.{conversion_steps}
+use Rattle.ed_model.specs.Edits.{steps_of, source_bytes, converted_if}
+use Rattle.ed_model.specs.DocumentPlans.{levels}
+use Rattle.ed_model.specs.Performing.{Scene, scene_of, session_of, document_after, moved_view, view_after, step_heard, step_made, steps_made, sealed_scene, edit_made, followed, with_caret, with_target, caret_behind, leaving, change_performed, changes_performed, changes_lines, is_last, transaction_performed, save_point_change, history_performed, place_behind, container_note, last_bits, response}
+use Rattle.ed_model.specs.Changes.{changed_document, changed_lines, changed_view, change_told}
+use Rattle.ed_model.specs.Table.{table, answered, recorded, plan_of, performed, request, table_from_view, table_from_kind, table_if_known, table_from_document}
+use Rattle.ed_model.specs.TableLaws.{Answered}
+use Rattle.ed_model.specs.SoundLaws.{IsSound, IsViewOn, ListsItsViews, CommandKeepsSound}
+use Rattle.ed_model.specs.PlansFit.{IsSoundRequest}
+use Rattle.ed_model.specs.Run.{Running, starting, after_command, after_message, outcomes, run_to}
+use Rattle.run_laws.specs.MessageKinds.{is_copying, is_about_documents}
+use Rattle.run_laws.specs.IsolationLaws.{Sending, sent, shows_other, goes_elsewhere, unless, without_others, own_outcomes, KeepsApart, DocumentsAreApart, views_on}
+use Rattle.run_laws.proofs.Finding.{either, document_id, view_id, found_all, replaced_found}
+use Rattle.run_laws.proofs.TableWays.{of_table}
+use Rattle.run_laws.proofs.Going.{own_after, own_id}
+use Rattle.run_laws.proofs.IdLemmas.{view_change_ids}
+use Rattle.run_laws.proofs.PlanShapes.{Leave, KeepsTo, IsShaped, leave_of, plan_is_shaped, same_plan, same_converted}
+use Rattle.run_laws.proofs.Alike.{IsAlike, AreAlike, alike_same, all_alike, alike_turned, alike_through, alike_both, alike_kept, FoundAlike, found_alike, own_found, none_found, kept_on, watching_alike, changed_found, found_once, views_on_alike}
+use Rattle.run_laws.proofs.LeavingLemmas.{Once, view_change_document, performed_leaves_views, performed_leaves_document, performed_leaves_clipboard, performed_leaves_limits}
+
+abbrev Alike : ℕ → List View → List View → Type 0
+Alike id vs ws = AreAlike (λ n. n ≡ id) vs ws
+
+-- Scenes of one document, with views that are alike.
+record SameScenes (id : ℕ) (a b : Scene) : Type 0 where
+  document : b.document ≡ a.document
+  notes : b.notes ≡ a.notes
+  views : Alike id a.views b.views
+  listed : AllByRecursion (IsViewOn a.views id) a.document.views
+
+-- the second is the first with other views
+as_first : (id : ℕ) (a b : Scene) → SameScenes id a b → b ≡ record a { views = b.views }
+as_first id a b h =
+    ap (λ (d : Document). record { document = d; views = b.views; notes = b.notes }) h.document
+    ∙ ap (λ (ns : List Notice). record { document = a.document; views = b.views; notes = ns }) h.notes
+
+step_id : (step : Step) (d : Document) (v : View) → (view_after step d v).id ≡ v.id
+step_id step d v = either (λ (w : View). w.id ≡ v.id) (v.document == d.id) (moved_view step d v) v refl refl
+
+step_document : (step : Step) (d : Document) (v : View) → (view_after step d v).document ≡ v.document
+step_document step d v = either (λ (w : View). w.document ≡ v.document) (v.document == d.id) (moved_view step d v) v refl refl
+
+listed_after : (id : ℕ) (f : View → View) → ((v : View) → (f v).id ≡ v.id) → ((v : View) → (f v).document ≡ v.document) → (views : List View) (ids : List ℕ)
+    → AllByRecursion (IsViewOn views id) ids → AllByRecursion (IsViewOn (map f views) id) ids
+listed_after id f same on views [] all = tt
+listed_after id f same on views (k ∷ ks) all =
+    ((f all.0.0, changed_found f same views k ∙ ap (option_map f) all.0.1, on all.0.0 ∙ all.0.2), listed_after id f same on views ks all.1)
+
+step_alike : (id : ℕ) (step : Step) (d : Document) (vs ws : List View) → Alike id vs ws → Alike id (map (view_after step d) vs) (map (view_after step d) ws)
+step_alike id step d vs ws h = alike_both (λ n. n ≡ id) (view_after step d) (alike_kept (λ n. n ≡ id) (view_after step d) (step_id step d) (step_document step d)) vs ws h
+
+-- what is told of a step, to these views
+abbrev step_told : ℕ → ℕ → List Notice → Step → Document → List Notice → List View → List Notice
+step_told before after between step d earlier views =
+    earlier ++ notes.heard views (notes.before_note before step) ++ between
+    ++ notes.heard views (notes.after_note after (growth (lines_in d) (lines_in (document_after step d))) step)
+
+step_same : (id : ℕ) (later : Bool) (step : Step) (a b : Scene) → SameScenes id a b → SameScenes id (step_made later step a) (step_made later step b)
+step_same id later step a b h =
+    subst (λ (x : Scene). SameScenes id (step_made later step a) (step_made later step x)) (sym (as_first id a b h))
+    (let d = a.document in
+    let heard = watching_alike id a.views b.views d.views h.views h.listed in
+    record {
+      document = refl;
+      notes = ap (λ (w : List View). step_told notes.performed_user (bit_or notes.performed_user (notes.bit_if (begins_transaction later (TextStep step) d.history) notes.start_action)) (leaving w d.history) step d a.notes w) heard;
+      views = step_alike id step d a.views b.views h.views;
+      listed = listed_after id (view_after step d) (step_id step d) (step_document step d) a.views d.views h.listed;
+    })
+
+steps_same : (id : ℕ) (later : Bool) (steps : List Step) (a b : Scene) → SameScenes id a b → SameScenes id (steps_made later steps a) (steps_made later steps b)
+steps_same id later [] a b h = h
+steps_same id later (step ∷ steps) a b h = steps_same id true steps (step_made later step a) (step_made later step b) (step_same id later step a b h)
+
+sealed_same : (id : ℕ) (a b : Scene) → SameScenes id a b → SameScenes id (sealed_scene a) (sealed_scene b)
+sealed_same id a b h =
+    subst (λ (x : Scene). SameScenes id (sealed_scene a) (sealed_scene x)) (sym (as_first id a b h))
+    (record { document = refl; notes = refl; views = h.views; listed = h.listed })
+
+edit_same : (id : ℕ) (steps : List Step) (a b : Scene) → SameScenes id a b → SameScenes id (edit_made steps a) (edit_made steps b)
+edit_same id steps a b h = go (nat_lt 1 (length steps))
+  where
+    go : (c : Bool) → SameScenes id (cond c (sealed_scene (steps_made false steps (sealed_scene a))) (steps_made false steps a)) (cond c (sealed_scene (steps_made false steps (sealed_scene b))) (steps_made false steps b))
+    go true = sealed_same id (steps_made false steps (sealed_scene a)) (steps_made false steps (sealed_scene b)) (steps_same id false steps (sealed_scene a) (sealed_scene b) (sealed_same id a b h))
+    go false = steps_same id false steps a b h
+
+change_same : (id who several : ℕ) (last lines_changed : Bool) (c : Change) (a b : Scene) → SameScenes id a b
+    → SameScenes id (change_performed who several last lines_changed c a) (change_performed who several last lines_changed c b)
+change_same id who several last lines_changed (TextStep step) a b h =
+    subst (λ (x : Scene). SameScenes id (change_performed who several last lines_changed (TextStep step) a) (change_performed who several last lines_changed (TextStep step) x)) (sym (as_first id a b h))
+    (let d = a.document in
+    let heard = watching_alike id a.views b.views d.views h.views h.listed in
+    record {
+      document = refl;
+      notes = ap (λ (w : List View). step_told who (bit_or (bit_or who several) (last_bits last lines_changed)) [] step d a.notes w) heard;
+      views = step_alike id step d a.views b.views h.views;
+      listed = listed_after id (view_after step d) (step_id step d) (step_document step d) a.views d.views h.listed;
+    })
+change_same id who several last lines_changed (ContainerStep token coalesce) a b h =
+    subst (λ (x : Scene). SameScenes id (change_performed who several last lines_changed (ContainerStep token coalesce) a) (change_performed who several last lines_changed (ContainerStep token coalesce) x)) (sym (as_first id a b h))
+    (record {
+      document = refl;
+      notes = ap (λ (w : List View). a.notes ++ notes.heard w (container_note (bit_or (bit_or who several) (last_bits last lines_changed)) token)) (watching_alike id a.views b.views a.document.views h.views h.listed);
+      views = h.views;
+      listed = h.listed;
+    })
+
+changes_same : (id who several : ℕ) (lines_changed : Bool) (cs : List Change) (a b : Scene) → SameScenes id a b
+    → SameScenes id (changes_performed who several lines_changed cs a) (changes_performed who several lines_changed cs b)
+changes_same id who several lines_changed [] a b h = h
+changes_same id who several lines_changed (c ∷ cs) a b h =
+    let changed = cond lines_changed true (changes_lines c a.document) in
+    subst (λ (d : Document). SameScenes id (changes_performed who several lines_changed (c ∷ cs) a)
+    (changes_performed who several (cond lines_changed true (changes_lines c d)) cs (change_performed who several (is_last cs) (cond lines_changed true (changes_lines c d)) c b))) (sym h.document)
+    (changes_same id who several changed cs (change_performed who several (is_last cs) changed c a) (change_performed who several (is_last cs) changed c b) (change_same id who several (is_last cs) changed c a b h))
+
+-- a transaction performed on both, from the history that the scene has
+transaction_same : (id who : ℕ) (cs : List Change) (new : History) (a b : Scene) → SameScenes id a b → SameScenes id (transaction_performed who cs new a) (transaction_performed who cs new b)
+transaction_same id who cs new a b h =
+    let several = notes.bit_if (nat_lt 1 (length cs)) notes.multi_step in
+    let x = changes_performed who several false cs a in
+    let y = changes_performed who several false cs b in
+    let k : SameScenes id x y = changes_same id who several false cs a b h in
+    let heard : watching y.views y.document ≡ watching x.views x.document =
+        ap (watching y.views) k.document ∙ watching_alike id x.views y.views x.document.views k.views k.listed in
+    record {
+      document = ap (λ (d : Document). record d { history = new }) k.document;
+      notes = ap (λ (ns : List Notice). ns ++ save_point_change (watching y.views y.document) (at_save_point b.document.history) (at_save_point new)) k.notes
+          ∙ ap (λ (w : List View). x.notes ++ save_point_change w (at_save_point b.document.history) (at_save_point new)) heard
+          ∙ ap (λ (d : Document). x.notes ++ save_point_change (watching x.views x.document) (at_save_point d.history) (at_save_point new)) h.document;
+      views = k.views;
+      listed = k.listed;
+    }
+
+-- Sessions that agree on the document of this id.
+record Agree (id : ℕ) (s t : Session) : Type 0 where
+  document : document_at t.documents id ≡ document_at s.documents id
+  views : Alike id s.views t.views
+  clipboard : t.clipboard ≡ s.clipboard
+  limits : t.limits ≡ s.limits
+
+agree_same : (id : ℕ) (s : Session) → Agree id s s
+agree_same id s = record { document = refl; views = all_alike (λ n. n ≡ id) s.views; clipboard = refl; limits = refl }
+
+-- the first left as it was by another's message
+agree_left : (id : ℕ) (s u t : Session) → Agree id s u → Agree id s t → Agree id u t
+agree_left id s u t h k = record {
+  document = k.document ∙ sym h.document;
+  views = alike_through (λ n. n ≡ id) u.views s.views t.views (alike_turned (λ n. n ≡ id) s.views u.views h.views) k.views;
+  clipboard = k.clipboard ∙ sym h.clipboard;
+  limits = k.limits ∙ sym h.limits;
+}
+
+sender_alike : (id : ℕ) (f : View → View) → ((v : View) → (f v).id ≡ v.id) → ((v : View) → (f v).document ≡ v.document) → (sender : ℕ) (vs ws : List View) → Alike id vs ws
+    → Alike id (map (λ (v : View). cond (v.id == sender) (f v) v) vs) (map (λ (v : View). cond (v.id == sender) (f v) v) ws)
+sender_alike id f same on sender vs ws h =
+    let g : View → View = λ (v : View). cond (v.id == sender) (f v) v in
+    alike_both (λ n. n ≡ id) g
+    (alike_kept (λ n. n ≡ id) g (λ v. either (λ (w : View). w.id ≡ v.id) (v.id == sender) (f v) v (same v) refl) (λ v. either (λ (w : View). w.document ≡ v.document) (v.id == sender) (f v) v (on v) refl)) vs ws h
+
+caret_alike : (id sender place : ℕ) (vs ws : List View) → Alike id vs ws → Alike id (with_caret sender place vs) (with_caret sender place ws)
+caret_alike id sender place vs ws h = sender_alike id (λ (v : View). record v { anchor = place; caret = place }) (λ v. refl) (λ v. refl) sender vs ws h
+
+behind_alike : (id sender : ℕ) (o : Option Step) (vs ws : List View) → Alike id vs ws → Alike id (caret_behind sender o vs) (caret_behind sender o ws)
+behind_alike id sender None vs ws h = h
+behind_alike id sender (Some step) vs ws h = caret_alike id sender (place_behind step) vs ws h
+
+followed_agree : (id view : ℕ) (before : List ℕ) (after : Follow) (s t : Session) → Agree id s t → Agree id (followed view before after s) (followed view before after t)
+followed_agree id view before follow.Nothing s t h = h
+followed_agree id view before (follow.Caret place) s t h = record { document = h.document; views = caret_alike id view place s.views t.views h.views; clipboard = h.clipboard; limits = h.limits }
+followed_agree id view before (follow.Target start past) s t h =
+    record { document = h.document; views = sender_alike id (λ (v : View). record v { target_start = start; target_end = past }) (λ v. refl) (λ v. refl) view s.views t.views h.views; clipboard = h.clipboard; limits = h.limits }
+followed_agree id view before (follow.Clipboard start count) s t h = record { document = h.document; views = h.views; clipboard = refl; limits = h.limits }
+
+-- the same document put in its place in both
+replaced_agree : (id : ℕ) (s t : Session) (old new new' : Document) → document_at s.documents id ≡ Some old → document_at t.documents id ≡ Some old → new.id ≡ id → new' ≡ new
+    → document_at (with_document new' t.documents) id ≡ document_at (with_document new s.documents) id
+replaced_agree id s t old new new' in_s in_t is same =
+    ap (λ (d : Document). document_at (with_document d t.documents) id) same
+    ∙ ap (document_at (with_document new t.documents)) (sym is)
+    ∙ replaced_found t.documents old new (ap (document_at t.documents) is ∙ in_t)
+    ∙ sym (ap (document_at (with_document new s.documents)) (sym is) ∙ replaced_found s.documents old new (ap (document_at s.documents) is ∙ in_s))
+
+-- a scene of the request that is the same, in the two sessions
+scenes_agree : (id : ℕ) (s t : Session) (old : Document) (a b : Scene) → Agree id s t → document_at s.documents id ≡ Some old → a.document.id ≡ id → SameScenes id a b
+    → Agree id (session_of s a) (session_of t b)
+scenes_agree id s t old a b h found is same = record {
+  document = replaced_agree id s t old a.document b.document found (h.document ∙ found) is same.document;
+  views = same.views;
+  clipboard = h.clipboard;
+  limits = h.limits;
+}
+
+lines_id : (change : DocumentChange) (d : Document) (v : View) → (changed_lines change d v).id ≡ v.id
+lines_id (document_change.SetLineEndTypes to) d v = either (λ (w : View). w.id ≡ v.id) (v.document == d.id) _ v refl refl
+lines_id (document_change.SetReadOnly on) d v = refl
+lines_id (document_change.SetLineEnd to) d v = refl
+lines_id document_change.SetSavePoint d v = refl
+lines_id document_change.BeginGroup d v = refl
+lines_id document_change.EndGroup d v = refl
+lines_id document_change.ForgetHistory d v = refl
+lines_id (document_change.CollectUndo on) d v = refl
+lines_id (document_change.AppendContainer token coalesce) d v = refl
+lines_id (document_change.AddMarker line number) d v = refl
+lines_id (document_change.AddMarkers line mask) d v = refl
+lines_id (document_change.DeleteMarker line number) d v = refl
+lines_id (document_change.DeleteMarkers number) d v = refl
+lines_id (document_change.DeleteHandle handle) d v = refl
+lines_id (document_change.SetLevel line level) d v = refl
+lines_id (document_change.SetState line state) d v = refl
+lines_id (document_change.SetEndStyled place) d v = refl
+lines_id (document_change.StyleRun count style) d v = refl
+lines_id (document_change.StyleBytes count) d v = refl
+lines_id (document_change.NeedStyle start past) d v = refl
+lines_id (document_change.FillIndicator indicator start count value) d v = refl
+
+lines_document : (change : DocumentChange) (d : Document) (v : View) → (changed_lines change d v).document ≡ v.document
+lines_document (document_change.SetLineEndTypes to) d v = either (λ (w : View). w.document ≡ v.document) (v.document == d.id) _ v refl refl
+lines_document (document_change.SetReadOnly on) d v = refl
+lines_document (document_change.SetLineEnd to) d v = refl
+lines_document document_change.SetSavePoint d v = refl
+lines_document document_change.BeginGroup d v = refl
+lines_document document_change.EndGroup d v = refl
+lines_document document_change.ForgetHistory d v = refl
+lines_document (document_change.CollectUndo on) d v = refl
+lines_document (document_change.AppendContainer token coalesce) d v = refl
+lines_document (document_change.AddMarker line number) d v = refl
+lines_document (document_change.AddMarkers line mask) d v = refl
+lines_document (document_change.DeleteMarker line number) d v = refl
+lines_document (document_change.DeleteMarkers number) d v = refl
+lines_document (document_change.DeleteHandle handle) d v = refl
+lines_document (document_change.SetLevel line level) d v = refl
+lines_document (document_change.SetState line state) d v = refl
+lines_document (document_change.SetEndStyled place) d v = refl
+lines_document (document_change.StyleRun count style) d v = refl
+lines_document (document_change.StyleBytes count) d v = refl
+lines_document (document_change.NeedStyle start past) d v = refl
+lines_document (document_change.FillIndicator indicator start count value) d v = refl
+
+put_alike : (id : ℕ) (new : View) (vs ws : List View) → Alike id vs ws → Alike id (with_view new vs) (with_view new ws)
+put_alike id new [] [] h = tt
+put_alike id new [] (w ∷ ws) h = h
+put_alike id new (v ∷ vs) [] h = h
+put_alike id new (v ∷ vs) (w ∷ ws) h =
+    (subst (λ n. IsAlike (λ k. k ≡ id) (cond (v.id == new.id) new v) (cond (n == new.id) new w)) (sym h.0.id) (go (v.id == new.id)), put_alike id new vs ws h.1)
+  where
+    go : (b : Bool) → IsAlike (λ k. k ≡ id) (cond b new v) (cond b new w)
+    go true = alike_same (λ k. k ≡ id) new
+    go false = h.0
+
+-- The same request in the other session.
+abbrev at : Request → Session → Request
+at r t = record r { session = t }
+
+source_same : (r : Request) (t : Session) (from : Source) → t.clipboard ≡ r.session.clipboard → source_bytes (at r t) from ≡ source_bytes r from
+source_same r t source.Nothing e = refl
+source_same r t (source.MessageText count) e = refl
+source_same r t (source.Clipboard convert) e = same_converted convert r (at r t) t.clipboard refl ∙ ap (λ (bytes : List ℕ). converted_if convert r bytes) e
+source_same r t source.LineEnd e = refl
+
+steps_of_same : (r : Request) (t : Session) (change : Edit) → t.clipboard ≡ r.session.clipboard → steps_of (at r t) change ≡ steps_of r change
+steps_of_same r t (edit.Replace start count from) e = ap (λ (bytes : List ℕ). replacement start count bytes (text r)) (source_same r t from e)
+steps_of_same r t (edit.ConvertLineEnds to) e = refl
+
+-- what the plan does in both: the same reply, and sessions that agree
+record SameDone (id : ℕ) (a b : Session × Response) : Type 0 where
+  reply : b.1 ≡ a.1
+  sessions : Agree id a.0 b.0
+
+-- a sound request of the document's own view
+record OwnRequest (id : ℕ) (r : Request) : Type 0 where
+  is : r.document.id ≡ id
+  found : document_at r.session.documents id ≡ Some r.document
+  listed : AllByRecursion (IsViewOn r.session.views id) r.document.views
+
+scene_same : (id : ℕ) (r : Request) (t : Session) → OwnRequest id r → Agree id r.session t → SameScenes id (scene_of r) (scene_of (at r t))
+scene_same id r t own h = record { document = refl; notes = refl; views = h.views; listed = own.listed }
+
+heard_same : (id : ℕ) (r : Request) (t : Session) → OwnRequest id r → Agree id r.session t → watching t.views r.document ≡ watching r.session.views r.document
+heard_same id r t own h = watching_alike id r.session.views t.views r.document.views h.views own.listed
+
+edit_done : (id : ℕ) (r : Request) (t : Session) (change : Edit) (value : ℤ) (after : Follow) → OwnRequest id r → Agree id r.session t
+    → SameDone id (performed r (plan.Edit change value after)) (performed (at r t) (plan.Edit change value after))
+edit_done id r t change value after own h =
+    subst (λ (steps : List Step). SameDone id (performed r (plan.Edit change value after))
+    (followed r.view.id (text r) after (session_of t (edit_made steps (scene_of (at r t)))), response value [] (edit_made steps (scene_of (at r t))).notes)) (sym (steps_of_same r t change h.clipboard))
+    (let a = edit_made (steps_of r change) (scene_of r) in
+    let b = edit_made (steps_of r change) (scene_of (at r t)) in
+    let same : SameScenes id a b = edit_same id (steps_of r change) (scene_of r) (scene_of (at r t)) (scene_same id r t own h) in
+    record {
+      reply = ap (λ (ns : List Notice). response value [] ns) same.notes;
+      sessions = followed_agree id r.view.id (text r) after (session_of r.session a) (session_of t b)
+          (scenes_agree id r.session t r.document a b h own.found (own_id r (plan.Edit change value after) ∙ own.is) same);
+    })
+
+history_done : (id : ℕ) (r : Request) (t : Session) (who : ℕ) (cs : List Change) (new : History) → OwnRequest id r → Agree id r.session t → (transaction_performed who cs new (scene_of r)).document.id ≡ id
+    → SameDone id (history_performed r who cs new) (history_performed (at r t) who cs new)
+history_done id r t who cs new own h is =
+    let a = transaction_performed who cs new (scene_of r) in
+    let b = transaction_performed who cs new (scene_of (at r t)) in
+    let same : SameScenes id a b = transaction_same id who cs new (scene_of r) (scene_of (at r t)) (scene_same id r t own h) in
+    let agree = scenes_agree id r.session t r.document a b h own.found is same in
+    record {
+      reply = ap (λ (ns : List Notice). response (pos 0) [] ns) same.notes;
+      sessions = record {
+        document = agree.document;
+        views = behind_alike id r.view.id (latest_text_step (reverse cs)) a.views b.views same.views;
+        clipboard = h.clipboard;
+        limits = h.limits;
+      };
+    }
+
+performed_done : (id : ℕ) (r : Request) (t : Session) (p : Plan) (l : Leave) → l.documents ≡ false → KeepsTo l p → OwnRequest id r → Agree id r.session t → SameDone id (performed r p) (performed (at r t) p)
+performed_done id r t (plan.Answer value) l barred keeps own h = record { reply = refl; sessions = h }
+performed_done id r t (plan.HandOut value start count) l barred keeps own h = record { reply = refl; sessions = h }
+performed_done id r t (plan.HandOutStyled start count) l barred keeps own h = record { reply = refl; sessions = h }
+performed_done id r t (plan.Edit change value after) l barred keeps own h = edit_done id r t change value after own h
+performed_done id r t plan.Attempt l barred keeps own h =
+    record { reply = ap (λ (w : List View). response (pos 0) [] (notes.told w (notes.blank notes.modify_attempt))) (heard_same id r t own h); sessions = h }
+performed_done id r t plan.Undo l barred keeps own h = history_done id r t notes.performed_undo (undo_changes r.document.history) (undone r.document.history) own h (own_id r plan.Undo ∙ own.is)
+performed_done id r t plan.Redo l barred keeps own h = history_done id r t notes.performed_redo (redo_changes r.document.history) (redone r.document.history) own h (own_id r plan.Redo ∙ own.is)
+performed_done id r t (plan.ChangeDocument change value) l barred keeps own h =
+    let new = changed_document r.message.text change r.document in
+    record {
+      reply = ap (λ (w : List View). response value [] (change_told r.view w r.document new change)) (heard_same id r t own h);
+      sessions = record {
+        document = replaced_agree id r.session t r.document new new own.found (h.document ∙ own.found) (own_id r (plan.ChangeDocument change value) ∙ own.is) refl;
+        views = alike_both (λ n. n ≡ id) (changed_lines change r.document) (alike_kept (λ n. n ≡ id) (changed_lines change r.document) (lines_id change r.document) (lines_document change r.document)) r.session.views t.views h.views;
+        clipboard = h.clipboard;
+        limits = h.limits;
+      };
+    }
+performed_done id r t (plan.ChangeView change value) l barred keeps own h =
+    record { reply = refl; sessions = record { document = h.document; views = put_alike id (changed_view (levels r) change r.view) r.session.views t.views h.views; clipboard = h.clipboard; limits = h.limits } }
+performed_done id r t (plan.ChangeSession (session_change.Copy start count) value) l barred keeps own h =
+    record { reply = refl; sessions = record { document = h.document; views = h.views; clipboard = refl; limits = h.limits } }
+performed_done id r t (plan.ChangeSession (session_change.CopyText count) value) l barred keeps own h =
+    record { reply = refl; sessions = record { document = h.document; views = h.views; clipboard = refl; limits = h.limits } }
+performed_done id r t (plan.ChangeSession (session_change.Attach d) value) l barred keeps own h = absurd (cc)
+performed_done id r t (plan.ChangeSession session_change.AttachNew value) l barred keeps own h = absurd (cc)
+performed_done id r t (plan.ChangeSession (session_change.Create options) value) l barred keeps own h = absurd (cc)
+performed_done id r t (plan.ChangeSession (session_change.AddReference d) value) l barred keeps own h = absurd (cc)
+performed_done id r t (plan.ChangeSession (session_change.Release d) value) l barred keeps own h = absurd (cc)
+
+-- Messages of the document's own views.
+
+abbrev SameAnswer : ℕ → Answered → Answered → Type 0
+SameAnswer id (Ok a) (Ok b) = SameDone id a b
+SameAnswer id (Ok a) (Err f) = ⊥
+SameAnswer id (Err e) (Ok b) = ⊥
+SameAnswer id (Err e) (Err f) = f ≡ e
+
+answered_same : (id : ℕ) (kind : Kind) (r : Request) (t : Session) (p : Planned) (l : Leave) → l.documents ≡ false → IsShaped l p → OwnRequest id r → Agree id r.session t
+    → SameAnswer id (answered kind r p) (answered kind (at r t) p)
+answered_same id kind r t (Err refusal) l barred shaped own h = refl
+answered_same id kind r t (Ok p) l barred shaped own h =
+    let done = performed_done id r t p l barred shaped own h in
+    record { reply = ap (recorded kind r) done.reply; sessions = done.sessions }
+
+other_session : (s t : Session) → t.clipboard ≡ s.clipboard → t.limits ≡ s.limits → t ≡ record s { documents = t.documents; views = t.views; next_document = t.next_document; next_view = t.next_view }
+other_session s t e f =
+    ap (λ (c : List ℕ). record t { clipboard = c }) e ∙ ap (λ (l : Limits). record t { clipboard = s.clipboard; limits = l }) f
+
+plan_same : (kind : Kind) (r : Request) (t : Session) → is_about_documents kind ≡ false → t.clipboard ≡ r.session.clipboard → t.limits ≡ r.session.limits → plan_of kind (at r t) ≡ plan_of kind r
+plan_same kind r t barred e f =
+    ap (λ (x : Session). plan_of kind (at r x)) (other_session r.session t e f) ∙ same_plan kind r t.documents t.views t.next_document t.next_view barred
+
+from_document_same : (id : ℕ) (s t : Session) (v : View) (kind : Kind) (m : Message) (o : Option Document) → is_about_documents kind ≡ false → IsSound s → v.document ≡ id → document_at s.documents v.document ≡ o
+    → Agree id s t → SameAnswer id (table_from_document s v kind m o) (table_from_document t v kind m o)
+from_document_same id s t v kind m None barred sound on found h = refl
+from_document_same id s t v kind m (Some d) barred sound on found h =
+    let r = request s v d m in
+    let is : d.id ≡ id = document_id s.documents v.document d found ∙ on in
+    let own : OwnRequest id r = record {
+      is = is;
+      found = ap (document_at s.documents) (sym on) ∙ found;
+      listed = subst (λ n. AllByRecursion (IsViewOn s.views n) d.views) is (found_all (ListsItsViews s.views) (λ (x : Document). x.id == v.document) s.documents d sound.lists found);
+    } in
+    subst (λ (p : Planned). SameAnswer id (answered kind r (plan_of kind r)) (answered kind (at r t) p)) (sym (plan_same kind r t barred h.clipboard h.limits))
+    (answered_same id kind r t (plan_of kind r) (leave_of kind) barred (plan_is_shaped kind r) own h)
+
+if_known_same : (id : ℕ) (b : Bool) (s t : Session) (v : View) (kind : Kind) (m : Message) → is_about_documents kind ≡ false → IsSound s → v.document ≡ id → Agree id s t
+    → SameAnswer id (table_if_known b s v kind m) (table_if_known b t v kind m)
+if_known_same id false s t v kind m barred sound on h = refl
+if_known_same id true s t v kind m barred sound on h =
+    subst (λ (o : Option Document). SameAnswer id (table_from_document s v kind m (document_at s.documents v.document)) (table_from_document t v kind m o))
+    (sym (ap (document_at t.documents) on ∙ h.document ∙ ap (document_at s.documents) (sym on)))
+    (from_document_same id s t v kind m (document_at s.documents v.document) barred sound on refl h)
+
+from_kind_same : (id : ℕ) (known : Kind → Bool) (s t : Session) (v : View) (m : Message) (o : Option Kind) → ((kind : Kind) → o ≡ Some kind → is_about_documents kind ≡ false) → IsSound s → v.document ≡ id → Agree id s t
+    → SameAnswer id (table_from_kind known s v m o) (table_from_kind known t v m o)
+from_kind_same id known s t v m None barred sound on h = refl
+from_kind_same id known s t v m (Some kind) barred sound on h = if_known_same id (known kind) s t v kind m (barred kind refl) sound on h
+
+-- a message to a view of the document, or to none
+own_message : (id : ℕ) (known : Kind → Bool) (s t : Session) (view : ℕ) (m : Message) → ((kind : Kind) → kind_of m.number ≡ Some kind → is_about_documents kind ≡ false) → IsSound s
+    → ((v : View) → view_at s.views view ≡ Some v → v.document ≡ id) → Agree id s t → SameAnswer id (table known s view m) (table known t view m)
+own_message id known s t view m barred sound on h = go (view_at s.views view) refl
+  where
+    go : (o : Option View) → view_at s.views view ≡ o → SameAnswer id (table known s view m) (table known t view m)
+    go None e =
+        subst (λ (o : Option View). SameAnswer id (table_from_view known s m o) (table known t view m)) (sym e)
+        (subst (λ (o : Option View). SameAnswer id (Err NoSuchView) (table_from_view known t m o)) (sym (none_found (λ n. n ≡ id) s.views t.views view h.views e)) refl)
+    go (Some v) e =
+        subst (λ (o : Option View). SameAnswer id (table_from_view known s m o) (table known t view m)) (sym e)
+        (subst (λ (o : Option View). SameAnswer id (table_from_kind known s v m (kind_of m.number)) (table_from_view known t m o)) (sym (own_found (λ n. n ≡ id) s.views t.views view v h.views e (on v e)))
+        (from_kind_same id known s t v m (kind_of m.number) barred sound (on v e) h))
+
+-- Messages of other views.
+
+once_of : (s : Session) (view : ℕ) (v : View) → IsSound s → view_at s.views view ≡ Some v → Once v.id v.document s.views
+once_of s view v sound sees =
+    let is = view_id s.views view v sees in
+    turn s.views (found_once 0 s.next_view s.views view v sound.view_ids sees)
+  where
+    turn : (vs : List View) → AllByRecursion (λ (w : View). w.id ≡ view → w ≡ v) vs → Once v.id v.document vs
+    turn [] all = tt
+    turn (w ∷ ws) all = ((λ e. ap (λ (x : View). x.document) (all.0 (e ∙ view_id s.views view v sees))), turn ws all.1)
+
+-- the views stay those of their documents
+abbrev Placed : List View → List View → Type 0
+Placed vs ws = AreAlike (λ n. ⊥) vs ws
+
+message_places : (known : Kind → Bool) (s : Session) (view : ℕ) (m : Message) → ((kind : Kind) → kind_of m.number ≡ Some kind → is_about_documents kind ≡ false) → IsSound s
+    → Placed s.views (after_message s (table known s view m)).0.session.views
+message_places known s view m barred sound =
+    of_table (λ o. Placed s.views (after_message s o).0.session.views) (all_alike (λ n. ⊥) s.views) (all_alike (λ n. ⊥) s.views) (all_alike (λ n. ⊥) s.views) known s m view
+    (λ v sees kind is knows d finds. go v kind d sees (barred kind is) finds (plan_of kind (request s v d m)) (plan_is_shaped kind (request s v d m)))
+  where
+    go : (v : View) (kind : Kind) (d : Document) → view_at s.views view ≡ Some v → is_about_documents kind ≡ false → document_at s.documents v.document ≡ Some d → (p : Planned) → IsShaped (leave_of kind) p
+        → Placed s.views (after_message s (answered kind (request s v d m) p)).0.session.views
+    go v kind d sees no_documents finds (Err refusal) shaped = all_alike (λ n. ⊥) s.views
+    go v kind d sees no_documents finds (Ok p) shaped =
+        performed_leaves_views (λ n. ⊥) v.id v.document (λ e. e) (request s v d m) p (leave_of kind) no_documents shaped refl refl (document_id s.documents v.document d finds) (once_of s view v sound sees)
+
+others_message : (id : ℕ) (known : Kind → Bool) (s : Session) (view : ℕ) (m : Message)
+    → ((kind : Kind) → kind_of m.number ≡ Some kind → (is_about_documents kind ≡ false) × (is_copying kind ≡ false)) → IsSound s
+    → ((v : View) → view_at s.views view ≡ Some v → v.document ≡ id → ⊥) → Agree id s (after_message s (table known s view m)).0.session
+others_message id known s view m barred sound other =
+    of_table (λ o. Agree id s (after_message s o).0.session) (agree_same id s) (agree_same id s) (agree_same id s) known s m view
+    (λ v sees kind is knows d finds. go v kind d sees (barred kind is) finds (plan_of kind (request s v d m)) (plan_is_shaped kind (request s v d m)))
+  where
+    go : (v : View) (kind : Kind) (d : Document) → view_at s.views view ≡ Some v → (is_about_documents kind ≡ false) × (is_copying kind ≡ false) → document_at s.documents v.document ≡ Some d → (p : Planned)
+        → IsShaped (leave_of kind) p → Agree id s (after_message s (answered kind (request s v d m) p)).0.session
+    go v kind d sees none finds (Err refusal) shaped = agree_same id s
+    go v kind d sees none finds (Ok p) shaped =
+        let r = request s v d m in
+        let is = document_id s.documents v.document d finds in
+        record {
+          document = performed_leaves_document r p (leave_of kind) id none.0 shaped (λ e. other v sees (sym is ∙ sym e));
+          views = performed_leaves_views (λ n. n ≡ id) v.id v.document (other v sees) r p (leave_of kind) none.0 shaped refl refl is (once_of s view v sound sees);
+          clipboard = performed_leaves_clipboard r p (leave_of kind) none.0 none.1 shaped;
+          limits = performed_leaves_limits r p (leave_of kind) none.0 shaped;
+        }
+
+-- Who goes elsewhere stays so.
+
+elsewhere_stays : (id k : ℕ) (vs ws : List View) → Placed vs ws → shows_other id (view_at ws k) ≡ shows_other id (view_at vs k)
+elsewhere_stays id k vs ws h = go (view_at vs k) (view_at ws k) (found_alike (λ n. ⊥) vs ws k h)
+  where
+    go : (o p : Option View) → FoundAlike (λ n. ⊥) o p → shows_other id p ≡ shows_other id o
+    go None None f = refl
+    go None (Some w) f = absurd f
+    go (Some v) None f = absurd f
+    go (Some v) (Some w) f = ap (λ n. not (n == id)) f.document
+
+not_true : (b : Bool) → not b ≡ true → b ≡ false
+not_true true e = absurd (cc)
+not_true false e = refl
+
+not_false : (b : Bool) → not b ≡ false → b ≡ true
+not_false true e = refl
+not_false false e = absurd (cc)
+
+is_own : (id : ℕ) (o : Option View) (v : View) → shows_other id o ≡ false → o ≡ Some v → v.document ≡ id
+is_own id o v e f = eqb-true v.document id (not_false (v.document == id) (ap (shows_other id) (sym f) ∙ e))
+
+is_others : (id : ℕ) (o : Option View) (v : View) → shows_other id o ≡ true → o ≡ Some v → v.document ≡ id → ⊥
+is_others id o v e f = eqb-false v.document id (not_true (v.document == id) (ap (shows_other id) (sym f) ∙ e))
+
+-- Lists of messages.
+
+record SameRuns (id : ℕ) (own alone : List Outcome) (s t : Session) : Type 0 where
+  outcomes_agree : own ≡ alone
+  sessions : Agree id s t
+
+after_same : (id : ℕ) (s t : Session) (x y : Answered) → SameAnswer id x y → Agree id s t → ((after_message s x).1 ≡ (after_message t y).1) × Agree id (after_message s x).0.session (after_message t y).0.session
+after_same id s t (Ok a) (Ok b) same h = (ap Replied (sym same.reply), same.sessions)
+after_same id s t (Ok a) (Err f) same h = absurd same
+after_same id s t (Err e) (Ok b) same h = absurd same
+after_same id s t (Err e) (Err f) same h = (ap Refused (sym same), h)
+
+messages_apart : CommandKeepsSound → (known : Kind → Bool) (first : Session) (id : ℕ) (ms : List Sending) (s t : Running) → AllByRecursion (KeepsApart first id) ms → IsSound s.session → Placed first.views s.session.views
+    → Agree id s.session t.session
+    → SameRuns id (own_outcomes known first id ms s) (outcomes known [] (map sent (without_others first id ms)) t) (run_to known [] (map sent ms) s).session (run_to known [] (map sent (without_others first id ms)) t).session
+messages_apart keeps known first id [] s t all sound placed h = record { outcomes_agree = refl; sessions = h }
+messages_apart keeps known first id (m ∷ ms) s t all sound placed h =
+    let next = (after_command known [] (sent m) s).0 in
+    let sound_next : IsSound next.session = keeps known [] (sent m) s sound in
+    let places = message_places known s.session m.0 m.1 (λ kind is. (all.0 kind is).0) sound in
+    let placed_next = alike_through (λ n. ⊥) first.views s.session.views next.session.views placed places in
+    go (goes_elsewhere first id m) refl (λ u k. messages_apart keeps known first id ms next u all.1 sound_next placed_next k)
+  where
+    go : (b : Bool) → goes_elsewhere first id m ≡ b
+        → ((u : Running) → Agree id (after_command known [] (sent m) s).0.session u.session
+        → SameRuns id (own_outcomes known first id ms (after_command known [] (sent m) s).0) (outcomes known [] (map sent (without_others first id ms)) u) (run_to known [] (map sent ms) (after_command known [] (sent m) s).0).session (run_to known [] (map sent (without_others first id ms)) u).session)
+        → SameRuns id (unless b (after_command known [] (sent m) s).1 (own_outcomes known first id ms (after_command known [] (sent m) s).0)) (outcomes known [] (map sent (unless b m (without_others first id ms))) t)
+        (run_to known [] (map sent ms) (after_command known [] (sent m) s).0).session (run_to known [] (map sent (unless b m (without_others first id ms))) t).session
+    go true e rest =
+        let there : shows_other id (view_at s.session.views m.0) ≡ true = elsewhere_stays id m.0 first.views s.session.views placed ∙ e in
+        let left = others_message id known s.session m.0 m.1 (λ kind is. ((all.0 kind is).0, (all.0 kind is).1 e)) sound (λ v sees. is_others id (view_at s.session.views m.0) v there sees) in
+        rest t (agree_left id s.session (after_command known [] (sent m) s).0.session t.session left h)
+    go false e rest =
+        let here : shows_other id (view_at s.session.views m.0) ≡ false = elsewhere_stays id m.0 first.views s.session.views placed ∙ e in
+        let same = own_message id known s.session t.session m.0 m.1 (λ kind is. (all.0 kind is).0) sound (λ v sees. is_own id (view_at s.session.views m.0) v here sees) h in
+        let both = after_same id s.session t.session (table known s.session m.0 m.1) (table known t.session m.0 m.1) same h in
+        let after = rest (after_command known [] (sent m) t).0 both.1 in
+        record {
+          outcomes_agree = ap (λ (o : Outcome). o ∷ own_outcomes known first id ms (after_command known [] (sent m) s).0) both.0
+              ∙ ap (λ (os : List Outcome). (after_command known [] (sent m) t).1 ∷ os) after.outcomes_agree;
+          sessions = after.sessions;
+        }
+
+pub documents_are_apart : CommandKeepsSound → DocumentsAreApart
+documents_are_apart keeps known s id messages sound all =
+    let same = messages_apart keeps known s id messages (starting s) (starting s) all sound (all_alike (λ n. ⊥) s.views) (agree_same id s) in
+    (same.outcomes_agree, sym same.sessions.document, views_on_alike id _ _ same.sessions.views)

@@ -1,0 +1,337 @@
+-- Whether a view records hangs on nothing else and nothing else hangs on it.
+use Rattle.std.proofs.Common.{◌≡◌, ℕ, ◌==◌, nat_lt, cond, Bool, true, false, List, [], ◌∷◌, ◌++◌, length, map, refl, ap, ◌∙◌, sym, subst, Option, Some, None, Result, Ok, Err}
+use Rattle.std.specs.Prelude.{ℤ, ◌+◌, slice_range, reverse, option_map}
+use Rattle.std.specs.List.{AllByRecursion}
+use Rattle.std.proofs.lemmas.Bool.{eqb-true, eq-eqb}
+use Rattle.ed_types.specs.declared.refusal.Refusal.TheVariants.{NoSuchView}
+use Rattle.ed_types.specs.declared.kind.Kind.{Kind}
+use Rattle.ed_types.specs.declared.message.Message.{Message}
+use Rattle.ed_types.specs.declared.refusal.Refusal.{Refusal}
+use Rattle.ed_types.specs.Notices.{Notice, Response}
+use Rattle.ed_types.specs.Messages.{kind_of}
+use Rattle.ed_model.specs.declared.plan.Edit.{Edit}
+use Rattle.ed_model.specs.declared.plan.Edit.TheVariants as edit
+use Rattle.ed_model.specs.declared.plan.Source.{Source}
+use Rattle.ed_model.specs.declared.plan.Source.TheVariants as source
+use Rattle.ed_model.specs.declared.plan.Follow.{Follow}
+use Rattle.ed_model.specs.declared.plan.Follow.TheVariants as follow
+use Rattle.ed_model.specs.declared.plan.DocumentChange.{DocumentChange}
+use Rattle.ed_model.specs.declared.plan.DocumentChange.TheVariants as document_change
+use Rattle.ed_model.specs.declared.plan.ViewChange.{ViewChange}
+use Rattle.ed_model.specs.declared.plan.ViewChange.TheVariants as view_change
+use Rattle.ed_model.specs.declared.plan.SessionChange.{SessionChange}
+use Rattle.ed_model.specs.declared.plan.SessionChange.TheVariants as session_change
+use Rattle.ed_model.specs.declared.plan.Plan.{Plan}
+use Rattle.ed_model.specs.declared.plan.Plan.TheVariants as plan
+use Rattle.ed_model.specs.Numbers.{growth}
+use Rattle.ed_model.specs.Steps.{Step}
+use Rattle.ed_model.specs.History.{History, Change, TextStep, ContainerStep, undo_changes, redo_changes, undone, redone, latest_text_step, at_save_point, sealed_outside_groups, begins_transaction}
+use Rattle.ed_model.specs.Session.{Session, Document, View, document_at, view_at, with_document, with_view, watching, lines_in}
+use Rattle.ed_model.specs.Notes as notes
+use Rattle.ed_model.specs.Requests.{Request, Planned, text}
+use Rattle.ed_model.specs.LineEnds.{conversion_steps}
+use Rattle.ed_model.specs.Edits.{steps_of, source_bytes}
+use Rattle.ed_model.specs.DocumentPlans.{levels}
+use Rattle.ed_model.specs.Performing.{Scene, scene_of, session_of, document_after, moved_view, view_after, step_heard, step_made, steps_made, sealed_scene, edit_made, followed, with_caret, with_target, caret_behind, leaving, change_performed, changes_performed, changes_lines, is_last, transaction_performed, save_point_change, history_performed, place_behind}
+use Rattle.ed_model.specs.Changes.{changed_document, changed_lines, changed_view, change_told}
+use Rattle.ed_model.specs.Table.{table, answered, recorded, plan_of, performed, request, table_from_view, table_from_kind, table_if_known, table_from_document}
+use Rattle.ed_model.specs.TableLaws.{Answered}
+use Rattle.ed_model.specs.SoundLaws.{IsSound, IsViewOn, ListsItsViews, CommandKeepsSound}
+use Rattle.ed_model.specs.PlansFit.{IsSoundRequest}
+use Rattle.ed_model.specs.Session.{attached_to, new_document, text_of}
+use Rattle.ed_model.specs.Carry.{regrouped}
+use Rattle.ed_model.specs.Rows.{flags_together}
+use Rattle.ed_model.specs.Steps.{replacement}
+use Rattle.ed_model.specs.History.{appended}
+use Rattle.ed_model.specs.Edits.{converted_if}
+use Rattle.ed_model.specs.Changes.{with_attached, attached, with_new_document, session_changed}
+use Rattle.ed_model.specs.Run.{after_message}
+use Rattle.run_laws.specs.MacroLaws.{not_recording}
+use Rattle.run_laws.proofs.Finding.{either, view_id}
+use Rattle.run_laws.proofs.PlanShapes.{Leave, KeepsTo, same_converted, same_plan_recording}
+use Rattle.run_laws.proofs.IdLemmas.{view_change_ids}
+use Rattle.run_laws.proofs.Alike.{changed_found}
+
+module _ (view : ℕ) where
+  abbrev quiet : View → View
+  quiet v = not_recording view v
+
+  abbrev pub Like : List View → List View → Type 0
+  Like vs ws = map quiet vs ≡ map quiet ws
+
+  commuted : (f h : View → View) → ((v : View) → quiet (f v) ≡ h (quiet v)) → (vs : List View) → map quiet (map f vs) ≡ map h (map quiet vs)
+  commuted f h same [] = refl
+  commuted f h same (v ∷ vs) = ap (λ x. x ∷ map quiet (map f vs)) (same v) ∙ ap (λ xs. h (quiet v) ∷ xs) (commuted f h same vs)
+
+  like_both : (f g h : View → View) → ((v : View) → quiet (f v) ≡ h (quiet v)) → ((v : View) → quiet (g v) ≡ h (quiet v)) → (vs ws : List View) → Like vs ws → Like (map f vs) (map g ws)
+  like_both f g h left right vs ws e = commuted f h left vs ∙ ap (map h) e ∙ sym (commuted g h right ws)
+
+  step_quiet : (step : Step) (d : Document) (v : View) → quiet (view_after step d v) ≡ view_after step d (quiet v)
+  step_quiet step d v = go (v.document == d.id)
+    where
+      go : (b : Bool) → quiet (cond b (moved_view step d v) v) ≡ cond b (moved_view step d (quiet v)) (quiet v)
+      go true = refl
+      go false = refl
+
+  sender_quiet : (f : View → View) → ((v : View) → quiet (f v) ≡ f (quiet v)) → (sender : ℕ) (v : View) → quiet (cond (v.id == sender) (f v) v) ≡ cond (v.id == sender) (f (quiet v)) (quiet v)
+  sender_quiet f same sender v = go (v.id == sender)
+    where
+      go : (b : Bool) → quiet (cond b (f v) v) ≡ cond b (f (quiet v)) (quiet v)
+      go true = same v
+      go false = refl
+
+  sender_like : (f : View → View) → ((v : View) → quiet (f v) ≡ f (quiet v)) → (sender : ℕ) (vs ws : List View) → Like vs ws
+      → Like (map (λ (v : View). cond (v.id == sender) (f v) v) vs) (map (λ (v : View). cond (v.id == sender) (f v) v) ws)
+  sender_like f same sender vs ws e =
+      let g : View → View = λ (v : View). cond (v.id == sender) (f v) v in
+      like_both g g g (sender_quiet f same sender) (sender_quiet f same sender) vs ws e
+
+  caret_like : (sender place : ℕ) (vs ws : List View) → Like vs ws → Like (with_caret sender place vs) (with_caret sender place ws)
+  caret_like sender place vs ws e = sender_like (λ (v : View). record v { anchor = place; caret = place }) (λ v. refl) sender vs ws e
+
+  behind_like : (sender : ℕ) (o : Option Step) (vs ws : List View) → Like vs ws → Like (caret_behind sender o vs) (caret_behind sender o ws)
+  behind_like sender None vs ws e = e
+  behind_like sender (Some step) vs ws e = caret_like sender (place_behind step) vs ws e
+
+  put_like : (new new' : View) (vs ws : List View) → quiet new ≡ quiet new' → new'.id ≡ new.id → Like vs ws → Like (with_view new vs) (with_view new' ws)
+  put_like new new' vs ws same id e =
+      like_both (λ (v : View). cond (v.id == new.id) new v) (λ (v : View). cond (v.id == new'.id) new' v) (λ (v : View). cond (v.id == new.id) (quiet new) v)
+      (λ v. left v (v.id == new.id))
+      (λ v. ap (λ n. quiet (cond (v.id == n) new' v)) id ∙ right v (v.id == new.id))
+      vs ws e
+    where
+      left : (v : View) (b : Bool) → quiet (cond b new v) ≡ cond b (quiet new) (quiet v)
+      left v true = refl
+      left v false = refl
+
+      right : (v : View) (b : Bool) → quiet (cond b new' v) ≡ cond b (quiet new) (quiet v)
+      right v true = sym same
+      right v false = refl
+
+  lines_quiet : (change : DocumentChange) (d : Document) (v : View) → quiet (changed_lines change d v) ≡ changed_lines change d (quiet v)
+  lines_quiet (document_change.SetLineEndTypes to) d v = go (v.document == d.id)
+    where
+      go : (b : Bool) → quiet (cond b (record v { lines = regrouped flags_together d.line_end_types to (text_of d) v.lines }) v)
+          ≡ cond b (let w = quiet v in record w { lines = regrouped flags_together d.line_end_types to (text_of d) v.lines }) (quiet v)
+      go true = refl
+      go false = refl
+  lines_quiet (document_change.SetReadOnly on) d v = refl
+  lines_quiet (document_change.SetLineEnd to) d v = refl
+  lines_quiet document_change.SetSavePoint d v = refl
+  lines_quiet document_change.BeginGroup d v = refl
+  lines_quiet document_change.EndGroup d v = refl
+  lines_quiet document_change.ForgetHistory d v = refl
+  lines_quiet (document_change.CollectUndo on) d v = refl
+  lines_quiet (document_change.AppendContainer token coalesce) d v = refl
+  lines_quiet (document_change.AddMarker line number) d v = refl
+  lines_quiet (document_change.AddMarkers line mask) d v = refl
+  lines_quiet (document_change.DeleteMarker line number) d v = refl
+  lines_quiet (document_change.DeleteMarkers number) d v = refl
+  lines_quiet (document_change.DeleteHandle handle) d v = refl
+  lines_quiet (document_change.SetLevel line level) d v = refl
+  lines_quiet (document_change.SetState line state) d v = refl
+  lines_quiet (document_change.SetEndStyled place) d v = refl
+  lines_quiet (document_change.StyleRun count style) d v = refl
+  lines_quiet (document_change.StyleBytes count) d v = refl
+  lines_quiet (document_change.NeedStyle start past) d v = refl
+  lines_quiet (document_change.FillIndicator indicator start count value) d v = refl
+
+  -- Scenes of one document, but for who records and what is told.
+  record Scenes (a b : Scene) : Type 0 where
+    document : b.document ≡ a.document
+    views : Like a.views b.views
+
+  step_views : (step : Step) (a b : Scene) → Scenes a b → Like (map (view_after step a.document) a.views) (map (view_after step b.document) b.views)
+  step_views step a b h =
+      subst (λ (d : Document). Like (map (view_after step a.document) a.views) (map (view_after step d) b.views)) (sym h.document)
+      (like_both (view_after step a.document) (view_after step a.document) (view_after step a.document) (step_quiet step a.document) (step_quiet step a.document) a.views b.views h.views)
+
+  step_scenes : (later : Bool) (step : Step) (a b : Scene) → Scenes a b → Scenes (step_made later step a) (step_made later step b)
+  step_scenes later step a b h = record {
+    document = ap (λ (d : Document). let e = document_after step d in record e { history = appended later (TextStep step) d.history }) h.document;
+    views = step_views step a b h;
+  }
+
+  steps_scenes : (later : Bool) (steps : List Step) (a b : Scene) → Scenes a b → Scenes (steps_made later steps a) (steps_made later steps b)
+  steps_scenes later [] a b h = h
+  steps_scenes later (step ∷ steps) a b h = steps_scenes true steps (step_made later step a) (step_made later step b) (step_scenes later step a b h)
+
+  sealed_scenes : (a b : Scene) → Scenes a b → Scenes (sealed_scene a) (sealed_scene b)
+  sealed_scenes a b h = record { document = ap (λ (d : Document). record d { history = sealed_outside_groups d.history }) h.document; views = h.views }
+
+  edit_scenes : (steps : List Step) (a b : Scene) → Scenes a b → Scenes (edit_made steps a) (edit_made steps b)
+  edit_scenes steps a b h = go (nat_lt 1 (length steps))
+    where
+      go : (c : Bool) → Scenes (cond c (sealed_scene (steps_made false steps (sealed_scene a))) (steps_made false steps a)) (cond c (sealed_scene (steps_made false steps (sealed_scene b))) (steps_made false steps b))
+      go true = sealed_scenes (steps_made false steps (sealed_scene a)) (steps_made false steps (sealed_scene b)) (steps_scenes false steps (sealed_scene a) (sealed_scene b) (sealed_scenes a b h))
+      go false = steps_scenes false steps a b h
+
+  changes_scenes : (who several : ℕ) (in_a in_b : Bool) (cs : List Change) (a b : Scene) → Scenes a b → Scenes (changes_performed who several in_a cs a) (changes_performed who several in_b cs b)
+  changes_scenes who several in_a in_b [] a b h = h
+  changes_scenes who several in_a in_b (TextStep step ∷ cs) a b h =
+      let changed_a = cond in_a true (changes_lines (TextStep step) a.document) in
+      let changed_b = cond in_b true (changes_lines (TextStep step) b.document) in
+      changes_scenes who several changed_a changed_b cs (change_performed who several (is_last cs) changed_a (TextStep step) a) (change_performed who several (is_last cs) changed_b (TextStep step) b)
+      (record { document = ap (document_after step) h.document; views = step_views step a b h })
+  changes_scenes who several in_a in_b (ContainerStep token coalesce ∷ cs) a b h =
+      let changed_a = cond in_a true (changes_lines (ContainerStep token coalesce) a.document) in
+      let changed_b = cond in_b true (changes_lines (ContainerStep token coalesce) b.document) in
+      changes_scenes who several changed_a changed_b cs (change_performed who several (is_last cs) changed_a (ContainerStep token coalesce) a) (change_performed who several (is_last cs) changed_b (ContainerStep token coalesce) b)
+      (record { document = h.document; views = h.views })
+
+  -- Sessions that are the same but for whether the view records.
+  pub record Same (s t : Session) : Type 0 where
+    pub same : t ≡ record s { views = t.views }
+    pub views : Like s.views t.views
+
+  pub is_same : (s : Session) → Same s s
+  is_same s = record { same = refl; views = refl }
+
+  -- the request in the other session, where the sender records or does not
+  abbrev other : Request → List View → Bool → Request
+  other r ws b = let s = r.session in let v = r.view in record r { session = record s { views = ws }; view = record v { records = b } }
+
+  same_steps : (r : Request) (ws : List View) (b : Bool) (change : Edit) → steps_of (other r ws b) change ≡ steps_of r change
+  same_steps r ws b (edit.Replace start count source.Nothing) = refl
+  same_steps r ws b (edit.Replace start count (source.MessageText n)) = refl
+  same_steps r ws b (edit.Replace start count (source.Clipboard convert)) =
+      ap (λ (bytes : List ℕ). replacement start count bytes (text r)) (same_converted convert r (other r ws b) r.session.clipboard refl)
+  same_steps r ws b (edit.Replace start count source.LineEnd) = refl
+  same_steps r ws b (edit.ConvertLineEnds to) = refl
+
+  scene_sessions : (s : Session) (ws : List View) (a b : Scene) → Scenes a b → Same (session_of s a) (session_of (record s { views = ws }) b)
+  scene_sessions s ws a b h = record { same = ap (λ (d : Document). record s { documents = with_document d s.documents; views = b.views }) h.document; views = h.views }
+
+  followed_same : (sender : ℕ) (before : List ℕ) (after : Follow) (s t : Session) → Same s t → Same (followed sender before after s) (followed sender before after t)
+  followed_same sender before follow.Nothing s t h = h
+  followed_same sender before (follow.Caret place) s t h =
+      record { same = ap (λ (x : Session). record x { views = with_caret sender place t.views }) h.same; views = caret_like sender place s.views t.views h.views }
+  followed_same sender before (follow.Target start past) s t h = record {
+    same = ap (λ (x : Session). record x { views = with_target sender start past t.views }) h.same;
+    views = sender_like (λ (v : View). record v { target_start = start; target_end = past }) (λ v. refl) sender s.views t.views h.views;
+  }
+  followed_same sender before (follow.Clipboard start count) s t h = record { same = ap (λ (x : Session). record x { clipboard = slice_range before start (start + count) }) h.same; views = h.views }
+
+  history_same : (r : Request) (ws : List View) (b : Bool) (who : ℕ) (cs : List Change) (new : History) → Like r.session.views ws → Same (history_performed r who cs new).0 (history_performed (other r ws b) who cs new).0
+  history_same r ws b who cs new e =
+      let several = notes.bit_if (nat_lt 1 (length cs)) notes.multi_step in
+      let x = changes_performed who several false cs (scene_of r) in
+      let y = changes_performed who several false cs (scene_of (other r ws b)) in
+      let h : Scenes x y = changes_scenes who several false false cs (scene_of r) (scene_of (other r ws b)) (record { document = refl; views = e }) in
+      let step = latest_text_step (reverse cs) in
+      let s = r.session in
+      record {
+        same = ap (λ (d : Document). record s { documents = with_document (record d { history = new }) s.documents; views = caret_behind r.view.id step y.views }) h.document;
+        views = behind_like r.view.id step x.views y.views h.views;
+      }
+
+  no_flag : (v : View) (b : Bool) → (v.id == view) ≡ true → cond (v.id == view) false v.records ≡ cond (v.id == view) false b
+  no_flag v b at = rw at refl
+
+  -- a view whose recording does not count, changed
+  changed_quiet : (levels : List ℕ) (what : ViewChange) (v : View) (b : Bool) → (v.id == view) ≡ true → quiet (changed_view levels what v) ≡ quiet (changed_view levels what (record v { records = b }))
+  changed_quiet levels (view_change.SetRecording on) v b at = refl
+  changed_quiet levels (view_change.Select anchor caret) v b at = ap (λ c. let w = changed_view levels (view_change.Select anchor caret) v in record w { records = c }) (no_flag v b at)
+  changed_quiet levels (view_change.SetTarget start past) v b at = ap (λ c. let w = changed_view levels (view_change.SetTarget start past) v in record w { records = c }) (no_flag v b at)
+  changed_quiet levels (view_change.SetSearchFlags flags) v b at = ap (λ c. let w = changed_view levels (view_change.SetSearchFlags flags) v in record w { records = c }) (no_flag v b at)
+  changed_quiet levels (view_change.SetMask mask) v b at = ap (λ c. let w = changed_view levels (view_change.SetMask mask) v in record w { records = c }) (no_flag v b at)
+  changed_quiet levels (view_change.SetIndicator indicator) v b at = ap (λ c. let w = changed_view levels (view_change.SetIndicator indicator) v in record w { records = c }) (no_flag v b at)
+  changed_quiet levels (view_change.SetIndicatorValue value) v b at = ap (λ c. let w = changed_view levels (view_change.SetIndicatorValue value) v in record w { records = c }) (no_flag v b at)
+  changed_quiet levels (view_change.SetPasteConversion on) v b at = ap (λ c. let w = changed_view levels (view_change.SetPasteConversion on) v in record w { records = c }) (no_flag v b at)
+  changed_quiet levels (view_change.ShowLines first past) v b at = ap (λ c. let w = changed_view levels (view_change.ShowLines first past) v in record w { records = c }) (no_flag v b at)
+  changed_quiet levels (view_change.HideLines first past) v b at = ap (λ c. let w = changed_view levels (view_change.HideLines first past) v in record w { records = c }) (no_flag v b at)
+  changed_quiet levels (view_change.SetExpanded line on) v b at = ap (λ c. let w = changed_view levels (view_change.SetExpanded line on) v in record w { records = c }) (no_flag v b at)
+  changed_quiet levels (view_change.Contract line) v b at = ap (λ c. let w = changed_view levels (view_change.Contract line) v in record w { records = c }) (no_flag v b at)
+  changed_quiet levels (view_change.Expand line) v b at = ap (λ c. let w = changed_view levels (view_change.Expand line) v in record w { records = c }) (no_flag v b at)
+  changed_quiet levels (view_change.EnsureVisible line) v b at = ap (λ c. let w = changed_view levels (view_change.EnsureVisible line) v in record w { records = c }) (no_flag v b at)
+
+  attached_same : (s : Session) (ws : List View) (o : Option Document) (v : View) (b : Bool) → (v.id == view) ≡ true → Like s.views ws → Same (with_attached o v s) (with_attached o (record v { records = b }) (record s { views = ws }))
+  attached_same s ws None v b at e = record { same = refl; views = e }
+  attached_same s ws (Some d) v b at e = record {
+    same = refl;
+    views = put_like (attached_to d v) (attached_to d (record v { records = b })) s.views ws (ap (λ c. let w = attached_to d v in record w { records = c }) (no_flag v b at)) refl e;
+  }
+
+  session_same : (r : Request) (ws : List View) (b : Bool) (what : SessionChange) → (r.view.id == view) ≡ true → Like r.session.views ws → Same (session_changed r what) (session_changed (other r ws b) what)
+  session_same r ws b (session_change.Copy start count) at e = record { same = refl; views = e }
+  session_same r ws b (session_change.CopyText count) at e = record { same = refl; views = e }
+  session_same r ws b (session_change.Attach id) at e = attached_same r.session ws (document_at r.session.documents id) r.view b at e
+  session_same r ws b session_change.AttachNew at e =
+      let s = r.session in
+      let with = with_new_document (new_document s.next_document 0) s in
+      attached_same with ws (document_at with.documents s.next_document) r.view b at e
+  session_same r ws b (session_change.Create options) at e = record { same = refl; views = e }
+  session_same r ws b (session_change.AddReference id) at e = record { same = refl; views = e }
+  session_same r ws b (session_change.Release id) at e = record { same = refl; views = e }
+
+  performed_same : (r : Request) (ws : List View) (b : Bool) (p : Plan) → (r.view.id == view) ≡ true → Like r.session.views ws → Same (performed r p).0 (performed (other r ws b) p).0
+  performed_same r ws b (plan.Answer value) at e = record { same = refl; views = e }
+  performed_same r ws b (plan.HandOut value start count) at e = record { same = refl; views = e }
+  performed_same r ws b (plan.HandOutStyled start count) at e = record { same = refl; views = e }
+  performed_same r ws b plan.Attempt at e = record { same = refl; views = e }
+  performed_same r ws b (plan.Edit change value after) at e =
+      subst (λ (steps : List Step). Same (performed r (plan.Edit change value after)).0 (followed r.view.id (text r) after (session_of (other r ws b).session (edit_made steps (scene_of (other r ws b)))))) (sym (same_steps r ws b change))
+      (let x = edit_made (steps_of r change) (scene_of r) in
+      let y = edit_made (steps_of r change) (scene_of (other r ws b)) in
+      followed_same r.view.id (text r) after (session_of r.session x) (session_of (other r ws b).session y)
+      (scene_sessions r.session ws x y (edit_scenes (steps_of r change) (scene_of r) (scene_of (other r ws b)) (record { document = refl; views = e }))))
+  performed_same r ws b plan.Undo at e = history_same r ws b notes.performed_undo (undo_changes r.document.history) (undone r.document.history) e
+  performed_same r ws b plan.Redo at e = history_same r ws b notes.performed_redo (redo_changes r.document.history) (redone r.document.history) e
+  performed_same r ws b (plan.ChangeDocument change value) at e =
+      let f : View → View = changed_lines change r.document in
+      record { same = refl; views = like_both f f f (lines_quiet change r.document) (lines_quiet change r.document) r.session.views ws e }
+  performed_same r ws b (plan.ChangeView change value) at e =
+      let v = r.view in
+      record {
+        same = refl;
+        views = put_like (changed_view (levels r) change r.view) (changed_view (levels r) change (record v { records = b })) r.session.views ws (changed_quiet (levels r) change r.view b at)
+            (view_change_ids (levels r) change (record v { records = b }) ∙ sym (view_change_ids (levels r) change r.view)) e;
+      }
+  performed_same r ws b (plan.ChangeSession change value) at e = session_same r ws b change at e
+
+  -- Messages to the view.
+
+  -- after both answers the sessions are the same
+  abbrev After : Session → Session → Answered → Answered → Type 0
+  After s t x y = Same (after_message s x).0.session (after_message t y).0.session
+
+  answered_after : (kind : Kind) (r : Request) (ws : List View) (b : Bool) (p : Planned) → (r.view.id == view) ≡ true → Like r.session.views ws
+      → (let s = r.session in After s (record s { views = ws }) (answered kind r p) (answered kind (other r ws b) p))
+  answered_after kind r ws b (Err refusal) at e = record { same = refl; views = e }
+  answered_after kind r ws b (Ok p) at e = performed_same r ws b p at e
+
+  document_after_both : (s : Session) (ws : List View) (v : View) (b : Bool) (kind : Kind) (m : Message) (o : Option Document) → (v.id == view) ≡ true → Like s.views ws
+      → After s (record s { views = ws }) (table_from_document s v kind m o) (table_from_document (record s { views = ws }) (record v { records = b }) kind m o)
+  document_after_both s ws v b kind m None at e = record { same = refl; views = e }
+  document_after_both s ws v b kind m (Some d) at e =
+      let r = request s v d m in
+      subst (λ (p : Planned). After s (record s { views = ws }) (answered kind r (plan_of kind r)) (answered kind (other r ws b) p)) (sym (same_plan_recording kind r ws b))
+      (answered_after kind r ws b (plan_of kind r) at e)
+
+  known_after_both : (k : Bool) (s : Session) (ws : List View) (v : View) (b : Bool) (kind : Kind) (m : Message) → (v.id == view) ≡ true → Like s.views ws
+      → After s (record s { views = ws }) (table_if_known k s v kind m) (table_if_known k (record s { views = ws }) (record v { records = b }) kind m)
+  known_after_both true s ws v b kind m at e = document_after_both s ws v b kind m (document_at s.documents v.document) at e
+  known_after_both false s ws v b kind m at e = record { same = refl; views = e }
+
+  kind_after_both : (known : Kind → Bool) (s : Session) (ws : List View) (v : View) (b : Bool) (m : Message) (o : Option Kind) → (v.id == view) ≡ true → Like s.views ws
+      → After s (record s { views = ws }) (table_from_kind known s v m o) (table_from_kind known (record s { views = ws }) (record v { records = b }) m o)
+  kind_after_both known s ws v b m None at e = record { same = refl; views = e }
+  kind_after_both known s ws v b m (Some kind) at e = known_after_both (known kind) s ws v b kind m at e
+
+  view_after_both : (known : Kind → Bool) (s : Session) (ws : List View) (m : Message) (o p : Option View) → option_map quiet o ≡ option_map quiet p → ((v : View) → o ≡ Some v → v.id ≡ view) → Like s.views ws
+      → After s (record s { views = ws }) (table_from_view known s m o) (table_from_view known (record s { views = ws }) m p)
+  view_after_both known s ws m None None found is e = record { same = refl; views = e }
+  view_after_both known s ws m None (Some w) found is e = absurd (cc)
+  view_after_both known s ws m (Some v) None found is e = absurd (cc)
+  view_after_both known s ws m (Some v) (Some w) found is e =
+      let alike : quiet v ≡ quiet w = cc in
+      let as_v : record v { records = w.records } ≡ w = ap (λ (x : View). record x { records = w.records }) alike in
+      subst (λ (x : View). After s (record s { views = ws }) (table_from_kind known s v m (kind_of m.number)) (table_from_kind known (record s { views = ws }) x m (kind_of m.number))) as_v
+      (kind_after_both known s ws v w.records m (kind_of m.number) (eq-eqb v.id view (is v refl)) e)
+
+  pub table_after_both : (known : Kind → Bool) (s t : Session) (m : Message) → Same s t → After s t (table known s view m) (table known t view m)
+  table_after_both known s t m h =
+      subst (λ (x : Session). After s x (table known s view m) (table known x view m)) (sym h.same)
+      (view_after_both known s t.views m (view_at s.views view) (view_at t.views view)
+      (sym (changed_found quiet (λ v. refl) s.views view) ∙ ap (λ (vs : List View). view_at vs view) h.views ∙ changed_found quiet (λ v. refl) t.views view)
+      (λ v sees. view_id s.views view v sees) h.views)

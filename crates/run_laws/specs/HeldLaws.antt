@@ -1,0 +1,11 @@
+-- Without views there are only documents that callers hold.
+use Rattle.std.specs.Prelude.{◌≡◌, ◌<◌, []}
+use Rattle.std.specs.List.{AllByRecursion}
+use Rattle.ed_model.specs.Session.{Session, Document}
+use Rattle.run_laws.specs.Reached.{InEveryState}
+
+abbrev pub WithoutViewsAllAreHeld : Session → Type 0
+WithoutViewsAllAreHeld s = s.views ≡ [] → AllByRecursion (λ (d : Document). 0 < d.held) s.documents
+
+abbrev pub DocumentsWithoutViewsAreHeld : Type 0
+DocumentsWithoutViewsAreHeld = InEveryState WithoutViewsAllAreHeld

@@ -1,0 +1,10 @@
+-- The laws of whole runs, in the words of the definitions.
+pub mod MessageKinds
+pub mod Reached
+pub mod RefusalLaws
+pub mod HeldLaws
+pub mod IsolationLaws
+pub mod MacroLaws
+pub mod StyleLaws
+pub mod HandleRunLaws
+pub mod IdLaws

@@ -1,0 +1,44 @@
+-- Macros: what a view records, sent to it again from where it began, ends where it ended.
+use Rattle.std.specs.Prelude.{◌≡◌, ◌⊎◌, ℕ, ◌==◌, Bool, true, false, if◌then◌else◌, List, [], ◌∷◌, map, Some, Ok}
+use Rattle.std.specs.List.{AllByRecursion}
+use Rattle.ed_types.specs.declared.kind.Kind.{Kind}
+use Rattle.ed_types.specs.declared.kind.Kind.TheVariants.{StartRecord, StopRecord}
+use Rattle.ed_types.specs.declared.message.Message.{Message}
+use Rattle.ed_types.specs.declared.script.Command.{Command}
+use Rattle.ed_types.specs.declared.script.Command.TheVariants.{SendMessage}
+use Rattle.ed_types.specs.Notices.{Response}
+use Rattle.ed_types.specs.Messages.{kind_of, marks_of}
+use Rattle.ed_model.specs.Session.{Session, View}
+use Rattle.ed_model.specs.Recording.{recorded_messages, replies_in}
+use Rattle.ed_model.specs.Table.{table}
+use Rattle.ed_model.specs.Run.{starting, outcomes, run_to}
+use Rattle.run_laws.specs.IsolationLaws.{Sending, sent}
+
+-- the session but for whether the view records
+abbrev pub not_recording : ℕ → View → View
+not_recording view v = record v { records = if v.id == view then false else v.records }
+
+abbrev pub without_recording : ℕ → Session → Session
+without_recording view s = record s { views = map (not_recording view) s.views }
+
+abbrev pub sent_to : ℕ → Message → Command
+sent_to view m = SendMessage view m
+
+-- the message is a query, or goes to the view and can be recorded
+abbrev pub CanStandBetween : ℕ → Sending → Type 0
+CanStandBetween view m =
+    (kind : Kind) → kind_of m.1.number ≡ Some kind → ((marks_of kind).q ≡ true) ⊎ ((m.0 ≡ view) × ((marks_of kind).r ≡ true))
+
+-- what the view records of these messages, from this session on
+abbrev pub recorded_of : (Kind → Bool) → ℕ → List Sending → Session → List Message
+recorded_of known view messages s = recorded_messages view (replies_in (outcomes known [] (map sent messages) (starting s)))
+
+-- Between STARTRECORD and STOPRECORD to a view come such messages. What it recorded, sent to it from where it began, ends in the last
+-- session, but for whether it records.
+abbrev pub RecordingsCanBeReplayed : Type 0
+RecordingsCanBeReplayed =
+    (known : Kind → Bool) (s : Session) (view : ℕ) (start stop : Message) (messages : List Sending) (begun ended : Session × Response) →
+    kind_of start.number ≡ Some StartRecord → table known s view start ≡ Ok begun →
+    AllByRecursion (CanStandBetween view) messages →
+    kind_of stop.number ≡ Some StopRecord → table known (run_to known [] (map sent messages) (starting begun.0)).session view stop ≡ Ok ended →
+    without_recording view (run_to known [] (map (sent_to view) (recorded_of known view messages begun.0)) (starting s)).session ≡ ended.0

@@ -1,0 +1,13 @@
+//! The laws of whole runs: what holds over lists of commands, from every session that a run reaches. Each is a public function
+//! whose contract says it, and whose body does nothing but name the laws of `ed_model` that it rests on.
+#![tactic(auto)]
+
+mod id_laws;
+mod isolation_laws;
+mod small_laws;
+
+pub use id_laws::{handles_never_come_back, ids_never_come_back, opened_views_have_rising_ids};
+pub use isolation_laws::documents_are_apart;
+pub use small_laws::{
+    documents_without_styles_have_none, documents_without_views_are_held, the_table_never_wants_memory,
+};
