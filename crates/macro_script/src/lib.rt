@@ -18,5 +18,5 @@ mod texts;
 pub use assembling::assemble;
 pub use ed_types::{Cause, Command, ScriptFault};
 pub use listing::list;
-pub use script::Script;
+pub use script::{SCRIPT_LIMIT, Script};
 

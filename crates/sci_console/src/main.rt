@@ -8,8 +8,6 @@
 #![tactic(auto)]
 
 mod ends;
-#[cfg(test)]
-mod examples;
 mod fault;
 #[cfg(test)]
 mod memory;

@@ -9,11 +9,8 @@ ghost use Rattle.sci_console.specs.Files.{ReadsFile};
 use crate::ends::Source;
 use crate::fault::RunFault;
 use ed_types::Bytes;
-use macro_script::{Script, assemble};
+use macro_script::{SCRIPT_LIMIT, Script, assemble};
 use std::alloc::{AllocError, Global};
-
-/// The greatest length of a script, in bytes.
-const SCRIPT_LIMIT: usize = 16_777_216;
 
 /// The greatest length of a file, in bytes.
 const FILE_LIMIT: usize = 2_147_483_647;

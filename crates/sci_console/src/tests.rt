@@ -2,7 +2,6 @@
 
 ghost use Rattle.std.specs.Prelude.{◌≡◌, false};
 
-use crate::examples::{EXAMPLES, HELLO};
 use crate::fault::{RunFault, status_of};
 use crate::memory::{MemorySink, MemorySource};
 use crate::reading::read_file;
@@ -12,7 +11,13 @@ use ed_types::{Cause, ScriptFault};
 use std::alloc::Global;
 use std::test::Fail;
 
-/// The listing of `HELLO`.
+/// The script `examples/hello.sci`, and what it prints but for lines of notes. `tools/run_examples.py` runs all the examples.
+const HELLO: &[u8] =
+    b"sci 1\nopen\nsend 1 2003 0 0 \"hello\"\nsend 1 2006 0 0 \"\"\nsend 1 2182 0 0 \"\"\n";
+
+const HELLO_PRINTED: &[u8] = b"= 1 \"\"\n= 0 \"\"\n= 5 \"\"\n= 5 \"hello\"\n";
+
+/// Its listing.
 const HELLO_LISTING: &[u8] =
     b"sci 2\nopen\nsend 1 2003 0 0 \"hello\"\nsend 1 2006 0 0 \"\"\nsend 1 2182 0 0 \"\"\n";
 
@@ -30,14 +35,22 @@ fn run(
 }
 
 #[test]
-fn runs_the_examples(rt: HostRuntime) {
-    for example in EXAMPLES {
-        let mut sink = MemorySink::new(rt.alloc(), 5, 1000, false);
-        let answer = run(rt.alloc(), example.script, 1000, &mut sink);
-        assert!(rt; answer == Ok(example.unmet));
-        assert!(rt; sink.bytes() == example.printed);
-        assert_eq!(rt; status_of(&answer), if example.unmet == 0 { 0 } else { 4 });
-    }
+fn runs_a_script(rt: HostRuntime) {
+    let mut sink = MemorySink::new(rt.alloc(), 5, 1000, false);
+    let answer = run(rt.alloc(), HELLO, 1000, &mut sink);
+    assert!(rt; answer == Ok(0));
+    assert!(rt; sink.bytes() == HELLO_PRINTED);
+    assert_eq!(rt; status_of(&answer), 0);
+}
+
+#[test]
+fn counts_expects_that_are_not_met(rt: HostRuntime) {
+    let script = b"sci 2\nopen\nexpect 1\nexpect 1\nexpect 2\n".as_slice();
+    let mut sink = MemorySink::new(rt.alloc(), 5, 1000, false);
+    let answer = run(rt.alloc(), script, 1000, &mut sink);
+    assert!(rt; answer == Ok(1));
+    assert!(rt; sink.bytes() == b"= 1 \"\"\n+ 1\n+ 1\n- 2\n".as_slice());
+    assert_eq!(rt; status_of(&answer), 4);
 }
 
 #[test]
@@ -66,7 +79,7 @@ fn refuses_what_is_no_script(rt: HostRuntime) {
 fn stops_where_a_read_fails(rt: HostRuntime) {
     for good in 0..6usize {
         let mut sink = MemorySink::new(rt.alloc(), 5, 1000, false);
-        let answer = run(rt.alloc(), HELLO.script, good, &mut sink);
+        let answer = run(rt.alloc(), HELLO, good, &mut sink);
         assert!(rt; answer == Err(RunFault::Read));
         assert!(rt; sink.bytes().is_empty());
         assert_eq!(rt; status_of(&answer), 3);
@@ -78,10 +91,10 @@ fn stops_where_a_write_fails(rt: HostRuntime) {
     for stalls in [false, true] {
         for good in 0..4usize {
             let mut sink = MemorySink::new(rt.alloc(), 10, good, stalls);
-            let answer = run(rt.alloc(), HELLO.script, 1000, &mut sink);
+            let answer = run(rt.alloc(), HELLO, 1000, &mut sink);
             assert!(rt; answer == Err(RunFault::Write));
             assert_eq!(rt; sink.bytes().len(), 10 * good);
-            assert!(rt; HELLO.printed.starts_with(sink.bytes()));
+            assert!(rt; HELLO_PRINTED.starts_with(sink.bytes()));
             assert_eq!(rt; status_of(&answer), 3);
         }
     }
@@ -90,18 +103,18 @@ fn stops_where_a_write_fails(rt: HostRuntime) {
 #[test]
 fn lists_and_checks(rt: HostRuntime) -> Result<(), Fail> {
     let mut sink = MemorySink::new(rt.alloc(), 5, 1000, false);
-    let mut source = MemorySource::new(HELLO.script, 7, 1000);
+    let mut source = MemorySource::new(HELLO, 7, 1000);
     let answer = list_script(rt.alloc(), &mut source, &mut sink);
     assert!(rt; answer == Ok(0));
     assert!(rt; sink.bytes() == HELLO_LISTING);
     let mut sink = MemorySink::new(rt.alloc(), 5, 1000, false);
-    let mut source = MemorySource::new(HELLO.script, 7, 1000);
+    let mut source = MemorySource::new(HELLO, 7, 1000);
     let answer = check_script(rt.alloc(), &mut source, &mut sink);
     assert!(rt; answer == Ok(0));
     assert!(rt; sink.bytes() == b"ok 4\n".as_slice());
-    let mut source = MemorySource::new(HELLO.script, 7, 1000);
+    let mut source = MemorySource::new(HELLO, 7, 1000);
     let file = read_file(rt.alloc(), &mut source)?;
-    assert!(rt; file.as_slice() == HELLO.script);
+    assert!(rt; file.as_slice() == HELLO);
     Ok(())
 }
 
