@@ -3,3 +3,4 @@ pub mod Cells
 pub mod Ownership
 pub mod Split
 pub mod SplitLends
+pub mod SumLaws

@@ -25,6 +25,7 @@
 
 mod block;
 mod cells;
+mod laws;
 mod raw;
 mod reads;
 mod runs;
@@ -35,4 +36,5 @@ mod vector;
 pub use block::Block;
 #[doc(hidden)]
 pub use cells::{Base, Cells, Deed};
+pub use laws::moves_add_up;
 pub use vector::SplitVector;
