@@ -1,0 +1,106 @@
+//! Steps appended, undone and redone. What joins is written out by hand.
+use crate::{ChangeKind, StepKind, UndoHistory};
+use std::test::Fail;
+
+#[test]
+fn typing_joins_until_the_save_point(rt: HostRuntime) -> Result<(), Fail> {
+    let mut history = UndoHistory::new(rt.alloc());
+    assert!(rt; history.is_at_save_point());
+    assert!(rt; history.is_collecting());
+    history.reserve(3, 3)?;
+    history.append_reserved(false, StepKind::Insert, 0, b"a");
+    assert!(rt; !history.is_at_save_point());
+    assert!(rt; !history.begins_transaction(false, StepKind::Insert, 1, b"b"));
+    assert!(rt; history.begins_transaction(false, StepKind::Insert, 3, b"b"));
+    history.reserve(1, 1)?;
+    history.append_reserved(false, StepKind::Insert, 1, b"b");
+    history.set_save_point();
+    assert!(rt; history.begins_transaction(false, StepKind::Insert, 2, b"c"));
+    history.reserve(1, 1)?;
+    history.append_reserved(false, StepKind::Insert, 2, b"c");
+    assert!(rt; !history.is_at_save_point());
+    history.undo();
+    assert!(rt; history.is_at_save_point());
+    assert_eq!(rt; history.undo_len(), 2);
+    let (kind, bytes) = history.change_to_undo(0);
+    assert!(rt;
+        matches!(
+            kind,
+            ChangeKind::Text {
+                kind: StepKind::Insert,
+                place: 1
+            }
+        )
+    );
+    assert_eq!(rt; bytes, b"b".as_slice());
+    assert_eq!(rt; history.redo_len(), 1);
+    let (_, bytes) = history.change_to_redo(0);
+    assert_eq!(rt; bytes, b"c".as_slice());
+    assert!(rt; history.can_undo());
+    assert!(rt; history.can_redo());
+    history.undo();
+    assert!(rt; !history.can_undo());
+    history.redo();
+    history.redo();
+    assert!(rt; !history.can_redo());
+    Ok(())
+}
+
+#[test]
+fn a_dropped_save_point(rt: HostRuntime) -> Result<(), Fail> {
+    let mut history = UndoHistory::new(rt.alloc());
+    history.reserve(1, 1)?;
+    history.append_reserved(false, StepKind::Insert, 0, b"a");
+    history.set_save_point();
+    history.undo();
+    history.reserve(1, 1)?;
+    history.append_reserved(false, StepKind::Insert, 0, b"b");
+    assert!(rt; !history.is_at_save_point());
+    history.undo();
+    assert!(rt; !history.is_at_save_point());
+    Ok(())
+}
+
+#[test]
+fn a_step_of_many_bytes(rt: HostRuntime) -> Result<(), Fail> {
+    let mut text: Vec<u8> = Vec::new(rt.alloc());
+    for place in 0u32..9001 {
+        text.push(place.to_le_bytes()[0])?;
+    }
+    let mut history = UndoHistory::new(rt.alloc());
+    history.reserve(1, text.len())?;
+    history.append_reserved(false, StepKind::Delete, 3, text.as_slice());
+    assert_eq!(rt; history.undo_len(), 1);
+    let (_, bytes) = history.change_to_undo(0);
+    assert_eq!(rt; bytes, text.as_slice());
+    Ok(())
+}
+
+#[test]
+fn groups_and_container_steps(rt: HostRuntime) -> Result<(), Fail> {
+    let mut history = UndoHistory::new(rt.alloc());
+    assert!(rt; history.depth() == 0);
+    history.begin_group();
+    assert_eq!(rt; history.depth(), 1);
+    history.reserve(1, 2)?;
+    history.append_reserved(false, StepKind::Delete, 7, b"xy");
+    history.reserve(1, 0)?;
+    history.append_container_reserved(-5, false);
+    assert!(rt; !history.can_undo());
+    history.end_group();
+    assert!(rt; history.can_undo());
+    history.undo();
+    assert!(rt; !history.can_undo());
+    history.set_collecting(false);
+    assert!(rt; !history.can_redo());
+    assert!(rt; history.is_at_save_point());
+    history.reserve(usize::MAX, usize::MAX)?;
+    history.append_reserved(false, StepKind::Insert, 0, b"a");
+    assert!(rt; !history.can_undo());
+    history.set_collecting(true);
+    assert!(rt; history.reserve(1, usize::MAX).is_err());
+    history.empty();
+    history.seal_outside_groups();
+    assert!(rt; history.is_at_save_point());
+    Ok(())
+}
