@@ -3,3 +3,5 @@
 
 #[cfg(test)]
 mod cell_buffer;
+#[cfg(test)]
+mod undo_history;

@@ -1,6 +1,6 @@
-//! Steps appended, undone and redone. What joins is written out by hand.
-use crate::{ChangeKind, StepKind, UndoHistory};
+//! `undo_history`: steps appended, undone and redone. What joins is written out by hand.
 use std::test::Fail;
+use undo_history::{ChangeKind, StepKind, UndoHistory};
 
 #[test]
 fn typing_joins_until_the_save_point(rt: HostRuntime) -> Result<(), Fail> {
@@ -22,20 +22,25 @@ fn typing_joins_until_the_save_point(rt: HostRuntime) -> Result<(), Fail> {
     history.undo();
     assert!(rt; history.is_at_save_point());
     assert_eq!(rt; history.undo_len(), 2);
-    let (kind, bytes) = history.change_to_undo(0);
+    let step = history.change_to_undo(0);
     assert!(rt;
         matches!(
-            kind,
+            step.kind,
             ChangeKind::Text {
                 kind: StepKind::Insert,
                 place: 1
             }
         )
     );
-    assert_eq!(rt; bytes, b"b".as_slice());
+    assert_eq!(rt; step.bytes, b"b".as_slice());
+    assert!(rt; !step.is_last);
+    let step = history.change_to_undo(1);
+    assert_eq!(rt; step.bytes, b"a".as_slice());
+    assert!(rt; step.is_last);
     assert_eq!(rt; history.redo_len(), 1);
-    let (_, bytes) = history.change_to_redo(0);
-    assert_eq!(rt; bytes, b"c".as_slice());
+    let step = history.change_to_redo(0);
+    assert_eq!(rt; step.bytes, b"c".as_slice());
+    assert!(rt; step.is_last);
     assert!(rt; history.can_undo());
     assert!(rt; history.can_redo());
     history.undo();
@@ -71,8 +76,9 @@ fn a_step_of_many_bytes(rt: HostRuntime) -> Result<(), Fail> {
     history.reserve(1, text.len())?;
     history.append_reserved(false, StepKind::Delete, 3, text.as_slice());
     assert_eq!(rt; history.undo_len(), 1);
-    let (_, bytes) = history.change_to_undo(0);
-    assert_eq!(rt; bytes, text.as_slice());
+    let step = history.change_to_undo(0);
+    assert_eq!(rt; step.bytes, text.as_slice());
+    assert!(rt; step.is_last);
     Ok(())
 }
 
@@ -102,5 +108,54 @@ fn groups_and_container_steps(rt: HostRuntime) -> Result<(), Fail> {
     history.empty();
     history.seal_outside_groups();
     assert!(rt; history.is_at_save_point());
+    Ok(())
+}
+
+#[test]
+fn steps_are_lent_in_the_order_in_which_they_are_performed(rt: HostRuntime) -> Result<(), Fail> {
+    let mut history = UndoHistory::new(rt.alloc());
+    history.reserve(4, 9)?;
+    history.append_reserved(false, StepKind::Insert, 0, b"one");
+    history.append_reserved(false, StepKind::Delete, 0, b"on");
+    history.append_reserved(true, StepKind::Insert, 0, b"two");
+    history.append_container_reserved(9, true);
+    assert_eq!(rt; history.undo_len(), 3);
+    let step = history.change_to_undo(0);
+    assert!(rt;
+        matches!(
+            step.kind,
+            ChangeKind::Container {
+                token: 9,
+                coalesce: true
+            }
+        )
+    );
+    assert_eq!(rt; step.bytes, b"".as_slice());
+    assert!(rt; !step.is_last);
+    let step = history.change_to_undo(1);
+    assert_eq!(rt; step.bytes, b"two".as_slice());
+    assert!(rt; !step.is_last);
+    let step = history.change_to_undo(2);
+    assert_eq!(rt; step.bytes, b"on".as_slice());
+    assert!(rt; step.is_last);
+    history.undo();
+    assert_eq!(rt; history.undo_len(), 1);
+    history.undo();
+    assert_eq!(rt; history.undo_len(), 0);
+    assert_eq!(rt; history.redo_len(), 1);
+    history.redo();
+    assert_eq!(rt; history.redo_len(), 3);
+    let step = history.change_to_redo(0);
+    assert_eq!(rt; step.bytes, b"on".as_slice());
+    assert!(rt; !step.is_last);
+    let step = history.change_to_redo(1);
+    assert_eq!(rt; step.bytes, b"two".as_slice());
+    assert!(rt; !step.is_last);
+    assert!(rt; history.change_to_redo(2).is_last);
+    history.reserve(1, 1)?;
+    history.append_reserved(false, StepKind::Insert, 0, b"x");
+    assert_eq!(rt; history.redo_len(), 0);
+    assert!(rt; history.begins_transaction(false, StepKind::Insert, 3, b"y"));
+    assert!(rt; !history.begins_transaction(false, StepKind::Insert, 1, b"y"));
     Ok(())
 }

@@ -137,10 +137,10 @@ around_next all past h boundary =
       starts = begins_front next behind (omega arith) (subst BeginsOne parts boundary);
       some = omega arith;
     }
-    where
-      next_some : (es : List Entry) → 0 < length es → 0 < next_count es
-      next_some [] l = absurd (omega arith)
-      next_some (e ∷ es) l = omega arith
+  where
+    next_some : (es : List Entry) → 0 < length es → 0 < next_count es
+    next_some [] l = absurd (omega arith)
+    next_some (e ∷ es) l = omega arith
 
 next_first : (all : List Entry) (past : ℕ) (h : past < length all) (boundary : BeginsOne (drop past all)) → let a = around_next all past h boundary in
     reverse (transactions (reverse (drop past all))) ≡ a.one ∷ reverse (transactions (reverse a.behind))
@@ -193,7 +193,8 @@ pub changes_to_redo : (all : List Entry) (past depth : ℕ) (save_point : Option
     redo_changes (history_of all past save_point depth collecting) ≡ map change_in (take (next_count (drop past all)) (drop past all))
 changes_to_redo all past depth save_point collecting h boundary =
     elim (cases_lt past (length all)) [
-    inl some ↦ some_to_redo all past depth save_point collecting some boundary
-    | inr none ↦
-      let nothing : drop past all ≡ [] = drop_all past all none in
-      ap (λ t. reverse (first_changes (reverse (transactions (reverse t))))) nothing ∙ ap (λ t. map change_in (take (next_count t) t)) (sym nothing) ]
+      | inl some ↦ some_to_redo all past depth save_point collecting some boundary
+      | inr none ↦
+          let nothing : drop past all ≡ [] = drop_all past all none in
+          ap (λ t. reverse (first_changes (reverse (transactions (reverse t))))) nothing ∙ ap (λ t. map change_in (take (next_count t) t)) (sym nothing)
+    ]

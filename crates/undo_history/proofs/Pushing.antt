@@ -139,10 +139,10 @@ stored_in_order kind joins rs bytes new past count end h p e open_ =
       boundary = rw (same, nothing) tt;
       there = omega (arith, length-append rs (stored_record kind joins end ∷ []));
       counted =
-      ap (λ n. if joins then n else n + 1) h.counted
-      ∙ sym (made_length joins (change_of kind new) (transactions (reverse (take past es))) open_)
-      ∙ ap length (sym (stacked es x past long ∙ made joins (change_of kind new) (transactions (reverse (take past es))) open_))
-      ∙ ap (λ t. length (transactions (reverse (take (past + 1) t)))) (sym same);
+          ap (λ n. if joins then n else n + 1) h.counted
+          ∙ sym (made_length joins (change_of kind new) (transactions (reverse (take past es))) open_)
+          ∙ ap length (sym (stacked es x past long ∙ made joins (change_of kind new) (transactions (reverse (take past es))) open_))
+          ∙ ap (λ t. length (transactions (reverse (take (past + 1) t)))) (sym same);
     }
 
 pub stored_view : (kind : ChangeKind) (joins : Bool) (rs : List StepRecord) (bytes new : List ℕ) (past count end depth : ℕ) (save_point : Option ℕ) (collecting : Bool) →

@@ -103,18 +103,20 @@ undo_read rs bytes past depth i save_point collecting x h l e =
 
 last_by : (e : Entry) (es : List Entry) (i : ℕ) (d : Entry) → BeginsOne (reverse (e ∷ es)) → i < last_count (e ∷ es) → (get_or (e ∷ es) i d).starts ≡ (i + 1 == last_count (e ∷ es))
 last_by e es zero d b l = elim (is_or_not e.starts) [
-  inl y ↦ y ∙ (let one = last_count_start e es y in grind (arith, nat_tests))
-  | inr n ↦ n ∙ only e es n b ] where
+  | inl y ↦ y ∙ (let one = last_count_start e es y in grind (arith, nat_tests))
+  | inr n ↦ n ∙ only e es n b
+] where
   only : (e : Entry) (es : List Entry) → e.starts ≡ false → BeginsOne (reverse (e ∷ es)) → false ≡ (0 + 1 == last_count (e ∷ es))
   only e [] n b = absurd (cc)
   only e (x ∷ es) n b = let more = last_count_join e (x ∷ es) n in let some = last_count_some (x ∷ es) (omega arith) in grind (arith, nat_tests)
 last_by e [] (suc j) d b l = elim (is_or_not e.starts) [ inl y ↦ absurd (omega (arith, last_count_start e [] y)) | inr n ↦ absurd (omega (arith, last_count_join e [] n)) ]
 last_by e (x ∷ es) (suc j) d b l = elim (is_or_not e.starts) [
-  inl y ↦ absurd (omega (arith, last_count_start e (x ∷ es) y))
+  | inl y ↦ absurd (omega (arith, last_count_start e (x ∷ es) y))
   | inr n ↦
-    let more : last_count (e ∷ x ∷ es) ≡ suc (last_count (x ∷ es)) = last_count_join e (x ∷ es) n in
-    let rest = last_by x es j d (begins_front (reverse (x ∷ es)) (e ∷ []) (omega (arith, length-reverse (x ∷ es))) (subst BeginsOne (reverse_more e (x ∷ es)) b)) (omega arith) in
-    rest ∙ one_more j (last_count (x ∷ es)) ∙ ap (λ k. suc j + 1 == k) (sym more) ] where
+      let more : last_count (e ∷ x ∷ es) ≡ suc (last_count (x ∷ es)) = last_count_join e (x ∷ es) n in
+      let rest = last_by x es j d (begins_front (reverse (x ∷ es)) (e ∷ []) (omega (arith, length-reverse (x ∷ es))) (subst BeginsOne (reverse_more e (x ∷ es)) b)) (omega arith) in
+      rest ∙ one_more j (last_count (x ∷ es)) ∙ ap (λ k. suc j + 1 == k) (sym more)
+] where
   one_more : (a b : ℕ) → (a + 1 == b) ≡ (suc a + 1 == suc b)
   one_more a b = grind (arith, nat_tests)
 
@@ -131,9 +133,9 @@ undo_last rs bytes past count i r o l e =
     let begins : BeginsOne front = begins_front front (drop past es) some (subst BeginsOne (sym (take-append-drop past es)) o.begins) in
     ap (λ (q : Entry). q.starts) (sym (from_last es past i d there (omega arith) ∙ entry_read rs bytes place r d (omega (arith, o.there)) e))
     ∙ last_of (reverse front) i d (subst BeginsOne (sym (reverse-reverse front)) begins) l where
-  last_of : (back : List Entry) (i : ℕ) (d : Entry) → BeginsOne (reverse back) → i < last_count back → (get_or back i d).starts ≡ (i + 1 == last_count back)
-  last_of [] i d b l = absurd (omega arith)
-  last_of (e ∷ es) i d b l = last_by e es i d b l
+      last_of : (back : List Entry) (i : ℕ) (d : Entry) → BeginsOne (reverse back) → i < last_count back → (get_or back i d).starts ≡ (i + 1 == last_count back)
+      last_of [] i d b l = absurd (omega arith)
+      last_of (e ∷ es) i d b l = last_by e es i d b l
 
 -- Redo.
 
@@ -170,11 +172,13 @@ joined_by : (es : List Entry) (i : ℕ) → i ≤ joined_count es → begins_or_
 joined_by [] zero h = refl
 joined_by [] (suc i) h = absurd (omega arith)
 joined_by (e ∷ es) zero h = elim (is_or_not e.starts) [
-  inl y ↦ y ∙ (let none = joined_count_start e es y in grind (arith, nat_tests))
-  | inr n ↦ n ∙ (let more = joined_count_join e es n in grind (arith, nat_tests)) ]
+  | inl y ↦ y ∙ (let none = joined_count_start e es y in grind (arith, nat_tests))
+  | inr n ↦ n ∙ (let more = joined_count_join e es n in grind (arith, nat_tests))
+]
 joined_by (e ∷ es) (suc i) h = elim (is_or_not e.starts) [
-  inl y ↦ absurd (omega (arith, joined_count_start e es y))
-  | inr n ↦ (let more : joined_count (e ∷ es) ≡ suc (joined_count es) = joined_count_join e es n in joined_by es i (omega arith) ∙ one_more i (joined_count es) ∙ ap (λ k. suc i == k) (sym more)) ] where
+  | inl y ↦ absurd (omega (arith, joined_count_start e es y))
+  | inr n ↦ (let more : joined_count (e ∷ es) ≡ suc (joined_count es) = joined_count_join e es n in joined_by es i (omega arith) ∙ one_more i (joined_count es) ∙ ap (λ k. suc i == k) (sym more))
+] where
   one_more : (a b : ℕ) → (a == b) ≡ (suc a == suc b)
   one_more a b = grind (arith, nat_tests)
 

@@ -145,14 +145,16 @@ pub undone_in_order : (rs : List StepRecord) (bytes : List ℕ) (past count star
 undone_in_order rs bytes past count start h p e =
     let es = entries_in rs bytes in
     let there : past ≤ length es = omega (arith, entries_length rs bytes, h.there) in
-    let counts = undone_count es past count p there h.begins h.counted in
-    (counts.0, sealed_in_order rs bytes start (count - 1) (record {
-      ends = h.ends;
-      begins = h.begins;
-      boundary = rw e (undone_begins es past p there h.begins);
-      there = omega (arith, e, h.there);
-      counted = rw e counts.1;
-    }))
+    let counts = undone_count es past count p there h.begins h.counted in (
+      counts.0,
+      sealed_in_order rs bytes start (count - 1) (record {
+        ends = h.ends;
+        begins = h.begins;
+        boundary = rw e (undone_begins es past p there h.begins);
+        there = omega (arith, e, h.there);
+        counted = rw e counts.1;
+      }),
+    )
 
 pub undone_view : (rs : List StepRecord) (bytes : List ℕ) (past count start depth : ℕ) (save_point : Option ℕ) (collecting : Bool) → IsInOrder rs bytes past count → 0 < past → start ≡ start_of_last (entries_in rs bytes) past →
     history_of (entries_in (with_sealed start rs) bytes) start save_point depth collecting ≡ undone (history_of (entries_in rs bytes) past save_point depth collecting)

@@ -129,8 +129,9 @@ change_in e = e.change
 pub last_changes : (es : List Entry) → first_changes (transactions es) ≡ map change_in (take (last_count es) es)
 last_changes [] = refl
 last_changes (e ∷ es) = elim (is_or_not e.starts) [
-  inl y ↦ changes_start e (transactions es) y ∙ ap (λ k. map change_in (take k (e ∷ es))) (sym (last_count_start e es y))
-  | inr n ↦ changes_join e (transactions es) n ∙ ap (λ cs. e.change ∷ cs) (last_changes es) ∙ ap (λ k. map change_in (take k (e ∷ es))) (sym (last_count_join e es n)) ]
+  | inl y ↦ changes_start e (transactions es) y ∙ ap (λ k. map change_in (take k (e ∷ es))) (sym (last_count_start e es y))
+  | inr n ↦ changes_join e (transactions es) n ∙ ap (λ cs. e.change ∷ cs) (last_changes es) ∙ ap (λ k. map change_in (take k (e ∷ es))) (sym (last_count_join e es n))
+]
 
 -- The oldest of the last transaction begins it.
 
@@ -156,10 +157,11 @@ pub begins_last : (es : List Entry) → 0 < length es → BeginsOne (reverse es)
 begins_last [] l h = absurd (omega arith)
 begins_last (e ∷ []) l h = elim (is_or_not e.starts) [ inl y ↦ begins_last_start e [] y | inr n ↦ subst (λ k. BeginsOne (reverse (take k (e ∷ [])))) (sym (last_count_join e [] n)) h ]
 begins_last (e ∷ d ∷ es) l h = elim (is_or_not e.starts) [
-  inl y ↦ begins_last_start e (d ∷ es) y
+  | inl y ↦ begins_last_start e (d ∷ es) y
   | inr n ↦ begins_last_join e (d ∷ es) n (omega arith)
-  (begins_last (d ∷ es) (omega arith)
-  (begins_front (reverse (d ∷ es)) (e ∷ []) (omega (arith, length-reverse (d ∷ es))) (subst BeginsOne (reverse_more e (d ∷ es)) h))) ]
+      (begins_last (d ∷ es) (omega arith)
+      (begins_front (reverse (d ∷ es)) (e ∷ []) (omega (arith, length-reverse (d ∷ es))) (subst BeginsOne (reverse_more e (d ∷ es)) h)))
+]
 
 -- The next transaction.
 
@@ -180,8 +182,9 @@ next_count_within (e ∷ es) = omega (arith, joined_count_within es)
 begins_behind_joined : (es : List Entry) → BeginsOne (drop (joined_count es) es)
 begins_behind_joined [] = tt
 begins_behind_joined (e ∷ es) = elim (is_or_not e.starts) [
-  inl y ↦ subst (λ k. BeginsOne (drop k (e ∷ es))) (sym (joined_count_start e es y)) y
-  | inr n ↦ subst (λ k. BeginsOne (drop k (e ∷ es))) (sym (joined_count_join e es n)) (begins_behind_joined es) ]
+  | inl y ↦ subst (λ k. BeginsOne (drop k (e ∷ es))) (sym (joined_count_start e es y)) y
+  | inr n ↦ subst (λ k. BeginsOne (drop k (e ∷ es))) (sym (joined_count_join e es n)) (begins_behind_joined es)
+]
 
 pub begins_behind_next : (es : List Entry) → BeginsOne (drop (next_count es) es)
 begins_behind_next [] = tt
@@ -203,8 +206,9 @@ all_join_reverse (x ∷ xs) h = subst AllJoin (sym (reverse_more x xs)) (all_joi
 all_joined : (es : List Entry) → AllJoin (take (joined_count es) es)
 all_joined [] = tt
 all_joined (e ∷ es) = elim (is_or_not e.starts) [
-  inl y ↦ subst (λ k. AllJoin (take k (e ∷ es))) (sym (joined_count_start e es y)) tt
-  | inr n ↦ subst (λ k. AllJoin (take k (e ∷ es))) (sym (joined_count_join e es n)) (n, all_joined es) ]
+  | inl y ↦ subst (λ k. AllJoin (take k (e ∷ es))) (sym (joined_count_start e es y)) tt
+  | inr n ↦ subst (λ k. AllJoin (take k (e ∷ es))) (sym (joined_count_join e es n)) (n, all_joined es)
+]
 
 last_count_whole : (zs : List Entry) (x : Entry) → AllJoin zs → last_count (zs ++ x ∷ []) ≡ length (zs ++ x ∷ [])
 last_count_whole [] x h = elim (is_or_not x.starts) [ inl y ↦ last_count_start x [] y | inr n ↦ last_count_join x [] n ]

@@ -9,7 +9,8 @@ ghost use Rattle.undo_history.specs.Records.{change_of, HasItsBytes, LastIsOpen}
 
 use crate::joining::{belongs, find_latest_step};
 use crate::records::{
-    ChangeKind, LentChange, StepKind, StepRecord, all_bytes, all_steps, bytes_before, change_at, seal,
+    ChangeKind, LentChange, StepKind, StepRecord, all_bytes, all_steps, bytes_before, change_at,
+    seal,
 };
 use crate::runs::{count_before, count_behind, is_last_of_next};
 use split_vector::SplitVector;
@@ -104,14 +105,14 @@ impl UndoHistory {
     pub fn is_collecting(&self) -> bool
         ensures { result ≡ self.now.history.collecting }
     {
-        self.is_collecting // not whether there is anything
+        self.is_collecting
     }
 
     /// How many groups are open.
     pub fn depth(&self) -> u64
         ensures { result ≡ self.now.history.depth }
     {
-        self.depth // the open groups
+        self.depth
     }
 
     /// Makes room for so many more steps, with so many bytes in all, and gives none back. A block that is too small grows to
