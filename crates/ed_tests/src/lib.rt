@@ -33,3 +33,5 @@ mod selection;
 mod split_vector;
 #[cfg(test)]
 mod target_search;
+#[cfg(test)]
+mod undo_history;

@@ -1,20 +1,20 @@
 -- The code's rule of joining is the definitions' rule.
-use Rattle.std.proofs.Common.{◌≡◌, ◌≤◌, ◌<◌, ◌+◌, ◌-◌, ℕ, suc, List, [], ◌∷◌, length, take, get_or, refl, ap, sym, ◌∙◌, arith, reverse, Bool, true, false}
-use Rattle.std.specs.Prelude.{Option, Some, None, ◌||◌, ◌&&◌, nat_lt, not, slice_range}
+use Rattle.std.proofs.Common.{◌≡◌, ◌≤◌, ◌<◌, ◌+◌, ℕ, suc, List, [], ◌∷◌, length, take, get_or, refl, ap, sym, ◌∙◌, arith, reverse, Bool, true, false}
+use Rattle.std.specs.Prelude.{Option, Some, None, ◌||◌, ◌&&◌, nat_lt, not, slice_range, if◌then◌else◌}
+use Rattle.std.proofs.lemmas.Bool.Decides.{nat_tests}
 use Rattle.ed_model.specs.Steps as model
-use Rattle.ed_model.specs.History.{Change, TextStep, ContainerStep, goes_on, goes_on_after, belongs, latest_text_step, Transaction, joins, joins_last, at_save_point}
+use Rattle.ed_model.specs.History.{Change, TextStep, ContainerStep, goes_on, goes_on_after, belongs, latest_text_step, Transaction, History, joins, joins_last, at_save_point, first_changes}
 use Rattle.undo_history.specs.declared.records.StepKind.{StepKind}
 use Rattle.undo_history.specs.declared.records.StepKind.TheVariants.{Insert, Delete}
 use Rattle.undo_history.specs.declared.records.ChangeKind.{ChangeKind}
 use Rattle.undo_history.specs.declared.records.ChangeKind.TheVariants.{Text, Container}
+use Rattle.undo_history.specs.declared.records.StepRecord.{StepRecord}
 use Rattle.undo_history.specs.Steps.{step_of}
-use Rattle.undo_history.specs.Records.{change_of, changes_in, changes_end, transaction_in, last_end, recorded, history_of, IsInOrder}
-use Rattle.undo_history.specs.declared.records.ChangeRecord.{ChangeRecord}
-use Rattle.undo_history.specs.declared.records.TransactionRecord.{TransactionRecord}
-use Rattle.undo_history.proofs.Parts.{part_read, fronts_rise, last_of_front, last_end_read}
-use Rattle.std.proofs.lemmas.Bool.Decides.{nat_tests}
-use Rattle.undo_history.proofs.Sealing.{latest_first, recorded_length}
+use Rattle.undo_history.specs.Records.{Entry, alone, joined, pushed, transactions, entry_in, entries_in, change_of, bytes_end, last_end, history_of, LastIsOpen}
 use Rattle.undo_history.specs.Joining.{outline, outline_of, outline_if_any, steps_go_on, belongs_after}
+use Rattle.undo_history.proofs.Lists.{latest_first}
+use Rattle.undo_history.proofs.Sealing.{entries_length}
+use Rattle.undo_history.proofs.Reading.{entry_read}
 
 pub goes_on_by_outlines : (step earlier : model.Step) → goes_on step earlier ≡ steps_go_on (outline_of step) (outline_of earlier)
 goes_on_by_outlines (model.Insert p bs) (model.Insert q cs) = refl
@@ -69,45 +69,45 @@ later_yes s a false l b s_no a_no e = ap (λ t. t || b) (sym e) ∙ open_one s a
 pub by_kind : (s a g l b : Bool) → s ≡ false → a ≡ false → g ≡ false → l ≡ false → b ≡ decided s a g l b
 by_kind s a g l b s_no a_no g_no l_no = ap (λ t. t || b) (sym l_no) ∙ ap (λ t. t || l || b) (sym g_no) ∙ open_one s a g l b s_no a_no
 
-pub joins_none : (later : Bool) (x : Change) (ts : List TransactionRecord) (cs : List ChangeRecord) (bytes : List ℕ) (past depth : ℕ) (save_point : Option ℕ) (collecting : Bool) → past ≡ 0 →
-    false ≡ joins later x (history_of (recorded ts cs bytes) past save_point depth collecting)
-joins_none later x ts cs bytes past depth save_point collecting e = ap (λ n. joins later x (history_of (recorded ts cs bytes) n save_point depth collecting)) (sym e)
+joins_by : (b : Bool) (later : Bool) (x : Change) (h : History) (e : Entry) (t : Transaction) (ts : List Transaction) →
+    joins_last later x h (if b then alone e ∷ t ∷ ts else joined e t ∷ ts)
+    ≡ decided e.is_sealed (at_save_point h) (nat_lt 0 h.depth) later (belongs x (first_changes (if b then alone e ∷ t ∷ ts else joined e t ∷ ts)))
+joins_by true later x h e t ts = refl
+joins_by false later x h e t ts = refl
 
--- the changes of the last transaction
-abbrev pub last_changes : List TransactionRecord → List ChangeRecord → List ℕ → ℕ → TransactionRecord → List Change
-last_changes ts cs bytes i t = reverse (slice_range (changes_in cs bytes) (last_end changes_end 0 (take i ts)) t.changes_end)
+joins_pushed : (later : Bool) (x : Change) (h : History) (e : Entry) (ts : List Transaction) →
+    joins_last later x h (pushed e ts) ≡ decided e.is_sealed (at_save_point h) (nat_lt 0 h.depth) later (belongs x (first_changes (pushed e ts)))
+joins_pushed later x h e [] = refl
+joins_pushed later x h e (t ∷ ts) = joins_by e.starts later x h e t ts
 
-pub joins_here : (later : Bool) (x : Change) (ts : List TransactionRecord) (cs : List ChangeRecord) (bytes : List ℕ) (i past depth : ℕ) (t : TransactionRecord) (save_point : Option ℕ) (collecting : Bool) →
-    past ≡ i + 1 → past ≤ length ts → t ≡ get_or ts i t →
-    decided t.is_sealed (at_save_point (history_of (recorded ts cs bytes) past save_point depth collecting)) (nat_lt 0 depth) later (belongs x (last_changes ts cs bytes i t))
-    ≡ joins later x (history_of (recorded ts cs bytes) past save_point depth collecting)
-joins_here later x ts cs bytes i past depth t save_point collecting p h e =
-    let all = recorded ts cs bytes in
-    let d = changes_in cs bytes in
-    let from = last_end changes_end 0 (take i ts) in
-    let last : Transaction = transaction_in t (slice_range d from t.changes_end) in
+pub joins_here : (later : Bool) (x : Change) (rs : List StepRecord) (bytes : List ℕ) (i past depth : ℕ) (r : StepRecord) (save_point : Option ℕ) (collecting : Bool) →
+    past ≡ i + 1 → past ≤ length rs → r ≡ get_or rs i r →
+    decided r.is_sealed (at_save_point (history_of (entries_in rs bytes) past save_point depth collecting)) (nat_lt 0 depth) later (belongs x (first_changes (transactions (reverse (take past (entries_in rs bytes))))))
+    ≡ joins later x (history_of (entries_in rs bytes) past save_point depth collecting)
+joins_here later x rs bytes i past depth r save_point collecting p h e =
+    let es = entries_in rs bytes in
+    let hist = history_of es past save_point depth collecting in
+    let d = entry_in r (slice_range bytes (last_end bytes_end 0 (take i rs)) r.bytes_end) in
     let next : past ≡ suc i = omega arith in
-    let read : get_or all i last ≡ last =
-    part_read changes_end transaction_in 0 ts i t last d (omega arith) ∙ ap (λ (q : TransactionRecord). transaction_in q (slice_range d from q.changes_end)) (sym e) in
-    let first : reverse (take past all) ≡ last ∷ reverse (take i all) =
-    ap (λ n. reverse (take n all)) next ∙ latest_first all i last (omega (arith, recorded_length ts cs bytes)) ∙ ap (λ q. q ∷ reverse (take i all)) read in
-    ap (λ ps. joins_last later x (history_of all past save_point depth collecting) ps) (sym first)
+    let first : reverse (take past es) ≡ d ∷ reverse (take i es) =
+    ap (λ n. reverse (take n es)) next ∙ latest_first es i d (omega (arith, entries_length rs bytes)) ∙ ap (λ q. q ∷ reverse (take i es)) (entry_read rs bytes i r d (omega arith) e) in
+    ap (λ t. decided r.is_sealed (at_save_point hist) (nat_lt 0 depth) later (belongs x (first_changes (transactions t)))) first
+    ∙ sym (joins_pushed later x hist d (transactions (reverse (take i es))))
+    ∙ ap (λ t. joins_last later x hist (transactions t)) (sym first)
+
+not_sealed : (s a b : Bool) → not s && a && b ≡ true → s ≡ false
+not_sealed true a b e = absurd (cc)
+not_sealed false a b e = refl
+
+-- a change that joins does so to an open transaction
+pub joins_an_open_one : (later : Bool) (x : Change) (h : History) → joins later x h ≡ true → LastIsOpen h.past
+joins_an_open_one later x h e = open_last later x h h.past e where
+  open_last : (later : Bool) (x : Change) (h : History) (ts : List Transaction) → joins_last later x h ts ≡ true → LastIsOpen ts
+  open_last later x h [] e = absurd (cc)
+  open_last later x h (t ∷ ts) e = not_sealed t.is_sealed (not (at_save_point h)) (nat_lt 0 h.depth || later || belongs x t.changes) e
 
 pub lt_true : (n m : ℕ) → n < m → nat_lt n m ≡ true
 lt_true n m h = grind (arith, nat_tests)
 
 pub lt_false : (n m : ℕ) → m ≤ n → nat_lt n m ≡ false
 lt_false n m h = grind (arith, nat_tests)
-
--- the last transaction's changes are there
-pub last_range : (ts : List TransactionRecord) (cs : List ChangeRecord) (bytes : List ℕ) (i : ℕ) (t : TransactionRecord) → IsInOrder ts cs bytes → i < length ts → t ≡ get_or ts i t →
-    (last_end changes_end 0 (take i ts) ≤ t.changes_end) × (t.changes_end ≤ length cs)
-last_range ts cs bytes i t o h e =
-    let back : i + 1 - 1 ≡ i = omega arith in
-    let next : suc i ≡ i + 1 = omega arith in
-    let at : last_end changes_end 0 (take (suc i) ts) ≡ t.changes_end =
-    ap (λ n. last_end changes_end 0 (take n ts)) next
-    ∙ last_end_read changes_end 0 ts (i + 1) t (omega arith) (omega arith)
-    ∙ ap (λ j. changes_end (get_or ts j t)) back
-    ∙ ap (λ (q : TransactionRecord). q.changes_end) (sym e) in
-    (omega (arith, at, fronts_rise changes_end i 0 ts (length cs) o.changes), omega (arith, at, last_of_front changes_end (suc i) 0 ts (length cs) o.changes))

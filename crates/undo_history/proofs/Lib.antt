@@ -1,8 +1,9 @@
 pub mod Parts
+pub mod Lists
+pub mod Transactions
+pub mod Moving
 pub mod Sealing
-pub mod Droppings
-pub mod Appending
+pub mod Pushing
+pub mod Reading
 pub mod Joins
 pub mod Latest
-pub mod Stepping
-pub mod Reading

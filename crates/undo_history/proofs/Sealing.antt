@@ -1,105 +1,46 @@
--- Past and future of the transactions: what the tests of a history compute to, and what sealing comes to.
-use Rattle.std.proofs.Common.{◌≡◌, ◌≤◌, ◌<◌, ◌+◌, ◌-◌, ℕ, zero, suc, List, [], ◌∷◌, length, take, drop, set, get_or, refl, ap, sym, ◌∙◌, arith, reverse, Bool, true, false}
-use Rattle.std.specs.Prelude.{Option, Some, ◌==◌, nat_lt, slice_range}
-use Rattle.std.proofs.lemmas.List.{take_more, take_more_set, reverse-append, length-reverse, length-take-le, length-drop, drop-set-lt}
-use Rattle.ed_model.specs.Numbers.{is_number}
-use Rattle.ed_model.specs.History.{Change, Transaction, History, at_save_point, can_undo, can_redo, seal_first, with_last_sealed, sealed_outside_groups}
-use Rattle.undo_history.specs.declared.records.ChangeRecord.{ChangeRecord}
-use Rattle.undo_history.specs.declared.records.TransactionRecord.{TransactionRecord}
-use Rattle.undo_history.specs.Records.{history_of, recorded, read_parts, changes_in, changes_end, transaction_in, changed_at, sealed_record, with_sealed, EndsInOrder, IsInOrder}
-use Rattle.undo_history.proofs.Parts.{parts_length}
+-- What sealing comes to, and the tests of a history.
+use Rattle.std.proofs.Common.{◌≡◌, ◌≤◌, ◌<◌, ◌+◌, ◌-◌, ℕ, zero, suc, List, [], ◌∷◌, length, take, drop, set, get_or, refl, ap, ap₂, sym, ◌∙◌, arith, reverse, Bool, true, false}
+use Rattle.std.specs.Prelude.{Option, Some, ◌==◌, nat_lt, slice_range, if◌then◌else◌}
+use Rattle.std.proofs.lemmas.List.{length-reverse, length-take-le, length-drop}
 use Rattle.std.proofs.lemmas.Bool.Decides.{nat_tests}
-
--- the past with its last transaction first
-pub latest_first : {X : Type 0} → (xs : List X) (i : ℕ) (d : X) → i < length xs → reverse (take (suc i) xs) ≡ get_or xs i d ∷ reverse (take i xs)
-latest_first xs i d h =
-    let next : suc i ≡ i + 1 = omega arith in
-    ap (λ n. reverse (take n xs)) next ∙ ap (λ t. reverse t) (take_more xs i d h) ∙ reverse-append (take i xs) (get_or xs i d ∷ [])
-
-pub latest_first_set : {X : Type 0} → (xs : List X) (i : ℕ) (x : X) → i < length xs → reverse (take (suc i) (set xs i x)) ≡ x ∷ reverse (take i xs)
-latest_first_set xs i x h =
-    let next : suc i ≡ i + 1 = omega arith in
-    ap (λ n. reverse (take n (set xs i x))) next ∙ ap (λ t. reverse t) (take_more_set xs i x h) ∙ reverse-append (take i xs) (x ∷ [])
-
-pub recorded_length : (ts : List TransactionRecord) (cs : List ChangeRecord) (bytes : List ℕ) → length (recorded ts cs bytes) ≡ length ts
-recorded_length ts cs bytes = parts_length changes_end transaction_in 0 ts (changes_in cs bytes)
-
-pub past_length : (ts : List TransactionRecord) (cs : List ChangeRecord) (bytes : List ℕ) (n : ℕ) → n ≤ length ts → length (reverse (take n (recorded ts cs bytes))) ≡ n
-past_length ts cs bytes n h =
-    length-reverse (take n (recorded ts cs bytes)) ∙ length-take-le n (recorded ts cs bytes) (omega (arith, recorded_length ts cs bytes))
+use Rattle.ed_model.specs.History.{Transaction, History, can_redo, seal_first, with_last_sealed, sealed_outside_groups, undone, redone}
+use Rattle.undo_history.specs.declared.records.StepRecord.{StepRecord}
+use Rattle.undo_history.specs.Records.{Entry, entry, entry_in, entries_in, alone, joined, pushed, transactions, history_of, read_parts, bytes_end, changed_at, sealed_record, with_sealed, BeginsOne, EndsInOrder, IsInOrder}
+use Rattle.undo_history.proofs.Parts.{parts_length}
+use Rattle.undo_history.proofs.Lists.{latest_first}
+use Rattle.undo_history.proofs.Transactions.{transactions_some}
+use Rattle.undo_history.proofs.Moving.{history, start_of_last, end_of_next, undone_history, undone_begins, undone_count, redone_history, redone_begins, redone_count, next_within}
 
 -- One item changed.
 
-pub changed_is_set : {R : Type 0} → (new : R → R) (i : ℕ) (rs : List R) (d : R) → i < length rs → changed_at new i rs ≡ set rs i (new (get_or rs i d))
-changed_is_set new i [] d h = absurd (omega arith)
-changed_is_set new zero (r ∷ rs) d h = refl
-changed_is_set new (suc i) (r ∷ rs) d h = ap (λ t. r ∷ t) (changed_is_set new i rs d (omega arith))
+module _ {R : Type 0} (new : R → R) where
+  changed_length : (i : ℕ) (rs : List R) → length (changed_at new i rs) ≡ length rs
+  changed_length i [] = refl
+  changed_length zero (r ∷ rs) = refl
+  changed_length (suc i) (r ∷ rs) = ap suc (changed_length i rs)
 
-pub changed_length : {R : Type 0} → (new : R → R) (i : ℕ) (rs : List R) → length (changed_at new i rs) ≡ length rs
-changed_length new i [] = refl
-changed_length new zero (r ∷ rs) = refl
-changed_length new (suc i) (r ∷ rs) = ap suc (changed_length new i rs)
+  changed_front : (i : ℕ) (rs : List R) → take i (changed_at new i rs) ≡ take i rs
+  changed_front zero rs = refl
+  changed_front (suc i) [] = refl
+  changed_front (suc i) (r ∷ rs) = ap (λ t. r ∷ t) (changed_front i rs)
 
--- Sealing.
+  changed_back : (i : ℕ) (rs : List R) → drop (suc i) (changed_at new i rs) ≡ drop (suc i) rs
+  changed_back i [] = refl
+  changed_back zero (r ∷ rs) = refl
+  changed_back (suc i) (r ∷ rs) = changed_back i rs
 
-abbrev sealed_transaction : Transaction → Transaction
-sealed_transaction t = record t { is_sealed = true }
+  changed_read : (i : ℕ) (rs : List R) (d : R) → i < length rs → get_or (changed_at new i rs) i d ≡ new (get_or rs i d)
+  changed_read i [] d h = absurd (omega arith)
+  changed_read zero (r ∷ rs) d h = refl
+  changed_read (suc i) (r ∷ rs) d h = changed_read i rs d (omega arith)
 
-pub sealed_ends : (i from : ℕ) (rs : List TransactionRecord) (n : ℕ) → EndsInOrder changes_end from rs n → EndsInOrder changes_end from (changed_at sealed_record i rs) n
-sealed_ends i from [] n h = h
-sealed_ends zero from (r ∷ rs) n h = h
-sealed_ends (suc i) from (r ∷ rs) n h = (h.0, sealed_ends i r.changes_end rs n h.1)
-
-sealed_parts : (i from : ℕ) (rs : List TransactionRecord) (cs : List Change) →
-    read_parts changes_end transaction_in from (changed_at sealed_record i rs) cs ≡ changed_at sealed_transaction i (read_parts changes_end transaction_in from rs cs)
-sealed_parts i from [] cs = refl
-sealed_parts zero from (r ∷ rs) cs = refl
-sealed_parts (suc i) from (r ∷ rs) cs = ap (λ t. transaction_in r (slice_range cs from r.changes_end) ∷ t) (sealed_parts i r.changes_end rs cs)
-
-pub with_sealed_in_order : (n : ℕ) (ts : List TransactionRecord) (cs : List ChangeRecord) (bytes : List ℕ) → IsInOrder ts cs bytes → IsInOrder (with_sealed n ts) cs bytes
-with_sealed_in_order zero ts cs bytes h = h
-with_sealed_in_order (suc i) ts cs bytes h = record { changes = sealed_ends i 0 ts (length cs) h.changes; bytes_of_changes = h.bytes_of_changes }
-
-pub with_sealed_length : (n : ℕ) (ts : List TransactionRecord) → length (with_sealed n ts) ≡ length ts
-with_sealed_length zero ts = refl
-with_sealed_length (suc i) ts = changed_length sealed_record i ts
-
--- the past is sealed, and the future stays
-sealed_past : (i : ℕ) (all : List Transaction) → i < length all → reverse (take (suc i) (changed_at sealed_transaction i all)) ≡ seal_first (reverse (take (suc i) all))
-sealed_past i all h =
-    let none : Transaction = record { changes = []; is_sealed = false } in
-    ap (λ t. reverse (take (suc i) t)) (changed_is_set sealed_transaction i all none h)
-    ∙ latest_first_set all i (sealed_transaction (get_or all i none)) h
-    ∙ ap (λ t. seal_first t) (sym (latest_first all i none h))
-
-sealed_future : (i : ℕ) (all : List Transaction) → i < length all → drop (suc i) (changed_at sealed_transaction i all) ≡ drop (suc i) all
-sealed_future i all h =
-    let none : Transaction = record { changes = []; is_sealed = false } in
-    ap (λ t. drop (suc i) t) (changed_is_set sealed_transaction i all none h)
-    ∙ drop-set-lt (suc i) all i (sealed_transaction (get_or all i none)) (omega arith)
-
-abbrev pub history : List Transaction → List Transaction → Option ℕ → ℕ → Bool → History
-history past future save_point depth collecting = record { past = past; future = future; save_point = save_point; depth = depth; collecting = collecting }
-
-pub sealed_history : (ts : List TransactionRecord) (cs : List ChangeRecord) (bytes : List ℕ) (past depth : ℕ) (save_point : Option ℕ) (collecting : Bool) → past ≤ length ts →
-    history_of (recorded (with_sealed past ts) cs bytes) past save_point depth collecting ≡ with_last_sealed (history_of (recorded ts cs bytes) past save_point depth collecting)
-sealed_history ts cs bytes zero depth save_point collecting h = refl
-sealed_history ts cs bytes (suc i) depth save_point collecting h =
-    let all = recorded ts cs bytes in
-    let there : i < length all = omega (arith, recorded_length ts cs bytes) in
-    ap (λ a. history_of a (suc i) save_point depth collecting) (sealed_parts i 0 ts (changes_in cs bytes))
-    ∙ ap (λ p. history p (drop (suc i) (changed_at sealed_transaction i all)) save_point depth collecting) (sealed_past i all there)
-    ∙ ap (λ f. history (seal_first (reverse (take (suc i) all))) f save_point depth collecting) (sealed_future i all there)
-
--- outside groups
-pub sealed_outside : (all : List Transaction) (past depth : ℕ) (save_point : Option ℕ) (collecting : Bool) → depth ≡ 0 →
-    with_last_sealed (history_of all past save_point depth collecting) ≡ sealed_outside_groups (history_of all past save_point depth collecting)
-sealed_outside all past depth save_point collecting e =
-    ap (λ d. with_last_sealed (history_of all past save_point d collecting)) e
-    ∙ ap (λ d. sealed_outside_groups (history_of all past save_point d collecting)) (sym e)
+  changed_is_set : (i : ℕ) (rs : List R) (d : R) → i < length rs → changed_at new i rs ≡ set rs i (new (get_or rs i d))
+  changed_is_set i [] d h = absurd (omega arith)
+  changed_is_set zero (r ∷ rs) d h = refl
+  changed_is_set (suc i) (r ∷ rs) d h = ap (λ t. r ∷ t) (changed_is_set i rs d (omega arith))
 
 -- a record as it is written
-pub sealed_set : (n : ℕ) (rs : List TransactionRecord) (x : TransactionRecord) → 0 < n → n ≤ length rs → x ≡ get_or rs (n - 1) x → set rs (n - 1) (sealed_record x) ≡ with_sealed n rs
+pub sealed_set : (n : ℕ) (rs : List StepRecord) (x : StepRecord) → 0 < n → n ≤ length rs → x ≡ get_or rs (n - 1) x → set rs (n - 1) (sealed_record x) ≡ with_sealed n rs
 sealed_set zero rs x p h e = absurd (omega arith)
 sealed_set (suc i) rs x p h e =
     let back : suc i - 1 ≡ i = omega arith in
@@ -107,24 +48,164 @@ sealed_set (suc i) rs x p h e =
     ∙ ap (λ y. set rs i (sealed_record y)) (e ∙ ap (λ j. get_or rs j x) back)
     ∙ sym (changed_is_set sealed_record i rs x h)
 
+-- Sealing.
+
+abbrev sealed_entry : Entry → Entry
+sealed_entry e = entry e.change e.starts true
+
+sealed_ends : (i from : ℕ) (rs : List StepRecord) (n : ℕ) → EndsInOrder bytes_end from rs n → EndsInOrder bytes_end from (changed_at sealed_record i rs) n
+sealed_ends i from [] n h = h
+sealed_ends zero from (r ∷ rs) n h = h
+sealed_ends (suc i) from (r ∷ rs) n h = (h.0, sealed_ends i r.bytes_end rs n h.1)
+
+sealed_parts : (i from : ℕ) (rs : List StepRecord) (bytes : List ℕ) →
+    read_parts bytes_end entry_in from (changed_at sealed_record i rs) bytes ≡ changed_at sealed_entry i (read_parts bytes_end entry_in from rs bytes)
+sealed_parts i from [] bytes = refl
+sealed_parts zero from (r ∷ rs) bytes = refl
+sealed_parts (suc i) from (r ∷ rs) bytes = ap (λ t. entry_in r (slice_range bytes from r.bytes_end) ∷ t) (sealed_parts i r.bytes_end rs bytes)
+
+sealed_by : (b : Bool) (t u : Transaction) (ts us : List Transaction) →
+    (if b then record t { is_sealed = true } ∷ ts else record u { is_sealed = true } ∷ us) ≡ seal_first (if b then t ∷ ts else u ∷ us)
+sealed_by true t u ts us = refl
+sealed_by false t u ts us = refl
+
+sealed_pushed : (e : Entry) (ts : List Transaction) → pushed (sealed_entry e) ts ≡ seal_first (pushed e ts)
+sealed_pushed e [] = refl
+sealed_pushed e (t ∷ ts) = sealed_by e.starts (alone e) (joined e t) (t ∷ ts) ts
+
+sealed_past : (i : ℕ) (es : List Entry) (d : Entry) → i < length es →
+    transactions (reverse (take (suc i) (changed_at sealed_entry i es))) ≡ seal_first (transactions (reverse (take (suc i) es)))
+sealed_past i es d h =
+    ap transactions
+    (latest_first (changed_at sealed_entry i es) i d (omega (arith, changed_length sealed_entry i es))
+    ∙ ap₂ (λ x t. x ∷ reverse t) (changed_read sealed_entry i es d h) (changed_front sealed_entry i es))
+    ∙ sealed_pushed (get_or es i d) (transactions (reverse (take i es)))
+    ∙ ap (λ t. seal_first (transactions t)) (sym (latest_first es i d h))
+
+sealed_begins : (i : ℕ) (es : List Entry) → BeginsOne es → BeginsOne (changed_at sealed_entry i es)
+sealed_begins i [] h = h
+sealed_begins zero (e ∷ es) h = h
+sealed_begins (suc i) (e ∷ es) h = h
+
+pub entries_length : (rs : List StepRecord) (bytes : List ℕ) → length (entries_in rs bytes) ≡ length rs
+entries_length rs bytes = parts_length bytes_end entry_in 0 rs bytes
+
+-- the item of a list that is not empty
+first_of : (rs : List StepRecord) (bytes : List ℕ) → 0 < length rs → Entry
+first_of [] bytes h = absurd (omega arith)
+first_of (r ∷ rs) bytes h = entry_in r bytes
+
+pub sealed_history : (rs : List StepRecord) (bytes : List ℕ) (past depth : ℕ) (save_point : Option ℕ) (collecting : Bool) → past ≤ length rs →
+    history_of (entries_in (with_sealed past rs) bytes) past save_point depth collecting ≡ with_last_sealed (history_of (entries_in rs bytes) past save_point depth collecting)
+sealed_history rs bytes zero depth save_point collecting h = refl
+sealed_history rs bytes (suc i) depth save_point collecting h =
+    let es = entries_in rs bytes in
+    let there : i < length es = omega (arith, entries_length rs bytes) in
+    ap (λ t. history_of t (suc i) save_point depth collecting) (sealed_parts i 0 rs bytes)
+    ∙ ap₂
+    (λ p f. history p (reverse (transactions (reverse f))) save_point depth collecting)
+    (sealed_past i es (first_of rs bytes (omega arith)) there)
+    (changed_back sealed_entry i es)
+
+seal_first_length : (ts : List Transaction) → length (seal_first ts) ≡ length ts
+seal_first_length [] = refl
+seal_first_length (t ∷ ts) = refl
+
+pub sealed_in_order : (rs : List StepRecord) (bytes : List ℕ) (past count : ℕ) → IsInOrder rs bytes past count → IsInOrder (with_sealed past rs) bytes past count
+sealed_in_order rs bytes zero count h = h
+sealed_in_order rs bytes (suc i) count h =
+    let es = entries_in rs bytes in
+    let same : entries_in (with_sealed (suc i) rs) bytes ≡ changed_at sealed_entry i es = sealed_parts i 0 rs bytes in
+    let there : i < length es = omega (arith, entries_length rs bytes, h.there) in
+    let past_is : transactions (reverse (take (suc i) (changed_at sealed_entry i es))) ≡ seal_first (transactions (reverse (take (suc i) es))) =
+    sealed_past i es (first_of rs bytes (omega (arith, h.there))) there in
+    record {
+      ends = sealed_ends i 0 rs (length bytes) h.ends;
+      begins = rw same (sealed_begins i es h.begins);
+      boundary = rw (same, changed_back sealed_entry i es) h.boundary;
+      there = omega (arith, changed_length sealed_record i rs, h.there);
+      counted = h.counted ∙ sym (seal_first_length (transactions (reverse (take (suc i) es)))) ∙ ap length (sym past_is) ∙ ap (λ t. length (transactions (reverse (take (suc i) t)))) (sym same);
+    }
+
+pub with_sealed_length : (n : ℕ) (rs : List StepRecord) → length (with_sealed n rs) ≡ length rs
+with_sealed_length zero rs = refl
+with_sealed_length (suc i) rs = changed_length sealed_record i rs
+
+-- outside groups
+pub sealed_outside : (all : List Entry) (past depth : ℕ) (save_point : Option ℕ) (collecting : Bool) → depth ≡ 0 →
+    with_last_sealed (history_of all past save_point depth collecting) ≡ sealed_outside_groups (history_of all past save_point depth collecting)
+sealed_outside all past depth save_point collecting e =
+    ap (λ d. with_last_sealed (history_of all past save_point d collecting)) e
+    ∙ ap (λ d. sealed_outside_groups (history_of all past save_point d collecting)) (sym e)
+
+-- Undo and redo.
+
+pub undone_in_order : (rs : List StepRecord) (bytes : List ℕ) (past count start : ℕ) → IsInOrder rs bytes past count → 0 < past → start ≡ start_of_last (entries_in rs bytes) past →
+    (0 < count) × IsInOrder (with_sealed start rs) bytes start (count - 1)
+undone_in_order rs bytes past count start h p e =
+    let es = entries_in rs bytes in
+    let there : past ≤ length es = omega (arith, entries_length rs bytes, h.there) in
+    let counts = undone_count es past count p there h.begins h.counted in (
+      counts.0,
+      sealed_in_order rs bytes start (count - 1) (record {
+        ends = h.ends;
+        begins = h.begins;
+        boundary = rw e (undone_begins es past p there h.begins);
+        there = omega (arith, e, h.there);
+        counted = rw e counts.1;
+      }),
+    )
+
+pub undone_view : (rs : List StepRecord) (bytes : List ℕ) (past count start depth : ℕ) (save_point : Option ℕ) (collecting : Bool) → IsInOrder rs bytes past count → 0 < past → start ≡ start_of_last (entries_in rs bytes) past →
+    history_of (entries_in (with_sealed start rs) bytes) start save_point depth collecting ≡ undone (history_of (entries_in rs bytes) past save_point depth collecting)
+undone_view rs bytes past count start depth save_point collecting h p e =
+    let es = entries_in rs bytes in
+    sealed_history rs bytes start depth save_point collecting (omega (arith, e, h.there))
+    ∙ ap (λ k. with_last_sealed (history_of es k save_point depth collecting)) e
+    ∙ undone_history es past depth save_point collecting p (omega (arith, entries_length rs bytes, h.there)) h.begins h.boundary
+
+pub redone_in_order : (rs : List StepRecord) (bytes : List ℕ) (past count end : ℕ) → IsInOrder rs bytes past count → past < length rs → end ≡ end_of_next (entries_in rs bytes) past →
+    IsInOrder (with_sealed end rs) bytes end (count + 1)
+redone_in_order rs bytes past count end h p e =
+    let es = entries_in rs bytes in
+    let there : past < length es = omega (arith, entries_length rs bytes) in
+    sealed_in_order rs bytes end (count + 1) (record {
+      ends = h.ends;
+      begins = h.begins;
+      boundary = rw e (redone_begins es past there h.boundary);
+      there = omega (arith, e, next_within es past (omega (arith, entries_length rs bytes, h.there)), entries_length rs bytes);
+      counted = rw e (redone_count es past count there h.boundary h.counted);
+    })
+
+pub redone_view : (rs : List StepRecord) (bytes : List ℕ) (past count end depth : ℕ) (save_point : Option ℕ) (collecting : Bool) → IsInOrder rs bytes past count → past < length rs → end ≡ end_of_next (entries_in rs bytes) past →
+    history_of (entries_in (with_sealed end rs) bytes) end save_point depth collecting ≡ redone (history_of (entries_in rs bytes) past save_point depth collecting)
+redone_view rs bytes past count end depth save_point collecting h p e =
+    let es = entries_in rs bytes in
+    sealed_history rs bytes end depth save_point collecting (omega (arith, e, next_within es past (omega (arith, entries_length rs bytes, h.there)), entries_length rs bytes))
+    ∙ ap (λ k. with_last_sealed (history_of es k save_point depth collecting)) e
+    ∙ redone_history es past depth save_point collecting (omega (arith, entries_length rs bytes)) h.boundary
+
 -- The tests.
 
-pub saved_here : (ts : List TransactionRecord) (cs : List ChangeRecord) (bytes : List ℕ) (past place depth : ℕ) (save_point : Option ℕ) (collecting : Bool) → past ≤ length ts → save_point ≡ Some place →
-    (place == past) ≡ at_save_point (history_of (recorded ts cs bytes) past save_point depth collecting)
-saved_here ts cs bytes past place depth save_point collecting h e =
-    ap (λ n. is_number n (Some place)) (sym (past_length ts cs bytes past h)) ∙ ap (λ s. is_number (length (reverse (take past (recorded ts cs bytes)))) s) (sym e)
+some_left : (n m : ℕ) → (0 < n → 0 < m) → (n ≡ 0 → m ≡ 0) → nat_lt 0 n ≡ nat_lt 0 m
+some_left zero m h k = ap (λ j. nat_lt 0 j) (sym (k refl))
+some_left (suc n) m h k = let some : 0 < m = h (omega arith) in grind (arith, nat_tests)
 
-pub can_undo_here : (ts : List TransactionRecord) (cs : List ChangeRecord) (bytes : List ℕ) (past depth : ℕ) (save_point : Option ℕ) (collecting : Bool) → past ≤ length ts → depth ≡ 0 →
-    nat_lt 0 past ≡ can_undo (history_of (recorded ts cs bytes) past save_point depth collecting)
-can_undo_here ts cs bytes past depth save_point collecting h e =
-    ap (λ n. nat_lt 0 n) (sym (past_length ts cs bytes past h)) ∙ ap (λ d. can_undo (history_of (recorded ts cs bytes) past save_point d collecting)) (sym e)
+rest_none : (es : List Entry) → length es ≡ 0 → length (reverse (transactions (reverse es))) ≡ 0
+rest_none [] e = refl
+rest_none (x ∷ es) e = absurd (omega arith)
 
--- whether something is left, by the length of what is left
-some_left : (n m : ℕ) → nat_lt n m ≡ nat_lt 0 (m - n)
-some_left n m = grind (arith, nat_tests)
+lt_by : (n m : ℕ) → nat_lt n m ≡ nat_lt 0 (m - n)
+lt_by n m = grind (arith, nat_tests)
 
-pub can_redo_here : (ts : List TransactionRecord) (cs : List ChangeRecord) (bytes : List ℕ) (past depth : ℕ) (save_point : Option ℕ) (collecting : Bool) → depth ≡ 0 →
-    nat_lt past (length ts) ≡ can_redo (history_of (recorded ts cs bytes) past save_point depth collecting)
-can_redo_here ts cs bytes past depth save_point collecting e =
-    let left : length ts - past ≡ length (drop past (recorded ts cs bytes)) = omega (arith, length-drop past (recorded ts cs bytes), recorded_length ts cs bytes) in
-    some_left past (length ts) ∙ ap (λ n. nat_lt 0 n) left ∙ ap (λ d. can_redo (history_of (recorded ts cs bytes) past save_point d collecting)) (sym e)
+pub can_redo_here : (rs : List StepRecord) (bytes : List ℕ) (past depth : ℕ) (save_point : Option ℕ) (collecting : Bool) → depth ≡ 0 →
+    nat_lt past (length rs) ≡ can_redo (history_of (entries_in rs bytes) past save_point depth collecting)
+can_redo_here rs bytes past depth save_point collecting e =
+    let rest = drop past (entries_in rs bytes) in
+    let left : length rs - past ≡ length rest = omega (arith, length-drop past (entries_in rs bytes), entries_length rs bytes) in
+    lt_by past (length rs)
+    ∙ ap (λ n. nat_lt 0 n) left
+    ∙ some_left (length rest) (length (reverse (transactions (reverse rest))))
+    (λ h. omega (arith, length-reverse (transactions (reverse rest)), transactions_some (reverse rest) (omega (arith, length-reverse rest))))
+    (λ z. rest_none rest z)
+    ∙ ap (λ d. can_redo (history_of (entries_in rs bytes) past save_point d collecting)) (sym e)

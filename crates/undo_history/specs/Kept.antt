@@ -1,15 +1,19 @@
 -- What a contract sees of an `UndoHistory`.
 use Rattle.std.specs.Prelude.{◌≡◌, ◌≤◌, ℕ, true}
-use Rattle.ed_model.specs.History.{History}
+use Rattle.ed_model.specs.History.{History, fresh_history}
 
--- the history, and how many more steps and bytes are sure to fit
+-- the history; how many more steps and bytes are sure to fit; and how many steps and bytes the blocks hold that were taken for them
 pub record Kept : Type 0 where
   pub history : History
   pub step_room : ℕ
   pub byte_room : ℕ
+  pub taken : ℕ × ℕ
 
-abbrev pub kept : History → ℕ → ℕ → Kept
-kept history steps bytes = record { history = history; step_room = steps; byte_room = bytes }
+abbrev pub kept : History → ℕ → ℕ → ℕ × ℕ → Kept
+kept history steps bytes taken = record { history = history; step_room = steps; byte_room = bytes; taken = taken }
+
+abbrev pub fresh : Kept
+fresh = kept fresh_history 0 0 (0, 0)
 
 -- room for so many more steps, with so many bytes in all; a history that does not collect needs none
 abbrev pub HasRoom : Kept → ℕ → ℕ → Type 0

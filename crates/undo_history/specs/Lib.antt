@@ -2,5 +2,6 @@
 pub mod Kept
 pub mod Steps
 pub mod Records
+pub mod Reading
 pub mod Dropping
 pub mod Joining

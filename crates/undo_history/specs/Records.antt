@@ -1,12 +1,11 @@
--- How the records of a history are read. They stand oldest first, and each names the end of its part of what lies below it:
--- a change its bytes, a transaction its changes.
-use Rattle.std.specs.Prelude.{◌≡◌, ◌≤◌, ℕ, List, [], ◌∷◌, length, take, drop, reverse, slice_range, Option, Bool, true, zero, suc}
+-- How the records of a history are read. There is one for each step, oldest first. It names the end of the step's bytes among the
+-- bytes of all steps, whether the step begins a transaction, and whether nothing joins its transaction behind it.
+use Rattle.std.specs.Prelude.{◌≡◌, ◌≤◌, ℕ, List, [], ◌∷◌, length, take, drop, reverse, slice_range, if◌then◌else◌, Option, Bool, true, false, zero, suc}
 use Rattle.ed_model.specs.History.{Change, TextStep, ContainerStep, Transaction, History}
 use Rattle.undo_history.specs.Steps.{step_of}
 use Rattle.undo_history.specs.declared.records.ChangeKind.{ChangeKind}
 use Rattle.undo_history.specs.declared.records.ChangeKind.TheVariants.{Text, Container}
-use Rattle.undo_history.specs.declared.records.ChangeRecord.{ChangeRecord}
-use Rattle.undo_history.specs.declared.records.TransactionRecord.{TransactionRecord}
+use Rattle.undo_history.specs.declared.records.StepRecord.{StepRecord}
 
 -- Parts that end where their records say, the first beginning at `from`.
 
@@ -25,13 +24,10 @@ abbrev pub EndsInOrder : {R : Type 0} → (R → ℕ) → ℕ → List R → ℕ
 EndsInOrder end from [] whole = from ≡ whole
 EndsInOrder end from (r ∷ rs) whole = (from ≤ end r) × EndsInOrder end (end r) rs whole
 
--- Changes and transactions.
+-- Steps.
 
-abbrev pub bytes_end : ChangeRecord → ℕ
+abbrev pub bytes_end : StepRecord → ℕ
 bytes_end r = r.bytes_end
-
-abbrev pub changes_end : TransactionRecord → ℕ
-changes_end r = r.changes_end
 
 abbrev pub change_of : ChangeKind → List ℕ → Change
 change_of (Text kind place) bytes = TextStep (step_of kind place bytes)
@@ -42,28 +38,75 @@ abbrev pub HasItsBytes : ChangeKind → List ℕ → Type 0
 HasItsBytes (Text kind place) bytes = Unit {0}
 HasItsBytes (Container token coalesce) bytes = bytes ≡ []
 
-abbrev pub change_in : ChangeRecord → List ℕ → Change
-change_in r bytes = change_of r.kind bytes
+-- a change with its marks
+pub record Entry : Type 0 where
+  pub change : Change
+  pub starts : Bool
+  pub is_sealed : Bool
 
--- a transaction has its changes latest first
-abbrev pub transaction_in : TransactionRecord → List Change → Transaction
-transaction_in r changes = record { changes = reverse changes; is_sealed = r.is_sealed }
+abbrev pub entry : Change → Bool → Bool → Entry
+entry change starts is_sealed = record { change = change; starts = starts; is_sealed = is_sealed }
 
-abbrev pub changes_in : List ChangeRecord → List ℕ → List Change
-changes_in cs bytes = read_parts bytes_end change_in 0 cs bytes
+abbrev pub entry_in : StepRecord → List ℕ → Entry
+entry_in r bytes = entry (change_of r.kind bytes) r.starts r.is_sealed
 
-abbrev pub recorded : List TransactionRecord → List ChangeRecord → List ℕ → List Transaction
-recorded ts cs bytes = read_parts changes_end transaction_in 0 ts (changes_in cs bytes)
+abbrev pub entries_in : List StepRecord → List ℕ → List Entry
+entries_in rs bytes = read_parts bytes_end entry_in 0 rs bytes
 
--- the first `past` transactions are past, and the others are to be redone
-abbrev pub history_of : List Transaction → ℕ → Option ℕ → ℕ → Bool → History
+-- Transactions.
+
+abbrev pub alone : Entry → Transaction
+alone e = record { changes = e.change ∷ []; is_sealed = e.is_sealed }
+
+abbrev pub joined : Entry → Transaction → Transaction
+joined e t = record { changes = e.change ∷ t.changes; is_sealed = e.is_sealed }
+
+-- the transactions once the entry is made, the last first
+abbrev pub pushed : Entry → List Transaction → List Transaction
+pushed e [] = alone e ∷ []
+pushed e (t ∷ ts) = if e.starts then alone e ∷ t ∷ ts else joined e t ∷ ts
+
+-- the transactions of entries that stand latest first, the last first
+abbrev pub transactions : List Entry → List Transaction
+transactions [] = []
+transactions (e ∷ es) = pushed e (transactions es)
+
+-- the first `past` entries are past, and the others are to be redone
+abbrev pub history_of : List Entry → ℕ → Option ℕ → ℕ → Bool → History
 history_of all past save_point depth collecting = record {
-  past = reverse (take past all);
-  future = drop past all;
+  past = transactions (reverse (take past all));
+  future = reverse (transactions (reverse (drop past all)));
   save_point = save_point;
   depth = depth;
   collecting = collecting;
 }
+
+-- how many entries the last transaction has, where they stand latest first
+abbrev pub last_count : List Entry → ℕ
+last_count [] = 0
+last_count (e ∷ es) = if e.starts then 1 else suc (last_count es)
+
+-- how many stand before the next that begins a transaction
+abbrev pub joined_count : List Entry → ℕ
+joined_count [] = 0
+joined_count (e ∷ es) = if e.starts then 0 else suc (joined_count es)
+
+-- how many entries the first transaction has, where they stand oldest first
+abbrev pub next_count : List Entry → ℕ
+next_count [] = 0
+next_count (e ∷ es) = suc (joined_count es)
+
+-- the first of these, if there is one, begins a transaction
+abbrev pub BeginsOne : List Entry → Type 0
+BeginsOne [] = Unit {0}
+BeginsOne (e ∷ es) = e.starts ≡ true
+
+-- there is a last transaction, and it is not sealed
+abbrev pub LastIsOpen : List Transaction → Type 0
+LastIsOpen [] = ⊥
+LastIsOpen (t ∷ ts) = t.is_sealed ≡ false
+
+-- Sealing.
 
 -- the list with another item at one place
 abbrev pub changed_at : {R : Type 0} → (R → R) → ℕ → List R → List R
@@ -71,15 +114,24 @@ changed_at new i [] = []
 changed_at new zero (r ∷ rs) = new r ∷ rs
 changed_at new (suc i) (r ∷ rs) = r ∷ changed_at new i rs
 
-abbrev pub sealed_record : TransactionRecord → TransactionRecord
+abbrev pub sealed_record : StepRecord → StepRecord
 sealed_record r = record r { is_sealed = true }
 
--- the last of the first `count` transactions sealed
-abbrev pub with_sealed : ℕ → List TransactionRecord → List TransactionRecord
+-- the last of the first `count` steps sealed
+abbrev pub with_sealed : ℕ → List StepRecord → List StepRecord
 with_sealed zero rs = rs
 with_sealed (suc i) rs = changed_at sealed_record i rs
 
--- each change has its bytes, and each transaction its changes
-pub record IsInOrder (ts : List TransactionRecord) (cs : List ChangeRecord) (bytes : List ℕ) : Type 0 where
-  pub changes : EndsInOrder changes_end 0 ts (length cs)
-  pub bytes_of_changes : EndsInOrder bytes_end 0 cs (length bytes)
+-- Each step has its bytes; the first begins a transaction, and so does the first of those to be redone; and there are `count`
+-- transactions in the past.
+pub record IsInOrder (rs : List StepRecord) (bytes : List ℕ) (past count : ℕ) : Type 0 where
+  pub ends : EndsInOrder bytes_end 0 rs (length bytes)
+  pub begins : BeginsOne (entries_in rs bytes)
+  pub boundary : BeginsOne (drop past (entries_in rs bytes))
+  pub there : past ≤ length rs
+  pub counted : count ≡ length (transactions (reverse (take past (entries_in rs bytes))))
+
+-- whether the first of these begins a transaction, or there is none
+abbrev pub begins_or_none : List Entry → Bool
+begins_or_none [] = true
+begins_or_none (e ∷ es) = e.starts

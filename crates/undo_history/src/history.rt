@@ -1,27 +1,32 @@
 //! `UndoHistory` and its calls.
 
-ghost use Rattle.std.specs.Prelude.{true, false, [], ◌∷◌, ◌++◌, ◌≡◌, ◌≤◌, ◌<◌, ◌+◌, ◌^◌, length, take, vec_len, vec_capacity, slice_get, OnOk, OnErr, IsOk};
-ghost use Rattle.ed_model.specs.History.{fresh_history, at_save_point, can_undo, can_redo, sealed_outside_groups, with_change, joins, begins_transaction, appended, TextStep, with_container_step, group_begun, group_ended, saved, emptied, collecting_set, undone, redone, reachable, undo_changes, redo_changes, inverse_change};
-ghost use Rattle.undo_history.specs.Kept.{kept, HasRoom};
+ghost use Rattle.std.specs.Prelude.{true, false, [], ◌∷◌, ◌++◌, ◌≡◌, ◌≤◌, ◌<◌, ◌+◌, ◌*◌, ◌^◌, ◌==◌, if◌then◌else◌, max, length, take, slice_get, OnOk, OnErr, IsOk};
+ghost use Rattle.ed_model.specs.History.{at_save_point, can_undo, can_redo, sealed_outside_groups, with_change, joins, begins_transaction, appended, TextStep, with_container_step, group_begun, group_ended, saved, emptied, collecting_set, undone, redone, reachable, undo_changes, redo_changes, inverse_change};
+ghost use Rattle.undo_history.specs.Kept.{fresh, HasRoom};
 ghost use Rattle.undo_history.specs.Steps.{step_of};
 ghost use Rattle.undo_history.specs.Dropping.{without_future};
-ghost use Rattle.undo_history.specs.Records.{last_end, changes_end, bytes_end, change_of, HasItsBytes, with_sealed, changes_in, EndsInOrder};
+ghost use Rattle.undo_history.specs.Records.{change_of, HasItsBytes, LastIsOpen};
 
 use crate::joining::{belongs, find_latest_step};
 use crate::records::{
-    ChangeKind, ChangeRecord, StepKind, TransactionRecord, bytes_before, changes_before,
+    ChangeKind, LentChange, StepKind, StepRecord, all_bytes, all_steps, bytes_before, change_at,
+    seal,
 };
+use crate::runs::{count_before, count_behind, is_last_of_next};
+use split_vector::SplitVector;
 use std::alloc::{AllocError, Global};
 use std::marker::Model;
 
 /// The history of a document. Undo and redo move a boundary among the records; an append drops what lies behind it.
 #[derive(Drop)]
 pub struct UndoHistory {
-    transactions: Vec<TransactionRecord>,
-    changes: Vec<ChangeRecord>,
-    bytes: Vec<u8>,
-    // How many transactions are past; the others are to be redone.
+    // The gap of both is behind all items, for they are appended, and the last ones deleted, alone.
+    steps: SplitVector<StepRecord>,
+    bytes: SplitVector<u8>,
+    // How many steps are past; the others are to be redone.
     past: usize,
+    // How many transactions the past has.
+    transactions: usize,
     save_point: Option<usize>,
     depth: u64,
     is_collecting: bool,
@@ -31,34 +36,39 @@ pub struct UndoHistory {
 }
 
 impl Model for UndoHistory {
-    ghost use Rattle.undo_history.specs.Kept.{Kept, kept};
+    ghost use Rattle.undo_history.specs.Kept.{Kept};
 
     ghost Value = { Kept };
 
-    ghost use Rattle.std.specs.Prelude.{◌≤◌, ◌+◌, length, vec_len, vec_capacity};
-    ghost use Rattle.undo_history.specs.Records.{history_of, recorded, IsInOrder};
+    ghost use Rattle.std.specs.Prelude.{◌≡◌, ◌≤◌, ◌<◌, ◌+◌, ◌^◌, length};
+    ghost use Rattle.undo_history.specs.Records.{history_of, entries_in, IsInOrder};
 
-    ghost view = { λ h. kept (history_of (recorded h.transactions.items h.changes.items h.bytes.items) h.past h.save_point h.depth h.is_collecting) h.step_room h.byte_room };
+    ghost view = { λ h. record {
+      history = history_of (entries_in h.steps.items h.bytes.items) h.past h.save_point h.depth h.is_collecting;
+      step_room = h.step_room;
+      byte_room = h.byte_room;
+      taken = (length h.steps.items + h.steps.spare, length h.bytes.items + h.bytes.spare);
+    } };
 
     ghost invariant = { λ h. record {
-      in_order : IsInOrder h.transactions.items h.changes.items h.bytes.items;
-      past_there : h.past ≤ length h.transactions.items;
-      transaction_room : vec_len h.transactions + h.step_room ≤ vec_capacity h.transactions;
-      change_room : vec_len h.changes + h.step_room ≤ vec_capacity h.changes;
-      byte_room : vec_len h.bytes + h.byte_room ≤ vec_capacity h.bytes;
+      in_order : IsInOrder h.steps.items h.bytes.items h.past h.transactions;
+      step_room : h.step_room ≤ h.steps.spare;
+      byte_room : h.byte_room ≤ h.bytes.spare;
+      step_gap : h.steps.gap ≡ length h.steps.items;
+      byte_gap : h.bytes.gap ≡ length h.bytes.items;
     } };
 }
 
 impl UndoHistory {
     /// A fresh history. Takes no memory.
     pub fn new(alloc: Global) -> Self
-        ensures { result ≡ kept fresh_history 0 0 }
+        ensures { result ≡ fresh }
     {
         UndoHistory {
-            transactions: Vec::new(alloc),
-            changes: Vec::new(alloc),
-            bytes: Vec::new(alloc),
+            steps: SplitVector::new(alloc),
+            bytes: SplitVector::new(alloc),
             past: 0,
+            transactions: 0,
             save_point: Some(0),
             depth: 0,
             is_collecting: true,
@@ -72,7 +82,7 @@ impl UndoHistory {
         ensures { result ≡ at_save_point self.now.history }
     {
         match self.save_point {
-            Some(place) => place == self.past,
+            Some(place) => place == self.transactions,
             None => false,
         }
     }
@@ -81,50 +91,49 @@ impl UndoHistory {
     pub fn can_undo(&self) -> bool
         ensures { result ≡ can_undo self.now.history }
     {
-        self.depth == 0 && self.past > 0
+        self.depth == 0 && self.transactions > 0
     }
 
     /// Whether there is a transaction to redo, outside groups.
     pub fn can_redo(&self) -> bool
         ensures { result ≡ can_redo self.now.history }
     {
-        self.depth == 0 && self.past < self.transactions.len()
+        self.depth == 0 && self.past < self.steps.len()
     }
 
     /// Whether steps are collected.
     pub fn is_collecting(&self) -> bool
         ensures { result ≡ self.now.history.collecting }
     {
-        self.is_collecting // not whether there is anything
+        self.is_collecting
     }
 
     /// How many groups are open.
     pub fn depth(&self) -> u64
         ensures { result ≡ self.now.history.depth }
     {
-        self.depth // the open groups
+        self.depth
     }
 
-    /// Makes room for so many more steps, with so many bytes in all, and gives none back. A history that does not collect
-    /// takes none.
+    /// Makes room for so many more steps, with so many bytes in all, and gives none back. A block that is too small grows to
+    /// twice its size, or by what was asked where that is more. A history that does not collect takes none.
     ///
     /// # Errors
     ///
-    /// `AllocError` where memory is refused. All is then as it was.
+    /// `AllocError` where memory is refused. All but `taken` is then as it was.
     pub fn reserve(&mut self, steps: usize, bytes: usize) -> Result<(), AllocError>
         ensures same { self.new.history ≡ self.old.history }
         ensures ok { OnOk result (HasRoom self.new steps bytes) }
-        ensures room_is_there { HasRoom self.old steps bytes → IsOk result }
+        ensures room_is_there { HasRoom self.old steps bytes → IsOk result × (self.new ≡ self.old) }
         ensures room_stays { (self.old.step_room ≤ self.new.step_room) × (self.old.byte_room ≤ self.new.byte_room) }
-        ensures err { OnErr result (self.new ≡ self.old) }
+        ensures rooms { (self.new.step_room ≤ max self.old.step_room steps) × (self.new.byte_room ≤ max self.old.byte_room bytes) }
+        ensures at_most { (self.new.taken.0 ≤ max (2 * self.old.taken.0) (self.old.taken.0 + steps)) × (self.new.taken.1 ≤ max (2 * self.old.taken.1) (self.old.taken.1 + bytes)) }
+        ensures err { OnErr result (self.new ≡ record self.old { taken = self.new.taken }) }
     {
         if !self.is_collecting || (steps <= self.step_room && bytes <= self.byte_room) {
             return Ok(());
         }
-        let Ok(()) = self.transactions.reserve(steps) else {
-            return Err(AllocError);
-        };
-        let Ok(()) = self.changes.reserve(steps) else {
+        let Ok(()) = self.steps.reserve(steps) else {
             return Err(AllocError);
         };
         let Ok(()) = self.bytes.reserve(bytes) else {
@@ -136,12 +145,11 @@ impl UndoHistory {
     }
 
     /// Outside groups, seals the last transaction: nothing is added to it any more.
-    #[tactic(auto, using(crate::proofs::Sealing::with_sealed_in_order, crate::proofs::Sealing::with_sealed_length))]
     pub fn seal_outside_groups(&mut self)
         ensures { self.new ≡ record self.old { history = sealed_outside_groups self.old.history } }
     {
         if self.depth == 0 {
-            seal(&mut self.transactions, self.past);
+            seal(&mut self.steps, self.past);
         }
     }
 
@@ -150,6 +158,9 @@ impl UndoHistory {
     pub fn append_container_reserved(&mut self, token: i64, coalesce: bool)
         requires { HasRoom self.old 1 0 }
         ensures history { self.new.history ≡ with_container_step token coalesce self.old.history }
+        ensures taken { self.new.taken ≡ self.old.taken }
+        ensures room { self.old.history.collecting ≡ true → (self.new.step_room + 1 ≡ self.old.step_room) × (self.new.byte_room ≡ self.old.byte_room) }
+        ensures not_collecting { self.old.history.collecting ≡ false → self.new ≡ self.old }
         ensures steps_left { self.old.step_room ≤ self.new.step_room + 1 }
         ensures bytes_left { self.old.byte_room ≤ self.new.byte_room }
     {
@@ -163,7 +174,7 @@ impl UndoHistory {
     pub fn set_save_point(&mut self)
         ensures { self.new ≡ record self.old { history = saved self.old.history } }
     {
-        self.save_point = Some(self.past);
+        self.save_point = Some(self.transactions);
     }
 
     /// Opens a group: its steps are one transaction, with no step before it.
@@ -190,10 +201,10 @@ impl UndoHistory {
     pub fn empty(&mut self)
         ensures { self.new ≡ record self.old { history = emptied self.old.history } }
     {
-        self.transactions.clear();
-        self.changes.clear();
-        self.bytes.clear();
+        self.steps.delete(0, self.steps.len());
+        self.bytes.delete(0, self.bytes.len());
         self.past = 0;
+        self.transactions = 0;
         self.save_point = Some(0);
         self.depth = 0;
     }
@@ -216,77 +227,89 @@ impl UndoHistory {
 
     /// Moves the last transaction of the past to what can be redone, and seals the one before it. The caller takes its
     /// changes back.
-    #[tactic(auto, using(crate::proofs::Sealing::with_sealed_in_order, crate::proofs::Sealing::with_sealed_length))]
     pub fn undo(&mut self)
         ensures { self.new ≡ record self.old { history = undone self.old.history } }
     {
         if self.past == 0 {
             return;
         }
-        self.past -= 1;
-        seal(&mut self.transactions, self.past);
+        self.past -= count_before(all_steps(&self.steps), self.past);
+        self.transactions -= 1;
+        seal(&mut self.steps, self.past);
     }
 
     /// Moves the next transaction that can be redone to the past, sealed. The caller makes its changes again.
-    #[tactic(auto, using(crate::proofs::Sealing::with_sealed_in_order, crate::proofs::Sealing::with_sealed_length))]
     pub fn redo(&mut self)
         ensures { self.new ≡ record self.old { history = redone self.old.history } }
     {
-        if self.past == self.transactions.len() {
+        let count = count_behind(all_steps(&self.steps), self.past);
+        if count == 0 {
             return;
         }
-        self.past += 1; // behind it
-        seal(&mut self.transactions, self.past);
+        self.past += count;
+        self.transactions += 1;
+        seal(&mut self.steps, self.past);
     }
 
     /// How many changes an undo takes back: 0 where there is nothing to undo.
     pub fn undo_len(&self) -> usize
         ensures { result ≡ length (undo_changes self.now.history) }
     {
-        if self.past == 0 {
-            return 0;
-        }
-        let last = self.transactions[self.past - 1];
-        last.changes_end - changes_before(&self.transactions, self.past - 1)
+        count_before(all_steps(&self.steps), self.past)
     }
 
-    /// What was done by the change that an undo takes back at `index`, counted in the order in which it does so, and the
-    /// bytes of that step; a container's step has none.
-    pub fn change_to_undo(&self, index: usize) -> (ChangeKind, &[u8])
+    /// What was done by the change that an undo takes back at `index`, counted in the order in which it does so; its bytes,
+    /// lent; and whether it is the last. Takes no memory.
+    pub fn change_to_undo(&self, index: usize) -> LentChange
         requires { index < length (undo_changes self.now.history) }
-        ensures change { slice_get (undo_changes self.now.history) index ≡ Some (inverse_change (change_of result.0 result.1.now)) }
-        ensures bytes { HasItsBytes result.0 result.1.now }
+        ensures change { slice_get (undo_changes self.now.history) index ≡ Some (inverse_change (change_of result.kind result.bytes.now)) }
+        ensures bytes { HasItsBytes result.kind result.bytes.now }
+        ensures last { result.is_last ≡ (index + 1 == length (undo_changes self.now.history)) }
     {
-        let last = self.transactions[self.past - 1];
-        change_at(&self.changes, &self.bytes, last.changes_end - 1 - index)
+        let steps = all_steps(&self.steps);
+        let place = self.past - 1 - index;
+        let (kind, bytes) = change_at(steps, all_bytes(&self.bytes), place);
+        let is_last = steps[place].starts;
+        LentChange {
+            kind,
+            bytes,
+            is_last,
+        }
     }
 
     /// How many changes a redo makes again: 0 where there is nothing to redo.
     pub fn redo_len(&self) -> usize
         ensures { result ≡ length (redo_changes self.now.history) }
     {
-        if self.past == self.transactions.len() {
-            return 0;
-        }
-        let next = self.transactions[self.past];
-        next.changes_end - changes_before(&self.transactions, self.past)
+        count_behind(all_steps(&self.steps), self.past)
     }
 
-    /// The change that a redo makes again at `index`, counted in the order in which it does so, and the bytes of that
-    /// step; a container's step has none.
-    pub fn change_to_redo(&self, index: usize) -> (ChangeKind, &[u8])
+    /// The change that a redo makes again at `index`, counted in the order in which it does so; its bytes, lent; and whether
+    /// it is the last. Takes no memory.
+    pub fn change_to_redo(&self, index: usize) -> LentChange
         requires { index < length (redo_changes self.now.history) }
-        ensures change { slice_get (redo_changes self.now.history) index ≡ Some (change_of result.0 result.1.now) }
-        ensures bytes { HasItsBytes result.0 result.1.now }
+        ensures change { slice_get (redo_changes self.now.history) index ≡ Some (change_of result.kind result.bytes.now) }
+        ensures bytes { HasItsBytes result.kind result.bytes.now }
+        ensures last { result.is_last ≡ (index + 1 == length (redo_changes self.now.history)) }
     {
-        let start = changes_before(&self.transactions, self.past);
-        change_at(&self.changes, &self.bytes, start + index)
+        let steps = all_steps(&self.steps);
+        let place = self.past + index;
+        let (kind, bytes) = change_at(steps, all_bytes(&self.bytes), place);
+        let is_last = is_last_of_next(steps, place);
+        LentChange {
+            kind,
+            bytes,
+            is_last,
+        }
     }
 
     // Appends a change. There must be room for it.
     fn append(&mut self, later: bool, kind: ChangeKind, bytes: &[u8])
         requires { HasRoom self.old 1 (length bytes.now) }
         ensures history { self.new.history ≡ appended later (change_of kind bytes.now) self.old.history }
+        ensures taken { self.new.taken ≡ self.old.taken }
+        ensures room { self.old.history.collecting ≡ true → (self.new.step_room + 1 ≡ self.old.step_room) × (self.new.byte_room + length bytes.now ≡ self.old.byte_room) }
+        ensures not_collecting { self.old.history.collecting ≡ false → self.new ≡ self.old }
         ensures steps_left { self.old.step_room ≤ self.new.step_room + 1 }
         ensures bytes_left { self.old.byte_room ≤ self.new.byte_room + length bytes.now }
     {
@@ -295,17 +318,16 @@ impl UndoHistory {
         }
         let joined = self.joins(later, kind, bytes);
         self.drop_future();
-        if joined {
-            self.extend_last(kind, bytes);
-        } else {
-            self.begin_transaction(kind, bytes);
-        }
+        self.push(joined, kind, bytes);
     }
 
     /// Appends a step of the text; `later` says that it is a later step of its message. There must be room for it.
     pub fn append_reserved(&mut self, later: bool, kind: StepKind, place: usize, bytes: &[u8])
         requires { HasRoom self.old 1 (length bytes.now) }
         ensures history { self.new.history ≡ appended later (TextStep (step_of kind place bytes.now)) self.old.history }
+        ensures taken { self.new.taken ≡ self.old.taken }
+        ensures room { self.old.history.collecting ≡ true → (self.new.step_room + 1 ≡ self.old.step_room) × (self.new.byte_room + length bytes.now ≡ self.old.byte_room) }
+        ensures not_collecting { self.old.history.collecting ≡ false → self.new ≡ self.old }
         ensures steps_left { self.old.step_room ≤ self.new.step_room + 1 }
         ensures bytes_left { self.old.byte_room ≤ self.new.byte_room + length bytes.now }
     {
@@ -332,126 +354,53 @@ impl UndoHistory {
         if self.past == 0 {
             return false;
         }
-        let last = self.transactions[self.past - 1];
-        if last.is_sealed || self.is_at_save_point() {
+        let steps = all_steps(&self.steps);
+        if steps[self.past - 1].is_sealed || self.is_at_save_point() {
             return false;
         }
         if self.depth > 0 || later {
             return true;
         }
-        let start = changes_before(&self.transactions, self.past - 1);
-        let latest = find_latest_step(&self.changes, start, last.changes_end);
-        belongs(kind, bytes.len(), latest)
+        belongs(kind, bytes.len(), find_latest_step(steps, self.past))
     }
 
     // Drops what was undone, and a save point that could be reached only by redoing it.
     fn drop_future(&mut self)
         ensures { self.new ≡ record self.old { history = without_future self.old.history } }
     {
-        let changes = changes_before(&self.transactions, self.past);
-        let bytes = bytes_before(&self.changes, changes);
-        self.transactions.truncate(self.past);
-        self.changes.truncate(changes);
-        self.bytes.truncate(bytes);
-        self.save_point = still_reachable(self.past, self.save_point);
+        let kept = bytes_before(all_steps(&self.steps), self.past);
+        let steps = self.steps.len();
+        let bytes = self.bytes.len();
+        self.steps.delete(self.past, steps - self.past);
+        self.bytes.delete(kept, bytes - kept);
+        self.save_point = still_reachable(self.transactions, self.save_point);
     }
 
-    // Appends a change to the last transaction. Nothing is there to be redone.
-    fn extend_last(&mut self, kind: ChangeKind, bytes: &[u8])
+    // Appends a change, to the last transaction or as one of its own. Nothing is there to be redone.
+    fn push(&mut self, joined: bool, kind: ChangeKind, bytes: &[u8])
         requires last { self.old.history.future ≡ [] }
-        requires begun { 0 < length self.old.history.past }
+        requires begun { joined ≡ true → LastIsOpen self.old.history.past }
         requires room { (0 < self.old.step_room) × (length bytes.now ≤ self.old.byte_room) }
-        ensures history { self.new.history ≡ record self.old.history { past = with_change true (change_of kind bytes.now) self.old.history.past } }
+        ensures history { self.new.history ≡ record self.old.history { past = with_change joined (change_of kind bytes.now) self.old.history.past } }
+        ensures taken { self.new.taken ≡ self.old.taken }
         ensures steps_left { self.new.step_room + 1 ≡ self.old.step_room }
         ensures bytes_left { self.new.byte_room + length bytes.now ≡ self.old.byte_room }
     {
-        store(&mut self.changes, &mut self.bytes, kind, bytes);
-        let last = &mut self.transactions[self.past - 1];
-        last.changes_end = self.changes.len();
-        self.step_room -= 1;
-        self.byte_room -= bytes.len();
-    }
-
-    // Appends a change as a transaction of its own. Nothing is there to be redone.
-    fn begin_transaction(&mut self, kind: ChangeKind, bytes: &[u8])
-        requires last { self.old.history.future ≡ [] }
-        requires room { (0 < self.old.step_room) × (length bytes.now ≤ self.old.byte_room) }
-        ensures history { self.new.history ≡ record self.old.history { past = with_change false (change_of kind bytes.now) self.old.history.past } }
-        ensures steps_left { self.new.step_room + 1 ≡ self.old.step_room }
-        ensures bytes_left { self.new.byte_room + length bytes.now ≡ self.old.byte_room }
-    {
-        store(&mut self.changes, &mut self.bytes, kind, bytes);
-        self.transactions.push_reserved(TransactionRecord {
-            changes_end: self.changes.len(),
+        let stored = self.bytes.len();
+        self.bytes.insert_slice_reserved(stored, bytes);
+        let step = StepRecord {
+            kind,
+            bytes_end: stored + bytes.len(),
+            starts: !joined,
             is_sealed: false,
-        });
+        };
+        let place = self.steps.len();
+        self.steps.insert_reserved(place, step);
         self.past += 1;
+        self.transactions = transactions_after(self.transactions, joined);
         self.step_room -= 1;
         self.byte_room -= bytes.len();
     }
-}
-
-// What a change was, and its bytes.
-fn change_at<'a>(changes: &[ChangeRecord], bytes: &'a [u8], index: usize) -> (ChangeKind, &'a [u8])
-    requires there { index < length changes.now }
-    requires in_order { EndsInOrder bytes_end 0 changes.now (length bytes.now) }
-    ensures change { slice_get (changes_in changes.now bytes.now) index ≡ Some (change_of result.0 result.1.now) }
-    ensures bytes { HasItsBytes result.0 result.1.now }
-{
-    let start = bytes_before(changes, index);
-    let change = changes[index];
-    let part = &bytes[start..change.bytes_end];
-    (change.kind, bytes_by_kind(change.kind, part))
-}
-
-// The bytes of a change of a kind, of those that are stored with it: a container's step has none.
-fn bytes_by_kind(kind: ChangeKind, stored: &[u8]) -> &[u8]
-    ensures change { change_of kind result.now ≡ change_of kind stored.now }
-    ensures bytes { HasItsBytes kind result.now }
-{
-    match kind {
-        ChangeKind::Text { kind: _, place: _ } => stored,
-        ChangeKind::Container {
-            token: _,
-            coalesce: _,
-        } => &stored[..0],
-    }
-}
-
-// How many bytes are copied at once. The C library copies longer runs in a way that is slower where memory is touched for
-// the first time.
-const PIECE: usize = 4096;
-
-// Appends bytes to the stored ones. There must be room for them.
-fn append_bytes(stored: &mut Vec<u8>, bytes: &[u8])
-    requires { vec_len stored.old + length bytes.now ≤ vec_capacity stored.old }
-    ensures bytes { stored.new.items ≡ stored.old.items ++ bytes.now }
-    ensures capacity { vec_capacity stored.old ≤ vec_capacity stored.new }
-{
-    let mut done = 0;
-    'appending: while done < bytes.len() {
-        let end = bytes.len().min(done + PIECE);
-        let Ok(()) = stored.extend_from_slice(&bytes[done..end]) else {
-            unreachable!();
-        };
-        done = end;
-    }
-}
-
-// Stores a change and its bytes behind the others. There must be room for them.
-fn store(changes: &mut Vec<ChangeRecord>, stored: &mut Vec<u8>, kind: ChangeKind, bytes: &[u8])
-    requires change_room { vec_len changes.old < vec_capacity changes.old }
-    requires byte_room { vec_len stored.old + length bytes.now ≤ vec_capacity stored.old }
-    ensures changes { changes.new.items ≡ changes.old.items ++ record { kind = kind; bytes_end = vec_len stored.old + length bytes.now } ∷ [] }
-    ensures bytes { stored.new.items ≡ stored.old.items ++ bytes.now }
-    ensures change_capacity { vec_capacity changes.new ≡ vec_capacity changes.old }
-    ensures byte_capacity { vec_capacity stored.old ≤ vec_capacity stored.new }
-{
-    append_bytes(stored, bytes);
-    changes.push_reserved(ChangeRecord {
-        kind,
-        bytes_end: stored.len(),
-    });
 }
 
 // The save point, if it can still be reached from a past of `past` transactions.
@@ -464,13 +413,10 @@ fn still_reachable(past: usize, save_point: Option<usize>) -> Option<usize>
     }
 }
 
-// Seals the last of the first `count` transactions, if there is one.
-fn seal(transactions: &mut Vec<TransactionRecord>, count: usize)
-    requires { count ≤ vec_len transactions.old }
-    ensures items { transactions.new.items ≡ with_sealed count transactions.old.items }
-    ensures capacity { vec_capacity transactions.new ≡ vec_capacity transactions.old }
+// How many transactions there are once a change has joined the last one, or has begun another.
+fn transactions_after(count: usize, joined: bool) -> usize
+    requires { count < 2 ^ 63 }
+    ensures { result ≡ (if joined then count else count + 1) }
 {
-    if count > 0 {
-        transactions[count - 1].is_sealed = true;
-    }
+    if joined { count } else { count + 1 }
 }

@@ -1,11 +1,11 @@
 //! Which changes join the last transaction.
 
-ghost use Rattle.std.specs.Prelude.{◌≡◌, ◌≤◌, ℕ, List, length, reverse, slice_range};
-ghost use Rattle.ed_model.specs.History.{latest_text_step};
+ghost use Rattle.std.specs.Prelude.{◌≡◌, ◌≤◌, ℕ, List, length, reverse, take};
+ghost use Rattle.ed_model.specs.History.{latest_text_step, first_changes};
 ghost use Rattle.undo_history.specs.Joining.{steps_go_on, belongs_after, outline_if_any};
-ghost use Rattle.undo_history.specs.Records.{EndsInOrder, bytes_end, changes_in};
+ghost use Rattle.undo_history.specs.Records.{EndsInOrder, bytes_end, entries_in, transactions};
 
-use crate::records::{ChangeKind, ChangeRecord, StepKind, StepOutline, bytes_before};
+use crate::records::{ChangeKind, StepKind, StepOutline, StepRecord, bytes_before};
 
 /// Whether a step goes on with the typing, or the deleting of one character after another, that the earlier step was.
 pub fn goes_on(step: StepOutline, earlier: StepOutline) -> bool
@@ -37,16 +37,19 @@ pub fn belongs(kind: ChangeKind, count: usize, latest: Option<StepOutline>) -> b
     }
 }
 
-/// The latest step of the text among the changes from `start` to `end`.
-pub fn find_latest_step(changes: &[ChangeRecord], start: usize, end: usize) -> Option<StepOutline>
-    requires { (start ≤ end) × (end ≤ length changes.now) }
-    ensures { (bytes : List ℕ) → EndsInOrder bytes_end 0 changes.now (length bytes) → result ≡ outline_if_any (latest_text_step (reverse (slice_range (changes_in changes.now bytes) start end))) }
+/// The latest step of the text in the last transaction of the first `past` steps.
+pub fn find_latest_step(steps: &[StepRecord], past: usize) -> Option<StepOutline>
+    requires { past ≤ length steps.now }
+    ensures { (bytes : List ℕ) → EndsInOrder bytes_end 0 steps.now (length bytes) → result ≡ outline_if_any (latest_text_step (first_changes (transactions (reverse (take past (entries_in steps.now bytes)))))) }
 {
-    for i in (start..end).rev() {
-        let change = changes[i];
-        if let ChangeKind::Text { kind, place } = change.kind {
-            let count = change.bytes_end.saturating_sub(bytes_before(changes, i));
+    for i in (0..past).rev() {
+        let step = steps[i];
+        if let ChangeKind::Text { kind, place } = step.kind {
+            let count = step.bytes_end.saturating_sub(bytes_before(steps, i));
             return Some(StepOutline { kind, place, count });
+        }
+        if step.starts {
+            return None;
         }
     }
     None

@@ -5,8 +5,7 @@
 mod history;
 mod joining;
 mod records;
-#[cfg(test)]
-mod tests;
+mod runs;
 
 pub use history::UndoHistory;
-pub use records::{ChangeKind, StepKind};
+pub use records::{ChangeKind, LentChange, StepKind};

@@ -1,65 +1,76 @@
-use Rattle.std.proofs.Common.{◌≡◌, ◌<◌, ◌+◌, ◌∙◌, ap, sym, arith, length, take, get_or, false, Some}
-use Rattle.std.specs.Prelude.{slice_get}
-use Rattle.std.proofs.lemmas.List.{get_or_default}
+use Rattle.std.proofs.Common.{◌≡◌, ◌+◌, ◌≤◌, ◌<◌, ◌∙◌, ap, sym, arith, length, drop, Some}
+use Rattle.std.specs.Prelude.{slice_get, ◌==◌}
 use Rattle.ed_model.specs.History.{redo_changes}
-use Rattle.undo_history.specs.declared.records.TransactionRecord.{TransactionRecord}
-use Rattle.undo_history.specs.Records.{recorded, change_of, changes_in, changes_end, last_end, history_of}
-use Rattle.undo_history.proofs.Sealing.{recorded_length}
-use Rattle.undo_history.proofs.Reading.{changes_to_redo, redo_index, some_to_redo, redo_read}
+use Rattle.undo_history.specs.Kept.{Kept}
+use Rattle.undo_history.specs.Reading.{changes_in}
+use Rattle.undo_history.specs.Records.{entries_in, history_of, next_count, change_of, begins_or_none}
+use Rattle.undo_history.proofs.Reading.{redo_length, redo_within, redo_read, redo_last}
+use Rattle.undo_history.proofs.Sealing.{entries_length}
 use Rattle.undo_history.proofs.history.UndoHistory.change_to_redo.Goals as goal
 
-abbrev none : TransactionRecord
-none = record { changes_end = 0; is_sealed = false }
-
-pub overflow_add-start : goal.overflow_add-start
-overflow_add-start c =
+pub overflow_add-place : goal.overflow_add-place
+overflow_add-place c =
     let i = c.self.inside in
-    let ts = i.transactions.items in
-    let all = recorded ts i.changes.items i.bytes.items in
-    let length_is : length (redo_changes (history_of all i.past i.save_point i.depth i.is_collecting)) ≡ length (redo_changes c.args.self.now.history) =
-    ap (λ k. length (redo_changes k.history)) c.self.view_is in
-    let some : i.past < length ts = omega (arith, some_to_redo all i.past i.depth i.save_point i.is_collecting (omega (arith, length_is, c.requires)), recorded_length ts i.changes.items i.bytes.items) in
-    let t : TransactionRecord = get_or ts i.past none in
-    let read_t = get_or_default ts i.past none t some in
-    let place = redo_index ts i.changes.items i.bytes.items c.args.index i.past i.depth t i.save_point i.is_collecting c.self.invariant.in_order read_t (omega (arith, length_is, c.requires)) in
-    let start : c.changes_before-start.result ≡ last_end changes_end 0 (take i.past ts) =
-    c.changes_before-start.ensures ∙ ap (λ q. last_end changes_end 0 (take i.past q)) c.deref.ensures.value in
-    omega (arith, place.1, place.2, start, ap length c.deref-2.ensures.value, c.deref-2.type_inv.0)
+    let rs = i.steps.items in
+    let bytes = i.bytes.items in
+    let es = entries_in rs bytes in
+    let there : i.past ≤ length es = omega (arith, entries_length rs bytes, c.self.invariant.in_order.there) in
+    let count = ap (λ (k : Kept). length (redo_changes k.history)) c.self.view_is in
+    let long = redo_length es i.past i.depth i.save_point i.is_collecting there c.self.invariant.in_order.boundary in
+    omega (arith, count, c.requires, long, redo_within es i.past there, entries_length rs bytes, c.all_steps-steps.ensures.within)
 
-pub change_at-requires-clause-there : goal.change_at-requires-clause-there
-change_at-requires-clause-there c =
+pub change_at-kind-requires-clause-there : goal.change_at-kind-requires-clause-there
+change_at-kind-requires-clause-there c =
     let i = c.self.inside in
-    let ts = i.transactions.items in
-    let all = recorded ts i.changes.items i.bytes.items in
-    let length_is : length (redo_changes (history_of all i.past i.save_point i.depth i.is_collecting)) ≡ length (redo_changes c.args.self.now.history) =
-    ap (λ k. length (redo_changes k.history)) c.self.view_is in
-    let some : i.past < length ts = omega (arith, some_to_redo all i.past i.depth i.save_point i.is_collecting (omega (arith, length_is, c.requires)), recorded_length ts i.changes.items i.bytes.items) in
-    let t : TransactionRecord = get_or ts i.past none in
-    let read_t = get_or_default ts i.past none t some in
-    let place = redo_index ts i.changes.items i.bytes.items c.args.index i.past i.depth t i.save_point i.is_collecting c.self.invariant.in_order read_t (omega (arith, length_is, c.requires)) in
-    let start : c.changes_before-start.result ≡ last_end changes_end 0 (take i.past ts) =
-    c.changes_before-start.ensures ∙ ap (λ q. last_end changes_end 0 (take i.past q)) c.deref.ensures.value in
-    omega (arith, place.1, place.2, start, ap length c.deref-2.ensures.value)
+    let rs = i.steps.items in
+    let bytes = i.bytes.items in
+    let es = entries_in rs bytes in
+    let there : i.past ≤ length es = omega (arith, entries_length rs bytes, c.self.invariant.in_order.there) in
+    let count = ap (λ (k : Kept). length (redo_changes k.history)) c.self.view_is in
+    let long = redo_length es i.past i.depth i.save_point i.is_collecting there c.self.invariant.in_order.boundary in
+    omega (arith, count, c.requires, long, redo_within es i.past there, entries_length rs bytes, ap length c.all_steps-steps.ensures.steps)
+
+pub is_last_of_next-is_last-requires : goal.is_last_of_next-is_last-requires
+is_last_of_next-is_last-requires c =
+    let i = c.self.inside in
+    let rs = i.steps.items in
+    let bytes = i.bytes.items in
+    let es = entries_in rs bytes in
+    let there : i.past ≤ length es = omega (arith, entries_length rs bytes, c.self.invariant.in_order.there) in
+    let count = ap (λ (k : Kept). length (redo_changes k.history)) c.self.view_is in
+    let long = redo_length es i.past i.depth i.save_point i.is_collecting there c.self.invariant.in_order.boundary in
+    omega (arith, count, c.requires, long, redo_within es i.past there, entries_length rs bytes, ap length c.all_steps-steps.ensures.steps)
 
 pub returns-clause-change : goal.returns-clause-change
 returns-clause-change c =
     let i = c.self.inside in
-    let ts = i.transactions.items in
-    let all = recorded ts i.changes.items i.bytes.items in
-    let length_is : length (redo_changes (history_of all i.past i.save_point i.depth i.is_collecting)) ≡ length (redo_changes c.args.self.now.history) =
-    ap (λ k. length (redo_changes k.history)) c.self.view_is in
-    let some : i.past < length ts = omega (arith, some_to_redo all i.past i.depth i.save_point i.is_collecting (omega (arith, length_is, c.requires)), recorded_length ts i.changes.items i.bytes.items) in
-    let t : TransactionRecord = get_or ts i.past none in
-    let read_t = get_or_default ts i.past none t some in
-    let place = redo_index ts i.changes.items i.bytes.items c.args.index i.past i.depth t i.save_point i.is_collecting c.self.invariant.in_order read_t (omega (arith, length_is, c.requires)) in
-    let start : c.changes_before-start.result ≡ last_end changes_end 0 (take i.past ts) =
-    c.changes_before-start.ensures ∙ ap (λ q. last_end changes_end 0 (take i.past q)) c.deref.ensures.value in
-    let x = change_of c.change_at.result.0 c.change_at.result.1.now in
-    let read : slice_get (changes_in i.changes.items i.bytes.items) (last_end changes_end 0 (take i.past ts) + c.args.index) ≡ Some x =
-    ap (λ s. slice_get (changes_in i.changes.items i.bytes.items) (s + c.args.index)) (sym start)
-    ∙ ap (λ cs. slice_get (changes_in cs i.bytes.items) (c.changes_before-start.result + c.args.index)) (sym c.deref-2.ensures.value)
-    ∙ ap (λ b. slice_get (changes_in c.deref-2.result.now b) (c.changes_before-start.result + c.args.index)) (sym c.deref-3.ensures.value)
-    ∙ c.change_at.ensures.change in
-    ap (λ k. slice_get (redo_changes k.history) c.args.index) (sym c.self.view_is)
-    ∙ ap (λ cs. slice_get cs c.args.index) (changes_to_redo ts i.changes.items i.bytes.items i.past i.depth t i.save_point i.is_collecting some read_t)
-    ∙ redo_read ts i.changes.items i.bytes.items i.past c.args.index t x c.self.invariant.in_order some read_t place.1 read
+    let rs = i.steps.items in
+    let bytes = i.bytes.items in
+    let es = entries_in rs bytes in
+    let x = change_of c.change_at-kind.result.0 c.change_at-kind.result.1.now in
+    let place = i.past + c.args.index in
+    let there : i.past ≤ length es = omega (arith, entries_length rs bytes, c.self.invariant.in_order.there) in
+    let count = ap (λ (k : Kept). length (redo_changes k.history)) c.self.view_is in
+    let long = redo_length es i.past i.depth i.save_point i.is_collecting there c.self.invariant.in_order.boundary in
+    let inside : c.args.index < next_count (drop i.past es) = omega (arith, count, c.requires, long) in
+    let read : slice_get (changes_in rs bytes) place ≡ Some x =
+    ap (λ a. slice_get (changes_in a bytes) place) (sym c.all_steps-steps.ensures.steps)
+    ∙ ap (λ b. slice_get (changes_in c.all_steps-steps.result.now b) place) (sym c.all_bytes.ensures)
+    ∙ c.change_at-kind.ensures.change in
+    ap (λ (k : Kept). slice_get (redo_changes k.history) c.args.index) (sym c.self.view_is)
+    ∙ redo_read rs bytes i.past i.transactions i.depth c.args.index i.save_point i.is_collecting x c.self.invariant.in_order inside read
+
+pub returns-clause-last : goal.returns-clause-last
+returns-clause-last c =
+    let i = c.self.inside in
+    let rs = i.steps.items in
+    let bytes = i.bytes.items in
+    let es = entries_in rs bytes in
+    let there : i.past ≤ length es = omega (arith, entries_length rs bytes, c.self.invariant.in_order.there) in
+    let count = ap (λ (k : Kept). length (redo_changes k.history)) c.self.view_is in
+    let long = redo_length es i.past i.depth i.save_point i.is_collecting there c.self.invariant.in_order.boundary in
+    let inside : c.args.index < next_count (drop i.past es) = omega (arith, count, c.requires, long) in
+    c.is_last_of_next-is_last.ensures bytes
+    ∙ ap (λ a. begins_or_none (drop (i.past + c.args.index + 1) (entries_in a bytes))) c.all_steps-steps.ensures.steps
+    ∙ redo_last es i.past c.args.index inside
+    ∙ ap (λ n. c.args.index + 1 == n) (sym long ∙ count)

@@ -1,48 +1,53 @@
-use Rattle.std.proofs.Common.{◌≡◌, ◌-◌, ◌∙◌, ap, sym, arith, length, Some}
-use Rattle.std.specs.Prelude.{slice_get}
+use Rattle.std.proofs.Common.{◌≡◌, ◌+◌, ◌-◌, ◌≤◌, ◌<◌, ◌∙◌, ap, sym, arith, get_or, length, take, reverse, Some}
+use Rattle.std.specs.Prelude.{slice_get, ◌==◌}
+use Rattle.std.proofs.lemmas.List.{get_or_default}
 use Rattle.ed_model.specs.History.{undo_changes}
-use Rattle.undo_history.specs.Records.{recorded, change_of, changes_in, history_of}
-use Rattle.undo_history.proofs.Reading.{changes_to_undo, undo_read, undo_index}
+use Rattle.undo_history.specs.declared.records.StepRecord.{StepRecord}
+use Rattle.undo_history.specs.Kept.{Kept}
+use Rattle.undo_history.specs.Reading.{changes_in}
+use Rattle.undo_history.specs.Records.{entries_in, history_of, last_count, change_of}
+use Rattle.undo_history.proofs.Latest.{no_step}
+use Rattle.undo_history.proofs.Reading.{undo_length, undo_within, undo_read, undo_last}
+use Rattle.undo_history.proofs.Sealing.{entries_length}
 use Rattle.undo_history.proofs.history.UndoHistory.change_to_undo.Goals as goal
 
-pub overflow_sub-last : goal.overflow_sub-last
-overflow_sub-last c =
+pub overflow_sub-place-2 : goal.overflow_sub-place-2
+overflow_sub-place-2 c =
     let i = c.self.inside in
-    let t = c.index-last.result.now in
-    let length_is : length (undo_changes (history_of (recorded i.transactions.items i.changes.items i.bytes.items) i.past i.save_point i.depth i.is_collecting)) ≡ length (undo_changes c.args.self.now.history) =
-    ap (λ k. length (undo_changes k.history)) c.self.view_is in
-    let place = undo_index i.transactions.items i.changes.items i.bytes.items c.args.index i.past i.depth t i.save_point i.is_collecting c.self.invariant.in_order c.self.invariant.past_there c.index-last.ensures (omega (arith, length_is, c.requires)) in
-    omega (arith, place.1)
-
-pub overflow_sub-last-2 : goal.overflow_sub-last-2
-overflow_sub-last-2 c =
-    let i = c.self.inside in
-    let t = c.index-last.result.now in
-    let length_is : length (undo_changes (history_of (recorded i.transactions.items i.changes.items i.bytes.items) i.past i.save_point i.depth i.is_collecting)) ≡ length (undo_changes c.args.self.now.history) =
-    ap (λ k. length (undo_changes k.history)) c.self.view_is in
-    let place = undo_index i.transactions.items i.changes.items i.bytes.items c.args.index i.past i.depth t i.save_point i.is_collecting c.self.invariant.in_order c.self.invariant.past_there c.index-last.ensures (omega (arith, length_is, c.requires)) in
-    omega (arith, place.1)
-
-pub change_at-requires-clause-there : goal.change_at-requires-clause-there
-change_at-requires-clause-there c =
-    let i = c.self.inside in
-    let t = c.index-last.result.now in
-    let length_is : length (undo_changes (history_of (recorded i.transactions.items i.changes.items i.bytes.items) i.past i.save_point i.depth i.is_collecting)) ≡ length (undo_changes c.args.self.now.history) =
-    ap (λ k. length (undo_changes k.history)) c.self.view_is in
-    let place = undo_index i.transactions.items i.changes.items i.bytes.items c.args.index i.past i.depth t i.save_point i.is_collecting c.self.invariant.in_order c.self.invariant.past_there c.index-last.ensures (omega (arith, length_is, c.requires)) in
-    omega (arith, place.1, place.2, ap length c.deref.ensures.value)
+    let es = entries_in i.steps.items i.bytes.items in
+    let count = ap (λ (k : Kept). length (undo_changes k.history)) c.self.view_is in
+    omega
+    (arith, count, c.requires, undo_length es i.past i.depth i.save_point i.is_collecting, undo_within es i.past (omega (arith, entries_length i.steps.items i.bytes.items, c.self.invariant.in_order.there)))
 
 pub returns-clause-change : goal.returns-clause-change
 returns-clause-change c =
     let i = c.self.inside in
-    let t = c.index-last.result.now in
-    let length_is : length (undo_changes (history_of (recorded i.transactions.items i.changes.items i.bytes.items) i.past i.save_point i.depth i.is_collecting)) ≡ length (undo_changes c.args.self.now.history) =
-    ap (λ k. length (undo_changes k.history)) c.self.view_is in
-    let place = undo_index i.transactions.items i.changes.items i.bytes.items c.args.index i.past i.depth t i.save_point i.is_collecting c.self.invariant.in_order c.self.invariant.past_there c.index-last.ensures (omega (arith, length_is, c.requires)) in
-    let read : slice_get (changes_in i.changes.items i.bytes.items) (t.changes_end - 1 - c.args.index) ≡ Some (change_of c.change_at.result.0 c.change_at.result.1.now) =
-    ap (λ cs. slice_get (changes_in cs i.bytes.items) (t.changes_end - 1 - c.args.index)) (sym c.deref.ensures.value)
-    ∙ ap (λ b. slice_get (changes_in c.deref.result.now b) (t.changes_end - 1 - c.args.index)) (sym c.deref-2.ensures.value)
-    ∙ c.change_at.ensures.change in
-    ap (λ k. slice_get (undo_changes k.history) c.args.index) (sym c.self.view_is)
-    ∙ ap (λ cs. slice_get cs c.args.index) (changes_to_undo i.transactions.items i.changes.items i.bytes.items (i.past - 1) i.past i.depth t i.save_point i.is_collecting (omega (arith, place.0)) c.self.invariant.past_there c.index-last.ensures)
-    ∙ undo_read i.transactions.items i.changes.items i.bytes.items (i.past - 1) c.args.index t (change_of c.change_at.result.0 c.change_at.result.1.now) c.self.invariant.in_order (omega (arith, place.0, c.self.invariant.past_there)) c.index-last.ensures place.1 read
+    let rs = i.steps.items in
+    let bytes = i.bytes.items in
+    let es = entries_in rs bytes in
+    let x = change_of c.change_at-kind.result.0 c.change_at-kind.result.1.now in
+    let place = i.past - 1 - c.args.index in
+    let count = ap (λ (k : Kept). length (undo_changes k.history)) c.self.view_is in
+    let inside : c.args.index < last_count (reverse (take i.past es)) = omega (arith, count, c.requires, undo_length es i.past i.depth i.save_point i.is_collecting) in
+    let read : slice_get (changes_in rs bytes) place ≡ Some x =
+    ap (λ a. slice_get (changes_in a bytes) place) (sym c.all_steps-steps.ensures.steps)
+    ∙ ap (λ b. slice_get (changes_in c.all_steps-steps.result.now b) place) (sym c.all_bytes.ensures)
+    ∙ c.change_at-kind.ensures.change in
+    ap (λ (k : Kept). slice_get (undo_changes k.history) c.args.index) (sym c.self.view_is)
+    ∙ undo_read rs bytes i.past i.depth c.args.index i.save_point i.is_collecting x c.self.invariant.in_order.there inside read
+
+pub returns-clause-last : goal.returns-clause-last
+returns-clause-last c =
+    let i = c.self.inside in
+    let rs = i.steps.items in
+    let bytes = i.bytes.items in
+    let es = entries_in rs bytes in
+    let place = i.past - 1 - c.args.index in
+    let r : StepRecord = get_or rs place no_step in
+    let count = ap (λ (k : Kept). length (undo_changes k.history)) c.self.view_is in
+    let long = undo_length es i.past i.depth i.save_point i.is_collecting in
+    let inside : c.args.index < last_count (reverse (take i.past es)) = omega (arith, count, c.requires, long) in
+    let within : last_count (reverse (take i.past es)) ≤ i.past = undo_within es i.past (omega (arith, entries_length rs bytes, c.self.invariant.in_order.there)) in
+    ap (λ a. StepRecord.starts (get_or a place no_step)) c.all_steps-steps.ensures.steps
+    ∙ undo_last rs bytes i.past i.transactions c.args.index r c.self.invariant.in_order inside (get_or_default rs place no_step r (omega (arith, c.self.invariant.in_order.there)))
+    ∙ ap (λ n. c.args.index + 1 == n) (sym long ∙ count)

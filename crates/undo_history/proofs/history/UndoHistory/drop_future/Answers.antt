@@ -1,43 +1,64 @@
-use Rattle.std.proofs.Common.{◌≡◌, ◌∙◌, ap, arith, take}
+use Rattle.std.proofs.Common.{◌≡◌, ◌≤◌, ◌+◌, ◌-◌, ◌∙◌, ap, ap₂, arith, length, take}
 use Rattle.std.proofs.lemmas.Grind.{common_steps}
-use Rattle.undo_history.specs.Kept.{kept}
+use Rattle.std.proofs.lemmas.List.{length-take-le}
+use Rattle.undo_history.specs.Kept.{Kept, kept}
 use Rattle.undo_history.specs.Dropping.{without_future}
-use Rattle.undo_history.specs.Records.{history_of, recorded}
-use Rattle.undo_history.proofs.Droppings.{past_changes, past_bytes, past_changes_there, past_in_order, past_history}
+use Rattle.undo_history.specs.Records.{entries_in, history_of}
+use Rattle.undo_history.proofs.Pushing.{past_bytes, past_bytes_there, deleted_behind, dropped_in_order, dropped_view}
 use Rattle.undo_history.proofs.history.UndoHistory.drop_future.Goals as goal
 
-pub bytes_before-bytes-requires : goal.bytes_before-bytes-requires
-bytes_before-bytes-requires c =
+pub overflow_sub-bytes : goal.overflow_sub-bytes
+overflow_sub-bytes c =
     let i = c.self.inside in
-    let there = past_changes_there i.past i.transactions.items i.changes.items i.bytes.items c.self.invariant.in_order in
-    grind (arith, common_steps, there)
+    let kept_is : c.bytes_before-kept.result ≡ past_bytes i.past i.steps.items = c.bytes_before-kept.ensures ∙ ap (λ t. past_bytes i.past t) c.all_steps.ensures.steps in
+    omega (arith, kept_is, past_bytes_there i.past i.steps.items i.bytes.items c.self.invariant.in_order.ends, c.len-bytes.ensures.len)
+
+pub delete-requires-2 : goal.delete-requires-2
+delete-requires-2 c =
+    let i = c.self.inside in
+    let kept_is : c.bytes_before-kept.result ≡ past_bytes i.past i.steps.items = c.bytes_before-kept.ensures ∙ ap (λ t. past_bytes i.past t) c.all_steps.ensures.steps in
+    omega (arith, kept_is, past_bytes_there i.past i.steps.items i.bytes.items c.self.invariant.in_order.ends, c.len-bytes.ensures.len)
 
 pub invariant_of-self : goal.invariant_of-self
 invariant_of-self c =
     let i = c.self.inside in
-    let k = c.changes_before-changes.result in
-    let k_is : k ≡ past_changes i.past i.transactions.items = c.changes_before-changes.ensures ∙ ap (λ t. past_changes i.past t) c.deref.ensures.value in
-    let b_is : c.bytes_before-bytes.result ≡ past_bytes k i.changes.items = c.bytes_before-bytes.ensures ∙ ap (λ t. past_bytes k t) c.deref-2.ensures.value in
-    let order = past_in_order i.past k i.transactions.items i.changes.items i.bytes.items c.self.invariant.in_order k_is in
+    let rs = i.steps.items in
+    let bytes = i.bytes.items in
+    let k = c.bytes_before-kept.result in
+    let kept_is : k ≡ past_bytes i.past rs = c.bytes_before-kept.ensures ∙ ap (λ t. past_bytes i.past t) c.all_steps.ensures.steps in
+    let within : k ≤ length bytes = omega (arith, kept_is, past_bytes_there i.past rs bytes c.self.invariant.in_order.ends) in
+    let steps_are : c.delete.new.self.items ≡ take i.past rs =
+    c.delete.ensures.items ∙ deleted_behind rs i.past (c.len-steps.result - i.past) (omega (arith, c.len-steps.ensures.len, c.self.invariant.in_order.there)) in
+    let bytes_are : c.delete-2.new.self.items ≡ take k bytes =
+    c.delete-2.ensures.items ∙ deleted_behind bytes k (c.len-bytes.result - k) (omega (arith, c.len-bytes.ensures.len)) in
+    let order = dropped_in_order rs bytes i.past i.transactions k c.self.invariant.in_order kept_is in
     record {
-      in_order = rw (c.truncate.ensures.items, c.truncate-2.ensures.items, c.truncate-3.ensures.items, b_is) order;
-      past_there = grind (arith, common_steps);
-      transaction_room = grind (arith, common_steps);
-      change_room = grind (arith, common_steps);
-      byte_room = grind (arith, common_steps);
+      in_order = rw (steps_are, bytes_are) order;
+      step_room = omega (arith, c.delete.ensures.spare, c.self.invariant.step_room);
+      byte_room = omega (arith, c.delete-2.ensures.spare, c.self.invariant.byte_room);
+      step_gap = grind (arith, c.delete.ensures.gap, c.len-steps.ensures.len, c.self.invariant.step_gap, ap length steps_are, length-take-le i.past rs c.self.invariant.in_order.there);
+      byte_gap = grind (arith, c.delete-2.ensures.gap, c.len-bytes.ensures.len, c.self.invariant.byte_gap, ap length bytes_are, length-take-le k bytes within);
     }
 
 pub returns : goal.returns
 returns c =
     let i = c.self.inside in
-    let k = c.changes_before-changes.result in
-    let k_is : k ≡ past_changes i.past i.transactions.items = c.changes_before-changes.ensures ∙ ap (λ t. past_changes i.past t) c.deref.ensures.value in
-    let b_is : c.bytes_before-bytes.result ≡ past_bytes k i.changes.items = c.bytes_before-bytes.ensures ∙ ap (λ t. past_bytes k t) c.deref-2.ensures.value in
+    let rs = i.steps.items in
+    let bytes = i.bytes.items in
+    let k = c.bytes_before-kept.result in
     let save = c.still_reachable-self-inside.result in
-    ap (λ t. kept (history_of (recorded t c.truncate-2.new.self.items c.truncate-3.new.self.items) i.past save i.depth i.is_collecting) i.step_room i.byte_room) c.truncate.ensures.items
-    ∙ ap (λ t. kept (history_of (recorded (take i.past i.transactions.items) t c.truncate-3.new.self.items) i.past save i.depth i.is_collecting) i.step_room i.byte_room) c.truncate-2.ensures.items
-    ∙ ap (λ t. kept (history_of (recorded (take i.past i.transactions.items) (take k i.changes.items) t) i.past save i.depth i.is_collecting) i.step_room i.byte_room) (c.truncate-3.ensures.items ∙ ap (λ n. take n i.bytes.items) b_is)
-    ∙ ap
-    (λ h. kept h i.step_room i.byte_room)
-    (past_history i.past k i.depth i.transactions.items i.changes.items i.bytes.items i.save_point save i.is_collecting c.self.invariant.in_order k_is c.self.invariant.past_there c.still_reachable-self-inside.ensures)
-    ∙ ap (λ k. kept (without_future k.history) k.step_room k.byte_room) c.self.view_is
+    let kept_is : k ≡ past_bytes i.past rs = c.bytes_before-kept.ensures ∙ ap (λ t. past_bytes i.past t) c.all_steps.ensures.steps in
+    let within : k ≤ length bytes = omega (arith, kept_is, past_bytes_there i.past rs bytes c.self.invariant.in_order.ends) in
+    let steps_are : c.delete.new.self.items ≡ take i.past rs =
+    c.delete.ensures.items ∙ deleted_behind rs i.past (c.len-steps.result - i.past) (omega (arith, c.len-steps.ensures.len, c.self.invariant.in_order.there)) in
+    let bytes_are : c.delete-2.new.self.items ≡ take k bytes =
+    c.delete-2.ensures.items ∙ deleted_behind bytes k (c.len-bytes.result - k) (omega (arith, c.len-bytes.ensures.len)) in
+    let view : history_of (entries_in c.delete.new.self.items c.delete-2.new.self.items) i.past save i.depth i.is_collecting ≡ without_future (history_of (entries_in rs bytes) i.past i.save_point i.depth i.is_collecting) =
+    ap₂ (λ a b. history_of (entries_in a b) i.past save i.depth i.is_collecting) steps_are bytes_are
+    ∙ dropped_view rs bytes i.past i.transactions k i.depth i.save_point save i.is_collecting c.self.invariant.in_order kept_is c.still_reachable-self-inside.ensures in
+    let steps_taken : length c.delete.new.self.items + c.delete.new.self.spare ≡ length rs + i.steps.spare =
+    omega (arith, ap length steps_are, length-take-le i.past rs c.self.invariant.in_order.there, c.delete.ensures.spare, c.len-steps.ensures.len) in
+    let bytes_taken : length c.delete-2.new.self.items + c.delete-2.new.self.spare ≡ length bytes + i.bytes.spare =
+    omega (arith, ap length bytes_are, length-take-le k bytes within, c.delete-2.ensures.spare, c.len-bytes.ensures.len) in
+    ap₂ (λ h t. kept h i.step_room i.byte_room t) view (ap₂ (λ a b. (a, b)) steps_taken bytes_taken)
+    ∙ ap (λ (k : Kept). kept (without_future k.history) k.step_room k.byte_room k.taken) c.self.view_is

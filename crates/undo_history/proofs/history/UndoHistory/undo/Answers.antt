@@ -1,19 +1,59 @@
-use Rattle.std.proofs.Common.{◌-◌, ◌∙◌, ap, arith}
+use Rattle.std.proofs.Common.{◌≡◌, ◌+◌, ◌-◌, ◌≤◌, ◌∙◌, ap, ap₂, arith, length, take, reverse}
 use Rattle.ed_model.specs.History.{undone}
-use Rattle.undo_history.specs.Kept.{kept}
-use Rattle.undo_history.specs.Records.{history_of, recorded}
-use Rattle.undo_history.proofs.Sealing.{sealed_history, recorded_length}
-use Rattle.undo_history.proofs.Stepping.{undone_history}
+use Rattle.undo_history.specs.Kept.{Kept, kept}
+use Rattle.undo_history.specs.Records.{entries_in, history_of, last_count}
+use Rattle.undo_history.proofs.Moving.{start_of_last}
+use Rattle.undo_history.proofs.Reading.{undo_within}
+use Rattle.undo_history.proofs.Sealing.{entries_length, undone_in_order, undone_view, with_sealed_length}
 use Rattle.undo_history.proofs.history.UndoHistory.undo.Goals as goal
+
+pub overflow_sub-self : goal.overflow_sub-self
+overflow_sub-self c =
+    let i = c.self.inside in
+    let rs = i.steps.items in
+    let bytes = i.bytes.items in
+    let count : c.count_before.result ≡ last_count (reverse (take i.past (entries_in rs bytes))) =
+    c.count_before.ensures bytes ∙ ap (λ a. last_count (reverse (take i.past (entries_in a bytes)))) c.all_steps.ensures.steps in
+    omega (arith, count, undo_within (entries_in rs bytes) i.past (omega (arith, entries_length rs bytes, c.self.invariant.in_order.there)))
+
+pub overflow_sub-self-2 : goal.overflow_sub-self-2
+overflow_sub-self-2 c =
+    let i = c.self.inside in
+    let rs = i.steps.items in
+    let bytes = i.bytes.items in
+    let count : c.count_before.result ≡ last_count (reverse (take i.past (entries_in rs bytes))) =
+    c.count_before.ensures bytes ∙ ap (λ a. last_count (reverse (take i.past (entries_in a bytes)))) c.all_steps.ensures.steps in
+    let order = undone_in_order rs bytes i.past i.transactions (i.past - c.count_before.result) c.self.invariant.in_order (omega arith) (ap (λ n. i.past - n) count) in
+    omega (arith, order.0)
+
+pub invariant_of-self : goal.invariant_of-self
+invariant_of-self c =
+    let i = c.self.inside in
+    let rs = i.steps.items in
+    let bytes = i.bytes.items in
+    let start = i.past - c.count_before.result in
+    let count : c.count_before.result ≡ last_count (reverse (take i.past (entries_in rs bytes))) =
+    c.count_before.ensures bytes ∙ ap (λ a. last_count (reverse (take i.past (entries_in a bytes)))) c.all_steps.ensures.steps in
+    let order = undone_in_order rs bytes i.past i.transactions start c.self.invariant.in_order (omega arith) (ap (λ n. i.past - n) count) in
+    record {
+      in_order = rw c.seal.ensures.items order.1;
+      step_room = omega (arith, c.seal.ensures.spare, c.self.invariant.step_room);
+      byte_room = c.self.invariant.byte_room;
+      step_gap = omega (arith, c.seal.ensures.gap, c.self.invariant.step_gap, ap length c.seal.ensures.items, with_sealed_length start rs);
+      byte_gap = c.self.invariant.byte_gap;
+    }
 
 pub returns : goal.returns
 returns c =
     let i = c.self.inside in
-    let ts = i.transactions.items in
-    let all = recorded ts i.changes.items i.bytes.items in
-    ap (λ t. kept (history_of (recorded t i.changes.items i.bytes.items) (i.past - 1) i.save_point i.depth i.is_collecting) i.step_room i.byte_room) c.seal.ensures.items
-    ∙ ap
-    (λ h. kept h i.step_room i.byte_room)
-    (sealed_history ts i.changes.items i.bytes.items (i.past - 1) i.depth i.save_point i.is_collecting (omega (arith, c.self.invariant.past_there))
-    ∙ undone_history all (i.past - 1) i.past i.depth i.save_point i.is_collecting (omega arith) (omega (arith, c.self.invariant.past_there, recorded_length ts i.changes.items i.bytes.items)))
-    ∙ ap (λ k. kept (undone k.history) k.step_room k.byte_room) c.self.view_is
+    let rs = i.steps.items in
+    let bytes = i.bytes.items in
+    let start = i.past - c.count_before.result in
+    let count : c.count_before.result ≡ last_count (reverse (take i.past (entries_in rs bytes))) =
+    c.count_before.ensures bytes ∙ ap (λ a. last_count (reverse (take i.past (entries_in a bytes)))) c.all_steps.ensures.steps in
+    let view : history_of (entries_in c.seal.new.steps.items bytes) start i.save_point i.depth i.is_collecting ≡ undone (history_of (entries_in rs bytes) i.past i.save_point i.depth i.is_collecting) =
+    ap (λ a. history_of (entries_in a bytes) start i.save_point i.depth i.is_collecting) c.seal.ensures.items
+    ∙ undone_view rs bytes i.past i.transactions start i.depth i.save_point i.is_collecting c.self.invariant.in_order (omega arith) (ap (λ n. i.past - n) count) in
+    let taken : length c.seal.new.steps.items + c.seal.new.steps.spare ≡ length rs + i.steps.spare = omega (arith, ap length c.seal.ensures.items, with_sealed_length start rs, c.seal.ensures.spare) in
+    ap₂ (λ h n. kept h i.step_room i.byte_room (n, length bytes + i.bytes.spare)) view taken
+    ∙ ap (λ (k : Kept). kept (undone k.history) k.step_room k.byte_room k.taken) c.self.view_is

@@ -1,0 +1,161 @@
+//! `undo_history`: steps appended, undone and redone. What joins is written out by hand.
+use std::test::Fail;
+use undo_history::{ChangeKind, StepKind, UndoHistory};
+
+#[test]
+fn typing_joins_until_the_save_point(rt: HostRuntime) -> Result<(), Fail> {
+    let mut history = UndoHistory::new(rt.alloc());
+    assert!(rt; history.is_at_save_point());
+    assert!(rt; history.is_collecting());
+    history.reserve(3, 3)?;
+    history.append_reserved(false, StepKind::Insert, 0, b"a");
+    assert!(rt; !history.is_at_save_point());
+    assert!(rt; !history.begins_transaction(false, StepKind::Insert, 1, b"b"));
+    assert!(rt; history.begins_transaction(false, StepKind::Insert, 3, b"b"));
+    history.reserve(1, 1)?;
+    history.append_reserved(false, StepKind::Insert, 1, b"b");
+    history.set_save_point();
+    assert!(rt; history.begins_transaction(false, StepKind::Insert, 2, b"c"));
+    history.reserve(1, 1)?;
+    history.append_reserved(false, StepKind::Insert, 2, b"c");
+    assert!(rt; !history.is_at_save_point());
+    history.undo();
+    assert!(rt; history.is_at_save_point());
+    assert_eq!(rt; history.undo_len(), 2);
+    let step = history.change_to_undo(0);
+    assert!(rt;
+        matches!(
+            step.kind,
+            ChangeKind::Text {
+                kind: StepKind::Insert,
+                place: 1
+            }
+        )
+    );
+    assert_eq!(rt; step.bytes, b"b".as_slice());
+    assert!(rt; !step.is_last);
+    let step = history.change_to_undo(1);
+    assert_eq!(rt; step.bytes, b"a".as_slice());
+    assert!(rt; step.is_last);
+    assert_eq!(rt; history.redo_len(), 1);
+    let step = history.change_to_redo(0);
+    assert_eq!(rt; step.bytes, b"c".as_slice());
+    assert!(rt; step.is_last);
+    assert!(rt; history.can_undo());
+    assert!(rt; history.can_redo());
+    history.undo();
+    assert!(rt; !history.can_undo());
+    history.redo();
+    history.redo();
+    assert!(rt; !history.can_redo());
+    Ok(())
+}
+
+#[test]
+fn a_dropped_save_point(rt: HostRuntime) -> Result<(), Fail> {
+    let mut history = UndoHistory::new(rt.alloc());
+    history.reserve(1, 1)?;
+    history.append_reserved(false, StepKind::Insert, 0, b"a");
+    history.set_save_point();
+    history.undo();
+    history.reserve(1, 1)?;
+    history.append_reserved(false, StepKind::Insert, 0, b"b");
+    assert!(rt; !history.is_at_save_point());
+    history.undo();
+    assert!(rt; !history.is_at_save_point());
+    Ok(())
+}
+
+#[test]
+fn a_step_of_many_bytes(rt: HostRuntime) -> Result<(), Fail> {
+    let mut text: Vec<u8> = Vec::new(rt.alloc());
+    for place in 0u32..9001 {
+        text.push(place.to_le_bytes()[0])?;
+    }
+    let mut history = UndoHistory::new(rt.alloc());
+    history.reserve(1, text.len())?;
+    history.append_reserved(false, StepKind::Delete, 3, text.as_slice());
+    assert_eq!(rt; history.undo_len(), 1);
+    let step = history.change_to_undo(0);
+    assert_eq!(rt; step.bytes, text.as_slice());
+    assert!(rt; step.is_last);
+    Ok(())
+}
+
+#[test]
+fn groups_and_container_steps(rt: HostRuntime) -> Result<(), Fail> {
+    let mut history = UndoHistory::new(rt.alloc());
+    assert!(rt; history.depth() == 0);
+    history.begin_group();
+    assert_eq!(rt; history.depth(), 1);
+    history.reserve(1, 2)?;
+    history.append_reserved(false, StepKind::Delete, 7, b"xy");
+    history.reserve(1, 0)?;
+    history.append_container_reserved(-5, false);
+    assert!(rt; !history.can_undo());
+    history.end_group();
+    assert!(rt; history.can_undo());
+    history.undo();
+    assert!(rt; !history.can_undo());
+    history.set_collecting(false);
+    assert!(rt; !history.can_redo());
+    assert!(rt; history.is_at_save_point());
+    history.reserve(usize::MAX, usize::MAX)?;
+    history.append_reserved(false, StepKind::Insert, 0, b"a");
+    assert!(rt; !history.can_undo());
+    history.set_collecting(true);
+    assert!(rt; history.reserve(1, usize::MAX).is_err());
+    history.empty();
+    history.seal_outside_groups();
+    assert!(rt; history.is_at_save_point());
+    Ok(())
+}
+
+#[test]
+fn steps_are_lent_in_the_order_in_which_they_are_performed(rt: HostRuntime) -> Result<(), Fail> {
+    let mut history = UndoHistory::new(rt.alloc());
+    history.reserve(4, 9)?;
+    history.append_reserved(false, StepKind::Insert, 0, b"one");
+    history.append_reserved(false, StepKind::Delete, 0, b"on");
+    history.append_reserved(true, StepKind::Insert, 0, b"two");
+    history.append_container_reserved(9, true);
+    assert_eq!(rt; history.undo_len(), 3);
+    let step = history.change_to_undo(0);
+    assert!(rt;
+        matches!(
+            step.kind,
+            ChangeKind::Container {
+                token: 9,
+                coalesce: true
+            }
+        )
+    );
+    assert_eq!(rt; step.bytes, b"".as_slice());
+    assert!(rt; !step.is_last);
+    let step = history.change_to_undo(1);
+    assert_eq!(rt; step.bytes, b"two".as_slice());
+    assert!(rt; !step.is_last);
+    let step = history.change_to_undo(2);
+    assert_eq!(rt; step.bytes, b"on".as_slice());
+    assert!(rt; step.is_last);
+    history.undo();
+    assert_eq!(rt; history.undo_len(), 1);
+    history.undo();
+    assert_eq!(rt; history.undo_len(), 0);
+    assert_eq!(rt; history.redo_len(), 1);
+    history.redo();
+    assert_eq!(rt; history.redo_len(), 3);
+    let step = history.change_to_redo(0);
+    assert_eq!(rt; step.bytes, b"on".as_slice());
+    assert!(rt; !step.is_last);
+    let step = history.change_to_redo(1);
+    assert_eq!(rt; step.bytes, b"two".as_slice());
+    assert!(rt; !step.is_last);
+    assert!(rt; history.change_to_redo(2).is_last);
+    history.reserve(1, 1)?;
+    history.append_reserved(false, StepKind::Insert, 0, b"x");
+    assert_eq!(rt; history.redo_len(), 0);
+    assert!(rt; history.begins_transaction(false, StepKind::Insert, 3, b"y"));
+    assert!(rt; !history.begins_transaction(false, StepKind::Insert, 1, b"y"));
+    Ok(())
+}
