@@ -10,7 +10,7 @@ use Rattle.ed_model.specs.MergeLaws.{end_of, put_in}
 use Rattle.ed_model.specs.Steps.{Step, Insert, Delete, place_of, edited, edited_cells}
 use Rattle.ed_model.proofs.LineLemmas.{line_starts_in_range}
 use Rattle.ed_model.proofs.StepLemmas.{bytes_of_edited_cells}
-use Rattle.line_index.specs.Index.{Index, IsIndexOf, WasInserted, WasDeleted}
+use Rattle.line_index.specs.Index.{Index, IsIndexOf, IsInsertion, IsDeletion, bytes_near}
 use Rattle.line_index.specs.RoomLaws.{lines_for_insertion, lines_for_deletion, InsertionAddsFewLines, DeletionAddsFewLines}
 use Rattle.line_index.specs.Change.{change_about}
 use Rattle.line_index.specs.StepEdits.{change_of}
@@ -44,16 +44,27 @@ bytes_inserted cells new place bytes text is read = sym (bytes_of_edited_cells (
 place_in_bytes : (cells : List Cell) (place : ℕ) → place ≤ length cells → place ≤ length (bytes_of cells)
 place_in_bytes cells place h = omega (arith, length-map cells (λ (c : Cell). c.byte))
 
-pub told_of_insertion : (cells new : List Cell) (lines : Index) (place : ℕ) (bytes text : List ℕ) → HasLinesOf cells lines → place ≤ length cells →
-    new ≡ edited_cells (Insert place bytes) cells → text ≡ bytes_of new → WasInserted place (length bytes) text lines
-told_of_insertion cells new lines place bytes text has within is read = record {
-  old = bytes_of cells;
-  bytes = bytes;
+-- what the index is told
+pub told_of_insertion : (cells new : List Cell) (lines : Index) (place : ℕ) (bytes near text : List ℕ) → HasLinesOf cells lines → place ≤ length cells → new ≡ edited_cells (Insert place bytes) cells → text ≡ bytes_of new →
+    near ≡ bytes_near place (length bytes) text → line_count Default (bytes_of (edited_cells (Insert place bytes) cells)) ≤ length lines.starts + lines.room → IsInsertion place (length bytes) near (bytes_of cells) bytes lines
+told_of_insertion cells new lines place bytes near text has within is read reads room = record {
   counted = refl;
   within = place_in_bytes cells place within;
   index = has.index;
-  edited = bytes_inserted cells new place bytes text is read;
+  reads = reads ∙ ap (bytes_near place (length bytes)) (sym (bytes_inserted cells new place bytes text is read));
+  room = omega (
+    arith,
+    room,
+    ap (λ t. line_count t (edited (Insert place bytes) (bytes_of cells))) has.types,
+    ap (line_count Default) (bytes_of_edited_cells (Insert place bytes) cells),
+  );
 }
+
+-- what it is then
+pub lines_of_inserted : (cells new : List Cell) (old lines : Index) (place : ℕ) (bytes : List ℕ) → HasLinesOf cells old → new ≡ edited_cells (Insert place bytes) cells → lines.types ≡ old.types → IsIndexOf (edited (Insert place bytes) (bytes_of cells)) lines → HasLinesOf new lines
+lines_of_inserted cells new old lines place bytes has is types index =
+    let text : edited (Insert place bytes) (bytes_of cells) ≡ bytes_of new = sym (bytes_of_edited_cells (Insert place bytes) cells) ∙ sym (ap bytes_of is) in
+    record { types = types ∙ has.types; index = rw text at index }
 
 -- A deletion.
 
@@ -63,35 +74,40 @@ bytes_deleted cells new place count text is read =
     let e : bytes_of (take place cells ++ drop (place + count) cells) ≡ take place (bytes_of cells) ++ drop (place + count) (bytes_of cells) = simp (map-append, take-map, drop-map) in
     sym e ∙ sym (ap bytes_of is) ∙ sym read
 
-pub told_of_deletion : (cells new : List Cell) (lines : Index) (place count : ℕ) (text : List ℕ) → HasLinesOf cells lines → place + count ≤ length cells →
-    new ≡ take place cells ++ drop (place + count) cells → text ≡ bytes_of new → WasDeleted place count text lines
-told_of_deletion cells new lines place count text has within is read = record {
-  old = bytes_of cells;
+-- what the index is told
+pub told_of_deletion : (cells new : List Cell) (lines : Index) (place count : ℕ) (near text : List ℕ) → DeletionAddsFewLines → HasLinesOf cells lines → place + count ≤ length cells → lines_for_deletion ≤ lines.room →
+    new ≡ take place cells ++ drop (place + count) cells → text ≡ bytes_of new → near ≡ bytes_near place 0 text → IsDeletion place count near (bytes_of cells) lines
+told_of_deletion cells new lines place count near text few has within room is read reads = record {
   within = place_in_bytes cells (place + count) within;
   index = has.index;
-  deleted = bytes_deleted cells new place count text is read;
+  reads = reads ∙ ap (bytes_near place 0) (sym (bytes_deleted cells new place count text is read));
+  room = omega (
+    arith,
+    room,
+    ap length has.index.starts,
+    ap (λ t. line_count t (bytes_of cells)) has.types,
+    ap (λ t. line_count t (take place (bytes_of cells) ++ drop (place + count) (bytes_of cells))) has.types,
+    few Default place count (bytes_of cells) (place_in_bytes cells (place + count) within),
+  );
 }
 
-pub deletion_fits : (cells new : List Cell) (lines : Index) (place count : ℕ) (text : List ℕ) → DeletionAddsFewLines → HasLinesOf cells lines → place + count ≤ length cells →
-    lines_for_deletion ≤ lines.room → new ≡ take place cells ++ drop (place + count) cells → text ≡ bytes_of new → line_count lines.types text ≤ length lines.starts + lines.room
-deletion_fits cells new lines place count text few has within room is read =
-    let starts : length lines.starts ≡ line_count Default (bytes_of cells) = ap length has.index.starts ∙ ap (λ t. line_count t (bytes_of cells)) has.types in
-    let after : line_count Default (take place (bytes_of cells) ++ drop (place + count) (bytes_of cells)) ≡ line_count lines.types text = ap (line_count Default) (bytes_deleted cells new place count text is read) ∙ ap (λ t. line_count t text) (sym has.types) in
-    omega (arith, starts, after, few Default place count (bytes_of cells) (place_in_bytes cells (place + count) within))
+-- what it is then
+pub lines_of_deleted : (cells new : List Cell) (old lines : Index) (place count : ℕ) → HasLinesOf cells old → new ≡ take place cells ++ drop (place + count) cells → lines.types ≡ old.types → IsIndexOf (take place (bytes_of cells) ++ drop (place + count) (bytes_of cells)) lines → HasLinesOf new lines
+lines_of_deleted cells new old lines place count has is types index =
+    let text : take place (bytes_of cells) ++ drop (place + count) (bytes_of cells) ≡ bytes_of new = bytes_deleted cells new place count (bytes_of new) is refl in
+    record { types = types ∙ has.types; index = rw text at index }
 
 -- The room that a step takes.
 
 pub lines_of_index : (text : List ℕ) (i : Index) → IsIndexOf text i → i.types ≡ Default → length i.starts ≡ line_count Default text
 lines_of_index text i is types = ap length is.starts ∙ ap (λ t. line_count t text) types
 
-pub deletion_takes : (cells new : List Cell) (lines after : Index) (place count : ℕ) (text : List ℕ) → DeletionAddsFewLines → HasLinesOf cells lines → place + count ≤ length cells →
-    new ≡ take place cells ++ drop (place + count) cells → text ≡ bytes_of new → IsIndexOf text after → after.types ≡ lines.types → after.room + length after.starts ≡ lines.room + length lines.starts →
-    lines.room ≤ after.room + lines_for_deletion
-deletion_takes cells new lines after place count text few has within is read index types sum =
+pub deletion_takes : (cells : List Cell) (lines after : Index) (place count : ℕ) → DeletionAddsFewLines → HasLinesOf cells lines → place + count ≤ length cells →
+    IsIndexOf (take place (bytes_of cells) ++ drop (place + count) (bytes_of cells)) after → after.types ≡ lines.types → after.room + length after.starts ≡ lines.room + length lines.starts → lines.room ≤ after.room + lines_for_deletion
+deletion_takes cells lines after place count few has within index types sum =
     let old = lines_of_index (bytes_of cells) lines has.index has.types in
-    let lines_after = lines_of_index text after index (types ∙ has.types) in
-    let same : line_count Default (take place (bytes_of cells) ++ drop (place + count) (bytes_of cells)) ≡ line_count Default text = ap (line_count Default) (bytes_deleted cells new place count text is read) in
-    omega (arith, old, lines_after, same, sum, few Default place count (bytes_of cells) (place_in_bytes cells (place + count) within))
+    let lines_after = lines_of_index (take place (bytes_of cells) ++ drop (place + count) (bytes_of cells)) after index (types ∙ has.types) in
+    omega (arith, old, lines_after, sum, few Default place count (bytes_of cells) (place_in_bytes cells (place + count) within))
 
 pub deleted_count : (cells : List Cell) (place count : ℕ) → place + count ≤ length cells → length (slice_range (bytes_of cells) place (place + count)) ≡ count
 deleted_count cells place count h =

@@ -11,7 +11,7 @@ ghost use Rattle.document.specs.Held.{document_of, step_on, HasRoom, TakesRoom};
 use crate::pieces::put_in;
 use cell_buffer::Cells;
 use ed_model::LineEndTypes;
-use line_index::{LineChange, LineIndex, room_for_steps};
+use line_index::{LineChange, LineIndex, near_step, room_for_steps};
 use std::alloc::{AllocError, Global};
 use std::marker::Model;
 use undo_history::{StepKind, UndoHistory};
@@ -201,6 +201,7 @@ impl Document {
         self.cells.delete(place, count);
         room_for_steps();
         let (before, after) = self.cells.halves();
-        self.lines.deleted(place, count, before, after)
+        let (near_before, near_after) = near_step(before, after, place, 0);
+        self.lines.deleted(place, count, near_before, near_after)
     }
 }

@@ -10,7 +10,7 @@ ghost use Rattle.document.specs.Held.{HasLinesOf};
 
 use cell_buffer::Cells;
 use ed_model::LineEndTypes;
-use line_index::{LineChange, LineIndex, room_for_steps};
+use line_index::{LineChange, LineIndex, near_step, room_for_steps};
 
 // How many bytes are put in at once: so few that they are still in the processor's cache when their line ends are looked
 // for.
@@ -39,7 +39,8 @@ fn put_piece(
 {
     cells.insert_reserved(place, bytes);
     let (before, after) = cells.halves();
-    lines.inserted(place, bytes.len(), before, after)
+    let (near_before, near_after) = near_step(before, after, place, bytes.len());
+    lines.inserted(place, bytes.len(), near_before, near_after)
 }
 
 /// Puts bytes in at a place, and returns what became of the lines by all of them. There must be room for them and for the

@@ -9,40 +9,40 @@ use Rattle.std.proofs.Math.Seq.{take-append_seam, drop-append_seam}
 use Rattle.ed_model.specs.declared.plan.LineEndTypes.{LineEndTypes}
 use Rattle.ed_model.specs.Lines.{is_line_start}
 use Rattle.partitioning.specs.Partitions.{Partitions}
-use Rattle.line_index.specs.Index.{IsFree, CanAdd, WereAdded, MarkStarts, starts_within}
-use Rattle.line_index.proofs.StartLists.{starts_lie, starts_apart, no_starts, one_start}
+use Rattle.line_index.specs.Index.{IsFree, CanAdd, WereAdded, MarkStarts, starts_near}
+use Rattle.line_index.proofs.StartLists.{near_lie, near_apart, no_near, one_near}
 
 -- behind the starts that were put in, others can be
-module _ (types : LineEndTypes) (text starts now : List ℕ) (end from mid last to at next : ℕ) (free : IsFree starts end from to at)
+module _ (types : LineEndTypes) (text : List ℕ) (base : ℕ) (starts now : List ℕ) (end from mid last to at next : ℕ) (free : IsFree starts end from to at)
     (a : from ≤ mid) (b : mid ≤ last) (d : last ≤ to)
-    (line : next ≡ at + length (starts_within types text from mid))
-    (same : now ≡ take at starts ++ starts_within types text from mid ++ drop at starts) where
+    (line : next ≡ at + length (starts_near types text base from mid))
+    (same : now ≡ take at starts ++ starts_near types text base from mid ++ drop at starts) where
   front : length (take at starts) ≡ at
   front = length-take-le at starts free.within
 
-  joined : length (take at starts ++ starts_within types text from mid) ≡ next
-  joined = omega (arith, front, length-append (take at starts) (starts_within types text from mid))
+  joined : length (take at starts ++ starts_near types text base from mid) ≡ next
+  joined = omega (arith, front, length-append (take at starts) (starts_near types text base from mid))
 
   whole : length now ≡ next + (length starts - at)
-  whole = omega (arith, ap length same, joined, length-append (take at starts ++ starts_within types text from mid) (drop at starts), length-drop at starts)
+  whole = omega (arith, ap length same, joined, length-append (take at starts ++ starts_near types text base from mid) (drop at starts), length-drop at starts)
 
   below_at : (k : ℕ) → k < next → get_or now k 0 < mid
   below_at k h =
-      rw (same, get_or-append (take at starts ++ starts_within types text from mid) (drop at starts) 0 k (omega (arith, joined)))
+      rw (same, get_or-append (take at starts ++ starts_near types text base from mid) (drop at starts) 0 k (omega (arith, joined)))
       (elim (cases_lt k at) [
         | inl l ↦
-            rw (get_or-append (take at starts) (starts_within types text from mid) 0 k (omega (arith, front)), get_or-take at starts k 0 l)
+            rw (get_or-append (take at starts) (starts_near types text base from mid) 0 k (omega (arith, front)), get_or-take at starts k 0 l)
             (omega (arith, free.below k l))
         | inr m ↦
             let e : k ≡ length (take at starts) + (k - at) = omega (arith, front) in
-            rw (e, get_or-append-add (take at starts) (starts_within types text from mid) (k - at) 0)
-            (starts_lie types text from mid (k - at) a (omega arith)).1
+            rw (e, get_or-append-add (take at starts) (starts_near types text base from mid) (k - at) 0)
+            (near_lie types text base from mid (k - at) a (omega arith)).1
       ])
 
   above_at : (k : ℕ) → next ≤ k → k < length now → last ≤ get_or now k 0
   above_at k h l =
-      let e : k ≡ length (take at starts ++ starts_within types text from mid) + (k - next) = omega (arith, joined) in
-      rw (same, e, get_or-append-add (take at starts ++ starts_within types text from mid) (drop at starts) (k - next) 0, get_or-drop at starts (k - next) 0)
+      let e : k ≡ length (take at starts ++ starts_near types text base from mid) + (k - next) = omega (arith, joined) in
+      rw (same, e, get_or-append-add (take at starts ++ starts_near types text base from mid) (drop at starts) (k - next) 0, get_or-drop at starts (k - next) 0)
       (omega (arith, free.above (at + (k - next)) (omega arith) (omega (arith, whole))))
 
   pub free_behind : IsFree now end mid last next
@@ -57,21 +57,20 @@ module _ (types : LineEndTypes) (text starts now : List ℕ) (end from mid last 
       }
 
 pub can_go_on :
-    (types : LineEndTypes) (text : List ℕ) (from mid last to at next : ℕ) (was now : Partitions) → CanAdd types text from to at was
-    → WereAdded types text from mid at next was now → from ≤ mid → mid ≤ last → last ≤ to → CanAdd types text mid last next now
-can_go_on types text from mid last to at next was now can added a b d =
+    (types : LineEndTypes) (text : List ℕ) (base : ℕ) (from mid last to at next : ℕ) (was now : Partitions) → CanAdd types text base from to at was
+    → WereAdded types text base from mid at next was now → from ≤ mid → mid ≤ last → last ≤ to → CanAdd types text base mid last next now
+can_go_on types text base from mid last to at next was now can added a b d =
     record {
-      free = rw added.end (free_behind types text was.starts now.starts was.length from mid last to at next can.free a b d added.line added.starts);
-      end = added.end ∙ can.end;
+      free = rw added.end (free_behind types text base was.starts now.starts was.length from mid last to at next can.free a b d added.line added.starts);
       room =
           omega (
             arith,
             can.room,
             added.room,
-            ap length (starts_apart types text from mid to a (omega arith)),
-            ap length (starts_apart types text mid last to b d),
-            length-append (starts_within types text from mid) (starts_within types text mid to),
-            length-append (starts_within types text mid last) (starts_within types text last to),
+            ap length (near_apart types text base from mid to a (omega arith)),
+            ap length (near_apart types text base mid last to b d),
+            length-append (starts_near types text base from mid) (starts_near types text base mid to),
+            length-append (starts_near types text base mid last) (starts_near types text base last to),
           );
     }
 
@@ -83,13 +82,13 @@ back_of xs ys n e = rw (← e) (drop-append_seam xs ys)
 
 -- one part and the next
 pub added_both :
-    (types : LineEndTypes) (text : List ℕ) (from mid last at next behind : ℕ) (was now later : Partitions) → at ≤ length was.starts → from ≤ mid → mid ≤ last
-    → WereAdded types text from mid at next was now → WereAdded types text mid last next behind now later → WereAdded types text from last at behind was later
-added_both types text from mid last at next behind was now later w a b p q =
-    let first : List ℕ = starts_within types text from mid in
-    let second : List ℕ = starts_within types text mid last in
+    (types : LineEndTypes) (text : List ℕ) (base : ℕ) (from mid last at next behind : ℕ) (was now later : Partitions) → at ≤ length was.starts → from ≤ mid → mid ≤ last
+    → WereAdded types text base from mid at next was now → WereAdded types text base mid last next behind now later → WereAdded types text base from last at behind was later
+added_both types text base from mid last at next behind was now later w a b p q =
+    let first : List ℕ = starts_near types text base from mid in
+    let second : List ℕ = starts_near types text base mid last in
     let front : length (take at was.starts ++ first) ≡ next = omega (arith, p.line, length-take-le at was.starts w, length-append (take at was.starts) first) in
-    let apart : starts_within types text from last ≡ first ++ second = starts_apart types text from mid last a b in
+    let apart : starts_near types text base from last ≡ first ++ second = near_apart types text base from mid last a b in
     let size = ap length apart ∙ length-append first second in
     record {
       starts =
@@ -103,10 +102,10 @@ added_both types text from mid last at next behind was now later w a b p q =
 
 -- where no line starts there is none to put in
 pub added_none :
-    (types : LineEndTypes) (text : List ℕ) (from to at : ℕ) (was : Partitions) → ((k : ℕ) → from ≤ k → k < to → is_line_start types text k ≡ false)
-    → WereAdded types text from to at at was was
-added_none types text from to at was none =
-    let e : starts_within types text from to ≡ [] = no_starts types text from to none in
+    (types : LineEndTypes) (text : List ℕ) (base : ℕ) (from to at : ℕ) (was : Partitions) → ((k : ℕ) → from ≤ k → k < to → is_line_start types text (k - base) ≡ false)
+    → WereAdded types text base from to at at was was
+added_none types text base from to at was none =
+    let e : starts_near types text base from to ≡ [] = no_near types text base from to none in
     let size = ap length e in
     record {
       starts = rw (e, append-nil (take at was.starts)) (sym (take-append-drop at was.starts));
@@ -115,21 +114,21 @@ added_none types text from to at was none =
       line = omega (arith, size);
     }
 
-pub added_nothing : (types : LineEndTypes) (text : List ℕ) (place at : ℕ) (was : Partitions) → WereAdded types text place place at at was was
-added_nothing types text place at was = added_none types text place place at was (λ k a b. absurd (omega arith))
+pub added_nothing : (types : LineEndTypes) (text : List ℕ) (base : ℕ) (place at : ℕ) (was : Partitions) → WereAdded types text base place place at at was was
+added_nothing types text base place at was = added_none types text base place place at was (λ k a b. absurd (omega arith))
 
 -- at one place
 pub none_here :
-    (types : LineEndTypes) (text : List ℕ) (place at : ℕ) (was : Partitions) (here : Bool) → here ≡ is_line_start types text place → here ≡ false
-    → WereAdded types text place (place + 1) at at was was
-none_here types text place at was here e off =
-    added_none types text place (place + 1) at was (λ k a b. let same : k ≡ place = omega arith in rw same (sym e ∙ off))
+    (types : LineEndTypes) (text : List ℕ) (base : ℕ) (place at : ℕ) (was : Partitions) (here : Bool) → here ≡ is_line_start types text (place - base) → here ≡ false
+    → WereAdded types text base place (place + 1) at at was was
+none_here types text base place at was here e off =
+    added_none types text base place (place + 1) at was (λ k a b. let same : k ≡ place = omega arith in rw same (sym e ∙ off))
 
 pub added_here :
-    (types : LineEndTypes) (text : List ℕ) (place at : ℕ) (was now : Partitions) (here : Bool) → here ≡ is_line_start types text place → here ≡ true
-    → now.starts ≡ insert was.starts at place → now.length ≡ was.length → now.room + 1 ≡ was.room → WereAdded types text place (place + 1) at (at + 1) was now
-added_here types text place at was now here h on e f r =
-    let one : starts_within types text place (place + 1) ≡ place ∷ [] = one_start types text place (sym h ∙ on) in
+    (types : LineEndTypes) (text : List ℕ) (base : ℕ) (place at : ℕ) (was now : Partitions) (here : Bool) → here ≡ is_line_start types text (place - base) → here ≡ true
+    → now.starts ≡ insert was.starts at place → now.length ≡ was.length → now.room + 1 ≡ was.room → WereAdded types text base place (place + 1) at (at + 1) was now
+added_here types text base place at was now here h on e f r =
+    let one : starts_near types text base place (place + 1) ≡ place ∷ [] = one_near types text base place (sym h ∙ on) in
     let size = ap length one in
     record {
       starts = e ∙ rw one (simp append_assoc);
@@ -139,49 +138,49 @@ added_here types text place at was now here h on e f r =
     }
 
 -- of 64 places, those up to one were gone through, and the marks that are left are of others
-pub record AreSeen (types : LineEndTypes) (text : List ℕ) (place first line left : ℕ) (was now : Partitions) : Type 0 where
+pub record AreSeen (types : LineEndTypes) (text : List ℕ) (base : ℕ) (place first line left : ℕ) (was now : Partitions) : Type 0 where
   pub seen : ℕ
   pub low : place ≤ seen
   pub high : seen ≤ place + 64
-  pub added : WereAdded types text place seen first line was now
+  pub added : WereAdded types text base place seen first line was now
   pub behind : (k : ℕ) → k < 64 → bit_at left k ≡ 1 → seen ≤ place + k
-  pub marked : (k : ℕ) → k < 64 → seen ≤ place + k → bit_at left k ≡ 0 → is_line_start types text (place + k) ≡ false
+  pub marked : (k : ℕ) → k < 64 → seen ≤ place + k → bit_at left k ≡ 0 → is_line_start types text (place + k - base) ≡ false
 
 pub none_seen :
-    (types : LineEndTypes) (text : List ℕ) (place first marks : ℕ) (was : Partitions) → MarkStarts types text place marks → AreSeen types text place first first marks was was
-none_seen types text place first marks was marked =
+    (types : LineEndTypes) (text : List ℕ) (base : ℕ) (place first marks : ℕ) (was : Partitions) → base ≤ place → MarkStarts types text (place - base) marks → AreSeen types text base place first first marks was was
+none_seen types text base place first marks was low marked =
     record {
       seen = place;
       low = omega arith;
       high = omega arith;
-      added = added_nothing types text place first was;
+      added = added_nothing types text base place first was;
       behind = λ k l set. omega arith;
-      marked = λ k l a clear. marked k l clear;
+      marked = λ k l a clear. let e : place + k - base ≡ place - base + k = omega arith in rw e (marked k l clear);
     }
 
 -- none starts up to the next mark, or to the end of the 64
 pub added_up_to :
-    (types : LineEndTypes) (text : List ℕ) (place first line left bit : ℕ) (was now : Partitions) (s : AreSeen types text place first line left was now) → first ≤ length was.starts
-    → bit ≤ 64 → s.seen ≤ place + bit → ((k : ℕ) → k < bit → bit_at left k ≡ 0) → WereAdded types text place (place + bit) first line was now
-added_up_to types text place first line left bit was now s w l b below =
-    added_both types text place s.seen (place + bit) first line line was now now w s.low b s.added
-    (added_none types text s.seen (place + bit) line now (λ k a c.
+    (types : LineEndTypes) (text : List ℕ) (base : ℕ) (place first line left bit : ℕ) (was now : Partitions) (s : AreSeen types text base place first line left was now) → first ≤ length was.starts
+    → bit ≤ 64 → s.seen ≤ place + bit → ((k : ℕ) → k < bit → bit_at left k ≡ 0) → WereAdded types text base place (place + bit) first line was now
+added_up_to types text base place first line left bit was now s w l b below =
+    added_both types text base place s.seen (place + bit) first line line was now now w s.low b s.added
+    (added_none types text base s.seen (place + bit) line now (λ k a c.
     let e : k ≡ place + (k - place) = omega (arith, s.low) in
     rw e (s.marked (k - place) (omega (arith, s.low)) (omega (arith, s.low)) (below (k - place) (omega (arith, s.low))))))
 
 -- one more mark
 pub one_seen :
-    (types : LineEndTypes) (text : List ℕ) (place first line next left rest bit : ℕ) (was now later : Partitions) → AreSeen types text place first line left was now
+    (types : LineEndTypes) (text : List ℕ) (base : ℕ) (place first line next left rest bit : ℕ) (was now later : Partitions) → AreSeen types text base place first line left was now
     → first ≤ length was.starts → bit < 64 → bit_at left bit ≡ 1 → ((k : ℕ) → k < bit → bit_at left k ≡ 0)
     → bit_at rest bit ≡ 0 → ((k : ℕ) → k < 64 → (k ≡ bit → ⊥) → bit_at rest k ≡ bit_at left k)
-    → WereAdded types text (place + bit) (place + bit + 1) line next now later → AreSeen types text place first next rest was later
-one_seen types text place first line next left rest bit was now later s w l set below gone kept added =
+    → WereAdded types text base (place + bit) (place + bit + 1) line next now later → AreSeen types text base place first next rest was later
+one_seen types text base place first line next left rest bit was now later s w l set below gone kept added =
     record {
       seen = place + bit + 1;
       low = omega arith;
       high = omega arith;
-      added = added_both types text place (place + bit) (place + bit + 1) first line next was now later w (omega arith) (omega arith)
-          (added_up_to types text place first line left bit was now s w (omega arith) (s.behind bit l set) below) added;
+      added = added_both types text base place (place + bit) (place + bit + 1) first line next was now later w (omega arith) (omega arith)
+          (added_up_to types text base place first line left bit was now s w (omega arith) (s.behind bit l set) below) added;
       behind = λ k m here. elim (cases_order k bit) [
         | inl same ↦ absurd (let e : bit_at rest k ≡ 0 = rw same gone in omega arith)
         | inr (inl less) ↦ absurd (let ne : (k ≡ bit → ⊥) = λ e. omega arith in omega (arith, kept k m ne, below k less))
@@ -192,13 +191,7 @@ one_seen types text place first line next left rest bit was now later s w l set 
 
 -- no mark is left
 pub all_seen :
-    (types : LineEndTypes) (text : List ℕ) (place first line left : ℕ) (was now : Partitions) → AreSeen types text place first line left was now
-    → first ≤ length was.starts → left ≡ 0 → WereAdded types text place (place + 64) first line was now
-all_seen types text place first line left was now s w none =
-    added_up_to types text place first line left 64 was now s w (omega arith) s.high (λ k l. rw none (bit_at-zero k))
-
--- all of a text in two halves
-pub can_all :
-    (types : LineEndTypes) (xs ys : List ℕ) (from to at : ℕ) (was : Partitions) → IsFree was.starts was.length from to at → was.length ≡ length xs + length ys
-    → length (starts_within types (xs ++ ys) from to) ≤ was.room → CanAdd types (xs ++ ys) from to at was
-can_all types xs ys from to at was free end room = record { free = free; end = end ∙ sym (length-append xs ys); room = room }
+    (types : LineEndTypes) (text : List ℕ) (base : ℕ) (place first line left : ℕ) (was now : Partitions) → AreSeen types text base place first line left was now
+    → first ≤ length was.starts → left ≡ 0 → WereAdded types text base place (place + 64) first line was now
+all_seen types text base place first line left was now s w none =
+    added_up_to types text base place first line left 64 was now s w (omega arith) s.high (λ k l. rw none (bit_at-zero k))

@@ -7,8 +7,8 @@ use Rattle.partitioning.specs.Partitions.{raised_behind}
 use Rattle.line_index.specs.declared.change.NearLines.{NearLines}
 use Rattle.line_index.specs.declared.change.LineChange.{LineChange}
 use Rattle.line_index.specs.Change.{near_lines, change_about}
-use Rattle.line_index.specs.Index.{IsFree, WasInserted, index, starts_within}
-use Rattle.line_index.proofs.StepLists.{range_about, free_about, moved_behind, put_between, fits_about, left_about, longer, found_in}
+use Rattle.line_index.specs.Index.{IsFree, index, starts_within}
+use Rattle.line_index.proofs.StepLists.{Insertion, range_about, free_about, moved_behind, put_between, fits_about, left_about, longer, found_in}
 
 -- the line behind that of the byte before the place, as it is looked up
 pub first_is : (starts : List ℕ) (p q r : ℕ) → r ≡ line_of starts (q + 0) → q ≡ p - 1 → r + 1 ≡ line_of starts (p - 1) + 1
@@ -27,7 +27,7 @@ pub change_is :
     → (let change : LineChange = record { before = before; old_lines = old_lines; new_lines = new_lines; emptied = emptied } in change) ≡ change_about place old_end new_end old new end
 change_is place old_end new_end before old new old_lines new_lines end emptied a b c d = rw (a, b, c, d) refl
 
-module _ (types : LineEndTypes) (place count end room : ℕ) (text starts : List ℕ) (w : WasInserted place count text (index types starts end room))
+module _ (types : LineEndTypes) (place count end room : ℕ) (text starts : List ℕ) (w : Insertion place count text (index types starts end room))
     (i j : ℕ) (a : i ≡ line_of starts (place - 1) + 1) (b : j ≡ line_of starts (place + 2) + 1) where
   pub range_in : (0 < i) × (i ≤ j) × (j ≤ length starts)
   range_in = range_about types w.old starts place place i j w.index.starts (omega arith) a b

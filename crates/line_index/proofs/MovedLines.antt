@@ -9,14 +9,14 @@ use Rattle.ed_model.specs.Steps.{Insert, Delete, moved_back}
 use Rattle.ed_model.specs.NeighbourLaws.{count_before}
 use Rattle.ed_model.proofs.RisingLemmas.{Climbs_from_rises, count_is, increasing_at}
 use Rattle.ed_model.proofs.LineLemmas.{line_starts_rise, line_of_start, line_of_monotone, line_of_lt, line_from_start, some_line}
-use Rattle.line_index.specs.Index.{WasInserted, index, starts_within}
+use Rattle.line_index.specs.Index.{index, starts_within}
 use Rattle.line_index.specs.declared.change.LineChange.{LineChange}
 use Rattle.line_index.specs.Change.{MovesLines, change_about, moved_on, near_lines}
 use Rattle.line_index.specs.Edits.{fresh_lines}
 use Rattle.line_index.specs.StepEdits.{settling}
 use Rattle.line_index.proofs.Abouts.{AreAbout, chosen, settling_few, settling_fewer}
 use Rattle.line_index.proofs.StartLists.{starts_lie}
-use Rattle.line_index.proofs.StepLists.{Deletion, at_most, behind, lines_before_some, none_below_zero, first_line_is, found_in, found_out, longer, shorter, range}
+use Rattle.line_index.proofs.StepLists.{Insertion, Deletion, at_most, behind, lines_before_some, none_below_zero, first_line_is, found_in, found_out, longer, shorter, range}
 
 -- a place among what was deleted, or at its end, falls to the deletion's place
 fallen : (place count s : ℕ) → place ≤ s → s ≤ place + count → moved_back place count s ≡ place
@@ -204,7 +204,7 @@ module _ (types : LineEndTypes) (old new : List ℕ) (p e e' i j from to : ℕ) 
       ]
 
 -- after an insertion
-module _ (types : LineEndTypes) (place count end room : ℕ) (text starts : List ℕ) (w : WasInserted place count text (index types starts end room)) where
+module _ (types : LineEndTypes) (place count end room : ℕ) (text starts : List ℕ) (w : Insertion place count text (index types starts end room)) where
   pub moves_in_old : (end' : ℕ) → MovesLines (moved_on place count) (line_starts types w.old) (line_starts types text) (change_about place place (place + count) (line_starts types w.old) (line_starts types text) end')
   moves_in_old end' =
       let i : ℕ = line_of (line_starts types w.old) (place - 1) + 1 in

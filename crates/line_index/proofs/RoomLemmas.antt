@@ -10,10 +10,10 @@ use Rattle.ed_model.proofs.LineLemmas.{moved_start_test, some_line}
 use Rattle.ed_model.proofs.RisingLemmas.{filter_range_moved}
 use Rattle.ed_model.proofs.StepLemmas.{length-inserted}
 use Rattle.ed_model.proofs.NeighbourLemmas.{slice_get_append_left, slice_get_append_right}
-use Rattle.line_index.specs.Index.{Index, WasInserted, index, starts_within}
+use Rattle.line_index.specs.Index.{Index, index, bytes_near, starts_within}
 use Rattle.line_index.specs.RoomLaws.{lines_for_insertion, lines_for_deletion, InsertionAddsFewLines, DeletionAddsFewLines}
 use Rattle.line_index.proofs.StartLists.{starts_apart, one_start, no_starts, one_more}
-use Rattle.line_index.proofs.StepLists.{Deletion, deletion_of, range_about, counted_about, found_in, found_out}
+use Rattle.line_index.proofs.StepLists.{Insertion, Deletion, deletion_is, range_about, counted_about, found_in, found_out}
 
 -- no more numbers pass a test than there are
 few_pass : (p : ℕ → Bool) (a n : ℕ) → length (filter p (range_with_len a n)) ≤ n
@@ -107,7 +107,7 @@ few_found_out types place new = omega (arith, few_starts types new (max place 1)
 pub few_inserted : InsertionAddsFewLines
 few_inserted types place bytes text h =
     let new : List ℕ = edited (Insert place bytes) text in
-    let w : WasInserted place (length bytes) new (index types (line_starts types text) (length text) 0) =
+    let w : Insertion place (length bytes) new (index types (line_starts types text) (length text) 0) =
     record { old = text; bytes = bytes; counted = refl; within = h; index = record { starts = refl; length = refl }; edited = refl } in
     let starts : List ℕ = line_starts types text in
     let i : ℕ = line_of starts (place - 1) + 1 in
@@ -126,15 +126,15 @@ pub few_deleted : DeletionAddsFewLines
 few_deleted types place count text h =
     let new : List ℕ = take place text ++ drop (place + count) text in
     let starts : List ℕ = line_starts types text in
-    let old : Index = index types starts (length text) 0 in
+    let old : Index = index types starts (length text) (line_count types new) in
     let w : Deletion place count new old =
-    deletion_of place count new old record { old = text; within = h; index = record { starts = refl; length = refl }; deleted = refl } in
+    deletion_is place count (bytes_near place 0 new) text old record { within = h; index = record { starts = refl; length = refl }; reads = refl; room = omega arith } in
     let i : ℕ = line_of starts (place - 1) + 1 in
     let j : ℕ = line_of starts (place + count + 2) + 1 in
     let from : ℕ = max place 1 in
     let to : ℕ = min (place + 3) (length new + 1) in
     let within = range_about types text starts place (place + count) i j refl (omega arith) refl refl in
-    let found = found_out types place count (length text) 0 new starts w i j from to refl refl refl refl in
+    let found = found_out types place count (length text) (line_count types new) new starts w i j from to refl refl refl refl in
     omega (
       arith,
       counted_about (λ s. s - count) starts (starts_within types new from to) (line_starts types new) i j (omega (arith, within)) (omega (arith, within)) found,

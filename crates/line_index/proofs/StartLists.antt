@@ -1,13 +1,13 @@
 -- Lists of line starts: one is taken away, and those between places are cut apart.
-use Rattle.std.proofs.Common.{◌≡◌, ℕ, zero, suc, ◌+◌, ◌-◌, ◌<◌, ◌≤◌, Bool, true, false, cond, List, [], ◌∷◌, ◌++◌, length, get_or, take, drop, filter, remove, refl, ap, ◌∙◌, arith, add-one, le_refl}
+use Rattle.std.proofs.Common.{◌≡◌, ℕ, zero, suc, ◌+◌, ◌-◌, ◌<◌, ◌≤◌, Bool, true, false, cond, List, [], ◌∷◌, ◌++◌, length, get_or, take, drop, filter, remove, refl, sym, ap, ◌∙◌, arith, add-one, le_refl}
 use Rattle.std.specs.List.{range_with_len}
 use Rattle.std.proofs.lemmas.List.{length-take-le}
 use Rattle.std.proofs.lemmas.List.Edits.{remove-append_right}
 use Rattle.std.proofs.lemmas.List.Elements.{filter-append}
 use Rattle.ed_model.specs.declared.plan.LineEndTypes.{LineEndTypes}
 use Rattle.ed_model.specs.Lines.{is_line_start}
-use Rattle.ed_model.proofs.RisingLemmas.{range-append, filter_range_none}
-use Rattle.line_index.specs.Index.{starts_within}
+use Rattle.ed_model.proofs.RisingLemmas.{range-append, filter_range_none, filter_range_agree}
+use Rattle.line_index.specs.Index.{starts_within, starts_near}
 
 drop_suc : (line : ℕ) (xs : List ℕ) → drop 1 (drop line xs) ≡ drop (suc line) xs
 drop_suc zero xs = refl
@@ -62,3 +62,29 @@ one_more types text from place next a b here none =
     ∙ ap (λ l. starts_within types text from place ++ l)
     (starts_apart types text place (place + 1) next (omega arith) (omega arith)
     ∙ rw (one_start types text place here, no_starts types text (place + 1) next none) refl)
+
+-- The same of starts that are told by the bytes near them.
+
+pub near_lie : (types : LineEndTypes) (near : List ℕ) (base from to k : ℕ) → from ≤ to → k < length (starts_near types near base from to) → (from ≤ get_or (starts_near types near base from to) k 0) × (get_or (starts_near types near base from to) k 0 < to)
+near_lie types near base from to k o h =
+    let lie = passing_lie (λ place. is_line_start types near (place - base)) from (to - from) k h in (lie.0, omega (arith, lie.1))
+
+pub near_apart : (types : LineEndTypes) (near : List ℕ) (base from mid to : ℕ) → from ≤ mid → mid ≤ to → starts_near types near base from to ≡ starts_near types near base from mid ++ starts_near types near base mid to
+near_apart types near base from mid to a b =
+    let test : ℕ → Bool = λ place. is_line_start types near (place - base) in
+    let e : to - from ≡ (mid - from) + (to - mid) = omega arith in
+    let f : from + (mid - from) ≡ mid = omega arith in
+    rw (e, range-append from (mid - from) (to - mid), f) (filter-append test (range_with_len from (mid - from)) (range_with_len mid (to - mid)))
+
+pub no_near : (types : LineEndTypes) (near : List ℕ) (base from to : ℕ) → ((k : ℕ) → from ≤ k → k < to → is_line_start types near (k - base) ≡ false) → starts_near types near base from to ≡ []
+no_near types near base from to none = filter_range_none (λ place. is_line_start types near (place - base)) from (to - from) (λ k a b. none k a (omega arith))
+
+pub one_near : (types : LineEndTypes) (near : List ℕ) (base place : ℕ) → is_line_start types near (place - base) ≡ true → starts_near types near base place (place + 1) ≡ place ∷ []
+one_near types near base place e =
+    let one : place + 1 - place ≡ 1 = omega arith in
+    rw (one, e) refl
+
+-- they are those of the text, where the same four bytes stand about each place
+pub near_is_within : (types : LineEndTypes) (near text : List ℕ) (base from to : ℕ) → ((k : ℕ) → from ≤ k → k < to → is_line_start types near (k - base) ≡ is_line_start types text k) → starts_near types near base from to ≡ starts_within types text from to
+near_is_within types near text base from to same =
+    filter_range_agree (is_line_start types text) (λ place. is_line_start types near (place - base)) from (to - from) (λ k a b. sym (same k a (omega arith)))

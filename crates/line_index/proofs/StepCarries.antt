@@ -13,20 +13,20 @@ use Rattle.line_index.specs.Edits.{after_edits, FitLines, fresh_lines}
 use Rattle.line_index.specs.declared.edit.LineEdit.{LineEdit}
 use Rattle.line_index.specs.declared.edit.LineEdit.TheVariants.{Restart}
 use Rattle.line_index.specs.RoomLaws.{lines_for_step}
-use Rattle.line_index.specs.Index.{Index, WasInserted, index}
+use Rattle.line_index.specs.Index.{Index, index}
 use Rattle.line_index.specs.StepEdits.{settling, edits_of, change_of, EditsFitLines, EditsBringFewLines}
 use Rattle.line_index.proofs.Abouts.{AreAbout, settling_carries, settling_fits}
 use Rattle.line_index.proofs.Keyed.{by_keys, carried_by_keys}
 use Rattle.line_index.proofs.MovedLines.{moves_in_old, moves_out_old, about_in, about_out, fresh_in, fresh_out}
 use Rattle.line_index.proofs.RoomLemmas.{few_found_in, few_found_out}
-use Rattle.line_index.proofs.StepLists.{Deletion}
+use Rattle.line_index.proofs.StepLists.{Insertion, Deletion}
 
 -- what is known of a step's change
 pub record Moves (types : LineEndTypes) (step : Step) (text : List ℕ) : Type 0 where
   pub moves : MovesLines (moved_start step) (line_starts types text) (line_starts types (edited step text)) (change_of types step text)
   pub about : AreAbout (change_of types step text) (line_count types text) (line_count types (edited step text))
 
-abbrev pub insertion_was : (types : LineEndTypes) (p : ℕ) (bytes text : List ℕ) → p ≤ length text → WasInserted p (length bytes) (edited (Insert p bytes) text) (index types (line_starts types text) (length text) 0)
+abbrev pub insertion_was : (types : LineEndTypes) (p : ℕ) (bytes text : List ℕ) → p ≤ length text → Insertion p (length bytes) (edited (Insert p bytes) text) (index types (line_starts types text) (length text) 0)
 insertion_was types p bytes text h = record { old = text; bytes = bytes; counted = refl; within = h; index = record { starts = refl; length = refl }; edited = refl }
 
 abbrev pub deletion_was : (types : LineEndTypes) (p : ℕ) (bytes text : List ℕ) → p + length bytes ≤ length text → Deletion p (length bytes) (edited (Delete p bytes) text) (index types (line_starts types text) (length text) 0)

@@ -16,7 +16,7 @@ use Rattle.ed_model.proofs.StepLemmas.{length-inserted, length-deleted_within}
 use Rattle.ed_model.proofs.NeighbourLemmas.{starts_after_insertion, starts_after_deletion, starts_about_insertion, starts_about_deletion, starts_before_first, starts_from_others}
 use Rattle.ed_model.proofs.NearLemmas.{first_line_about_is, first_line_behind_is}
 use Rattle.partitioning.specs.Partitions.{CanLose, map_from}
-use Rattle.line_index.specs.Index.{Index, IsFree, IsIndexOf, WasInserted, WasDeleted, index, starts_within}
+use Rattle.line_index.specs.Index.{Index, IsFree, IsIndexOf, IsInsertion, IsDeletion, index, starts_within}
 use Rattle.line_index.proofs.StartLists.{starts_apart, no_starts, one_start}
 
 -- starts up to a place's line lie at the place or before it, and the others behind it
@@ -216,8 +216,20 @@ pub left_about :
     → left + length found ≡ room + (j - i) → left + length new ≡ room + length starts
 left_about f starts found new i j room left a b e h = omega (arith, counted_about f starts found new i j a b e)
 
+-- An insertion, with the text that it leaves.
+pub record Insertion (place count : ℕ) (text : List ℕ) (i : Index) : Type 0 where
+  pub old : List ℕ
+  pub bytes : List ℕ
+  pub counted : length bytes ≡ count
+  pub within : place ≤ length old
+  pub index : IsIndexOf old i
+  pub edited : edited (Insert place bytes) old ≡ text
+
+pub insertion_is : (place count : ℕ) (near old bytes : List ℕ) (i : Index) → IsInsertion place count near old bytes i → Insertion place count (edited (Insert place bytes) old) i
+insertion_is place count near old bytes i w = record { old = old; bytes = bytes; counted = w.counted; within = w.within; index = w.index; edited = refl }
+
 -- the new starts, where the index was that of a text to which bytes came
-module _ (types : LineEndTypes) (place count end room : ℕ) (text starts : List ℕ) (w : WasInserted place count text (index types starts end room)) where
+module _ (types : LineEndTypes) (place count end room : ℕ) (text starts : List ℕ) (w : Insertion place count text (index types starts end room)) where
   pub longer : length text ≡ end + count
   longer = omega (arith, ap length w.edited, length-inserted place w.bytes w.old, w.counted, w.index.length)
 
@@ -252,12 +264,12 @@ pub record Deletion (place count : ℕ) (text : List ℕ) (i : Index) : Type 0 w
   pub index : IsIndexOf old i
   pub edited : edited (Delete place bytes) old ≡ text
 
-pub deletion_of : (place count : ℕ) (text : List ℕ) (i : Index) → WasDeleted place count text i → Deletion place count text i
-deletion_of place count text i w =
-    let bytes : List ℕ = slice_range w.old place (place + count) in
-    let size : length bytes ≡ min (place + count - place) (length w.old - place) = simp (length-take, length-drop) in
+pub deletion_is : (place count : ℕ) (near old : List ℕ) (i : Index) → IsDeletion place count near old i → Deletion place count (take place old ++ drop (place + count) old) i
+deletion_is place count near old i w =
+    let bytes : List ℕ = slice_range old place (place + count) in
+    let size : length bytes ≡ min (place + count - place) (length old - place) = simp (length-take, length-drop) in
     let counted : length bytes ≡ count = omega (arith, w.within) in
-    record { old = w.old; bytes = bytes; counted = counted; within = w.within; index = w.index; edited = rw counted w.deleted }
+    record { old = old; bytes = bytes; counted = counted; within = w.within; index = w.index; edited = rw counted refl }
 
 -- .. and where it was that of a text from which some went
 module _ (types : LineEndTypes) (place count end room : ℕ) (text starts : List ℕ) (w : Deletion place count text (index types starts end room)) where

@@ -1,9 +1,9 @@
 -- What a contract sees of a `LineIndex`.
-use Rattle.std.specs.Prelude.{◌≡◌, ℕ, ◌+◌, ◌-◌, ◌<◌, ◌≤◌, false, List, ◌++◌, length, take, drop, filter, slice_index}
+use Rattle.std.specs.Prelude.{◌≡◌, ℕ, ◌+◌, ◌-◌, ◌<◌, ◌≤◌, false, List, ◌++◌, length, take, drop, filter, slice_index, slice_range}
 use Rattle.std.specs.List.{range_with_len}
 use Rattle.std.specs.Int.{bit_at}
 use Rattle.ed_model.specs.declared.plan.LineEndTypes.{LineEndTypes}
-use Rattle.ed_model.specs.Lines.{is_line_start, line_starts}
+use Rattle.ed_model.specs.Lines.{is_line_start, line_starts, line_count}
 use Rattle.ed_model.specs.Steps.{Insert, edited}
 use Rattle.partitioning.specs.Partitions.{Partitions}
 
@@ -22,25 +22,45 @@ pub record IsIndexOf (text : List ℕ) (i : Index) : Type 0 where
   pub starts : i.starts ≡ line_starts i.types text
   pub length : i.length ≡ length text
 
--- the index is that of a text which this one comes from, by an insertion of `count` bytes at the place
-pub record WasInserted (place count : ℕ) (text : List ℕ) (i : Index) : Type 0 where
-  pub old : List ℕ
-  pub bytes : List ℕ
+-- the bytes of a text about what a step put in, with up to three on each side: all that a step reads
+abbrev pub bytes_near : ℕ → ℕ → List ℕ → List ℕ
+bytes_near place count text = slice_range text (place - 3) (place + count + 3)
+
+-- The index is that of a text into which so many bytes were put at the place. These bytes are near them now, and there is
+-- room for the new lines.
+pub record IsInsertion (place count : ℕ) (near old bytes : List ℕ) (i : Index) : Type 0 where
   pub counted : length bytes ≡ count
   pub within : place ≤ length old
   pub index : IsIndexOf old i
-  pub edited : edited (Insert place bytes) old ≡ text
+  pub reads : near ≡ bytes_near place count (edited (Insert place bytes) old)
+  pub room : line_count i.types (edited (Insert place bytes) old) ≤ length i.starts + i.room
 
--- the index is that of a text which this one comes from, by a deletion of `count` bytes from the place on
-pub record WasDeleted (place count : ℕ) (text : List ℕ) (i : Index) : Type 0 where
+-- there is such a text
+pub record WasInserted (place count : ℕ) (near : List ℕ) (i : Index) : Type 0 where
   pub old : List ℕ
+  pub bytes : List ℕ
+  pub is : IsInsertion place count near old bytes i
+
+-- The index is that of a text from which so many bytes were deleted from the place on. These bytes are near it now, and
+-- there is room for the new lines.
+pub record IsDeletion (place count : ℕ) (near old : List ℕ) (i : Index) : Type 0 where
   pub within : place + count ≤ length old
   pub index : IsIndexOf old i
-  pub deleted : take place old ++ drop (place + count) old ≡ text
+  pub reads : near ≡ bytes_near place 0 (take place old ++ drop (place + count) old)
+  pub room : line_count i.types (take place old ++ drop (place + count) old) ≤ length i.starts + i.room
+
+-- there is such a text
+pub record WasDeleted (place count : ℕ) (near : List ℕ) (i : Index) : Type 0 where
+  pub old : List ℕ
+  pub is : IsDeletion place count near old i
 
 -- the places from one up to another where a line starts
 abbrev pub starts_within : LineEndTypes → List ℕ → ℕ → ℕ → List ℕ
 starts_within types text from to = filter (is_line_start types text) (range_with_len from (to - from))
+
+-- the same, told by the bytes near those places alone, of which the first stands at `base`
+abbrev pub starts_near : LineEndTypes → List ℕ → ℕ → ℕ → ℕ → List ℕ
+starts_near types near base from to = filter (λ place. is_line_start types near (place - base)) (range_with_len from (to - from))
 
 -- the start of line `at` is the first that can lie from `from` up to `to`, and none does: the starts in front are below
 -- `from`, the others at `to` or behind it
@@ -52,19 +72,18 @@ pub record IsFree (starts : List ℕ) (end from to at : ℕ) : Type 0 where
   pub order : from ≤ to
   pub to_end : to ≤ end + 1
 
--- the line starts of the text from one place up to another can be put in before line `at`: none is there yet, and there
--- is room for them
-pub record CanAdd (types : LineEndTypes) (text : List ℕ) (from to at : ℕ) (was : Partitions) : Type 0 where
+-- the line starts from one place up to another can be put in before line `at`: none is there yet, and there is room for
+-- them
+pub record CanAdd (types : LineEndTypes) (near : List ℕ) (base from to at : ℕ) (was : Partitions) : Type 0 where
   pub free : IsFree was.starts was.length from to at
-  pub end : was.length ≡ length text
-  pub room : length (starts_within types text from to) ≤ was.room
+  pub room : length (starts_near types near base from to) ≤ was.room
 
 -- they were put in there, and `next` is the line behind them
-pub record WereAdded (types : LineEndTypes) (text : List ℕ) (from to at next : ℕ) (was now : Partitions) : Type 0 where
-  pub starts : now.starts ≡ take at was.starts ++ starts_within types text from to ++ drop at was.starts
+pub record WereAdded (types : LineEndTypes) (near : List ℕ) (base from to at next : ℕ) (was now : Partitions) : Type 0 where
+  pub starts : now.starts ≡ take at was.starts ++ starts_near types near base from to ++ drop at was.starts
   pub end : now.length ≡ was.length
-  pub room : now.room + length (starts_within types text from to) ≡ was.room
-  pub line : next ≡ at + length (starts_within types text from to)
+  pub room : now.room + length (starts_near types near base from to) ≡ was.room
+  pub line : next ≡ at + length (starts_near types near base from to)
 
 -- of the 64 places from one on, a line can start at those alone whose bit is set
 abbrev pub MarkStarts : LineEndTypes → List ℕ → ℕ → ℕ → Type 0

@@ -1,6 +1,6 @@
 //! Line starts of a text, put in among the partitions: those at one place, and those among 64.
 
-ghost use Rattle.std.specs.Prelude.{◌≡◌, ℕ, ◌+◌, ◌≤◌, ◌<◌, ◌++◌, false, length, IfSome};
+ghost use Rattle.std.specs.Prelude.{◌≡◌, ℕ, ◌+◌, ◌-◌, ◌≤◌, ◌<◌, ◌++◌, false, length, IfSome};
 ghost use Rattle.ed_model.specs.Lines.{is_line_start};
 ghost use Rattle.line_index.specs.Index.{CanAdd, MarkStarts, WereAdded};
 
@@ -55,46 +55,51 @@ pub(crate) fn place_behind(
     }
 }
 
-/// Puts the start of a line at `place` in before line `first`, if one starts there, and returns the line behind it.
+/// Puts the start of a line at `place` in before line `first`, if one starts there, and returns the line behind it. The
+/// first byte of `before` stands at `base`.
 pub(crate) fn add_at<P: Place>(
     starts: &mut Partitioning<P>,
     types: LineEndTypes,
     before: &[u8],
     after: &[u8],
+    base: usize,
     first: usize,
     place: usize,
 ) -> usize
-    requires { CanAdd types (before.now ++ after.now) place (place + 1) first starts.old }
-    ensures { WereAdded types (before.now ++ after.now) place (place + 1) first result starts.old starts.new }
+    requires { (base ≤ place) × CanAdd types (before.now ++ after.now) base place (place + 1) first starts.old }
+    ensures { WereAdded types (before.now ++ after.now) base place (place + 1) first result starts.old starts.new }
 {
     let _ = starts.count(); // it says that the number of lines is small
-    if starts_at(types, before, after, place) {
+    if starts_at(types, before, after, place - base) {
         starts.insert_reserved(first, place);
         return first + 1;
     }
     first
 }
 
-/// Puts the line starts among the 64 places from `place` on in before line `first`, and returns the line behind them.
+/// Puts the line starts among the 64 places from `place` on in before line `first`, and returns the line behind them. The
+/// first byte of `before` stands at `base`.
 pub(crate) fn add_marked<P: Place>(
     starts: &mut Partitioning<P>,
     types: LineEndTypes,
     before: &[u8],
     after: &[u8],
+    base: usize,
     first: usize,
     place: usize,
     marks: u64,
 ) -> usize
-    requires can { CanAdd types (before.now ++ after.now) place (place + 64) first starts.old }
-    requires marked { MarkStarts types (before.now ++ after.now) place marks }
-    ensures { WereAdded types (before.now ++ after.now) place (place + 64) first result starts.old starts.new }
+    requires can { CanAdd types (before.now ++ after.now) base place (place + 64) first starts.old }
+    requires marked { MarkStarts types (before.now ++ after.now) (place - base) marks }
+    requires base { base ≤ place }
+    ensures { WereAdded types (before.now ++ after.now) base place (place + 64) first result starts.old starts.new }
 {
     let _ = starts.length(); // it says that the text is not too long
     let mut line = first;
     let mut left = marks;
     'adding: while left != 0 {
         let bit = lowest(left);
-        line = add_at(starts, types, before, after, line, place + bit);
+        line = add_at(starts, types, before, after, base, line, place + bit);
         left = without(left, bit);
     }
     line

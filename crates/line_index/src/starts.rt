@@ -4,7 +4,7 @@ ghost use Rattle.std.specs.Prelude.{ℕ, ◌≡◌, ◌+◌, ◌-◌, ◌^◌, �
 ghost use Rattle.ed_model.specs.Lines.{line_of};
 ghost use Rattle.partitioning.specs.Partitions.{IsFloorLog, IsLastAtMost};
 ghost use Rattle.split_vector.specs.Split.{counted};
-ghost use Rattle.line_index.specs.Index.{IsFree, starts_within};
+ghost use Rattle.line_index.specs.Index.{CanAdd, starts_near};
 ghost use Rattle.line_index.specs.Change.{near_lines};
 ghost use Rattle.line_index.specs.StepEdits.{SmallLines};
 ghost use Rattle.ed_model.specs.NeighbourLaws.{count_before};
@@ -117,33 +117,35 @@ pub(crate) fn remove_starts<P: Place>(starts: &mut Partitioning<P>, first: usize
     }
 }
 
-// Puts the line starts of the text from `from` up to `to` in before line `first`. There is none there yet, and there
-// must be room for them.
+// Puts the line starts from `from` up to `to` in before line `first`, told by the bytes about those places alone, of which
+// the first stands at `base`. There is none there yet, and there must be room for them.
 pub(crate) fn add_starts<P: Place>(
     starts: &mut Partitioning<P>,
     types: LineEndTypes,
     before: &[u8],
     after: &[u8],
+    base: usize,
     first: usize,
     from: usize,
     to: usize,
 )
-    requires free { IsFree starts.old.starts starts.old.length from to first }
-    requires text { starts.old.length ≡ length before.now + length after.now }
-    requires room { length (starts_within types (before.now ++ after.now) from to) ≤ starts.old.room }
-    ensures starts { starts.new.starts ≡ take first starts.old.starts ++ starts_within types (before.now ++ after.now) from to ++ drop first starts.old.starts }
+    requires can { CanAdd types (before.now ++ after.now) base from to first starts.old }
+    requires near { (base ≤ from) × (from ≤ to) × (to ≤ base + (length before.now + length after.now) + 1) }
+    requires behind { base < from }
+    ensures starts { starts.new.starts ≡ take first starts.old.starts ++ starts_near types (before.now ++ after.now) base from to ++ drop first starts.old.starts }
     ensures length { starts.new.length ≡ starts.old.length }
-    ensures room { starts.new.room + length (starts_within types (before.now ++ after.now) from to) ≡ starts.old.room }
+    ensures room { starts.new.room + length (starts_near types (before.now ++ after.now) base from to) ≡ starts.old.room }
 {
     let mut line = first;
     let mut place = from;
     'adding: while place < to {
-        if let Some(marks) = marks_near(types, before, after, place, to) {
-            line = add_marked(starts, types, before, after, line, place, marks);
-            place = place_behind(types, before, after, place, to, marks);
+        let at = place - base;
+        if let Some(marks) = marks_near(types, before, after, at, to - base) {
+            line = add_marked(starts, types, before, after, base, line, place, marks);
+            place = base + place_behind(types, before, after, at, to - base, marks);
         } else {
-            line = add_at(starts, types, before, after, line, place);
-            place = next_start(types, before, after, place + 1, to);
+            line = add_at(starts, types, before, after, base, line, place);
+            place = base + next_start(types, before, after, at + 1, to - base);
         }
     }
 }

@@ -1,9 +1,8 @@
 //! Steps: what an insertion or a deletion does to the lines about it.
 
-ghost use Rattle.std.specs.Prelude.{◌≡◌, ◌+◌, ◌-◌, ◌≤◌, ◌<◌, ◌++◌, min, length};
-ghost use Rattle.ed_model.specs.Lines.{line_starts, line_count};
-ghost use Rattle.ed_model.specs.Steps.{moved_back};
-ghost use Rattle.line_index.specs.Index.{IsIndexOf, WasInserted, WasDeleted, index};
+ghost use Rattle.std.specs.Prelude.{◌≡◌, ℕ, ◌+◌, ◌-◌, ◌^◌, ◌≤◌, ◌<◌, ◌++◌, List, min, length, take, drop};
+ghost use Rattle.ed_model.specs.Steps.{Insert, edited, moved_back};
+ghost use Rattle.line_index.specs.Index.{IsIndexOf, IsInsertion, IsDeletion, WasInserted, WasDeleted, index};
 ghost use Rattle.line_index.specs.Change.{MovesLines, change_about, moved_on};
 ghost use Rattle.line_index.specs.StepEdits.{SmallLines};
 
@@ -14,15 +13,15 @@ use ed_model::LineEndTypes;
 use partitioning::{Partitioning, Place};
 
 // The place up to which a step is looked at: three bytes behind its end, or the one past the text's end.
-fn look_to(end: usize, before: &[u8], after: &[u8]) -> usize
-    requires { end ≤ length before.now + length after.now }
-    ensures { result ≡ min (end + 3) (length before.now + length after.now + 1) }
+fn look_to(end: usize, length: usize) -> usize
+    requires { (end ≤ length) × (length < 2 ^ 63) }
+    ensures { result ≡ min (end + 3) (length + 1) }
 {
-    let rest = before.len() + after.len() - end;
-    end + 1 + rest.min(2)
+    (end + 3).min(length + 1)
 }
 
-// Puts `count` bytes into the text at `place`, and the line starts about them in the place of those that were there.
+// Puts `count` bytes into the text at `place`, and the line starts about them in the place of those that were there. The
+// halves are those of the bytes near them.
 fn put_in<P: Place>(
     starts: &mut Partitioning<P>,
     types: LineEndTypes,
@@ -32,10 +31,9 @@ fn put_in<P: Place>(
     after: &[u8],
 ) -> LineChange
     requires was { WasInserted place count (before.now ++ after.now) (index types starts.old.starts starts.old.length starts.old.room) }
-    requires fits { length before.now + length after.now ≤ P.GREATEST }
-    requires room { line_count types (before.now ++ after.now) ≤ length starts.old.starts + starts.old.room }
-    ensures starts { starts.new.starts ≡ line_starts types (before.now ++ after.now) }
-    ensures length { starts.new.length ≡ length (before.now ++ after.now) }
+    requires fits { starts.old.length + count ≤ P.GREATEST }
+    requires short { starts.old.length + count < 2 ^ 63 }
+    ensures index { (old bytes : List ℕ) → IsInsertion place count (before.now ++ after.now) old bytes (index types starts.old.starts starts.old.length starts.old.room) → IsIndexOf (edited (Insert place bytes) old) (index types starts.new.starts starts.new.length starts.new.room) }
     ensures room { starts.new.room + length starts.new.starts ≡ starts.old.room + length starts.old.starts }
     ensures change { result ≡ change_about place place (place + count) starts.old.starts starts.new.starts starts.new.length }
     ensures moves { MovesLines (moved_on place count) starts.old.starts starts.new.starts result }
@@ -49,8 +47,10 @@ fn put_in<P: Place>(
     remove_starts(starts, first, old_lines.two_behind + 1);
     starts.insert_text(first - 1, count);
     let end = place + count;
-    let to = look_to(end, before, after);
-    add_starts(starts, types, before, after, first, place.max(1), to);
+    let long = starts.length();
+    let to = look_to(end, long);
+    let near = place.saturating_sub(3);
+    add_starts(starts, types, before, after, near, first, place.max(1), to);
     let new_lines = lines_near(starts, end, first - 1);
     LineChange {
         before: in_front,
@@ -61,7 +61,7 @@ fn put_in<P: Place>(
 }
 
 // Takes `count` bytes out of the text from `place` on, and puts the line starts about them in the place of those that
-// were there.
+// were there. The halves are those of the bytes near the place.
 fn take_out<P: Place>(
     starts: &mut Partitioning<P>,
     types: LineEndTypes,
@@ -71,9 +71,8 @@ fn take_out<P: Place>(
     after: &[u8],
 ) -> LineChange
     requires was { WasDeleted place count (before.now ++ after.now) (index types starts.old.starts starts.old.length starts.old.room) }
-    requires room { line_count types (before.now ++ after.now) ≤ length starts.old.starts + starts.old.room }
-    ensures starts { starts.new.starts ≡ line_starts types (before.now ++ after.now) }
-    ensures length { starts.new.length ≡ length (before.now ++ after.now) }
+    requires short { starts.old.length < 2 ^ 63 }
+    ensures index { (old : List ℕ) → IsDeletion place count (before.now ++ after.now) old (index types starts.old.starts starts.old.length starts.old.room) → IsIndexOf (take place old ++ drop (place + count) old) (index types starts.new.starts starts.new.length starts.new.room) }
     ensures room { starts.new.room + length starts.new.starts ≡ starts.old.room + length starts.old.starts }
     ensures change { result ≡ change_about place (place + count) place starts.old.starts starts.new.starts starts.new.length }
     ensures moves { MovesLines (moved_back place count) starts.old.starts starts.new.starts result }
@@ -87,8 +86,10 @@ fn take_out<P: Place>(
     let old_lines = lines_near(starts, place + count, first - 1);
     remove_starts(starts, first, old_lines.two_behind + 1);
     starts.delete_text(first - 1, count);
-    let to = look_to(place, before, after);
-    add_starts(starts, types, before, after, first, place.max(1), to);
+    let long = starts.length();
+    let to = look_to(place, long);
+    let near = place.saturating_sub(3);
+    add_starts(starts, types, before, after, near, first, place.max(1), to);
     let new_lines = lines_near(starts, place, first - 1);
     LineChange {
         before: in_front,
@@ -100,8 +101,9 @@ fn take_out<P: Place>(
 
 impl<P: Place> LineIndex<P> {
     /// Brings the index up to date after `count` bytes were put in at `place`, and returns what became of the lines.
-    /// `before` and `after` are the halves of the new text. Only the bytes that were put in are read, and up to three
-    /// on each side. There must be room for the new lines.
+    /// `before` and `after` are the halves of those bytes and up to three on each side, which are all that may be read:
+    /// the text from three bytes in front of the place to three behind what came. There must be room for the new lines,
+    /// and the text must be shorter than 2^63 bytes.
     pub fn inserted(
         &mut self,
         place: usize,
@@ -110,10 +112,10 @@ impl<P: Place> LineIndex<P> {
         after: &[u8],
     ) -> LineChange
         requires was { WasInserted place count (before.now ++ after.now) self.old }
-        requires fits { length before.now + length after.now ≤ P.GREATEST }
-        requires room { line_count self.old.types (before.now ++ after.now) ≤ length self.old.starts + self.old.room }
+        requires fits { self.old.length + count ≤ P.GREATEST }
+        requires short { self.old.length + count < 2 ^ 63 }
         ensures types { self.new.types ≡ self.old.types }
-        ensures index { IsIndexOf (before.now ++ after.now) self.new }
+        ensures index { (old bytes : List ℕ) → IsInsertion place count (before.now ++ after.now) old bytes self.old → IsIndexOf (edited (Insert place bytes) old) self.new }
         ensures room { self.new.room + length self.new.starts ≡ self.old.room + length self.old.starts }
         ensures change { result ≡ change_about place place (place + count) self.old.starts self.new.starts self.new.length }
         ensures moves { MovesLines (moved_on place count) self.old.starts self.new.starts result }
@@ -124,13 +126,13 @@ impl<P: Place> LineIndex<P> {
     }
 
     /// Brings the index up to date after `count` bytes were deleted from `place` on, and returns what became of the
-    /// lines. `before` and `after` are the halves of the new text, of which up to three bytes on each side of the place
-    /// are read. A deletion may join two parts of a line end of Unicode, so there must be room for one line more.
+    /// lines. `before` and `after` are the halves of the up to six bytes about the place, which are all that may be read.
+    /// A deletion may join two parts of a line end of Unicode, so there must be room for the lines that a deletion needs.
     pub fn deleted(&mut self, place: usize, count: usize, before: &[u8], after: &[u8]) -> LineChange
         requires was { WasDeleted place count (before.now ++ after.now) self.old }
-        requires room { line_count self.old.types (before.now ++ after.now) ≤ length self.old.starts + self.old.room }
+        requires short { self.old.length < 2 ^ 63 }
         ensures types { self.new.types ≡ self.old.types }
-        ensures index { IsIndexOf (before.now ++ after.now) self.new }
+        ensures index { (old : List ℕ) → IsDeletion place count (before.now ++ after.now) old self.old → IsIndexOf (take place old ++ drop (place + count) old) self.new }
         ensures room { self.new.room + length self.new.starts ≡ self.old.room + length self.old.starts }
         ensures change { result ≡ change_about place (place + count) place self.old.starts self.new.starts self.new.length }
         ensures moves { MovesLines (moved_back place count) self.old.starts self.new.starts result }

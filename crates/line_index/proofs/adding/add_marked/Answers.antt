@@ -3,7 +3,7 @@ use Rattle.line_index.proofs.Added.{none_seen, can_go_on, added_up_to, one_seen,
 use Rattle.line_index.proofs.adding.add_marked.Goals as goal
 
 pub adding-init : goal.adding-init
-adding-init g c = none_seen c.args.types (c.args.before.now ++ c.args.after.now) c.args.place c.args.first c.args.marks c.args.starts.now c.requires.marked
+adding-init g c = none_seen c.args.types (c.args.before.now ++ c.args.after.now) c.args.base c.args.place c.args.first c.args.marks c.args.starts.now c.requires.base c.requires.marked
 
 pub add_at-line-requires : goal.add_at-line-requires
 add_at-line-requires g c =
@@ -11,22 +11,23 @@ add_at-line-requires g c =
     let bit = c.lowest-bit.result in
     let found = c.lowest-bit.ensures in
     let inv = c.adding.invariant in
-    can_go_on c.args.types text c.args.place (c.args.place + bit) (c.args.place + bit + 1) (c.args.place + 64) c.args.first c.adding.line c.args.starts.now c.adding.starts
+    (omega (arith, c.requires.base),
+    can_go_on c.args.types text c.args.base c.args.place (c.args.place + bit) (c.args.place + bit + 1) (c.args.place + 64) c.args.first c.adding.line c.args.starts.now c.adding.starts
     c.requires.can
-    (added_up_to c.args.types text c.args.place c.args.first c.adding.line c.adding.left bit c.args.starts.now c.adding.starts inv c.requires.can.free.within
+    (added_up_to c.args.types text c.args.base c.args.place c.args.first c.adding.line c.adding.left bit c.args.starts.now c.adding.starts inv c.requires.can.free.within
     (omega (arith, found.within)) (inv.behind bit found.within found.set) found.below)
-    (omega arith) (omega arith) (omega (arith, found.within))
+    (omega arith) (omega arith) (omega (arith, found.within)))
 
 pub adding-preserved : goal.adding-preserved
 adding-preserved g c =
     let text = c.args.before.now ++ c.args.after.now in
     let found = c.lowest-bit.ensures in
     let rest = c.without-left in
-    one_seen c.args.types text c.args.place c.args.first c.adding.line c.add_at-line.result c.adding.left rest.result c.lowest-bit.result
+    one_seen c.args.types text c.args.base c.args.place c.args.first c.adding.line c.add_at-line.result c.adding.left rest.result c.lowest-bit.result
     c.args.starts.now c.adding.starts c.add_at-line.new.starts c.adding.invariant c.requires.can.free.within found.within found.set found.below
     rest.ensures.gone rest.ensures.kept c.add_at-line.ensures
 
 pub returns : goal.returns
 returns g c =
-    all_seen c.args.types (c.args.before.now ++ c.args.after.now) c.args.place c.args.first c.adding.line c.adding.left c.args.starts.now c.adding.starts
+    all_seen c.args.types (c.args.before.now ++ c.args.after.now) c.args.base c.args.place c.args.first c.adding.line c.adding.left c.args.starts.now c.adding.starts
     c.adding.invariant c.requires.can.free.within (omega arith)
