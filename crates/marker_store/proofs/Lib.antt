@@ -1,0 +1,5 @@
+pub mod Calls
+pub mod Indexes
+pub mod Moves
+pub mod Rows
+pub mod Starts
