@@ -2,6 +2,7 @@
 use Rattle.std.proofs.Common.{◌≡◌, ℕ, ◌+◌, ◌-◌, ◌<◌, ◌≤◌, ◌≢◌, ◌⊎◌, inl, inr, zero, suc, List, [], ◌∷◌, ◌++◌, length, get_or, set, take, drop, map, replicate, refl, sym, ap, ◌∙◌, arith, append_assoc, append-nil, eqb, cond, true, false}
 use Rattle.std.proofs.lemmas.Bool.{cases_eq, cases_lt}
 use Rattle.std.proofs.lemmas.Bool.Decides.{eqb_tells}
+use Rattle.std.proofs.lemmas.List.{take-append-drop}
 use Rattle.std.specs.List.{flat_map, sum_by}
 use Rattle.ed_model.specs.Rows.{Marker}
 use Rattle.marker_store.specs.Entries.{Entry, entry, AllBefore, AllFrom, raised, lowered, row, rows_from}
@@ -134,3 +135,9 @@ rows_between k zero xs ys a b = refl
 rows_between k (suc n) xs ys a b =
     ap (λ r. r ∷ rows_from (suc k) n (xs ++ ys)) (row-append k xs ys ∙ ap (λ r. r ++ row k ys) (row_before k xs a) ∙ row_behind k ys (from_less (k + 1) (k + suc n) ys (omega arith) b))
     ∙ ap (λ l. [] ∷ l) (rows_between (suc k) n xs ys (before_more k (suc k) xs (omega arith) a) (from_less (suc k + n) (k + suc n) ys (omega arith) b))
+
+-- a line between the entries before the index and those from it on has no marker
+pub row_gap : (k i : ℕ) (es : List Entry) → AllBefore k (take i es) → AllFrom (k + 1) (drop i es) → row k es ≡ []
+row_gap k i es a b =
+    ap (row k) (sym (take-append-drop i es)) ∙ row-append k (take i es) (drop i es)
+    ∙ ap (λ r. r ++ row k (drop i es)) (row_before k (take i es) a) ∙ row_behind k (drop i es) b

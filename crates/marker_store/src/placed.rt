@@ -115,6 +115,16 @@ impl<A: Allocator> PlacedMarkers<A> {
         low
     }
 
+    /// Returns how many markers are on the line and those before it.
+    fn cut_behind(&self, line: usize) -> usize
+        requires { line < self.now.count }
+        ensures { IsCut (line + 1) self.now.entries result }
+    {
+        let lines = self.count();
+        prove!(line < lines);
+        self.cut(line + 1)
+    }
+
     /// Puts `count` lines in before the line.
     pub(crate) fn raise(&mut self, line: usize, count: usize)
         requires line { line ≤ self.old.count }
@@ -127,6 +137,21 @@ impl<A: Allocator> PlacedMarkers<A> {
         self.starts.insert_text(index, count);
     }
 
+    // Returns how many lines behind the line, up to `most`, have no marker on one before the last of them. The marker at
+    // the index is the first behind the line.
+    fn free_lines(&self, line: usize, index: usize, most: usize) -> usize
+        requires cut { IsCut (line + 1) self.now.entries index }
+        requires some { 0 < most }
+        ensures some { (0 < result) × (result ≤ most) }
+        ensures behind { AllFrom (line + result) (drop index self.now.entries) }
+    {
+        if index == self.len() {
+            return most;
+        }
+        let (marked, _) = self.entry_at(index);
+        most.min(marked - line)
+    }
+
     /// Joins lines behind the line to it: `most`, or fewer, up to the first that has a marker. Returns how many.
     pub(crate) fn join_next(&mut self, line: usize, most: usize) -> usize
         requires { (0 < most) × (line + most < self.old.count) }
@@ -135,12 +160,8 @@ impl<A: Allocator> PlacedMarkers<A> {
         ensures count { self.new.count + result ≡ self.old.count }
         ensures room { self.new.room ≡ self.old.room }
     {
-        let index = self.cut(line + 1);
-        let mut count = most;
-        if index < self.len() {
-            let (marked, _) = self.entry_at(index);
-            count = most.min(marked - line);
-        }
+        let index = self.cut_behind(line);
+        let count = self.free_lines(line, index, most);
         self.starts.delete_text(index, count);
         count
     }
@@ -154,7 +175,7 @@ impl<A: Allocator> PlacedMarkers<A> {
         ensures count { self.new.count ≡ self.old.count }
         ensures room { self.new.room + 1 ≡ self.old.room }
     {
-        let index = self.cut(line + 1);
+        let index = self.cut_behind(line);
         self.starts.insert_text(index, 1);
         self.starts.insert_reserved(index + 1, line + index + 1);
         self.markers.insert_reserved(index, marker);
@@ -184,7 +205,7 @@ impl<A: Allocator> PlacedMarkers<A> {
         ensures room { self.new.room + length self.new.entries ≡ self.old.room + length self.old.entries }
     {
         let from = self.cut(line);
-        let to = self.cut(line + 1);
+        let to = self.cut_behind(line);
         for _gone in from..to {
             self.remove(from);
         }
@@ -195,7 +216,7 @@ impl<A: Allocator> PlacedMarkers<A> {
         requires { line < self.now.count }
         ensures { MatchOption result (NoneIs line number self.now.entries) (IsFirst line number self.now.entries) }
     {
-        for index in self.cut(line)..self.cut(line + 1) {
+        for index in self.cut(line)..self.cut_behind(line) {
             let (_, marker) = self.entry_at(index);
             if marker.number() == number {
                 return Some(index);
@@ -252,7 +273,7 @@ impl<A: Allocator> PlacedMarkers<A> {
         ensures { result ≡ mask_of (row line self.now.entries) }
     {
         let mut mask = 0;
-        for index in self.cut(line)..self.cut(line + 1) {
+        for index in self.cut(line)..self.cut_behind(line) {
             let (_, marker) = self.entry_at(index);
             mask |= marker.bit();
         }
