@@ -4,7 +4,7 @@ use Rattle.std.specs.Prelude.{◌≡◌, ◌⊎◌, ℕ, zero, suc, ◌+◌, ◌
 use Rattle.std.specs.Coded.{Coded, code_by, coded×, coded_list, coded_ℕ}
 use Rattle.partitioning.specs.Partitions.{ArePartitions}
 use Rattle.ed_model.specs.Rows.{Marker}
-use Rattle.marker_store.specs.Lines.{marker_code}
+use Rattle.marker_store.specs.Lines.{marker, marker_code}
 
 -- a marker and its line
 pub record Entry : Type 0 where
@@ -112,7 +112,7 @@ pub record IsStore (p : Placed) (next_handle : ℕ) : Type 0 where
   pub within : AllBefore p.count p.entries
 
 abbrev pub no_entry : Entry
-no_entry = entry 0 (record { handle = 0; number = 0 })
+no_entry = entry 0 (marker 0 0)
 
 -- the line's entries go
 pub record IsCleared (line : ℕ) (old new : List Entry) : Type 0 where

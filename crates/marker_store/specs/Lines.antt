@@ -13,8 +13,11 @@ pub record MarkedLines : Type 0 where
   pub next_handle : ℕ
   pub room : ℕ
 
+abbrev pub marker : ℕ → ℕ → Marker
+marker handle number = record { handle = handle; number = number }
+
 abbrev pub marker_code : Coded Marker
-marker_code = code_by (ℕ × ℕ) (coded× coded_ℕ coded_ℕ) (λ m. (m.handle, m.number)) (λ p. record { handle = p.0; number = p.1 }) (λ _. refl)
+marker_code = code_by (ℕ × ℕ) (coded× coded_ℕ coded_ℕ) (λ m. (m.handle, m.number)) (λ p. marker p.0 p.1) (λ _. refl)
 
 abbrev pub marked_lines : List (List Marker) → ℕ → ℕ → MarkedLines
 marked_lines lines handle room = record { lines = lines; next_handle = handle; room = room }

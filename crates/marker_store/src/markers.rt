@@ -1,5 +1,6 @@
 //! One marker.
 ghost use Rattle.std.specs.Prelude.{◌≡◌, ◌<◌, ◌^◌};
+ghost use Rattle.marker_store.specs.Lines.{marker};
 
 use std::marker::Model;
 
@@ -27,8 +28,7 @@ impl Marker {
     /// Returns a marker.
     pub fn new(handle: u32, number: u32) -> Self
         requires { number < 32 }
-        ensures handle { result.handle ≡ handle }
-        ensures number { result.number ≡ number }
+        ensures { result ≡ marker handle number }
     {
         Marker { handle, number }
     }

@@ -203,6 +203,7 @@ impl<A: Allocator> PlacedMarkers<A> {
         ensures entries { IsCleared line self.old.entries self.new.entries }
         ensures count { self.new.count ≡ self.old.count }
         ensures room { self.new.room + length self.new.entries ≡ self.old.room + length self.old.entries }
+        ensures fewer { length self.new.entries ≤ length self.old.entries }
     {
         let from = self.cut(line);
         let to = self.cut_behind(line);
@@ -231,6 +232,7 @@ impl<A: Allocator> PlacedMarkers<A> {
         ensures entries { IsFirstGone line number self.old.entries self.new.entries }
         ensures count { self.new.count ≡ self.old.count }
         ensures room { self.new.room + length self.new.entries ≡ self.old.room + length self.old.entries }
+        ensures fewer { length self.new.entries ≤ length self.old.entries }
     {
         if let Some(index) = self.first_of(line, number) {
             self.remove(index);
@@ -242,6 +244,7 @@ impl<A: Allocator> PlacedMarkers<A> {
         ensures entries { self.new.entries ≡ kept drops self.old.entries }
         ensures count { self.new.count ≡ self.old.count }
         ensures room { self.new.room + length self.new.entries ≡ self.old.room + length self.old.entries }
+        ensures fewer { length self.new.entries ≤ length self.old.entries }
     {
         let mut index = 0;
         'passing: while index < self.len() {

@@ -17,4 +17,5 @@ passing-preserved-then-takes g c =
     rw front i.1,
     omega arith,
     c.remove.ensures.count ∙ i.3,
-    omega (arith, i.4, c.remove.ensures.room))
+    omega (arith, i.4, c.remove.ensures.room),
+    omega (arith, i.5))
