@@ -5,13 +5,14 @@ use Rattle.std.proofs.lemmas.Bool.{cases_eq, cases_lt, ne_eqb}
 use Rattle.std.proofs.lemmas.List.{take-append-drop, set-get_or, length-map, length-take-le, length-drop}
 use Rattle.ed_model.specs.Rows.{Marker}
 use Rattle.ed_model.specs.Changes.{without_first}
-use Rattle.marker_store.specs.Lines.{markers_of, without}
+use Rattle.marker_store.specs.Lines.{markers_of, with_joined, without}
 use Rattle.marker_store.specs.declared.drops.Drops.{Drops}
+use Rattle.marker_store.specs.declared.drops.Drops.TheVariants.{Each}
 use Rattle.marker_store.specs.Dropping.{is_dropped, kept}
 use Rattle.marker_store.specs.Entries.{Entry, entry, no_entry, AllBefore, AllFrom, IsCut, IsRaised, IsLowered, IsPut, IsCleared, NoneIs, IsFirst, IsFirstGone, raised, lowered, row, rows_from}
 use Rattle.marker_store.proofs.Rows.{before_more, from_less, before-append, before-take, before-drop, before-raised, before-lowered, row-here, row-other, row_before, row_behind, row-append}
 use Rattle.marker_store.proofs.Indexes.{cut_le}
-use Rattle.marker_store.proofs.Calls.{rows_set, markers_at}
+use Rattle.marker_store.proofs.Calls.{rows_set, rows_lowered, markers_at}
 
 row-parts : (j i : ℕ) (es : List Entry) → row j es ≡ row j (take i es) ++ row j (drop i es)
 row-parts j i es = ap (row j) (sym (take-append-drop i es)) ∙ row-append j (take i es) (drop i es)
@@ -155,3 +156,17 @@ pub differs : (a b x y : ℕ) → a ≡ x → b ≡ y → (IsTrue (not (eqb a b)
 differs a b x y ea eb =
     ((λ h q. let e : eqb a b ≡ true = eq-eqb a b (ea ∙ q ∙ sym eb) in let k = rw e at h in cc),
     (λ ne. let e : eqb a b ≡ false = ne_eqb a b (λ q. ne (sym ea ∙ q ∙ eb)) in rw e refl))
+
+-- All markers go, and all lines but one.
+
+pub kept_none : (es : List Entry) → kept Each es ≡ []
+kept_none [] = refl
+kept_none (e ∷ es) = kept_none es
+
+pub rows_restarted : (n : ℕ) (es : List Entry) → 0 < n → with_joined 0 (n - 1) (rows_from 0 n (kept Each es)) ≡ [] ∷ []
+rows_restarted n es h =
+    let one : n - (n - 1) ≡ 1 = omega arith in
+    let r : IsLowered 0 (n - 1) [] [] = record { index = 0; before = tt; behind = tt; is = refl } in
+    ap (λ l. with_joined 0 (n - 1) (rows_from 0 n l)) (kept_none es)
+    ∙ sym (rows_lowered 0 (n - 1) n [] [] (omega arith) r)
+    ∙ ap (λ m. rows_from 0 m []) one

@@ -175,9 +175,7 @@ impl<A: Allocator> MarkerStore<A> {
         let lines = self.placed.count();
         let mut line = from;
         'looking: while line < lines {
-            let Some(marked) = self.placed.marked_from(line) else {
-                return None;
-            };
+            let marked = self.placed.marked_from(line)?;
             if self.placed.mask(marked) & mask != 0 {
                 return Some(marked);
             }
@@ -194,9 +192,7 @@ impl<A: Allocator> MarkerStore<A> {
         // How many lines are left to look at.
         let mut left = if from < lines { from + 1 } else { lines };
         'looking: while left > 0 {
-            let Some(marked) = self.placed.marked_before(left) else {
-                return None;
-            };
+            let marked = self.placed.marked_before(left)?;
             if self.placed.mask(marked) & mask != 0 {
                 return Some(marked);
             }
