@@ -1,13 +1,13 @@
 -- What each call does to the lists of lines.
-use Rattle.std.proofs.Common.{◌≡◌, ℕ, ◌+◌, ◌-◌, ◌<◌, ◌≤◌, ◌≢◌, ◌⊎◌, inl, inr, zero, suc, List, [], ◌∷◌, ◌++◌, length, get_or, set, take, drop, map, replicate, refl, sym, ap, ◌∙◌, arith, append_assoc, append-nil, eqb, cond, true, false, take_at, drop_at}
-use Rattle.std.proofs.lemmas.Bool.{cases_eq, cases_lt}
+use Rattle.std.proofs.Common.{◌≡◌, ℕ, ◌+◌, ◌-◌, ◌<◌, ◌≤◌, ◌≢◌, inl, inr, zero, suc, List, [], ◌∷◌, ◌++◌, length, get_or, set, take, drop, replicate, refl, sym, ap, ◌∙◌, arith, append-nil, take_at, drop_at}
+use Rattle.std.proofs.lemmas.Bool.{cases_eq}
 use Rattle.std.proofs.lemmas.List.{take-append-drop}
 use Rattle.std.proofs.lemmas.List.Sums.{sum_by-cons}
-use Rattle.std.specs.List.{flat_map, sum_by, slice_range}
+use Rattle.std.specs.List.{flat_map, slice_range}
 use Rattle.ed_model.specs.Rows.{Marker}
-use Rattle.marker_store.specs.Lines.{markers_of, marker_total, with_fresh, with_joined, without}
-use Rattle.marker_store.specs.Entries.{Entry, entry, AllBefore, AllFrom, raised, lowered, row, rows_from, IsCut, IsRaised, IsLowered, IsPut}
-use Rattle.marker_store.proofs.Rows.{before_more, from_less, before-append, before-take, from-raised, from-lowered, row-here, row-other, row_before, row_behind, row-append, row-lowered, length-rows, rows-append, rows_same, rows_left, rows_right, rows-raised, rows-lowered, rows_between}
+use Rattle.marker_store.specs.Lines.{markers_of, marker_total, with_fresh, with_joined}
+use Rattle.marker_store.specs.Entries.{Entry, entry, AllBefore, AllFrom, raised, lowered, row, rows_from, IsRaised, IsLowered, IsPut}
+use Rattle.marker_store.proofs.Rows.{before_more, from_less, from-raised, from-lowered, row-here, row-other, row_before, row_behind, row-append, row-lowered, length-rows, rows-append, rows_same, rows_left, rows_right, rows-raised, rows-lowered, rows_between}
 
 -- Parts of the lists.
 
@@ -53,12 +53,12 @@ total_more k zero e es l h = absurd (omega arith)
 total_more k (suc n) e es l h =
     elim (cases_eq e.line k) [
       | inl q ↦
-        let tails : rows_from (suc k) n (e ∷ es) ≡ rows_from (suc k) n es = rows_same (suc k) n (e ∷ es) es (λ j a b. row-other j e es (λ z. absurd (omega arith))) in
-        let head : length (row k (e ∷ es)) ≡ 1 + length (row k es) = ap length (row-here k e es q) ∙ omega arith in
-        sum_by-cons length (row k (e ∷ es)) (rows_from (suc k) n (e ∷ es)) ∙ omega (arith, ap marker_total tails, sum_by-cons length (row k es) (rows_from (suc k) n es))
+          let tails : rows_from (suc k) n (e ∷ es) ≡ rows_from (suc k) n es = rows_same (suc k) n (e ∷ es) es (λ j a b. row-other j e es (λ z. absurd (omega arith))) in
+          let head : length (row k (e ∷ es)) ≡ 1 + length (row k es) = ap length (row-here k e es q) ∙ omega arith in
+          sum_by-cons length (row k (e ∷ es)) (rows_from (suc k) n (e ∷ es)) ∙ omega (arith, ap marker_total tails, sum_by-cons length (row k es) (rows_from (suc k) n es))
       | inr ne ↦
-        let head : length (row k (e ∷ es)) ≡ length (row k es) = ap length (row-other k e es ne) in
-        sum_by-cons length (row k (e ∷ es)) (rows_from (suc k) n (e ∷ es)) ∙ omega (arith, total_more (suc k) n e es (omega arith) (omega arith), sum_by-cons length (row k es) (rows_from (suc k) n es))
+          let head : length (row k (e ∷ es)) ≡ length (row k es) = ap length (row-other k e es ne) in
+          sum_by-cons length (row k (e ∷ es)) (rows_from (suc k) n (e ∷ es)) ∙ omega (arith, total_more (suc k) n e es (omega arith) (omega arith), sum_by-cons length (row k es) (rows_from (suc k) n es))
     ]
 
 pub total_is : (n : ℕ) (es : List Entry) → AllBefore n es → marker_total (rows_from 0 n es) ≡ length es
@@ -122,7 +122,7 @@ joined_lists k (suc c) xs ys a b =
 lowered_parts :
     (line count rest : ℕ) (xs ys : List Entry) → AllBefore (line + 1) xs → AllFrom (line + count) ys
     → rows_from 0 (line + suc rest) (xs ++ lowered count ys)
-      ≡ rows_from 0 line (xs ++ ys) ++ (flat_map (λ ms. ms) (rows_from line (suc count) (xs ++ ys)) ∷ rows_from (line + (count + 1)) rest (xs ++ ys))
+    ≡ rows_from 0 line (xs ++ ys) ++ (flat_map (λ ms. ms) (rows_from line (suc count) (xs ++ ys)) ∷ rows_from (line + (count + 1)) rest (xs ++ ys))
 lowered_parts line count rest xs ys a b =
     let z : 0 + line ≡ line = omega arith in
     let s : suc line + count ≡ line + (count + 1) = omega arith in

@@ -1,17 +1,16 @@
 -- Markers go: what becomes of the lists, and that what stays is in order.
-use Rattle.std.proofs.Common.{◌≡◌, ℕ, ◌+◌, ◌-◌, ◌<◌, ◌≤◌, ◌≢◌, ◌⊎◌, inl, inr, Bool, true, false, cond, zero, suc, List, [], ◌∷◌, ◌++◌, length, get_or, set, take, drop, map, refl, sym, ap, subst, ◌∙◌, arith, append-nil, eqb, eq-eqb, drop-cons, length-append}
-use Rattle.std.specs.Prelude.{filter, not, ◌==◌, if◌then◌else◌, IsTrue}
+use Rattle.std.proofs.Common.{◌≡◌, ℕ, ◌+◌, ◌-◌, ◌<◌, ◌≤◌, ◌≢◌, ◌⊎◌, inl, inr, Bool, true, false, zero, suc, List, [], ◌∷◌, ◌++◌, length, get_or, set, take, drop, refl, sym, ap, ◌∙◌, arith, eqb, eq-eqb, drop-cons, length-append}
+use Rattle.std.specs.Prelude.{filter, not, IsTrue}
 use Rattle.std.proofs.lemmas.Bool.{cases_eq, cases_lt, ne_eqb}
-use Rattle.std.proofs.lemmas.List.{take-append-drop, set-get_or, length-map, length-take-le, length-drop}
+use Rattle.std.proofs.lemmas.List.{take-append-drop, length-map, length-take-le, length-drop}
 use Rattle.ed_model.specs.Rows.{Marker}
 use Rattle.ed_model.specs.Changes.{without_first}
 use Rattle.marker_store.specs.Lines.{markers_of, with_joined, without}
 use Rattle.marker_store.specs.declared.drops.Drops.{Drops}
 use Rattle.marker_store.specs.declared.drops.Drops.TheVariants.{Each}
 use Rattle.marker_store.specs.Dropping.{is_dropped, kept}
-use Rattle.marker_store.specs.Entries.{Entry, entry, no_entry, AllBefore, AllFrom, IsCut, IsRaised, IsLowered, IsPut, IsCleared, NoneIs, IsFirst, IsFirstGone, raised, lowered, row, rows_from}
+use Rattle.marker_store.specs.Entries.{Entry, entry, no_entry, AllBefore, IsRaised, IsLowered, IsPut, IsCleared, NoneIs, IsFirstGone, raised, lowered, row, rows_from}
 use Rattle.marker_store.proofs.Rows.{before_more, from_less, before-append, before-take, before-drop, before-raised, before-lowered, row-here, row-other, row_before, row_behind, row-append}
-use Rattle.marker_store.proofs.Indexes.{cut_le}
 use Rattle.marker_store.proofs.Calls.{rows_set, rows_lowered, markers_at}
 
 row-parts : (j i : ℕ) (es : List Entry) → row j es ≡ row j (take i es) ++ row j (drop i es)
@@ -58,8 +57,8 @@ first_gone line number [] e ys a h n = rw (row-here line e ys h, eq-eqb e.marker
 first_gone line number (x ∷ xs) e ys a h n =
     elim (cases_eq x.line line) [
       | inl q ↦
-        let ne : x.marker.number ≢ number = a.0 q in
-        rw (row-here line x (xs ++ e ∷ ys) q, row-here line x (xs ++ ys) q, ne_eqb x.marker.number number ne) (ap (λ l. x.marker ∷ l) (first_gone line number xs e ys a.1 h n))
+          let ne : x.marker.number ≢ number = a.0 q in
+          rw (row-here line x (xs ++ e ∷ ys) q, row-here line x (xs ++ ys) q, ne_eqb x.marker.number number ne) (ap (λ l. x.marker ∷ l) (first_gone line number xs e ys a.1 h n))
       | inr q ↦ rw (row-other line x (xs ++ e ∷ ys) q, row-other line x (xs ++ ys) q) (first_gone line number xs e ys a.1 h n)
     ]
 
@@ -85,7 +84,7 @@ rows_first_gone line number n old new h (inr g) =
     = ap (without_first number) (markers_at n line old h ∙ ap (row line) all) ∙ first_gone line number xs e ys f.none_before f.on_line f.with_number in
     rows_set 0 n line _ old new (ap (λ j. row j new) z ∙ ap (row line) g.2 ∙ sym value)
     (λ j ne. let other : e.line ≢ j = (λ q. ne (omega (arith, q, f.on_line))) in
-      ap (row j) g.2 ∙ row-append j xs ys ∙ ap (λ r. row j xs ++ r) (sym (row-other j e ys other)) ∙ sym (row-append j xs (e ∷ ys)) ∙ ap (row j) (sym all)) h
+    ap (row j) g.2 ∙ row-append j xs ys ∙ ap (λ r. row j xs ++ r) (sym (row-other j e ys other)) ∙ sym (row-append j xs (e ∷ ys)) ∙ ap (row j) (sym all)) h
 
 pub within_first_gone : (line number n : ℕ) (old new : List Entry) → IsFirstGone line number old new → AllBefore n old → AllBefore n new
 within_first_gone line number n old new (inl g) a = rw g.1 a
@@ -122,13 +121,13 @@ within_kept d n (e ∷ es) a = go (is_dropped d e.marker) refl (within_kept d n 
 pub within_raised : (line c n : ℕ) (old new : List Entry) → IsRaised line c old new → AllBefore n old → AllBefore (n + c) new
 within_raised line c n old new r a =
     rw r.is (before-append (n + c) (take r.index old) (raised c (drop r.index old))
-      (before_more n (n + c) _ (omega arith) (before-take n r.index old a)) (before-raised n c (drop r.index old) (before-drop n r.index old a)))
+    (before_more n (n + c) _ (omega arith) (before-take n r.index old a)) (before-raised n c (drop r.index old) (before-drop n r.index old a)))
 
 pub within_lowered : (line c n n' : ℕ) (old new : List Entry) → IsLowered line c old new → line + c < n → n' + c ≡ n → AllBefore n old → AllBefore n' new
 within_lowered line c n n' old new r h e a =
     let all : AllBefore (n' + c) (drop r.index old) = rw e (before-drop n r.index old a) in
     rw r.is (before-append n' (take r.index old) (lowered c (drop r.index old))
-      (before_more (line + 1) n' _ (omega arith) r.before) (before-lowered n' c (drop r.index old) (from_less c (line + c) _ (omega arith) r.behind) all))
+    (before_more (line + 1) n' _ (omega arith) r.before) (before-lowered n' c (drop r.index old) (from_less c (line + c) _ (omega arith) r.behind) all))
 
 pub within_put : (line n : ℕ) (m : Marker) (old new : List Entry) → IsPut line m old new → line < n → AllBefore n old → AllBefore n new
 within_put line n m old new p h a =
@@ -153,9 +152,10 @@ length-lowered line c old new r =
 
 -- whether two numbers differ, told by two others that are equal to them
 pub differs : (a b x y : ℕ) → a ≡ x → b ≡ y → (IsTrue (not (eqb a b)) → x ≡ y → ⊥) × (x ≢ y → IsTrue (not (eqb a b)))
-differs a b x y ea eb =
-    ((λ h q. let e : eqb a b ≡ true = eq-eqb a b (ea ∙ q ∙ sym eb) in let k = rw e at h in cc),
-    (λ ne. let e : eqb a b ≡ false = ne_eqb a b (λ q. ne (sym ea ∙ q ∙ eb)) in rw e refl))
+differs a b x y ea eb = (
+  (λ h q. let e : eqb a b ≡ true = eq-eqb a b (ea ∙ q ∙ sym eb) in let k = rw e at h in cc),
+  (λ ne. let e : eqb a b ≡ false = ne_eqb a b (λ q. ne (sym ea ∙ q ∙ eb)) in rw e refl),
+)
 
 -- All markers go, and all lines but one.
 

@@ -1,14 +1,14 @@
 -- What a search of lines finds.
-use Rattle.std.proofs.Common.{◌≡◌, ℕ, ◌+◌, ◌-◌, ◌<◌, ◌≤◌, ◌≢◌, ◌⊎◌, inl, inr, Bool, true, false, cond, zero, suc, List, [], ◌∷◌, ◌++◌, length, get_or, take, drop, refl, sym, ap, ◌∙◌, arith, append-nil, eq-eqb}
-use Rattle.std.specs.Prelude.{find, reverse, min, not, bit_and, ◌==◌, ◌||◌, Option, Some, None}
+use Rattle.std.proofs.Common.{◌≡◌, ℕ, ◌+◌, ◌-◌, ◌<◌, ◌≤◌, ◌≢◌, inl, inr, Bool, true, false, zero, suc, List, [], ◌∷◌, ◌++◌, length, get_or, take, drop, refl, sym, ap, ◌∙◌, arith, append-nil, eq-eqb}
+use Rattle.std.specs.Prelude.{find, reverse, min, not, bit_and, ◌==◌, ◌||◌, Some, None}
 use Rattle.std.specs.List.{list_any, range_with_len}
 use Rattle.std.proofs.lemmas.Bool.{cases_eq, cases_lt, ne_eqb}
 use Rattle.std.proofs.lemmas.List.{take_more, take-append-drop, reverse-append}
 use Rattle.ed_model.specs.Rows.{Marker}
 use Rattle.ed_model.specs.Numbers.{meets}
 use Rattle.ed_model.specs.DocumentPlans.{mask_of}
-use Rattle.marker_store.specs.Lines.{markers_of, is_met, has_handle, first_from, last_up_to}
-use Rattle.marker_store.specs.Entries.{Entry, entry, no_entry, AllBefore, AllFrom, row, rows_from}
+use Rattle.marker_store.specs.Lines.{is_met, has_handle, first_from, last_up_to}
+use Rattle.marker_store.specs.Entries.{Entry, no_entry, AllFrom, row, rows_from}
 use Rattle.marker_store.proofs.Rows.{from_less, row-append, row-here, row-other, row_behind, length-rows}
 use Rattle.marker_store.proofs.Calls.{markers_at}
 

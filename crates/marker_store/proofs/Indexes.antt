@@ -1,7 +1,7 @@
 -- Entries by their index.
-use Rattle.std.proofs.Common.{◌≡◌, ℕ, ◌+◌, ◌-◌, ◌<◌, ◌≤◌, ◌⊎◌, inl, inr, zero, suc, List, [], ◌∷◌, ◌++◌, length, get_or, take, drop, refl, sym, ap, ◌∙◌, arith, add-one, ⊎_elim}
+use Rattle.std.proofs.Common.{ℕ, ◌<◌, ◌≤◌, inl, inr, zero, suc, List, [], ◌∷◌, length, get_or, take, drop, arith}
 use Rattle.std.proofs.lemmas.Bool.{cases_lt}
-use Rattle.marker_store.specs.Entries.{Entry, entry, no_entry, AllBefore, AllFrom, IsCut}
+use Rattle.marker_store.specs.Entries.{Entry, no_entry, AllBefore, AllFrom, IsCut}
 use Rattle.marker_store.proofs.Rows.{from_less}
 
 -- each line is not before the one before it, and the first is not before the least
@@ -32,8 +32,8 @@ pub cut_le : (j k a b : ℕ) (es : List Entry) → j ≤ k → IsCut j es a → 
 cut_le j k a b es h x y =
     elim (cases_lt b a) [
       | inl l ↦
-        let inside : b < length es = omega (arith, x.within) in
-        absurd (omega (arith, before_at j a b es x.before l inside, from_at k b b es y.behind (omega arith) inside))
+          let inside : b < length es = omega (arith, x.within) in
+          absurd (omega (arith, before_at j a b es x.before l inside, from_at k b b es y.behind (omega arith) inside))
       | inr l ↦ l
     ]
 

@@ -1,12 +1,11 @@
 -- The starts and markers stay in order when one comes or goes, and when lines do.
-use Rattle.std.proofs.Common.{◌≡◌, ℕ, ◌+◌, ◌-◌, ◌<◌, ◌≤◌, ◌⊎◌, inl, inr, zero, suc, List, [], ◌∷◌, ◌++◌, length, get_or, take, drop, map, insert, remove, refl, sym, ap, subst, ◌∙◌, arith, length-append}
-use Rattle.std.proofs.lemmas.Bool.{cases_lt}
+use Rattle.std.proofs.Common.{◌≡◌, ℕ, ◌+◌, ◌-◌, ◌<◌, ◌≤◌, zero, suc, List, [], ◌∷◌, ◌++◌, length, get_or, take, drop, insert, remove, refl, ap, ◌∙◌, arith, length-append}
 use Rattle.std.proofs.lemmas.List.{length-map, get_or-map, get_or_default, length-take-le, length-drop}
 use Rattle.std.proofs.lemmas.List.Edits.{length-insert, length-remove, get_or-remove_below, get_or-remove_above}
 use Rattle.partitioning.specs.Partitions.{ArePartitions, CanStart, CanLose, map_from, raised_behind, lowered_behind}
 use Rattle.ed_model.specs.Rows.{Marker}
 use Rattle.marker_store.specs.Entries.{Entry, entry, no_entry, entries_of, AllBefore, AllFrom, IsCut, raised, lowered, IsPlaced}
-use Rattle.marker_store.proofs.Indexes.{before_at, from_at, from_past}
+use Rattle.marker_store.proofs.Indexes.{before_at, from_at}
 use Rattle.marker_store.proofs.Rows.{before_more, from_less, before-append, before-take, before-drop, before-raised, before-lowered}
 use Rattle.marker_store.proofs.Starts.{length-entries, entry-get, start_past, raised_entries, lowered_entries, put_entries, taken_entries}
 
@@ -96,8 +95,8 @@ module _ (starts : List ℕ) (end sr : ℕ) (ms : List Marker) (spare room : ℕ
       let es' : entries_of starts' ms ≡ take i (entries_of starts ms) ++ raised n (drop i (entries_of starts ms)) = ap (λ l. entries_of l ms) es ∙ raised_entries end n i starts ms p.sound in
       let k : end' - length ms ≡ (end - length ms) + n = omega (arith, p.some) in
       let before = before-append ((end - length ms) + n) (take i (entries_of starts ms)) (raised n (drop i (entries_of starts ms)))
-          (before_more (end - length ms) ((end - length ms) + n) _ (omega arith) (before-take (end - length ms) i (entries_of starts ms) p.within))
-          (before-raised (end - length ms) n (drop i (entries_of starts ms)) (before-drop (end - length ms) i (entries_of starts ms) p.within)) in
+      (before_more (end - length ms) ((end - length ms) + n) _ (omega arith) (before-take (end - length ms) i (entries_of starts ms) p.within))
+      (before-raised (end - length ms) n (drop i (entries_of starts ms)) (before-drop (end - length ms) i (entries_of starts ms) p.within)) in
       record {
         paired = ap length es ∙ length-map_from (λ x. x + n) (i + 1) starts ∙ p.paired;
         sound = sound;
@@ -116,8 +115,8 @@ module _ (starts : List ℕ) (end sr : ℕ) (ms : List Marker) (spare room : ℕ
       let k : end - length ms ≡ (end' - length ms) + n = omega arith in
       let all : AllBefore ((end' - length ms) + n) (drop i (entries_of starts ms)) = rw k at (before-drop (end - length ms) i (entries_of starts ms) p.within) in
       let before = before-append (end' - length ms) (take i (entries_of starts ms)) (lowered n (drop i (entries_of starts ms)))
-          (before_more (line + 1) (end' - length ms) _ (omega arith) a)
-          (before-lowered (end' - length ms) n (drop i (entries_of starts ms)) (from_less n (line + n) _ (omega arith) b) all) in
+      (before_more (line + 1) (end' - length ms) _ (omega arith) a)
+      (before-lowered (end' - length ms) n (drop i (entries_of starts ms)) (from_less n (line + n) _ (omega arith) b) all) in
       record {
         paired = ap length es ∙ length-map_from (λ x. x - n) (i + 1) starts ∙ p.paired;
         sound = sound;
@@ -142,8 +141,8 @@ module _ (starts : List ℕ) (end sr : ℕ) (ms : List Marker) (spare room : ℕ
       = ap length em ∙ length-append (take i ms ++ m ∷ []) (drop i ms) ∙ omega (arith, length-append (take i ms) (m ∷ []), length-take-le i ms i_within, length-drop i ms) in
       let k : end' - length ms' ≡ end - length ms = omega arith in
       let before = before-append (end - length ms) (take i (entries_of starts ms)) (entry line m ∷ drop i (entries_of starts ms))
-          (before-take (end - length ms) i (entries_of starts ms) p.within)
-          (h, before-drop (end - length ms) i (entries_of starts ms) p.within) in
+      (before-take (end - length ms) i (entries_of starts ms) p.within)
+      (h, before-drop (end - length ms) i (entries_of starts ms) p.within) in
       record {
         paired = ap length es ∙ omega (arith, more, size, items, p.paired);
         sound = sound;
@@ -166,8 +165,8 @@ module _ (starts : List ℕ) (end sr : ℕ) (ms : List Marker) (spare room : ℕ
       let items : length ms' + 1 ≡ length ms = ap (λ l. length l + 1) em ∙ omega (arith, length-append (take i ms) (drop (i + 1) ms), length-take-le i ms (omega arith), length-drop (i + 1) ms) in
       let k : end' - length ms' ≡ end - length ms = omega arith in
       let before = before-append (end - length ms) (take i (entries_of starts ms)) (drop (i + 1) (entries_of starts ms))
-          (before-take (end - length ms) i (entries_of starts ms) p.within)
-          (before-drop (end - length ms) (i + 1) (entries_of starts ms) p.within) in
+      (before-take (end - length ms) i (entries_of starts ms) p.within)
+      (before-drop (end - length ms) (i + 1) (entries_of starts ms) p.within) in
       record {
         paired = ap length es ∙ omega (arith, less, size, items, p.paired);
         sound = sound;

@@ -1,17 +1,14 @@
 -- What loops over the entries keep.
-use Rattle.std.proofs.Common.{◌≡◌, ℕ, ◌+◌, ◌-◌, ◌<◌, ◌≤◌, ◌≢◌, ◌⊎◌, inl, inr, Bool, true, false, cond, zero, suc, List, [], ◌∷◌, ◌++◌, length, get_or, take, drop, map, refl, sym, ap, subst, ◌∙◌, arith, append_assoc, append-nil, length-append, take_at, drop-cons}
-use Rattle.std.specs.Prelude.{filter, fold, bit_or, ◌^◌, ◌==◌, ◌||◌, not}
-use Rattle.std.specs.List.{list_any}
+use Rattle.std.proofs.Common.{◌≡◌, ℕ, ◌+◌, ◌<◌, ◌≤◌, ◌≢◌, true, false, suc, List, [], ◌∷◌, ◌++◌, length, get_or, take, drop, map, refl, sym, ap, subst, ◌∙◌, arith, append-nil, length-append, take_at, drop-cons}
+use Rattle.std.specs.Prelude.{fold, bit_or, ◌^◌, not}
 use Rattle.std.proofs.Math.Seq.{drop-append-add}
-use Rattle.std.proofs.lemmas.Bool.{cases_eq}
 use Rattle.std.proofs.lemmas.List.{take-append-drop, take_more, take_all, drop-drop, length-take-le, length-drop}
 use Rattle.std.proofs.lemmas.List.Elements.{filter-append}
-use Rattle.std.proofs.lemmas.List.Sums.{fold-append}
 use Rattle.ed_model.specs.Rows.{Marker}
 use Rattle.ed_model.specs.DocumentPlans.{mask_of}
 use Rattle.marker_store.specs.declared.drops.Drops.{Drops}
 use Rattle.marker_store.specs.Dropping.{is_dropped, kept}
-use Rattle.marker_store.specs.Entries.{Entry, entry, no_entry, AllBefore, AllFrom, IsCut, NoneIs, IsFirst, row}
+use Rattle.marker_store.specs.Entries.{Entry, no_entry, AllBefore, AllFrom, NoneIs, row}
 use Rattle.marker_store.proofs.Rows.{row-append, row-here, row_behind}
 
 -- The entries without some.

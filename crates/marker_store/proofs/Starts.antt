@@ -1,9 +1,9 @@
 -- The entries that starts and markers make, and what becomes of them when the starts change.
-use Rattle.std.proofs.Common.{◌≡◌, ℕ, ◌+◌, ◌-◌, ◌<◌, ◌≤◌, zero, suc, List, [], ◌∷◌, ◌++◌, length, get_or, take, drop, map, insert, remove, refl, sym, ap, ◌∙◌, arith, append_assoc}
+use Rattle.std.proofs.Common.{◌≡◌, ℕ, ◌+◌, ◌-◌, ◌<◌, ◌≤◌, zero, suc, List, [], ◌∷◌, ◌++◌, length, get_or, take, drop, map, insert, remove, refl, ap, ◌∙◌, arith, append_assoc}
 use Rattle.std.specs.List.Sorted.{IsStrictlyIncreasing}
 use Rattle.partitioning.specs.Partitions.{ArePartitions, map_from, raised_behind, lowered_behind}
 use Rattle.ed_model.specs.Rows.{Marker}
-use Rattle.marker_store.specs.Entries.{Entry, entry, no_entry, entries_from, entries_of, raised, lowered}
+use Rattle.marker_store.specs.Entries.{entry, no_entry, entries_from, entries_of, raised, lowered}
 use Rattle.marker_store.proofs.Indexes.{Ordered}
 
 -- each start is below the next

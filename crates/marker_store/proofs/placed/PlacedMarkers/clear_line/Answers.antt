@@ -9,10 +9,11 @@ loop-gone-preserved g c =
     let from = c.cut-from.result in
     let gone = c.loop-gone._gone in
     let least : from ≤ gone = c.loop-gone.auto._gone in
-    let inside : gone < length c.args.self.now.entries = omega (arith, c.cut_behind-to.ensures.within, c.loop-gone-test.true) in
-    (c.remove.ensures.entries ∙ gone_more from gone c.loop-gone.self.entries c.args.self.now.entries i.0 least inside,
-    c.remove.ensures.count ∙ i.1,
-    omega (arith, i.2, c.remove.ensures.room))
+    let inside : gone < length c.args.self.now.entries = omega (arith, c.cut_behind-to.ensures.within, c.loop-gone-test.true) in (
+      c.remove.ensures.entries ∙ gone_more from gone c.loop-gone.self.entries c.args.self.now.entries i.0 least inside,
+      c.remove.ensures.count ∙ i.1,
+      omega (arith, i.2, c.remove.ensures.room),
+    )
 
 pub returns-clause-entries : goal.returns-clause-entries
 returns-clause-entries g c =

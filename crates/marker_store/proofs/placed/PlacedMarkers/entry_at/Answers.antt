@@ -1,5 +1,5 @@
-use Rattle.std.proofs.Common.{◌≡◌, ◌+◌, ◌<◌, ◌≤◌, ◌∙◌, length, get_or, suc, sym, ap, arith}
-use Rattle.marker_store.specs.Entries.{entries_of, no_entry, Entry}
+use Rattle.std.proofs.Common.{◌≡◌, ◌+◌, suc, ap, arith}
+use Rattle.marker_store.specs.Entries.{entries_of, Entry}
 use Rattle.marker_store.proofs.Indexes.{ordered_before, ordered_behind, all_before_at}
 use Rattle.marker_store.proofs.Starts.{length-entries, entry-get, start_past, ordered}
 use Rattle.marker_store.proofs.placed.PlacedMarkers.entry_at.Goals as goal

@@ -1,7 +1,5 @@
 use Rattle.std.proofs.Common.{arith, ◌+◌, ◌∙◌, ap}
-use Rattle.partitioning.specs.Partitions.{raised_behind}
 use Rattle.std.proofs.Common.{insert}
-use Rattle.marker_store.specs.Entries.{entries_of}
 use Rattle.marker_store.proofs.Moves.{index_within, can_start, placed_put}
 use Rattle.marker_store.proofs.Starts.{length-entries, put_entries}
 use Rattle.marker_store.proofs.placed.PlacedMarkers.put.Goals as goal

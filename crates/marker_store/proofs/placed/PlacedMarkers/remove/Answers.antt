@@ -1,4 +1,4 @@
-use Rattle.std.proofs.Common.{arith, ◌+◌, ◌∙◌, ap}
+use Rattle.std.proofs.Common.{arith, ◌∙◌, ap}
 use Rattle.partitioning.specs.Partitions.{lowered_behind}
 use Rattle.marker_store.proofs.Moves.{can_lose_cell, placed_taken}
 use Rattle.marker_store.proofs.Starts.{length-entries, taken_entries}

@@ -32,5 +32,5 @@ returns-clause-lines g c =
     let line = rw (← c.self.view_is) at c.requires.line in
     let inside : c.args.line < old.count = omega (arith, line, length-rows 0 old.count old.entries) in
     rw (← c.self.view_is) (ap (λ n. rows_from 0 n new.entries) c.put.ensures.count
-      ∙ rows_put c.args.line old.count c.new.result old.entries new.entries inside c.put.ensures.entries
-      ∙ ap (λ m. slice_set rows c.args.line (markers_of c.args.line rows ++ m ∷ [])) c.new.ensures)
+    ∙ rows_put c.args.line old.count c.new.result old.entries new.entries inside c.put.ensures.entries
+    ∙ ap (λ m. slice_set rows c.args.line (markers_of c.args.line rows ++ m ∷ [])) c.new.ensures)

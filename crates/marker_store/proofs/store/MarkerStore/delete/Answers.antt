@@ -30,11 +30,11 @@ returns-clause-lines g c =
     let inside : c.args.line < old.count = omega (arith, line, length-rows 0 old.count old.entries) in
     elim c.match-number.branch [
       | in-None w ↦
-        rw (w.self-inside-is, w.in-None.is, ← c.self.view_is)
-        (ap (λ n. rows_from 0 n w.clear_line.new.self.entries) w.clear_line.ensures.count ∙ rows_cleared c.args.line old.entries w.clear_line.new.self.entries w.clear_line.ensures.entries old.count inside)
+          rw (w.self-inside-is, w.in-None.is, ← c.self.view_is)
+          (ap (λ n. rows_from 0 n w.clear_line.new.self.entries) w.clear_line.ensures.count ∙ rows_cleared c.args.line old.entries w.clear_line.new.self.entries w.clear_line.ensures.entries old.count inside)
       | in-Some w ↦
-        rw (w.self-inside-is, w.in-Some.is, ← c.self.view_is)
-        (ap (λ n. rows_from 0 n w.remove_first.new.self.entries) w.remove_first.ensures.count ∙ rows_first_gone c.args.line w.in-Some.number old.count old.entries w.remove_first.new.self.entries inside w.remove_first.ensures.entries)
+          rw (w.self-inside-is, w.in-Some.is, ← c.self.view_is)
+          (ap (λ n. rows_from 0 n w.remove_first.new.self.entries) w.remove_first.ensures.count ∙ rows_first_gone c.args.line w.in-Some.number old.count old.entries w.remove_first.new.self.entries inside w.remove_first.ensures.entries)
     ]
 
 pub returns-clause-room : goal.returns-clause-room

@@ -18,11 +18,11 @@ returns-clause-lines g c =
     let old = c.self.inside.placed in
     elim c.match-number.branch [
       | in-None w ↦
-        rw (w.self-inside-is, w.in-None.is, ← c.self.view_is)
-        (ap (λ n. rows_from 0 n w.remove_all.new.self.entries) w.remove_all.ensures.count ∙ ap (λ es. rows_from 0 old.count es) w.remove_all.ensures.entries ∙ rows_kept Each 0 old.count old.entries)
+          rw (w.self-inside-is, w.in-None.is, ← c.self.view_is)
+          (ap (λ n. rows_from 0 n w.remove_all.new.self.entries) w.remove_all.ensures.count ∙ ap (λ es. rows_from 0 old.count es) w.remove_all.ensures.entries ∙ rows_kept Each 0 old.count old.entries)
       | in-Some w ↦
-        rw (w.self-inside-is, w.in-Some.is, ← c.self.view_is)
-        (ap (λ n. rows_from 0 n w.remove_all-in-Some.new.self.entries) w.remove_all-in-Some.ensures.count ∙ ap (λ es. rows_from 0 old.count es) w.remove_all-in-Some.ensures.entries ∙ rows_kept (Number w.in-Some.number) 0 old.count old.entries)
+          rw (w.self-inside-is, w.in-Some.is, ← c.self.view_is)
+          (ap (λ n. rows_from 0 n w.remove_all-in-Some.new.self.entries) w.remove_all-in-Some.ensures.count ∙ ap (λ es. rows_from 0 old.count es) w.remove_all-in-Some.ensures.entries ∙ rows_kept (Number w.in-Some.number) 0 old.count old.entries)
     ]
 
 pub returns-clause-room : goal.returns-clause-room

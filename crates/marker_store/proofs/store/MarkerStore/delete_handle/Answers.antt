@@ -1,4 +1,4 @@
-use Rattle.std.proofs.Common.{arith, ap, sym, ◌∙◌}
+use Rattle.std.proofs.Common.{arith, ap, ◌∙◌}
 use Rattle.marker_store.specs.declared.drops.Drops.TheVariants.{Handle}
 use Rattle.marker_store.specs.Entries.{rows_from}
 use Rattle.marker_store.proofs.Calls.{total_is}

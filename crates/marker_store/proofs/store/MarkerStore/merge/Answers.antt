@@ -39,7 +39,12 @@ joining-preserved g c =
     let inside : c.args.line + r < now.count = omega (arith, i.0, i.1, fits, size, e.some.1) in
     let joined : rows_of new ≡ with_joined c.args.line (done + r) (rows_of old)
     = ap (λ n. rows_from 0 n new.entries) count ∙ rows_lowered c.args.line r now.count now.entries new.entries inside e.entries
-      ∙ ap (λ l. with_joined c.args.line r l) i.2 ∙ joined_more c.args.line r done (rows_of old) (omega (arith, i.0, fits, e.some.1)) in
-    (omega (arith, i.0), omega (arith, i.0, i.1, e.count, e.some.1), rw wide joined, e.room ∙ i.3, i.4,
-    length-lowered c.args.line r now.entries new.entries e.entries ∙ i.5,
-    within_lowered c.args.line r now.count new.count now.entries new.entries e.entries inside e.count i.6)
+    ∙ ap (λ l. with_joined c.args.line r l) i.2 ∙ joined_more c.args.line r done (rows_of old) (omega (arith, i.0, fits, e.some.1)) in (
+      omega (arith, i.0),
+      omega (arith, i.0, i.1, e.count, e.some.1),
+      rw wide joined,
+      e.room ∙ i.3,
+      i.4,
+      length-lowered c.args.line r now.entries new.entries e.entries ∙ i.5,
+      within_lowered c.args.line r now.count new.count now.entries new.entries e.entries inside e.count i.6,
+    )

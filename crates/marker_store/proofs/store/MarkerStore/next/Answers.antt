@@ -1,4 +1,4 @@
-use Rattle.std.proofs.Common.{◌+◌, ◌<◌, arith, sym, ◌∙◌}
+use Rattle.std.proofs.Common.{arith, sym, ◌∙◌}
 use Rattle.marker_store.proofs.Rows.{row_before, before_more}
 use Rattle.marker_store.proofs.Finds.{none_met_more, none_met_next, next_none, next_some}
 use Rattle.marker_store.proofs.store.MarkerStore.next.Goals as goal

@@ -8,7 +8,7 @@ returns-in_err-marked g c =
     let p = c.self.inside.placed in
     let i = c.looking.invariant in
     let none = none_met_back c.args.mask p.count p.entries 0 c.looking.left (min (c.args.from + 1) p.count) i.1
-        (λ k a b. row_behind k p.entries (from_less (k + 1) c.looking.left _ (omega arith) c.in_err-marked.ensures)) in
+    (λ k a b. row_behind k p.entries (from_less (k + 1) c.looking.left _ (omega arith) c.in_err-marked.ensures)) in
     c.from_residual.ensures ∙ rw (← c.self.view_is) (sym (previous_none c.args.mask p.count p.entries c.args.from none))
 
 pub returns-then-mask-ne0 : goal.returns-then-mask-ne0

@@ -1,4 +1,4 @@
-use Rattle.std.proofs.Common.{◌≡◌, ◌+◌, ◌≤◌, min}
+use Rattle.std.proofs.Common.{◌+◌, ◌≤◌, min}
 use Rattle.marker_store.proofs.Finds.{NoneMet}
 use Rattle.marker_store.proofs.store.MarkerStore.previous.Given as goal
 

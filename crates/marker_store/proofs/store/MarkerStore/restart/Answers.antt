@@ -1,4 +1,4 @@
-use Rattle.std.proofs.Common.{◌≡◌, ◌-◌, List, arith, ap, length, ◌∙◌}
+use Rattle.std.proofs.Common.{◌-◌, List, arith, ap, length, ◌∙◌}
 use Rattle.marker_store.specs.Lines.{MarkedLines, with_joined}
 use Rattle.marker_store.specs.declared.drops.Drops.TheVariants.{Each}
 use Rattle.marker_store.specs.Entries.{Entry, rows_from, rows_of}
