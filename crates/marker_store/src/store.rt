@@ -85,6 +85,8 @@ impl<A: Allocator> MarkerStore<A> {
     pub fn reserve(&mut self, count: usize) -> Result<(), AllocError>
         ensures ok { OnOk result (self.new ≡ record self.old { room = max self.old.room count }) }
         ensures room_is_there { count ≤ self.old.room → IsOk result × (self.new ≡ self.old) }
+        ensures room_stays { self.old.room ≤ self.new.room }
+        ensures at_most { self.new.room ≤ max self.old.room count }
         ensures err { OnErr result (self.new ≡ self.old) }
     {
         self.placed.reserve(count)

@@ -1,0 +1,5 @@
+//! Tests of the libraries below, over their public calls.
+#![tactic(auto)]
+
+#[cfg(test)]
+mod marker_store;
