@@ -22,6 +22,8 @@ mod line_index;
 #[cfg(test)]
 mod macro_script;
 #[cfg(test)]
+mod marker_store;
+#[cfg(test)]
 mod notify;
 #[cfg(test)]
 mod partitioning;
