@@ -338,14 +338,14 @@ module _ (c : Cited) (saved : List ℕ) where
 
   collecting_saved : (on : Bool) (h : History) (now : List ℕ) → Saved saved now h → Saved saved now (collecting_set on h)
   collecting_saved true h now s = s
-  collecting_saved false h now s k e = go (at_save_point h) refl e
+  collecting_saved false h now s = λ k e. go k (at_save_point h) refl e
     where
-      go : (b : Bool) → at_save_point h ≡ b → cond b (Some 0) None ≡ Some k → (k ≤ 0 → undone_text (0 - k) [] now ≡ saved) × (0 < k → redone_text (k - 0) [] now ≡ saved)
-      go true at f =
+      go : (k : ℕ) (b : Bool) → at_save_point h ≡ b → cond b (Some 0) None ≡ Some k → (k ≤ 0 → undone_text (0 - k) [] now ≡ saved) × (0 < k → redone_text (k - 0) [] now ≡ saved)
+      go k true at f =
           let same : 0 ≡ k = cc in
           let none_left : 0 - k ≡ 0 = omega arith in
           ((λ le. ap (λ (j : ℕ). undone_text j [] now) none_left ∙ saved_now saved now h at s), (λ lt. absurd (omega arith)))
-      go false at f = absurd (cc)
+      go k false at f = absurd (cc)
 
   changed_saved : (bytes : List ℕ) (change : DocumentChange) (d : Document) (l : Leave) (value : ℤ) → l.saves ≡ false → KeepsTo l (plan.ChangeDocument change value) → SavedIn saved d
       → SavedIn saved (changed_document bytes change d)
