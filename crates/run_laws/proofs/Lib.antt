@@ -11,6 +11,7 @@ pub mod IsolationLemmas
 pub mod NoteLemmas
 pub mod RecordingLemmas
 pub mod MacroLemmas
+pub mod UndoRunLemmas
 pub mod SavePointLemmas
 pub mod Invariants
 pub mod StyleLemmas

@@ -3,6 +3,7 @@ pub mod MessageKinds
 pub mod Reached
 pub mod RefusalLaws
 pub mod HeldLaws
+pub mod UndoRunLaws
 pub mod SavePointLaws
 pub mod IsolationLaws
 pub mod MacroLaws
