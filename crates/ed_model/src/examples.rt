@@ -20,8 +20,7 @@ pub fn examples_of_text()
     ensures script_spelling { ScriptSpelling }
     ensures expect_at_the_start { ExpectAtTheStart }
     ensures text_length_and_appending { TextLengthAndAppending }
-{
-}
+{}
 
 pub fn examples_of_undo()
     ensures all_notes_of_an_insertion { AllNotesOfAnInsertion }
@@ -37,8 +36,7 @@ pub fn examples_of_undo()
     ensures container_steps_join { ContainerStepsJoin }
     ensures groups_and_seals { GroupsAndSeals }
     ensures undo_queries { UndoQueries }
-{
-}
+{}
 
 pub fn examples_of_markers()
     ensures deletion_joins_crlf { DeletionJoinsCrlf }
@@ -50,8 +48,7 @@ pub fn examples_of_markers()
     ensures line_states { LineStates }
     ensures markers_meet_and_part { MarkersMeetAndPart }
     ensures markers_on_a_line_start { MarkersOnALineStart }
-{
-}
+{}
 
 pub fn examples_of_styles()
     ensures end_styled { EndStyled }
@@ -63,8 +60,7 @@ pub fn examples_of_styles()
     ensures styles_and_indicators { StylesAndIndicators }
     ensures indicator_current_and_value { IndicatorCurrentAndValue }
     ensures styled_text { StyledText }
-{
-}
+{}
 
 pub fn examples_of_selection()
     ensures character_cuts { CharacterCuts }
@@ -82,8 +78,7 @@ pub fn examples_of_selection()
     ensures search_without_case { SearchWithoutCase }
     ensures selection_queries { SelectionQueries }
     ensures target_queries { TargetQueries }
-{
-}
+{}
 
 pub fn examples_of_documents()
     ensures document_references { DocumentReferences }
@@ -97,8 +92,7 @@ pub fn examples_of_documents()
     ensures masks { Masks }
     ensures options_and_line_end_types { OptionsAndLineEndTypes }
     ensures own_document_again { OwnDocumentAgain }
-{
-}
+{}
 
 pub fn examples_of_folding()
     ensures folding { Folding }
@@ -106,8 +100,7 @@ pub fn examples_of_folding()
     ensures hidden_lines_in_range { HiddenLinesInRange }
     ensures fold_structure { FoldStructure }
     ensures folding_of_two_views { FoldingOfTwoViews }
-{
-}
+{}
 
 pub fn examples_of_recording()
     ensures a_long_walk { ALongWalk }
@@ -115,5 +108,4 @@ pub fn examples_of_recording()
     ensures macro_recording { MacroRecording }
     ensures recording_when_read_only { RecordingWhenReadOnly }
     ensures recording_keys { RecordingKeys }
-{
-}
+{}

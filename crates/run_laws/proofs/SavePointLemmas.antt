@@ -131,8 +131,7 @@ module _ (c : Cited) (saved : List ℕ) where
   seals_saved : (h g : History) (now : List ℕ) → SameButForSeals h g → Saved saved now h → Saved saved now g
   seals_saved h g now same s k e =
       let n = same_length h g same in
-      let was = s k (sym same.save_point ∙ e) in
-      (
+      let was = s k (sym same.save_point ∙ e) in (
         (λ le. c.seals (length g.past - k) h g now same ∙ ap (λ (m : ℕ). undone_text (m - k) h.past now) n ∙ was.0 (omega arith)),
         (λ lt. ap (λ (m : ℕ). redone_text (k - m) g.future now) n ∙ ap (λ (ts : List Transaction). redone_text (k - length h.past) ts now) same.future ∙ was.1 (omega arith)),
       )
@@ -164,8 +163,7 @@ module _ (c : Cited) (saved : List ℕ) where
           let begins : begins_transaction later change h ≡ true = rw (collects, t) refl in
           let more : length (appended later change h).past ≡ length h.past + 1 = rw begins at count in
           let le = was.1 in
-          let steps : length (appended later change h).past - k ≡ suc (length h.past - k) = omega arith in
-          (
+          let steps : length (appended later change h).past - k ≡ suc (length h.past - k) = omega arith in (
             (λ fits. ap (λ (j : ℕ). undone_text j (appended later change h).past new) steps ∙ begun (length h.past - k) begins ∙ text),
             (λ past. absurd (omega arith)),
           )
@@ -177,8 +175,7 @@ module _ (c : Cited) (saved : List ℕ) where
           let apart : k ≡ length h.past → ⊥ = not_save_point (length h.past) k h.save_point modified was.0 in
           let some : k < length h.past = below k (length h.past) le apart in
           let steps : length (appended later change h).past - k ≡ suc (length h.past - k - 1) = omega arith in
-          let again : suc (length h.past - k - 1) ≡ length h.past - k = omega arith in
-          (
+          let again : suc (length h.past - k - 1) ≡ length h.past - k = omega arith in (
             (λ fits. ap (λ (j : ℕ). undone_text j (appended later change h).past new) steps ∙ joined (length h.past - k - 1) t ∙ ap (λ (j : ℕ). undone_text j h.past now) again ∙ text),
             (λ past. absurd (omega arith)),
           )
@@ -251,20 +248,19 @@ module _ (c : Cited) (saved : List ℕ) where
       let is_undone : undone h ≡ record h { past = seal_first ts; future = t ∷ h.future } = ap (undone_to h) some in
       let few : length (seal_first ts) ≡ length ts = length_sealed ts in
       let back : redone_text 1 (t ∷ h.future) new ≡ now =
-          ap (λ (g : History). after_steps (text_steps (redo_changes g)) new) (sym is_undone) ∙ sym (c.redo_made (after_undo scene)) ∙ c.undo_then_redo scene (omega arith) fits in
+      ap (λ (g : History). after_steps (text_steps (redo_changes g)) new) (sym is_undone) ∙ sym (c.redo_made (after_undo scene)) ∙ c.undo_then_redo scene (omega arith) fits in
       let earlier : (j : ℕ) → undone_text j (seal_first ts) new ≡ undone_text (suc j) h.past now = λ j.
-          ap (λ (g : History). undone_text j g.past new) (sym is_undone) ∙ ap (undone_text j (undone h).past) (c.undo_made scene) ∙ c.undo j h now in
+      ap (λ (g : History). undone_text j g.past new) (sym is_undone) ∙ ap (undone_text j (undone h).past) (c.undo_made scene) ∙ c.undo j h now in
       subst (Saved saved new) (sym is_undone)
       (λ k e.
-      let was = s k e in
-      (
+      let was = s k e in (
         (λ le.
-        let n : length (seal_first ts) - k ≡ length ts - k = omega arith in
-        let m : suc (length ts - k) ≡ length h.past - k = omega arith in
-        ap (λ (j : ℕ). undone_text j (seal_first ts) new) n ∙ earlier (length ts - k) ∙ ap (λ (j : ℕ). undone_text j h.past now) m ∙ was.0 (omega arith)),
+            let n : length (seal_first ts) - k ≡ length ts - k = omega arith in
+            let m : suc (length ts - k) ≡ length h.past - k = omega arith in
+            ap (λ (j : ℕ). undone_text j (seal_first ts) new) n ∙ earlier (length ts - k) ∙ ap (λ (j : ℕ). undone_text j h.past now) m ∙ was.0 (omega arith)),
         (λ lt.
-        let n : k - length (seal_first ts) ≡ suc (k - length h.past) = omega arith in
-        ap (λ (j : ℕ). redone_text j (t ∷ h.future) new) n ∙ ap (redone_text (k - length h.past) h.future) back ∙ later k (cases_lt (length h.past) k) was lt past few),
+            let n : k - length (seal_first ts) ≡ suc (k - length h.past) = omega arith in
+            ap (λ (j : ℕ). redone_text j (t ∷ h.future) new) n ∙ ap (redone_text (k - length h.past) h.future) back ∙ later k (cases_lt (length h.past) k) was lt past few),
       ))
     where
       length_sealed : (xs : List Transaction) → length (seal_first xs) ≡ length xs
@@ -292,16 +288,15 @@ module _ (c : Cited) (saved : List ℕ) where
       let is_redone : redone h ≡ record h { past = seal_first (t ∷ h.past); future = ts } = ap (redone_from h) some in
       let on : redone_text 1 (t ∷ ts) now ≡ new = ap (λ (xs : List Transaction). after_steps (text_steps (reverse (first_changes xs))) now) (sym some) ∙ sym (c.redo_made scene) in
       let earlier : (j : ℕ) → undone_text (suc j) (seal_first (t ∷ h.past)) new ≡ undone_text j h.past now = λ j.
-          ap (λ (g : History). undone_text (suc j) g.past new) (sym is_redone) ∙ ap (undone_text (suc j) (redone h).past) (c.redo_made scene) ∙ c.redo j h now (omega arith) fits in
+      ap (λ (g : History). undone_text (suc j) g.past new) (sym is_redone) ∙ ap (undone_text (suc j) (redone h).past) (c.redo_made scene) ∙ c.redo j h now (omega arith) fits in
       subst (Saved saved new) (sym is_redone)
       (λ k e.
-      let was = s k e in
-      (
+      let was = s k e in (
         (λ le. first k (cases_lt (length h.past) k) was le earlier on some),
         (λ lt.
-        let over : suc (length h.past) < k = lt in
-        let n : k - length h.past ≡ suc (k - suc (length h.past)) = omega arith in
-        ap (redone_text (k - suc (length h.past)) ts) (sym on) ∙ ap (λ (j : ℕ). redone_text j (t ∷ ts) now) (sym n) ∙ ap (λ (xs : List Transaction). redone_text (k - length h.past) xs now) (sym some) ∙ was.1 (omega arith)),
+            let over : suc (length h.past) < k = lt in
+            let n : k - length h.past ≡ suc (k - suc (length h.past)) = omega arith in
+            ap (redone_text (k - suc (length h.past)) ts) (sym on) ∙ ap (λ (j : ℕ). redone_text j (t ∷ ts) now) (sym n) ∙ ap (λ (xs : List Transaction). redone_text (k - length h.past) xs now) (sym some) ∙ was.1 (omega arith)),
       ))
     where
       first : (k : ℕ) → (length scene.document.history.past < k) ⊎ (k ≤ length scene.document.history.past)

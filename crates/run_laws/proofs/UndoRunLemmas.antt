@@ -178,11 +178,17 @@ module _ (laws : Cited) (known : Kind → Bool) (files : List (List ℕ)) (kind 
       let done = answers s.session view m v alone.after sound acts.0 acts.1.1 here in
       let next : (after_command known files (SendMessage view m) s).0.session ≡ done.0.0 = ap (λ (x : Answered). (after_message s.session x).0.session) done.1 in
       let there = still_there laws known files (SendMessage view m) cs s id alone.after e sound alone.still_found end in
-      let after = rest (after_command known files (SendMessage view m) s).0.session (alone_here id (after_command known files (SendMessage view m) s).0.session there.0 there.1) in
-      ((view, m) ∷ after.0, ap suc after.1,
-      (s.session, alone, done.0,
-      record { is_kind = acts.0; view = v; found = acts.1.1; document = acts.1.2; answered = done.1 },
-      subst (λ (x : Session). AreAnswered known kind id after.0 x (run_to known files cs (after_command known files (SendMessage view m) s).0).session) next after.2))
+      let after = rest (after_command known files (SendMessage view m) s).0.session (alone_here id (after_command known files (SendMessage view m) s).0.session there.0 there.1) in (
+        (view, m) ∷ after.0,
+        ap suc after.1,
+        (
+          s.session,
+          alone,
+          done.0,
+          record { is_kind = acts.0; view = v; found = acts.1.1; document = acts.1.2; answered = done.1 },
+          subst (λ (x : Session). AreAnswered known kind id after.0 x (run_to known files cs (after_command known files (SendMessage view m) s).0).session) next after.2,
+        ),
+      )
 
   aside_next : (c : Command) (cs : List Command) (origin : Session) (s : Running) (e : Document) → IsSound s.session → (alone : LeavesAlone id origin s.session) → GoesAside id s.session c
       → document_at (run_to known files cs (after_command known files c s).0).session.documents id ≡ Some e → LeavesAlone id origin (after_command known files c s).0.session
@@ -225,22 +231,21 @@ undo_goes_back_over_commands laws known files limits before undos redos id k d k
     let sound : IsSound s.session = laws.sound known files before limits in
     let sound_after : IsSound t.session = run_keeps undos s sound in
     let undo = undo_is_answered known knows_undo laws.undo_fits in
-    let redo = redo_is_answered known knows_redo laws.redo_fits in
-    (
+    let redo = redo_is_answered known knows_redo laws.redo_fits in (
       (λ e end.
-      let chain = chained laws known files Undo undo id undos k s.session s e sound (alone_here id s.session d found) act end in
-      let text = laws.there known s.session t.session id d chain.0 found written depth (subst (λ n. n ≤ length d.history.past) (sym chain.1) enough) chain.2 in
-      laws.earlier known files before limits id d found k enough
-      ∙ ap Some (sym (text_there id t.session e _ end text ∙ ap (λ n. undone_text n d.history.past (text_of d)) chain.1))),
+          let chain = chained laws known files Undo undo id undos k s.session s e sound (alone_here id s.session d found) act end in
+          let text = laws.there known s.session t.session id d chain.0 found written depth (subst (λ n. n ≤ length d.history.past) (sym chain.1) enough) chain.2 in
+          laws.earlier known files before limits id d found k enough
+          ∙ ap Some (sym (text_there id t.session e _ end text ∙ ap (λ n. undone_text n d.history.past (text_of d)) chain.1))),
       (λ again e end.
-      let below = found_below 0 s.session.next_document s.session.documents id d sound.document_ids found in
-      let rises = next_rises undos s in
-      let there = there_before laws known files redos t id e sound_after (omega arith) end in
-      let back = chained laws known files Undo undo id undos k s.session s there.0 sound (alone_here id s.session d found) act there.1 in
-      let on = chained laws known files Redo redo id redos k t.session t e sound_after (alone_here id t.session there.0 there.1) again end in
-      let u = run_to known files redos t in
-      let texts = laws.there_and_back known s.session t.session u.session id d back.0 on.0 sound found written depth (subst (λ n. n ≤ length d.history.past) (sym back.1) enough) back.2 (on.1 ∙ sym back.1) on.2 in
-      text_there id u.session e (text_of d) end texts.1),
+          let below = found_below 0 s.session.next_document s.session.documents id d sound.document_ids found in
+          let rises = next_rises undos s in
+          let there = there_before laws known files redos t id e sound_after (omega arith) end in
+          let back = chained laws known files Undo undo id undos k s.session s there.0 sound (alone_here id s.session d found) act there.1 in
+          let on = chained laws known files Redo redo id redos k t.session t e sound_after (alone_here id t.session there.0 there.1) again end in
+          let u = run_to known files redos t in
+          let texts = laws.there_and_back known s.session t.session u.session id d back.0 on.0 sound found written depth (subst (λ n. n ≤ length d.history.past) (sym back.1) enough) back.2 (on.1 ∙ sym back.1) on.2 in
+          text_there id u.session e (text_of d) end texts.1),
     )
   where
     run_keeps : (cs : List Command) (s : Running) → IsSound s.session → IsSound (run_to known files cs s).session

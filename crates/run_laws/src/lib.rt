@@ -14,6 +14,7 @@ pub use isolation_laws::documents_are_apart;
 pub use macro_laws::recordings_can_be_replayed;
 pub use save_point_laws::an_unmodified_document_has_its_saved_text;
 pub use small_laws::{
-    documents_without_styles_have_none, documents_without_views_are_held, the_table_never_wants_memory,
+    documents_without_styles_have_none, documents_without_views_are_held,
+    the_table_never_wants_memory,
 };
 pub use undo_run_laws::undo_goes_back_over_commands;
