@@ -10,19 +10,24 @@ TOP = os.path.dirname(os.path.dirname(os.path.abspath(__file__)))
 MODEL = os.path.join(TOP, "crates", "ed_model")
 
 GROUPS = {
-    "text": ["expects", "hello", "refusals", "line_queries", "mixed_line_ends", "new_view", "load_files", "script_spelling"],
+    "text": ["expects", "hello", "refusals", "line_queries", "mixed_line_ends", "new_view", "load_files", "script_spelling",
+             "expect_at_the_start", "text_length_and_appending"],
     "undo": ["all_notes_of_an_insertion", "container_steps", "read_only_notes", "save_point_amid_typing", "save_point_in_a_group",
-             "save_point_on_a_dropped_branch", "undo_collection", "which_deletions_join"],
+             "save_point_on_a_dropped_branch", "undo_collection", "which_deletions_join",
+             "container_step_first", "container_steps_alone", "container_steps_join", "groups_and_seals", "undo_queries"],
     "markers": ["deletion_joins_crlf", "deletion_joins_markers", "insertion_splits_crlf", "marker_and_level_queries",
-                "undo_brings_no_marker_back", "convert_line_ends_keeps_markers"],
+                "undo_brings_no_marker_back", "convert_line_ends_keeps_markers",
+                "line_states", "markers_meet_and_part", "markers_on_a_line_start"],
     "styles": ["end_styled", "indicator_grows_at_0", "indicator_grows_at_1", "indicator_grows_at_2", "indicator_grows_at_3",
-               "indicator_grows_at_4", "styles_and_indicators"],
+               "indicator_grows_at_4", "styles_and_indicators", "indicator_current_and_value", "styled_text"],
     "selection": ["character_cuts", "clear_over_crlf", "clipboard", "cut_of_nothing", "newline_and_delete_back", "paste_as_it_is",
-                  "paste_converts_line_ends", "search_backwards_empty_missing", "search_case_and_replace", "search_whole_word"],
+                  "paste_converts_line_ends", "search_backwards_empty_missing", "search_case_and_replace", "search_whole_word",
+                  "caret_keys", "line_end_mode", "search_without_case", "selection_queries", "target_queries"],
     "documents": ["document_references", "order_of_attaching", "read_only_tells_each_view", "read_only_undo", "two_views_move_and_hear",
-                  "undo_of_a_group_to_two_views", "document_options", "unicode_line_ends"],
-    "folding": ["folding", "hidden_lines", "hidden_lines_in_range"],
-    "recording": ["a_long_walk", "a_long_walk_with_gotopos", "macro_recording", "recording_when_read_only"],
+                  "undo_of_a_group_to_two_views", "document_options", "unicode_line_ends",
+                  "masks", "options_and_line_end_types", "own_document_again"],
+    "folding": ["folding", "hidden_lines", "hidden_lines_in_range", "fold_structure", "folding_of_two_views"],
+    "recording": ["a_long_walk", "a_long_walk_with_gotopos", "macro_recording", "recording_when_read_only", "recording_keys"],
 }
 
 

@@ -11,7 +11,7 @@ use Rattle.ed_model.specs.Performing.{Scene}
 use Rattle.ed_model.specs.InverseLaws.{after_undo, after_redo}
 use Rattle.ed_model.specs.UndoLaws.{undone_text, redone_text, undos, redos}
 use Rattle.ed_model.specs.UndoMessageLaws.{IsUndone, IsRedone}
-use Rattle.ed_model.specs.RepeatedUndoLaws.{LeavesAlone, AreAnswered, UndosGoBackThenRedosGoOn}
+use Rattle.ed_model.specs.RepeatedUndoLaws.{LeavesAlone, AreAnswered, UndosGoBackThenRedosGoOn, UndoMessagesGoBack}
 use Rattle.ed_model.proofs.UndoLemmas.{undos_go_back}
 use Rattle.ed_model.proofs.UndoMessageLemmas.{undone_document, redone_document, undo_undoes, redo_redoes}
 use Rattle.ed_model.proofs.SoundHistory.{undone_then_redone_is_the_same}
@@ -124,3 +124,9 @@ undos_go_back_then_redos_go_on known s t u id d ms ns sound found written depth 
     let again = (undone_then_redone_is_the_same s.limits scene k (document_sound s.limits s.documents id d sound.documents found) enough).0 in
     let all : text_of (redos (length ns) (undos k scene)).document ≡ text_of d = ap (λ n. text_of (redos n (undos k scene)).document) same ∙ again in
     ((undone_at.0, undone_at.1, undone_at.2.text ∙ undos_go_back k scene), (redone_at.0, redone_at.1, redone_at.2.text ∙ all))
+
+pub undo_messages_go_back : UndoMessagesGoBack
+undo_messages_go_back known s t id d ms found written depth enough back =
+    let scene : Scene = record { document = d; views = []; notes = [] } in
+    let at = undos_there known id ms scene s t (d, found, record { text = refl; history = refl; written = written }) depth enough back in
+    (at.0, at.1, at.2.text ∙ undos_go_back (length ms) scene)

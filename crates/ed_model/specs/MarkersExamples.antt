@@ -229,3 +229,183 @@ ConvertLineEndsKeepsMarkers = Prints ([])
     codes "= 2 \"\"" ∷
     codes "= 4 \"\"" ∷
     []))
+
+abbrev pub LineStates : Type 0
+LineStates = Prints ([])
+    (lines (
+    codes "sci 1" ∷
+    codes "open" ∷
+    codes "send 1 2003 0 0 \"a\\x0ab\\x0ac\"" ∷
+    codes "send 1 2092 1 7 \"\"" ∷
+    codes "send 1 2093 1 0 \"\"" ∷
+    codes "send 1 2093 0 0 \"\"" ∷
+    codes "send 1 2093 9 0 \"\"" ∷
+    codes "send 1 2092 9 1 \"\"" ∷
+    codes "send 1 2092 1 2147483648 \"\"" ∷
+    codes "send 1 2092 1 -2147483648 \"\"" ∷
+    codes "send 1 2092 1 -2147483648 \"\"" ∷
+    codes "send 1 2093 1 0 \"\"" ∷
+    codes "send 1 2003 0 0 \"\\x0a\"" ∷
+    codes "send 1 2093 1 0 \"\"" ∷
+    codes "send 1 2093 2 0 \"\"" ∷
+    codes "send 1 2645 0 3 \"\"" ∷
+    codes "send 1 2093 0 0 \"\"" ∷
+    codes "send 1 2093 1 0 \"\"" ∷
+    codes "send 1 2176 0 0 \"\"" ∷
+    codes "send 1 2093 2 0 \"\"" ∷
+    []))
+    (lines (
+    codes "= 1 \"\"" ∷
+    codes "= 0 \"\"" ∷
+    codes "@ 1 2008 1040 0 5 0 0 0 0 0 0 0 0 \"a\\x0ab\\x0ac\"" ∷
+    codes "@ 1 2003 0 0 0 0 0 0 0 0 0 0 0 \"\"" ∷
+    codes "@ 1 2008 8209 0 5 2 0 0 0 0 0 0 0 \"a\\x0ab\\x0ac\"" ∷
+    codes "= 0 \"\"" ∷
+    codes "@ 1 2008 32768 0 0 0 1 0 0 0 0 0 0 \"\"" ∷
+    codes "= 7 \"\"" ∷
+    codes "= 0 \"\"" ∷
+    codes "= 0 \"\"" ∷
+    codes "= 0 \"\"" ∷
+    codes "! 6" ∷
+    codes "= 0 \"\"" ∷
+    codes "@ 1 2008 32768 0 0 0 1 0 0 0 0 0 0 \"\"" ∷
+    codes "= 0 \"\"" ∷
+    codes "= -2147483648 \"\"" ∷
+    codes "= 0 \"\"" ∷
+    codes "@ 1 2008 1040 0 1 0 0 0 0 0 0 0 0 \"\\x0a\"" ∷
+    codes "@ 1 2008 8209 0 1 1 0 0 0 0 0 0 0 \"\\x0a\"" ∷
+    codes "= 0 \"\"" ∷
+    codes "= -2147483648 \"\"" ∷
+    codes "= 0 \"\"" ∷
+    codes "@ 1 2008 2064 0 3 0 0 0 0 0 0 0 0 \"\"" ∷
+    codes "@ 1 2008 8210 0 3 -2 0 0 0 0 0 0 0 \"\\x0aa\\x0a\"" ∷
+    codes "= 0 \"\"" ∷
+    codes "= 0 \"\"" ∷
+    codes "= 0 \"\"" ∷
+    codes "@ 1 2008 1056 0 3 0 0 0 0 0 0 0 0 \"\\x0aa\\x0a\"" ∷
+    codes "@ 1 2008 4385 0 3 2 0 0 0 0 0 0 0 \"\\x0aa\\x0a\"" ∷
+    codes "= 0 \"\"" ∷
+    []))
+
+abbrev pub MarkersMeetAndPart : Type 0
+MarkersMeetAndPart = Prints ([])
+    (lines (
+    codes "sci 1" ∷
+    codes "open" ∷
+    codes "send 1 2003 0 0 \"a\\x0ab\\x0ac\\x0ad\"" ∷
+    codes "send 1 2043 0 3 \"\"" ∷
+    codes "send 1 2043 1 3 \"\"" ∷
+    codes "send 1 2043 2 5 \"\"" ∷
+    codes "send 1 2466 1 9 \"\"" ∷
+    codes "send 1 2046 1 0 \"\"" ∷
+    codes "send 1 2645 1 4 \"\"" ∷
+    codes "send 1 2046 0 0 \"\"" ∷
+    codes "send 1 2046 1 0 \"\"" ∷
+    codes "send 1 2017 2 0 \"\"" ∷
+    codes "send 1 2017 3 0 \"\"" ∷
+    codes "send 1 2044 0 3 \"\"" ∷
+    codes "send 1 2046 0 0 \"\"" ∷
+    codes "send 1 2044 0 3 \"\"" ∷
+    codes "send 1 2044 0 3 \"\"" ∷
+    codes "send 1 2018 3 0 \"\"" ∷
+    codes "send 1 2018 3 0 \"\"" ∷
+    codes "send 1 2017 3 0 \"\"" ∷
+    codes "send 1 2045 0 0 \"\"" ∷
+    codes "send 1 2045 0 0 \"\"" ∷
+    codes "send 1 2044 0 -1 \"\"" ∷
+    codes "send 1 2045 -1 0 \"\"" ∷
+    codes "send 1 2466 0 4294967296 \"\"" ∷
+    codes "send 1 2466 0 -1 \"\"" ∷
+    codes "send 1 2043 0 32 \"\"" ∷
+    codes "send 1 2043 0 -1 \"\"" ∷
+    codes "send 1 2044 0 -2 \"\"" ∷
+    codes "send 1 2045 32 0 \"\"" ∷
+    codes "send 1 2046 0 0 \"\"" ∷
+    []))
+    (lines (
+    codes "= 1 \"\"" ∷
+    codes "= 0 \"\"" ∷
+    codes "@ 1 2008 1040 0 7 0 0 0 0 0 0 0 0 \"a\\x0ab\\x0ac\\x0ad\"" ∷
+    codes "@ 1 2003 0 0 0 0 0 0 0 0 0 0 0 \"\"" ∷
+    codes "@ 1 2008 8209 0 7 3 0 0 0 0 0 0 0 \"a\\x0ab\\x0ac\\x0ad\"" ∷
+    codes "= 1 \"\"" ∷
+    codes "@ 1 2008 512 0 0 0 0 0 0 0 0 0 0 \"\"" ∷
+    codes "= 2 \"\"" ∷
+    codes "@ 1 2008 512 2 0 0 1 0 0 0 0 0 0 \"\"" ∷
+    codes "= 3 \"\"" ∷
+    codes "@ 1 2008 512 4 0 0 2 0 0 0 0 0 0 \"\"" ∷
+    codes "= 0 \"\"" ∷
+    codes "@ 1 2008 512 2 0 0 1 0 0 0 0 0 0 \"\"" ∷
+    codes "= 9 \"\"" ∷
+    codes "= 0 \"\"" ∷
+    codes "@ 1 2008 2064 1 4 0 0 0 0 0 0 0 0 \"\"" ∷
+    codes "@ 1 2008 8210 1 4 -2 0 0 0 0 0 0 0 \"\\x0ab\\x0ac\"" ∷
+    codes "= 41 \"\"" ∷
+    codes "= 0 \"\"" ∷
+    codes "= 0 \"\"" ∷
+    codes "= 0 \"\"" ∷
+    codes "= 0 \"\"" ∷
+    codes "@ 1 2008 512 0 0 0 0 0 0 0 0 0 0 \"\"" ∷
+    codes "= 41 \"\"" ∷
+    codes "= 0 \"\"" ∷
+    codes "@ 1 2008 512 0 0 0 0 0 0 0 0 0 0 \"\"" ∷
+    codes "= 0 \"\"" ∷
+    codes "@ 1 2008 512 0 0 0 0 0 0 0 0 0 0 \"\"" ∷
+    codes "= 0 \"\"" ∷
+    codes "@ 1 2008 512 0 0 0 0 0 0 0 0 0 0 \"\"" ∷
+    codes "= 0 \"\"" ∷
+    codes "= -1 \"\"" ∷
+    codes "= 0 \"\"" ∷
+    codes "@ 1 2008 512 0 0 0 -1 0 0 0 0 0 0 \"\"" ∷
+    codes "= 0 \"\"" ∷
+    codes "= 0 \"\"" ∷
+    codes "= 0 \"\"" ∷
+    codes "! 6" ∷
+    codes "! 6" ∷
+    codes "! 6" ∷
+    codes "! 6" ∷
+    codes "! 6" ∷
+    codes "! 6" ∷
+    codes "= 0 \"\"" ∷
+    []))
+
+abbrev pub MarkersOnALineStart : Type 0
+MarkersOnALineStart = Prints ([])
+    (lines (
+    codes "sci 1" ∷
+    codes "open" ∷
+    codes "send 1 2003 0 0 \"x\\x0aY\"" ∷
+    codes "send 1 2043 1 1 \"\"" ∷
+    codes "send 1 2222 1 9216 \"\"" ∷
+    codes "send 1 2003 2 0 \"abc\\x0a\"" ∷
+    codes "send 1 2046 1 0 \"\"" ∷
+    codes "send 1 2046 2 0 \"\"" ∷
+    codes "send 1 2223 1 0 \"\"" ∷
+    codes "send 1 2223 2 0 \"\"" ∷
+    codes "send 1 2645 0 8 \"\"" ∷
+    codes "send 1 2154 0 0 \"\"" ∷
+    codes "send 1 2046 0 0 \"\"" ∷
+    codes "send 1 2223 0 0 \"\"" ∷
+    []))
+    (lines (
+    codes "= 1 \"\"" ∷
+    codes "= 0 \"\"" ∷
+    codes "@ 1 2008 1040 0 3 0 0 0 0 0 0 0 0 \"x\\x0aY\"" ∷
+    codes "@ 1 2003 0 0 0 0 0 0 0 0 0 0 0 \"\"" ∷
+    codes "@ 1 2008 8209 0 3 1 0 0 0 0 0 0 0 \"x\\x0aY\"" ∷
+    codes "= 1 \"\"" ∷
+    codes "@ 1 2008 512 2 0 0 1 0 0 0 0 0 0 \"\"" ∷
+    codes "= 0 \"\"" ∷
+    codes "@ 1 2008 8 0 0 0 1 9216 1024 0 0 0 0 \"\"" ∷
+    codes "= 0 \"\"" ∷
+    codes "@ 1 2008 1040 2 4 0 0 0 0 0 0 0 0 \"abc\\x0a\"" ∷
+    codes "@ 1 2008 8209 2 4 1 0 0 0 0 0 0 0 \"abc\\x0a\"" ∷
+    codes "= 0 \"\"" ∷
+    codes "= 2 \"\"" ∷
+    codes "= 1024 \"\"" ∷
+    codes "= 9216 \"\"" ∷
+    codes "! 6" ∷
+    codes "= 3 \"\"" ∷
+    codes "= 0 \"\"" ∷
+    codes "= 1024 \"\"" ∷
+    []))

@@ -229,3 +229,63 @@ RecordingWhenReadOnly = Prints ([])
     codes "@ 1 2004 0 0 0 0 0 0 0 0 0 0 0 \"\"" ∷
     codes "! 6" ∷
     []))
+
+abbrev pub RecordingKeys : Type 0
+RecordingKeys = Prints ([])
+    (lines (
+    codes "sci 1" ∷
+    codes "open" ∷
+    codes "open" ∷
+    codes "send 2 2358 0 1 \"\"" ∷
+    codes "send 1 3001 0 0 \"\"" ∷
+    codes "send 1 2001 2 0 \"ab\"" ∷
+    codes "send 1 2305 0 0 \"\"" ∷
+    codes "send 1 2025 1 0 \"\"" ∷
+    codes "send 1 2143 0 0 \"\"" ∷
+    codes "send 1 2001 9 0 \"ab\"" ∷
+    codes "send 1 2329 0 0 \"\"" ∷
+    codes "send 1 2178 0 0 \"\"" ∷
+    codes "send 1 2313 0 0 \"\"" ∷
+    codes "send 2 2001 1 0 \"z\"" ∷
+    codes "send 1 3002 0 0 \"\"" ∷
+    codes "send 1 2318 0 0 \"\"" ∷
+    codes "send 1 2182 0 0 \"\"" ∷
+    []))
+    (lines (
+    codes "= 1 \"\"" ∷
+    codes "= 2 \"\"" ∷
+    codes "= 0 \"\"" ∷
+    codes "= 0 \"\"" ∷
+    codes "= 0 \"\"" ∷
+    codes "@ 1 2009 0 0 0 0 0 0 0 0 2001 2 0 \"ab\"" ∷
+    codes "@ 1 2008 1040 0 2 0 0 0 0 0 0 0 0 \"ab\"" ∷
+    codes "@ 2 2008 1040 0 2 0 0 0 0 0 0 0 0 \"ab\"" ∷
+    codes "@ 1 2003 0 0 0 0 0 0 0 0 0 0 0 \"\"" ∷
+    codes "@ 2 2003 0 0 0 0 0 0 0 0 0 0 0 \"\"" ∷
+    codes "@ 1 2008 8209 0 2 0 0 0 0 0 0 0 0 \"ab\"" ∷
+    codes "@ 2 2008 8209 0 2 0 0 0 0 0 0 0 0 \"ab\"" ∷
+    codes "= 0 \"\"" ∷
+    codes "@ 1 2009 0 0 0 0 0 0 0 0 2305 0 0 \"\"" ∷
+    codes "= 0 \"\"" ∷
+    codes "@ 1 2009 0 0 0 0 0 0 0 0 2025 1 0 \"\"" ∷
+    codes "= 1 \"\"" ∷
+    codes "! 6" ∷
+    codes "= 0 \"\"" ∷
+    codes "@ 1 2009 0 0 0 0 0 0 0 0 2329 0 0 \"\"" ∷
+    codes "@ 1 2008 1040 1 1 0 0 0 0 0 0 0 0 \"\\x0a\"" ∷
+    codes "@ 2 2008 1040 1 1 0 0 0 0 0 0 0 0 \"\\x0a\"" ∷
+    codes "@ 1 2008 8209 1 1 1 0 0 0 0 0 0 0 \"\\x0a\"" ∷
+    codes "@ 2 2008 8209 1 1 1 0 0 0 0 0 0 0 \"\\x0a\"" ∷
+    codes "= 0 \"\"" ∷
+    codes "@ 1 2009 0 0 0 0 0 0 0 0 2178 0 0 \"\"" ∷
+    codes "= 0 \"\"" ∷
+    codes "@ 1 2009 0 0 0 0 0 0 0 0 2313 0 0 \"\"" ∷
+    codes "= 0 \"\"" ∷
+    codes "@ 1 2008 1040 0 1 0 0 0 0 0 0 0 0 \"z\"" ∷
+    codes "@ 2 2008 1040 0 1 0 0 0 0 0 0 0 0 \"z\"" ∷
+    codes "@ 1 2008 8209 0 1 0 0 0 0 0 0 0 0 \"z\"" ∷
+    codes "@ 2 2008 8209 0 1 0 0 0 0 0 0 0 0 \"z\"" ∷
+    codes "= 0 \"\"" ∷
+    codes "= 0 \"\"" ∷
+    codes "= 4 \"za\\x0ab\"" ∷
+    []))

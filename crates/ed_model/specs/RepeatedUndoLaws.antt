@@ -68,3 +68,10 @@ UndosGoBackThenRedosGoOn =
     IsSound s → document_at s.documents id ≡ Some d → d.read_only ≡ false → d.history.depth ≡ 0 → length undos ≤ length d.history.past →
     AreAnswered known Undo id undos s t → length redos ≡ length undos → AreAnswered known Redo id redos t u →
     HasText id t (undone_text (length undos) d.history.past (text_of d)) × HasText id u (text_of d)
+
+-- and already the UNDO messages alone go back so
+abbrev pub UndoMessagesGoBack : Type 0
+UndoMessagesGoBack =
+    (known : Kind → Bool) (s t : Session) (id : ℕ) (d : Document) (undos : List (ℕ × Message)) →
+    document_at s.documents id ≡ Some d → d.read_only ≡ false → d.history.depth ≡ 0 → length undos ≤ length d.history.past →
+    AreAnswered known Undo id undos s t → HasText id t (undone_text (length undos) d.history.past (text_of d))

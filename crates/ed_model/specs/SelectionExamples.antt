@@ -307,3 +307,492 @@ SearchWholeWord = Prints ([])
     codes "= 6 \"\"" ∷
     codes "= 8 \"\"" ∷
     []))
+
+abbrev pub CaretKeys : Type 0
+CaretKeys = Prints ([])
+    (lines (
+    codes "sci 1" ∷
+    codes "open" ∷
+    codes "send 1 2003 0 0 \"a\\xc3\\xa9\\x0d\\x0ab\\xf0\\x9f\\x98\\x80\"" ∷
+    codes "send 1 2318 0 0 \"\"" ∷
+    codes "send 1 2008 0 0 \"\"" ∷
+    codes "send 1 2304 0 0 \"\"" ∷
+    codes "send 1 2008 0 0 \"\"" ∷
+    codes "send 1 2304 0 0 \"\"" ∷
+    codes "send 1 2304 0 0 \"\"" ∷
+    codes "send 1 2008 0 0 \"\"" ∷
+    codes "send 1 2304 0 0 \"\"" ∷
+    codes "send 1 2008 0 0 \"\"" ∷
+    codes "send 1 2304 0 0 \"\"" ∷
+    codes "send 1 2008 0 0 \"\"" ∷
+    codes "send 1 2306 0 0 \"\"" ∷
+    codes "send 1 2008 0 0 \"\"" ∷
+    codes "send 1 2307 0 0 \"\"" ∷
+    codes "send 1 2009 0 0 \"\"" ∷
+    codes "send 1 2008 0 0 \"\"" ∷
+    codes "send 1 2305 0 0 \"\"" ∷
+    codes "send 1 2008 0 0 \"\"" ∷
+    codes "send 1 2305 0 0 \"\"" ∷
+    codes "send 1 2009 0 0 \"\"" ∷
+    codes "send 1 2008 0 0 \"\"" ∷
+    codes "send 1 2304 0 0 \"\"" ∷
+    codes "send 1 2008 0 0 \"\"" ∷
+    codes "send 1 2315 0 0 \"\"" ∷
+    codes "send 1 2009 0 0 \"\"" ∷
+    codes "send 1 2008 0 0 \"\"" ∷
+    codes "send 1 2306 0 0 \"\"" ∷
+    codes "send 1 2008 0 0 \"\"" ∷
+    codes "send 1 2314 0 0 \"\"" ∷
+    codes "send 1 2008 0 0 \"\"" ∷
+    codes "send 1 2312 0 0 \"\"" ∷
+    codes "send 1 2008 0 0 \"\"" ∷
+    codes "send 1 2319 0 0 \"\"" ∷
+    codes "send 1 2009 0 0 \"\"" ∷
+    codes "send 1 2008 0 0 \"\"" ∷
+    codes "send 1 2313 0 0 \"\"" ∷
+    codes "send 1 2009 0 0 \"\"" ∷
+    codes "send 1 2008 0 0 \"\"" ∷
+    codes "send 1 2316 0 0 \"\"" ∷
+    codes "send 1 2008 0 0 \"\"" ∷
+    codes "send 1 2304 0 0 \"\"" ∷
+    codes "send 1 2008 0 0 \"\"" ∷
+    codes "send 1 2319 0 0 \"\"" ∷
+    codes "send 1 2317 0 0 \"\"" ∷
+    codes "send 1 2009 0 0 \"\"" ∷
+    codes "send 1 2008 0 0 \"\"" ∷
+    codes "send 1 2318 0 0 \"\"" ∷
+    codes "send 1 2306 0 0 \"\"" ∷
+    codes "send 1 2008 0 0 \"\"" ∷
+    codes "send 1 2326 0 0 \"\"" ∷
+    codes "send 1 2182 0 0 \"\"" ∷
+    codes "send 1 2160 0 1 \"\"" ∷
+    codes "send 1 2326 0 0 \"\"" ∷
+    codes "send 1 2182 0 0 \"\"" ∷
+    codes "send 1 2329 0 0 \"\"" ∷
+    codes "send 1 2182 0 0 \"\"" ∷
+    []))
+    (lines (
+    codes "= 1 \"\"" ∷
+    codes "= 0 \"\"" ∷
+    codes "@ 1 2008 1040 0 10 0 0 0 0 0 0 0 0 \"a\\xc3\\xa9\\x0d\\x0ab\\xf0\\x9f\\x98\\x80\"" ∷
+    codes "@ 1 2003 0 0 0 0 0 0 0 0 0 0 0 \"\"" ∷
+    codes "@ 1 2008 8209 0 10 1 0 0 0 0 0 0 0 \"a\\xc3\\xa9\\x0d\\x0ab\\xf0\\x9f\\x98\\x80\"" ∷
+    codes "= 0 \"\"" ∷
+    codes "= 10 \"\"" ∷
+    codes "= 0 \"\"" ∷
+    codes "= 6 \"\"" ∷
+    codes "= 0 \"\"" ∷
+    codes "= 0 \"\"" ∷
+    codes "= 3 \"\"" ∷
+    codes "= 0 \"\"" ∷
+    codes "= 1 \"\"" ∷
+    codes "= 0 \"\"" ∷
+    codes "= 0 \"\"" ∷
+    codes "= 0 \"\"" ∷
+    codes "= 1 \"\"" ∷
+    codes "= 0 \"\"" ∷
+    codes "= 1 \"\"" ∷
+    codes "= 3 \"\"" ∷
+    codes "= 0 \"\"" ∷
+    codes "= 1 \"\"" ∷
+    codes "= 0 \"\"" ∷
+    codes "= 1 \"\"" ∷
+    codes "= 0 \"\"" ∷
+    codes "= 0 \"\"" ∷
+    codes "= 0 \"\"" ∷
+    codes "= 0 \"\"" ∷
+    codes "= 0 \"\"" ∷
+    codes "= 3 \"\"" ∷
+    codes "= 0 \"\"" ∷
+    codes "= 3 \"\"" ∷
+    codes "= 0 \"\"" ∷
+    codes "= 3 \"\"" ∷
+    codes "= 0 \"\"" ∷
+    codes "= 0 \"\"" ∷
+    codes "= 0 \"\"" ∷
+    codes "= 0 \"\"" ∷
+    codes "= 10 \"\"" ∷
+    codes "= 0 \"\"" ∷
+    codes "= 0 \"\"" ∷
+    codes "= 5 \"\"" ∷
+    codes "= 0 \"\"" ∷
+    codes "= 0 \"\"" ∷
+    codes "= 0 \"\"" ∷
+    codes "= 0 \"\"" ∷
+    codes "= 0 \"\"" ∷
+    codes "= 0 \"\"" ∷
+    codes "= 0 \"\"" ∷
+    codes "= 0 \"\"" ∷
+    codes "= 0 \"\"" ∷
+    codes "= 0 \"\"" ∷
+    codes "= 10 \"\"" ∷
+    codes "= 0 \"\"" ∷
+    codes "@ 1 2008 2064 6 4 0 0 0 0 0 0 0 0 \"\"" ∷
+    codes "@ 1 2008 8210 6 4 0 0 0 0 0 0 0 0 \"\\xf0\\x9f\\x98\\x80\"" ∷
+    codes "= 6 \"a\\xc3\\xa9\\x0d\\x0ab\"" ∷
+    codes "= 0 \"\"" ∷
+    codes "= 0 \"\"" ∷
+    codes "@ 1 2008 2064 0 1 0 0 0 0 0 0 0 0 \"\"" ∷
+    codes "@ 1 2008 8210 0 1 0 0 0 0 0 0 0 0 \"a\"" ∷
+    codes "= 5 \"\\xc3\\xa9\\x0d\\x0ab\"" ∷
+    codes "= 0 \"\"" ∷
+    codes "@ 1 2008 1040 0 1 0 0 0 0 0 0 0 0 \"\\x0a\"" ∷
+    codes "@ 1 2008 8209 0 1 1 0 0 0 0 0 0 0 \"\\x0a\"" ∷
+    codes "= 6 \"\\x0a\\xc3\\xa9\\x0d\\x0ab\"" ∷
+    []))
+
+abbrev pub LineEndMode : Type 0
+LineEndMode = Prints ([])
+    (lines (
+    codes "sci 1" ∷
+    codes "open" ∷
+    codes "send 1 2030 0 0 \"\"" ∷
+    codes "send 1 2031 0 0 \"\"" ∷
+    codes "send 1 2030 0 0 \"\"" ∷
+    codes "send 1 2031 3 0 \"\"" ∷
+    codes "send 1 2329 0 0 \"\"" ∷
+    codes "send 1 2031 1 0 \"\"" ∷
+    codes "send 1 2329 0 0 \"\"" ∷
+    codes "send 1 2031 2 0 \"\"" ∷
+    codes "send 1 2329 0 0 \"\"" ∷
+    codes "send 1 2182 0 0 \"\"" ∷
+    codes "send 1 2029 2 0 \"\"" ∷
+    codes "send 1 2182 0 0 \"\"" ∷
+    codes "send 1 2029 1 0 \"\"" ∷
+    codes "send 1 2182 0 0 \"\"" ∷
+    codes "send 1 2029 0 0 \"\"" ∷
+    codes "send 1 2182 0 0 \"\"" ∷
+    codes "send 1 2029 3 0 \"\"" ∷
+    codes "send 1 2468 0 0 \"\"" ∷
+    codes "send 1 2467 0 0 \"\"" ∷
+    codes "send 1 2468 0 0 \"\"" ∷
+    codes "send 1 2420 2 0 \"\\x0d\\x0a\"" ∷
+    codes "send 1 2179 0 0 \"\"" ∷
+    codes "send 1 2182 0 0 \"\"" ∷
+    codes "send 1 2467 1 0 \"\"" ∷
+    codes "send 1 2031 2 0 \"\"" ∷
+    codes "send 1 2179 0 0 \"\"" ∷
+    codes "send 1 2182 0 0 \"\"" ∷
+    []))
+    (lines (
+    codes "= 1 \"\"" ∷
+    codes "= 2 \"\"" ∷
+    codes "= 0 \"\"" ∷
+    codes "= 0 \"\"" ∷
+    codes "! 6" ∷
+    codes "= 0 \"\"" ∷
+    codes "@ 1 2008 1040 0 2 0 0 0 0 0 0 0 0 \"\\x0d\\x0a\"" ∷
+    codes "@ 1 2003 0 0 0 0 0 0 0 0 0 0 0 \"\"" ∷
+    codes "@ 1 2008 8209 0 2 1 0 0 0 0 0 0 0 \"\\x0d\\x0a\"" ∷
+    codes "= 0 \"\"" ∷
+    codes "= 0 \"\"" ∷
+    codes "@ 1 2008 1040 2 1 0 0 0 0 0 0 0 0 \"\\x0d\"" ∷
+    codes "@ 1 2008 17 2 1 1 0 0 0 0 0 0 0 \"\\x0d\"" ∷
+    codes "= 0 \"\"" ∷
+    codes "= 0 \"\"" ∷
+    codes "@ 1 2008 1040 3 1 0 0 0 0 0 0 0 0 \"\\x0a\"" ∷
+    codes "@ 1 2008 17 3 1 0 0 0 0 0 0 0 0 \"\\x0a\"" ∷
+    codes "= 4 \"\\x0d\\x0a\\x0d\\x0a\"" ∷
+    codes "= 0 \"\"" ∷
+    codes "@ 1 2008 2064 0 1 0 0 0 0 0 0 0 0 \"\"" ∷
+    codes "@ 1 2008 8210 0 1 0 0 0 0 0 0 0 0 \"\\x0d\"" ∷
+    codes "@ 1 2008 2064 1 1 0 0 0 0 0 0 0 0 \"\"" ∷
+    codes "@ 1 2008 18 1 1 0 0 0 0 0 0 0 0 \"\\x0d\"" ∷
+    codes "= 2 \"\\x0a\\x0a\"" ∷
+    codes "= 0 \"\"" ∷
+    codes "@ 1 2008 1040 0 1 0 0 0 0 0 0 0 0 \"\\x0d\"" ∷
+    codes "@ 1 2008 8209 0 1 0 0 0 0 0 0 0 0 \"\\x0d\"" ∷
+    codes "@ 1 2008 1040 2 1 0 0 0 0 0 0 0 0 \"\\x0d\"" ∷
+    codes "@ 1 2008 17 2 1 0 0 0 0 0 0 0 0 \"\\x0d\"" ∷
+    codes "@ 1 2008 2064 1 1 0 0 0 0 0 0 0 0 \"\"" ∷
+    codes "@ 1 2008 18 1 1 0 0 0 0 0 0 0 0 \"\\x0a\"" ∷
+    codes "@ 1 2008 2064 2 1 0 0 0 0 0 0 0 0 \"\"" ∷
+    codes "@ 1 2008 18 2 1 0 0 0 0 0 0 0 0 \"\\x0a\"" ∷
+    codes "= 2 \"\\x0d\\x0d\"" ∷
+    codes "= 0 \"\"" ∷
+    codes "@ 1 2008 1040 1 1 0 0 0 0 0 0 0 0 \"\\x0a\"" ∷
+    codes "@ 1 2008 8209 1 1 0 0 0 0 0 0 0 0 \"\\x0a\"" ∷
+    codes "@ 1 2008 1040 3 1 0 0 0 0 0 0 0 0 \"\\x0a\"" ∷
+    codes "@ 1 2008 17 3 1 0 0 0 0 0 0 0 0 \"\\x0a\"" ∷
+    codes "= 4 \"\\x0d\\x0a\\x0d\\x0a\"" ∷
+    codes "! 6" ∷
+    codes "= 1 \"\"" ∷
+    codes "= 0 \"\"" ∷
+    codes "= 0 \"\"" ∷
+    codes "= 0 \"\"" ∷
+    codes "= 0 \"\"" ∷
+    codes "@ 1 2008 1040 3 2 0 0 0 0 0 0 0 0 \"\\x0d\\x0a\"" ∷
+    codes "@ 1 2008 8209 3 2 2 0 0 0 0 0 0 0 \"\\x0d\\x0a\"" ∷
+    codes "= 6 \"\\x0d\\x0a\\x0d\\x0d\\x0a\\x0a\"" ∷
+    codes "= 0 \"\"" ∷
+    codes "= 0 \"\"" ∷
+    codes "= 0 \"\"" ∷
+    codes "@ 1 2008 1040 5 1 0 0 0 0 0 0 0 0 \"\\x0a\"" ∷
+    codes "@ 1 2008 17 5 1 1 0 0 0 0 0 0 0 \"\\x0a\"" ∷
+    codes "= 7 \"\\x0d\\x0a\\x0d\\x0d\\x0a\\x0a\\x0a\"" ∷
+    []))
+
+abbrev pub SearchWithoutCase : Type 0
+SearchWithoutCase = Prints ([])
+    (lines (
+    codes "sci 1" ∷
+    codes "open" ∷
+    codes "send 1 2003 0 0 \"Ab_[{ aB \\xc3\\xa9ab AB@`\"" ∷
+    codes "send 1 2690 0 0 \"\"" ∷
+    codes "send 1 2197 2 0 \"ab\"" ∷
+    codes "send 1 2686 1 99 \"\"" ∷
+    codes "send 1 2197 2 0 \"ab\"" ∷
+    codes "send 1 2690 0 0 \"\"" ∷
+    codes "send 1 2198 2 0 \"\"" ∷
+    codes "send 1 2197 2 0 \"AB\"" ∷
+    codes "send 1 2686 9 99 \"\"" ∷
+    codes "send 1 2197 2 0 \"AB\"" ∷
+    codes "send 1 2690 0 0 \"\"" ∷
+    codes "send 1 2198 1048576 0 \"\"" ∷
+    codes "send 1 2197 1 0 \"a\"" ∷
+    codes "send 1 2686 1 99 \"\"" ∷
+    codes "send 1 2197 1 0 \"a\"" ∷
+    codes "send 1 2686 99 0 \"\"" ∷
+    codes "send 1 2197 2 0 \"ab\"" ∷
+    codes "send 1 2198 0 0 \"\"" ∷
+    codes "send 1 2690 0 0 \"\"" ∷
+    codes "send 1 2197 1 0 \"{\"" ∷
+    codes "send 1 2690 0 0 \"\"" ∷
+    codes "send 1 2197 1 0 \"@\"" ∷
+    codes "send 1 2686 99 0 \"\"" ∷
+    codes "send 1 2197 0 0 \"ab\"" ∷
+    codes "send 1 2191 0 0 \"\"" ∷
+    codes "send 1 2193 0 0 \"\"" ∷
+    []))
+    (lines (
+    codes "= 1 \"\"" ∷
+    codes "= 0 \"\"" ∷
+    codes "@ 1 2008 1040 0 18 0 0 0 0 0 0 0 0 \"Ab_[{ aB \\xc3\\xa9ab AB@`\"" ∷
+    codes "@ 1 2003 0 0 0 0 0 0 0 0 0 0 0 \"\"" ∷
+    codes "@ 1 2008 8209 0 18 0 0 0 0 0 0 0 0 \"Ab_[{ aB \\xc3\\xa9ab AB@`\"" ∷
+    codes "= 0 \"\"" ∷
+    codes "= 0 \"\"" ∷
+    codes "= 0 \"\"" ∷
+    codes "= 6 \"\"" ∷
+    codes "= 0 \"\"" ∷
+    codes "= 0 \"\"" ∷
+    codes "= 6 \"\"" ∷
+    codes "= 0 \"\"" ∷
+    codes "= 14 \"\"" ∷
+    codes "= 0 \"\"" ∷
+    codes "= 0 \"\"" ∷
+    codes "= 0 \"\"" ∷
+    codes "= 0 \"\"" ∷
+    codes "= 6 \"\"" ∷
+    codes "= 0 \"\"" ∷
+    codes "= 14 \"\"" ∷
+    codes "= 0 \"\"" ∷
+    codes "= 0 \"\"" ∷
+    codes "= 4 \"\"" ∷
+    codes "= 0 \"\"" ∷
+    codes "= 16 \"\"" ∷
+    codes "= 0 \"\"" ∷
+    codes "= 0 \"\"" ∷
+    codes "= 0 \"\"" ∷
+    codes "= 0 \"\"" ∷
+    []))
+
+abbrev pub SelectionQueries : Type 0
+SelectionQueries = Prints ([])
+    (lines (
+    codes "sci 1" ∷
+    codes "open" ∷
+    codes "send 1 2003 0 0 \"hello\\x0aworld\"" ∷
+    codes "send 1 2160 2 8 \"\"" ∷
+    codes "send 1 2008 0 0 \"\"" ∷
+    codes "send 1 2009 0 0 \"\"" ∷
+    codes "send 1 2143 0 0 \"\"" ∷
+    codes "send 1 2145 0 0 \"\"" ∷
+    codes "send 1 2650 0 0 \"\"" ∷
+    codes "send 1 2161 0 0 \"\"" ∷
+    codes "send 1 2142 5 0 \"\"" ∷
+    codes "send 1 2009 0 0 \"\"" ∷
+    codes "send 1 2008 0 0 \"\"" ∷
+    codes "send 1 2144 3 0 \"\"" ∷
+    codes "send 1 2009 0 0 \"\"" ∷
+    codes "send 1 2008 0 0 \"\"" ∷
+    codes "send 1 2142 9 0 \"\"" ∷
+    codes "send 1 2144 20 0 \"\"" ∷
+    codes "send 1 2143 0 0 \"\"" ∷
+    codes "send 1 2145 0 0 \"\"" ∷
+    codes "send 1 2026 4 0 \"\"" ∷
+    codes "send 1 2141 -3 0 \"\"" ∷
+    codes "send 1 2143 0 0 \"\"" ∷
+    codes "send 1 2145 0 0 \"\"" ∷
+    codes "send 1 2556 7 0 \"\"" ∷
+    codes "send 1 2650 0 0 \"\"" ∷
+    codes "send 1 2009 0 0 \"\"" ∷
+    codes "send 1 2013 0 0 \"\"" ∷
+    codes "send 1 2161 0 0 \"\"" ∷
+    codes "send 1 2160 -1 4 \"\"" ∷
+    codes "send 1 2009 0 0 \"\"" ∷
+    codes "send 1 2160 4 -1 \"\"" ∷
+    codes "send 1 2143 0 0 \"\"" ∷
+    codes "send 1 2145 0 0 \"\"" ∷
+    codes "send 1 2024 1 0 \"\"" ∷
+    codes "send 1 2008 0 0 \"\"" ∷
+    codes "send 1 2024 99 0 \"\"" ∷
+    codes "send 1 2008 0 0 \"\"" ∷
+    codes "send 1 2024 -1 0 \"\"" ∷
+    codes "send 1 2008 0 0 \"\"" ∷
+    codes "send 1 2025 99 0 \"\"" ∷
+    codes "send 1 2008 0 0 \"\"" ∷
+    []))
+    (lines (
+    codes "= 1 \"\"" ∷
+    codes "= 0 \"\"" ∷
+    codes "@ 1 2008 1040 0 11 0 0 0 0 0 0 0 0 \"hello\\x0aworld\"" ∷
+    codes "@ 1 2003 0 0 0 0 0 0 0 0 0 0 0 \"\"" ∷
+    codes "@ 1 2008 8209 0 11 1 0 0 0 0 0 0 0 \"hello\\x0aworld\"" ∷
+    codes "= 0 \"\"" ∷
+    codes "= 8 \"\"" ∷
+    codes "= 2 \"\"" ∷
+    codes "= 2 \"\"" ∷
+    codes "= 8 \"\"" ∷
+    codes "= 0 \"\"" ∷
+    codes "= 6 \"llo\\x0awo\"" ∷
+    codes "= 0 \"\"" ∷
+    codes "= 5 \"\"" ∷
+    codes "= 8 \"\"" ∷
+    codes "= 0 \"\"" ∷
+    codes "= 3 \"\"" ∷
+    codes "= 3 \"\"" ∷
+    codes "= 0 \"\"" ∷
+    codes "= 0 \"\"" ∷
+    codes "= 9 \"\"" ∷
+    codes "= 11 \"\"" ∷
+    codes "= 0 \"\"" ∷
+    codes "= 0 \"\"" ∷
+    codes "= 0 \"\"" ∷
+    codes "= 4 \"\"" ∷
+    codes "= 0 \"\"" ∷
+    codes "= 1 \"\"" ∷
+    codes "= 7 \"\"" ∷
+    codes "= 0 \"\"" ∷
+    codes "= 11 \"hello\\x0aworld\"" ∷
+    codes "= 0 \"\"" ∷
+    codes "= 4 \"\"" ∷
+    codes "= 0 \"\"" ∷
+    codes "= 4 \"\"" ∷
+    codes "= 11 \"\"" ∷
+    codes "= 0 \"\"" ∷
+    codes "= 6 \"\"" ∷
+    codes "= 0 \"\"" ∷
+    codes "= 6 \"\"" ∷
+    codes "= 0 \"\"" ∷
+    codes "= 0 \"\"" ∷
+    codes "= 0 \"\"" ∷
+    codes "= 11 \"\"" ∷
+    []))
+
+abbrev pub TargetQueries : Type 0
+TargetQueries = Prints ([])
+    (lines (
+    codes "sci 1" ∷
+    codes "open" ∷
+    codes "send 1 2003 0 0 \"one two one\"" ∷
+    codes "send 1 2190 4 0 \"\"" ∷
+    codes "send 1 2192 7 0 \"\"" ∷
+    codes "send 1 2191 0 0 \"\"" ∷
+    codes "send 1 2193 0 0 \"\"" ∷
+    codes "send 1 2687 0 0 \"\"" ∷
+    codes "send 1 2686 7 4 \"\"" ∷
+    codes "send 1 2191 0 0 \"\"" ∷
+    codes "send 1 2193 0 0 \"\"" ∷
+    codes "send 1 2687 0 0 \"\"" ∷
+    codes "send 1 2003 0 0 \"x\"" ∷
+    codes "send 1 2191 0 0 \"\"" ∷
+    codes "send 1 2193 0 0 \"\"" ∷
+    codes "send 1 2160 1 4 \"\"" ∷
+    codes "send 1 2287 0 0 \"\"" ∷
+    codes "send 1 2191 0 0 \"\"" ∷
+    codes "send 1 2193 0 0 \"\"" ∷
+    codes "send 1 2690 0 0 \"\"" ∷
+    codes "send 1 2191 0 0 \"\"" ∷
+    codes "send 1 2193 0 0 \"\"" ∷
+    codes "send 1 2199 0 0 \"\"" ∷
+    codes "send 1 2198 6 0 \"\"" ∷
+    codes "send 1 2199 0 0 \"\"" ∷
+    codes "send 1 2198 8 0 \"\"" ∷
+    codes "send 1 2198 1048576 0 \"\"" ∷
+    codes "send 1 2199 0 0 \"\"" ∷
+    codes "send 1 2197 3 0 \"ONE\"" ∷
+    codes "send 1 2191 0 0 \"\"" ∷
+    codes "send 1 2193 0 0 \"\"" ∷
+    codes "send 1 2686 99 -5 \"\"" ∷
+    codes "send 1 2191 0 0 \"\"" ∷
+    codes "send 1 2193 0 0 \"\"" ∷
+    codes "send 1 2197 3 0 \"one\"" ∷
+    codes "send 1 2191 0 0 \"\"" ∷
+    codes "send 1 2193 0 0 \"\"" ∷
+    codes "send 1 2194 2 0 \"abc\"" ∷
+    codes "send 1 2191 0 0 \"\"" ∷
+    codes "send 1 2193 0 0 \"\"" ∷
+    codes "send 1 2194 -1 0 \"\"" ∷
+    codes "send 1 2191 0 0 \"\"" ∷
+    codes "send 1 2193 0 0 \"\"" ∷
+    codes "send 1 2194 4 0 \"abc\"" ∷
+    codes "send 1 2182 0 0 \"\"" ∷
+    []))
+    (lines (
+    codes "= 1 \"\"" ∷
+    codes "= 0 \"\"" ∷
+    codes "@ 1 2008 1040 0 11 0 0 0 0 0 0 0 0 \"one two one\"" ∷
+    codes "@ 1 2003 0 0 0 0 0 0 0 0 0 0 0 \"\"" ∷
+    codes "@ 1 2008 8209 0 11 0 0 0 0 0 0 0 0 \"one two one\"" ∷
+    codes "= 0 \"\"" ∷
+    codes "= 0 \"\"" ∷
+    codes "= 4 \"\"" ∷
+    codes "= 7 \"\"" ∷
+    codes "= 3 \"two\"" ∷
+    codes "= 0 \"\"" ∷
+    codes "= 7 \"\"" ∷
+    codes "= 4 \"\"" ∷
+    codes "= 3 \"two\"" ∷
+    codes "= 0 \"\"" ∷
+    codes "@ 1 2008 1040 0 1 0 0 0 0 0 0 0 0 \"x\"" ∷
+    codes "@ 1 2008 8209 0 1 0 0 0 0 0 0 0 0 \"x\"" ∷
+    codes "= 8 \"\"" ∷
+    codes "= 5 \"\"" ∷
+    codes "= 0 \"\"" ∷
+    codes "= 0 \"\"" ∷
+    codes "= 1 \"\"" ∷
+    codes "= 4 \"\"" ∷
+    codes "= 0 \"\"" ∷
+    codes "= 0 \"\"" ∷
+    codes "= 12 \"\"" ∷
+    codes "= 0 \"\"" ∷
+    codes "= 0 \"\"" ∷
+    codes "= 6 \"\"" ∷
+    codes "! 6" ∷
+    codes "= 0 \"\"" ∷
+    codes "= 1048576 \"\"" ∷
+    codes "= 9 \"\"" ∷
+    codes "= 9 \"\"" ∷
+    codes "= 12 \"\"" ∷
+    codes "= 0 \"\"" ∷
+    codes "= 12 \"\"" ∷
+    codes "= 0 \"\"" ∷
+    codes "= 9 \"\"" ∷
+    codes "= 9 \"\"" ∷
+    codes "= 12 \"\"" ∷
+    codes "= 2 \"\"" ∷
+    codes "@ 1 2008 2064 9 3 0 0 0 0 0 0 0 0 \"\"" ∷
+    codes "@ 1 2008 8210 9 3 0 0 0 0 0 0 0 0 \"one\"" ∷
+    codes "@ 1 2008 1040 9 2 0 0 0 0 0 0 0 0 \"ab\"" ∷
+    codes "@ 1 2008 17 9 2 0 0 0 0 0 0 0 0 \"ab\"" ∷
+    codes "= 9 \"\"" ∷
+    codes "= 11 \"\"" ∷
+    codes "= 0 \"\"" ∷
+    codes "@ 1 2008 2064 9 2 0 0 0 0 0 0 0 0 \"\"" ∷
+    codes "@ 1 2008 8210 9 2 0 0 0 0 0 0 0 0 \"ab\"" ∷
+    codes "= 9 \"\"" ∷
+    codes "= 9 \"\"" ∷
+    codes "! 6" ∷
+    codes "= 9 \"xone two \"" ∷
+    []))

@@ -207,3 +207,134 @@ StylesAndIndicators = Prints ([])
     codes "= 256 \"\"" ∷
     codes "= 0 \"\"" ∷
     []))
+
+abbrev pub IndicatorCurrentAndValue : Type 0
+IndicatorCurrentAndValue = Prints ([])
+    (lines (
+    codes "sci 1" ∷
+    codes "open" ∷
+    codes "open" ∷
+    codes "send 2 2358 0 1 \"\"" ∷
+    codes "send 1 2500 31 0 \"\"" ∷
+    codes "send 1 2501 0 0 \"\"" ∷
+    codes "send 2 2501 0 0 \"\"" ∷
+    codes "send 1 2502 0 0 \"\"" ∷
+    codes "send 1 2503 0 0 \"\"" ∷
+    codes "send 1 2502 2147483647 0 \"\"" ∷
+    codes "send 1 2503 0 0 \"\"" ∷
+    codes "send 1 2500 32 0 \"\"" ∷
+    codes "send 1 2502 -1 0 \"\"" ∷
+    codes "send 1 2003 0 0 \"abcdef\"" ∷
+    codes "send 1 2504 1 4 \"\"" ∷
+    codes "send 1 2507 31 2 \"\"" ∷
+    codes "send 1 2508 31 2 \"\"" ∷
+    codes "send 1 2509 31 2 \"\"" ∷
+    codes "send 1 2506 1 0 \"\"" ∷
+    codes "send 2 2500 31 0 \"\"" ∷
+    codes "send 2 2502 2 0 \"\"" ∷
+    codes "send 2 2504 2 2 \"\"" ∷
+    codes "send 1 2509 31 1 \"\"" ∷
+    codes "send 1 2505 0 3 \"\"" ∷
+    codes "send 1 2507 31 2 \"\"" ∷
+    codes "send 1 2507 31 3 \"\"" ∷
+    codes "send 1 2504 5 2 \"\"" ∷
+    codes "send 1 2504 3 0 \"\"" ∷
+    codes "send 1 2506 9 0 \"\"" ∷
+    codes "send 1 2507 31 -1 \"\"" ∷
+    []))
+    (lines (
+    codes "= 1 \"\"" ∷
+    codes "= 2 \"\"" ∷
+    codes "= 0 \"\"" ∷
+    codes "= 0 \"\"" ∷
+    codes "= 31 \"\"" ∷
+    codes "= 0 \"\"" ∷
+    codes "= 0 \"\"" ∷
+    codes "= 1 \"\"" ∷
+    codes "= 0 \"\"" ∷
+    codes "= 2147483647 \"\"" ∷
+    codes "! 6" ∷
+    codes "! 6" ∷
+    codes "= 0 \"\"" ∷
+    codes "@ 1 2008 1040 0 6 0 0 0 0 0 0 0 0 \"abcdef\"" ∷
+    codes "@ 2 2008 1040 0 6 0 0 0 0 0 0 0 0 \"abcdef\"" ∷
+    codes "@ 1 2003 0 0 0 0 0 0 0 0 0 0 0 \"\"" ∷
+    codes "@ 2 2003 0 0 0 0 0 0 0 0 0 0 0 \"\"" ∷
+    codes "@ 1 2008 8209 0 6 0 0 0 0 0 0 0 0 \"abcdef\"" ∷
+    codes "@ 2 2008 8209 0 6 0 0 0 0 0 0 0 0 \"abcdef\"" ∷
+    codes "= 0 \"\"" ∷
+    codes "@ 1 2008 16400 1 4 0 0 0 0 0 0 0 0 \"\"" ∷
+    codes "@ 2 2008 16400 1 4 0 0 0 0 0 0 0 0 \"\"" ∷
+    codes "= 2147483647 \"\"" ∷
+    codes "= 1 \"\"" ∷
+    codes "= 5 \"\"" ∷
+    codes "= 2147483648 \"\"" ∷
+    codes "= 0 \"\"" ∷
+    codes "= 0 \"\"" ∷
+    codes "= 0 \"\"" ∷
+    codes "@ 1 2008 16400 2 2 0 0 0 0 0 0 0 0 \"\"" ∷
+    codes "@ 2 2008 16400 2 2 0 0 0 0 0 0 0 0 \"\"" ∷
+    codes "= 2 \"\"" ∷
+    codes "= 0 \"\"" ∷
+    codes "@ 1 2008 16400 1 2 0 0 0 0 0 0 0 0 \"\"" ∷
+    codes "@ 2 2008 16400 1 2 0 0 0 0 0 0 0 0 \"\"" ∷
+    codes "= 0 \"\"" ∷
+    codes "= 2 \"\"" ∷
+    codes "! 6" ∷
+    codes "= 0 \"\"" ∷
+    codes "= 0 \"\"" ∷
+    codes "= 0 \"\"" ∷
+    []))
+
+abbrev pub StyledText : Type 0
+StyledText = Prints ([])
+    (lines (
+    codes "sci 1" ∷
+    codes "open" ∷
+    codes "send 1 2003 0 0 \"ab\\x0acd\"" ∷
+    codes "send 1 2032 1 0 \"\"" ∷
+    codes "send 1 2073 2 0 \"\\x03\\x04\"" ∷
+    codes "send 1 2028 0 0 \"\"" ∷
+    codes "send 1 2033 2 3 \"\"" ∷
+    codes "send 1 2033 0 3 \"\"" ∷
+    codes "send 1 2033 1 256 \"\"" ∷
+    codes "send 1 2010 1 0 \"\"" ∷
+    codes "send 1 2010 3 0 \"\"" ∷
+    codes "send 1 2010 5 0 \"\"" ∷
+    codes "send 1 2015 0 -1 \"\"" ∷
+    codes "send 1 2015 2 1 \"\"" ∷
+    codes "send 1 2032 1 0 \"\"" ∷
+    codes "send 1 2073 2 0 \"\\x03\\x04\"" ∷
+    codes "send 1 2032 6 0 \"\"" ∷
+    codes "send 1 2645 1 2 \"\"" ∷
+    codes "send 1 2028 0 0 \"\"" ∷
+    codes "send 1 2015 0 -1 \"\"" ∷
+    []))
+    (lines (
+    codes "= 1 \"\"" ∷
+    codes "= 0 \"\"" ∷
+    codes "@ 1 2008 1040 0 5 0 0 0 0 0 0 0 0 \"ab\\x0acd\"" ∷
+    codes "@ 1 2003 0 0 0 0 0 0 0 0 0 0 0 \"\"" ∷
+    codes "@ 1 2008 8209 0 5 1 0 0 0 0 0 0 0 \"ab\\x0acd\"" ∷
+    codes "= 0 \"\"" ∷
+    codes "= 0 \"\"" ∷
+    codes "@ 1 2008 20 1 2 0 0 0 0 0 0 0 0 \"\"" ∷
+    codes "= 3 \"\"" ∷
+    codes "= 0 \"\"" ∷
+    codes "@ 1 2008 20 3 2 0 0 0 0 0 0 0 0 \"\"" ∷
+    codes "= 0 \"\"" ∷
+    codes "! 6" ∷
+    codes "= 3 \"\"" ∷
+    codes "= 3 \"\"" ∷
+    codes "= 0 \"\"" ∷
+    codes "= 10 \"a\\x00b\\x03\\x0a\\x04c\\x03d\\x03\"" ∷
+    codes "! 6" ∷
+    codes "= 0 \"\"" ∷
+    codes "= 0 \"\"" ∷
+    codes "! 6" ∷
+    codes "= 0 \"\"" ∷
+    codes "@ 1 2008 2064 1 2 0 0 0 0 0 0 0 0 \"\"" ∷
+    codes "@ 1 2008 8210 1 2 -1 0 0 0 0 0 0 0 \"b\\x0a\"" ∷
+    codes "= 1 \"\"" ∷
+    codes "= 6 \"a\\x00c\\x03d\\x03\"" ∷
+    []))

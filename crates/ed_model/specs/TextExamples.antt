@@ -195,3 +195,72 @@ ScriptSpelling = Prints ([])
     codes "@ 1 2008 8209 0 4 0 0 0 0 0 0 0 0 \"\\\"\\\\\\x00\\x80\"" ∷
     codes "= 4 \"\\\"\\\\\\x00\\x80\"" ∷
     []))
+
+abbrev pub ExpectAtTheStart : Type 0
+ExpectAtTheStart = Prints ([])
+    (lines (
+    codes "sci 2" ∷
+    codes "expect 0" ∷
+    codes "open" ∷
+    codes "expect 1" ∷
+    codes "close 1" ∷
+    codes "expect 0" ∷
+    codes "close 1" ∷
+    codes "expect 0" ∷
+    []))
+    (lines (
+    codes "- 0" ∷
+    codes "= 1 \"\"" ∷
+    codes "+ 1" ∷
+    codes "= 0 \"\"" ∷
+    codes "+ 0" ∷
+    codes "! 2" ∷
+    codes "- 0" ∷
+    []))
+
+abbrev pub TextLengthAndAppending : Type 0
+TextLengthAndAppending = Prints ([])
+    (lines (
+    codes "sci 1" ∷
+    codes "open" ∷
+    codes "send 1 2181 0 0 \"one\\x0atwo\"" ∷
+    codes "send 1 2006 0 0 \"\"" ∷
+    codes "send 1 2183 0 0 \"\"" ∷
+    codes "send 1 2282 4 0 \"\\x0athree\"" ∷
+    codes "send 1 2282 2 0 \"xyz\"" ∷
+    codes "send 1 2001 1 0 \"ab\"" ∷
+    codes "send 1 2001 3 0 \"ab\"" ∷
+    codes "send 1 2282 -1 0 \"ab\"" ∷
+    codes "send 1 2182 0 0 \"\"" ∷
+    codes "send 1 2001 0 0 \"\"" ∷
+    codes "send 1 2004 0 0 \"\"" ∷
+    codes "send 1 2182 0 0 \"\"" ∷
+    codes "send 1 2004 0 0 \"\"" ∷
+    []))
+    (lines (
+    codes "= 1 \"\"" ∷
+    codes "= 0 \"\"" ∷
+    codes "@ 1 2008 1040 0 7 0 0 0 0 0 0 0 0 \"one\\x0atwo\"" ∷
+    codes "@ 1 2003 0 0 0 0 0 0 0 0 0 0 0 \"\"" ∷
+    codes "@ 1 2008 8209 0 7 1 0 0 0 0 0 0 0 \"one\\x0atwo\"" ∷
+    codes "= 7 \"\"" ∷
+    codes "= 7 \"\"" ∷
+    codes "= 0 \"\"" ∷
+    codes "@ 1 2008 1040 7 4 0 0 0 0 0 0 0 0 \"\\x0athr\"" ∷
+    codes "@ 1 2008 17 7 4 1 0 0 0 0 0 0 0 \"\\x0athr\"" ∷
+    codes "= 0 \"\"" ∷
+    codes "@ 1 2008 1040 11 2 0 0 0 0 0 0 0 0 \"xy\"" ∷
+    codes "@ 1 2008 17 11 2 0 0 0 0 0 0 0 0 \"xy\"" ∷
+    codes "= 0 \"\"" ∷
+    codes "@ 1 2008 1040 0 1 0 0 0 0 0 0 0 0 \"a\"" ∷
+    codes "@ 1 2008 8209 0 1 0 0 0 0 0 0 0 0 \"a\"" ∷
+    codes "! 6" ∷
+    codes "! 6" ∷
+    codes "= 14 \"aone\\x0atwo\\x0athrxy\"" ∷
+    codes "= 0 \"\"" ∷
+    codes "= 0 \"\"" ∷
+    codes "@ 1 2008 2064 0 14 0 0 0 0 0 0 0 0 \"\"" ∷
+    codes "@ 1 2008 8210 0 14 -2 0 0 0 0 0 0 0 \"aone\\x0atwo\\x0athrxy\"" ∷
+    codes "= 0 \"\"" ∷
+    codes "= 0 \"\"" ∷
+    []))

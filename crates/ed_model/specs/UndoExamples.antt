@@ -269,3 +269,287 @@ WhichDeletionsJoin = Prints ([])
     codes "@ 1 2008 417 5 1 0 0 0 0 0 0 0 0 \"f\"" ∷
     codes "= 10 \"abcdefghij\"" ∷
     []))
+
+abbrev pub ContainerStepFirst : Type 0
+ContainerStepFirst = Prints ([])
+    (lines (
+    codes "sci 1" ∷
+    codes "open" ∷
+    codes "send 1 2560 7 1 \"\"" ∷
+    codes "send 1 2003 0 0 \"a\\x0a\"" ∷
+    codes "send 1 2176 0 0 \"\"" ∷
+    codes "send 1 2011 0 0 \"\"" ∷
+    codes "send 1 2008 0 0 \"\"" ∷
+    codes "send 1 2009 0 0 \"\"" ∷
+    []))
+    (lines (
+    codes "= 1 \"\"" ∷
+    codes "= 0 \"\"" ∷
+    codes "@ 1 2003 0 0 0 0 0 0 0 0 0 0 0 \"\"" ∷
+    codes "= 0 \"\"" ∷
+    codes "@ 1 2008 1040 0 2 0 0 0 0 0 0 0 0 \"a\\x0a\"" ∷
+    codes "@ 1 2008 17 0 2 1 0 0 0 0 0 0 0 \"a\\x0a\"" ∷
+    codes "= 0 \"\"" ∷
+    codes "@ 1 2008 2080 0 2 0 0 0 0 0 0 0 0 \"\"" ∷
+    codes "@ 1 2008 162 0 2 -1 0 0 0 0 0 0 0 \"a\\x0a\"" ∷
+    codes "@ 1 2008 266656 0 0 0 0 0 0 7 0 0 0 \"\"" ∷
+    codes "@ 1 2002 0 0 0 0 0 0 0 0 0 0 0 \"\"" ∷
+    codes "= 0 \"\"" ∷
+    codes "@ 1 2008 262336 0 0 0 0 0 0 7 0 0 0 \"\"" ∷
+    codes "@ 1 2008 1088 0 2 0 0 0 0 0 0 0 0 \"a\\x0a\"" ∷
+    codes "@ 1 2008 4545 0 2 1 0 0 0 0 0 0 0 \"a\\x0a\"" ∷
+    codes "@ 1 2003 0 0 0 0 0 0 0 0 0 0 0 \"\"" ∷
+    codes "= 2 \"\"" ∷
+    codes "= 2 \"\"" ∷
+    []))
+
+abbrev pub ContainerStepsAlone : Type 0
+ContainerStepsAlone = Prints ([])
+    (lines (
+    codes "sci 1" ∷
+    codes "open" ∷
+    codes "send 1 2560 1 1 \"\"" ∷
+    codes "send 1 2560 2 0 \"\"" ∷
+    codes "send 1 2560 3 1 \"\"" ∷
+    codes "send 1 2560 4 1 \"\"" ∷
+    codes "send 1 2176 0 0 \"\"" ∷
+    codes "send 1 2176 0 0 \"\"" ∷
+    codes "send 1 2176 0 0 \"\"" ∷
+    codes "send 1 2011 0 0 \"\"" ∷
+    codes "send 1 2011 0 0 \"\"" ∷
+    []))
+    (lines (
+    codes "= 1 \"\"" ∷
+    codes "= 0 \"\"" ∷
+    codes "@ 1 2003 0 0 0 0 0 0 0 0 0 0 0 \"\"" ∷
+    codes "= 0 \"\"" ∷
+    codes "= 0 \"\"" ∷
+    codes "= 0 \"\"" ∷
+    codes "= 0 \"\"" ∷
+    codes "@ 1 2008 262304 0 0 0 0 0 0 4 0 0 0 \"\"" ∷
+    codes "@ 1 2008 262560 0 0 0 0 0 0 3 0 0 0 \"\"" ∷
+    codes "= 0 \"\"" ∷
+    codes "@ 1 2008 262304 0 0 0 0 0 0 2 0 0 0 \"\"" ∷
+    codes "@ 1 2008 262560 0 0 0 0 0 0 1 0 0 0 \"\"" ∷
+    codes "@ 1 2002 0 0 0 0 0 0 0 0 0 0 0 \"\"" ∷
+    codes "= 0 \"\"" ∷
+    codes "= 0 \"\"" ∷
+    codes "@ 1 2008 262336 0 0 0 0 0 0 1 0 0 0 \"\"" ∷
+    codes "@ 1 2008 262592 0 0 0 0 0 0 2 0 0 0 \"\"" ∷
+    codes "@ 1 2003 0 0 0 0 0 0 0 0 0 0 0 \"\"" ∷
+    codes "= 0 \"\"" ∷
+    codes "@ 1 2008 262336 0 0 0 0 0 0 3 0 0 0 \"\"" ∷
+    codes "@ 1 2008 262592 0 0 0 0 0 0 4 0 0 0 \"\"" ∷
+    []))
+
+abbrev pub ContainerStepsJoin : Type 0
+ContainerStepsJoin = Prints ([])
+    (lines (
+    codes "sci 1" ∷
+    codes "open" ∷
+    codes "send 1 2003 0 0 \"a\"" ∷
+    codes "send 1 2560 1 1 \"\"" ∷
+    codes "send 1 2003 1 0 \"b\"" ∷
+    codes "send 1 2176 0 0 \"\"" ∷
+    codes "send 1 2182 0 0 \"\"" ∷
+    codes "send 1 2011 0 0 \"\"" ∷
+    codes "send 1 2182 0 0 \"\"" ∷
+    codes "send 1 2560 2 0 \"\"" ∷
+    codes "send 1 2003 2 0 \"c\"" ∷
+    codes "send 1 2176 0 0 \"\"" ∷
+    codes "send 1 2182 0 0 \"\"" ∷
+    codes "send 1 2176 0 0 \"\"" ∷
+    codes "send 1 2182 0 0 \"\"" ∷
+    []))
+    (lines (
+    codes "= 1 \"\"" ∷
+    codes "= 0 \"\"" ∷
+    codes "@ 1 2008 1040 0 1 0 0 0 0 0 0 0 0 \"a\"" ∷
+    codes "@ 1 2003 0 0 0 0 0 0 0 0 0 0 0 \"\"" ∷
+    codes "@ 1 2008 8209 0 1 0 0 0 0 0 0 0 0 \"a\"" ∷
+    codes "= 0 \"\"" ∷
+    codes "= 0 \"\"" ∷
+    codes "@ 1 2008 1040 1 1 0 0 0 0 0 0 0 0 \"b\"" ∷
+    codes "@ 1 2008 17 1 1 0 0 0 0 0 0 0 0 \"b\"" ∷
+    codes "= 0 \"\"" ∷
+    codes "@ 1 2008 2080 1 1 0 0 0 0 0 0 0 0 \"\"" ∷
+    codes "@ 1 2008 162 1 1 0 0 0 0 0 0 0 0 \"b\"" ∷
+    codes "@ 1 2008 262304 0 0 0 0 0 0 1 0 0 0 \"\"" ∷
+    codes "@ 1 2008 2080 0 1 0 0 0 0 0 0 0 0 \"\"" ∷
+    codes "@ 1 2008 418 0 1 0 0 0 0 0 0 0 0 \"a\"" ∷
+    codes "@ 1 2002 0 0 0 0 0 0 0 0 0 0 0 \"\"" ∷
+    codes "= 0 \"\"" ∷
+    codes "= 0 \"\"" ∷
+    codes "@ 1 2008 1088 0 1 0 0 0 0 0 0 0 0 \"a\"" ∷
+    codes "@ 1 2008 193 0 1 0 0 0 0 0 0 0 0 \"a\"" ∷
+    codes "@ 1 2008 262336 0 0 0 0 0 0 1 0 0 0 \"\"" ∷
+    codes "@ 1 2008 1088 1 1 0 0 0 0 0 0 0 0 \"b\"" ∷
+    codes "@ 1 2008 449 1 1 0 0 0 0 0 0 0 0 \"b\"" ∷
+    codes "@ 1 2003 0 0 0 0 0 0 0 0 0 0 0 \"\"" ∷
+    codes "= 2 \"ab\"" ∷
+    codes "= 0 \"\"" ∷
+    codes "= 0 \"\"" ∷
+    codes "@ 1 2008 1040 2 1 0 0 0 0 0 0 0 0 \"c\"" ∷
+    codes "@ 1 2008 8209 2 1 0 0 0 0 0 0 0 0 \"c\"" ∷
+    codes "= 0 \"\"" ∷
+    codes "@ 1 2008 2080 2 1 0 0 0 0 0 0 0 0 \"\"" ∷
+    codes "@ 1 2008 290 2 1 0 0 0 0 0 0 0 0 \"c\"" ∷
+    codes "= 2 \"ab\"" ∷
+    codes "= 0 \"\"" ∷
+    codes "@ 1 2008 262432 0 0 0 0 0 0 2 0 0 0 \"\"" ∷
+    codes "= 2 \"ab\"" ∷
+    []))
+
+abbrev pub GroupsAndSeals : Type 0
+GroupsAndSeals = Prints ([])
+    (lines (
+    codes "sci 1" ∷
+    codes "open" ∷
+    codes "send 1 2003 0 0 \"a\"" ∷
+    codes "send 1 2078 0 0 \"\"" ∷
+    codes "send 1 2078 0 0 \"\"" ∷
+    codes "send 1 2003 1 0 \"b\"" ∷
+    codes "send 1 2079 0 0 \"\"" ∷
+    codes "send 1 2003 2 0 \"c\"" ∷
+    codes "send 1 2079 0 0 \"\"" ∷
+    codes "send 1 2079 0 0 \"\"" ∷
+    codes "send 1 2003 3 0 \"d\"" ∷
+    codes "send 1 2176 0 0 \"\"" ∷
+    codes "send 1 2182 0 0 \"\"" ∷
+    codes "send 1 2176 0 0 \"\"" ∷
+    codes "send 1 2182 0 0 \"\"" ∷
+    codes "send 1 2176 0 0 \"\"" ∷
+    codes "send 1 2182 0 0 \"\"" ∷
+    []))
+    (lines (
+    codes "= 1 \"\"" ∷
+    codes "= 0 \"\"" ∷
+    codes "@ 1 2008 1040 0 1 0 0 0 0 0 0 0 0 \"a\"" ∷
+    codes "@ 1 2003 0 0 0 0 0 0 0 0 0 0 0 \"\"" ∷
+    codes "@ 1 2008 8209 0 1 0 0 0 0 0 0 0 0 \"a\"" ∷
+    codes "= 0 \"\"" ∷
+    codes "= 0 \"\"" ∷
+    codes "= 0 \"\"" ∷
+    codes "@ 1 2008 1040 1 1 0 0 0 0 0 0 0 0 \"b\"" ∷
+    codes "@ 1 2008 8209 1 1 0 0 0 0 0 0 0 0 \"b\"" ∷
+    codes "= 0 \"\"" ∷
+    codes "= 0 \"\"" ∷
+    codes "@ 1 2008 1040 2 1 0 0 0 0 0 0 0 0 \"c\"" ∷
+    codes "@ 1 2008 17 2 1 0 0 0 0 0 0 0 0 \"c\"" ∷
+    codes "= 0 \"\"" ∷
+    codes "= 0 \"\"" ∷
+    codes "= 0 \"\"" ∷
+    codes "@ 1 2008 1040 3 1 0 0 0 0 0 0 0 0 \"d\"" ∷
+    codes "@ 1 2008 8209 3 1 0 0 0 0 0 0 0 0 \"d\"" ∷
+    codes "= 0 \"\"" ∷
+    codes "@ 1 2008 2080 3 1 0 0 0 0 0 0 0 0 \"\"" ∷
+    codes "@ 1 2008 290 3 1 0 0 0 0 0 0 0 0 \"d\"" ∷
+    codes "= 3 \"abc\"" ∷
+    codes "= 0 \"\"" ∷
+    codes "@ 1 2008 2080 2 1 0 0 0 0 0 0 0 0 \"\"" ∷
+    codes "@ 1 2008 162 2 1 0 0 0 0 0 0 0 0 \"c\"" ∷
+    codes "@ 1 2008 2080 1 1 0 0 0 0 0 0 0 0 \"\"" ∷
+    codes "@ 1 2008 418 1 1 0 0 0 0 0 0 0 0 \"b\"" ∷
+    codes "= 1 \"a\"" ∷
+    codes "= 0 \"\"" ∷
+    codes "@ 1 2008 2080 0 1 0 0 0 0 0 0 0 0 \"\"" ∷
+    codes "@ 1 2008 290 0 1 0 0 0 0 0 0 0 0 \"a\"" ∷
+    codes "@ 1 2002 0 0 0 0 0 0 0 0 0 0 0 \"\"" ∷
+    codes "= 0 \"\"" ∷
+    []))
+
+abbrev pub UndoQueries : Type 0
+UndoQueries = Prints ([])
+    (lines (
+    codes "sci 1" ∷
+    codes "open" ∷
+    codes "send 1 2174 0 0 \"\"" ∷
+    codes "send 1 2016 0 0 \"\"" ∷
+    codes "send 1 2019 0 0 \"\"" ∷
+    codes "send 1 2159 0 0 \"\"" ∷
+    codes "send 1 2140 0 0 \"\"" ∷
+    codes "send 1 2003 0 0 \"a\"" ∷
+    codes "send 1 2174 0 0 \"\"" ∷
+    codes "send 1 2016 0 0 \"\"" ∷
+    codes "send 1 2159 0 0 \"\"" ∷
+    codes "send 1 2176 0 0 \"\"" ∷
+    codes "send 1 2174 0 0 \"\"" ∷
+    codes "send 1 2016 0 0 \"\"" ∷
+    codes "send 1 2159 0 0 \"\"" ∷
+    codes "send 1 2011 0 0 \"\"" ∷
+    codes "send 1 2078 0 0 \"\"" ∷
+    codes "send 1 2174 0 0 \"\"" ∷
+    codes "send 1 2176 0 0 \"\"" ∷
+    codes "send 1 2079 0 0 \"\"" ∷
+    codes "send 1 2174 0 0 \"\"" ∷
+    codes "send 1 2171 5 0 \"\"" ∷
+    codes "send 1 2140 0 0 \"\"" ∷
+    codes "send 1 2173 0 0 \"\"" ∷
+    codes "send 1 2174 0 0 \"\"" ∷
+    codes "send 1 2016 0 0 \"\"" ∷
+    codes "send 1 2171 0 0 \"\"" ∷
+    codes "send 1 2173 0 0 \"\"" ∷
+    codes "send 1 2012 0 0 \"\"" ∷
+    codes "send 1 2019 0 0 \"\"" ∷
+    codes "send 1 2174 0 0 \"\"" ∷
+    codes "send 1 2159 0 0 \"\"" ∷
+    codes "send 1 2003 0 0 \"b\"" ∷
+    codes "send 1 2174 0 0 \"\"" ∷
+    codes "send 1 2012 1 0 \"\"" ∷
+    codes "send 1 2019 0 0 \"\"" ∷
+    codes "send 1 2159 0 0 \"\"" ∷
+    codes "send 1 2014 0 0 \"\"" ∷
+    codes "send 1 2159 0 0 \"\"" ∷
+    []))
+    (lines (
+    codes "= 1 \"\"" ∷
+    codes "= 0 \"\"" ∷
+    codes "= 0 \"\"" ∷
+    codes "= 1 \"\"" ∷
+    codes "= 0 \"\"" ∷
+    codes "= 0 \"\"" ∷
+    codes "= 0 \"\"" ∷
+    codes "@ 1 2008 1040 0 1 0 0 0 0 0 0 0 0 \"a\"" ∷
+    codes "@ 1 2003 0 0 0 0 0 0 0 0 0 0 0 \"\"" ∷
+    codes "@ 1 2008 8209 0 1 0 0 0 0 0 0 0 0 \"a\"" ∷
+    codes "= 1 \"\"" ∷
+    codes "= 0 \"\"" ∷
+    codes "= 1 \"\"" ∷
+    codes "= 0 \"\"" ∷
+    codes "@ 1 2008 2080 0 1 0 0 0 0 0 0 0 0 \"\"" ∷
+    codes "@ 1 2008 290 0 1 0 0 0 0 0 0 0 0 \"a\"" ∷
+    codes "@ 1 2002 0 0 0 0 0 0 0 0 0 0 0 \"\"" ∷
+    codes "= 0 \"\"" ∷
+    codes "= 1 \"\"" ∷
+    codes "= 0 \"\"" ∷
+    codes "= 0 \"\"" ∷
+    codes "@ 1 2008 1088 0 1 0 0 0 0 0 0 0 0 \"a\"" ∷
+    codes "@ 1 2008 321 0 1 0 0 0 0 0 0 0 0 \"a\"" ∷
+    codes "@ 1 2003 0 0 0 0 0 0 0 0 0 0 0 \"\"" ∷
+    codes "= 0 \"\"" ∷
+    codes "= 0 \"\"" ∷
+    codes "= 0 \"\"" ∷
+    codes "= 0 \"\"" ∷
+    codes "= 1 \"\"" ∷
+    codes "= 0 \"\"" ∷
+    codes "= 1 \"\"" ∷
+    codes "= 0 \"\"" ∷
+    codes "= 0 \"\"" ∷
+    codes "= 0 \"\"" ∷
+    codes "= 0 \"\"" ∷
+    codes "= 1 \"\"" ∷
+    codes "= 0 \"\"" ∷
+    codes "= 0 \"\"" ∷
+    codes "= 0 \"\"" ∷
+    codes "= 1 \"\"" ∷
+    codes "= 0 \"\"" ∷
+    codes "@ 1 2008 1040 0 1 0 0 0 0 0 0 0 0 \"b\"" ∷
+    codes "@ 1 2008 17 0 1 0 0 0 0 0 0 0 0 \"b\"" ∷
+    codes "= 0 \"\"" ∷
+    codes "= 0 \"\"" ∷
+    codes "= 1 \"\"" ∷
+    codes "= 1 \"\"" ∷
+    codes "= 0 \"\"" ∷
+    codes "@ 1 2002 0 0 0 0 0 0 0 0 0 0 0 \"\"" ∷
+    codes "= 0 \"\"" ∷
+    []))

@@ -58,7 +58,7 @@ pub use table_laws::{
 pub use undo_laws::{earlier_texts_are_kept, undos_and_redos};
 pub use undo_message_laws::{
     other_documents_are_left_alone, undo_and_redo_act, undo_and_redo_are_never_too_long,
-    undo_and_redo_messages_lead_there_and_back,
+    undo_and_redo_messages_lead_there_and_back, undo_messages_go_back,
 };
 pub use worked_examples::{
     worked_characters, worked_joins, worked_limits, worked_lines, worked_matches, worked_recording,

@@ -4,6 +4,7 @@ ghost use Rattle.ed_model.specs.RepeatedUndoLaws.{
   ClosingLeavesDocumentsAlone,
   MessagesLeaveOtherDocumentsAlone,
   OpeningLeavesDocumentsAlone,
+  UndoMessagesGoBack,
   UndosGoBackThenRedosGoOn,
 };
 ghost use Rattle.ed_model.specs.UndoMessageLaws.{RedoIsNeverTooLong, RedoRedoes, UndoIsNeverTooLong, UndoUndoes};
@@ -25,6 +26,11 @@ pub fn undo_and_redo_are_never_too_long()
 /// that it was, whatever comes between that leaves the document alone.
 pub fn undo_and_redo_messages_lead_there_and_back()
     ensures { UndosGoBackThenRedosGoOn }
+{}
+
+/// UNDO messages alone go back one transaction each, whatever comes between that leaves the document alone.
+pub fn undo_messages_go_back()
+    ensures { UndoMessagesGoBack }
 {}
 
 /// A message leaves all documents alone but that of its view, and views that come and go leave all of them alone: their texts and

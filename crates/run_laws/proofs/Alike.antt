@@ -39,12 +39,14 @@ module _ (Own : ℕ → Type 0) where
   alike_through [] (w ∷ ws) xs h k = absurd h
   alike_through (v ∷ vs) [] xs h k = absurd h
   alike_through (v ∷ vs) (w ∷ ws) [] h k = k
-  alike_through (v ∷ vs) (w ∷ ws) (x ∷ xs) h k =
-      (record {
-        id = k.0.id ∙ h.0.id;
-        document = k.0.document ∙ h.0.document;
-        own = λ o. k.0.own (subst Own (sym h.0.document) o) ∙ h.0.own o;
-      }, alike_through vs ws xs h.1 k.1)
+  alike_through (v ∷ vs) (w ∷ ws) (x ∷ xs) h k = (
+    record {
+      id = k.0.id ∙ h.0.id;
+      document = k.0.document ∙ h.0.document;
+      own = λ o. k.0.own (subst Own (sym h.0.document) o) ∙ h.0.own o;
+    },
+    alike_through vs ws xs h.1 k.1,
+  )
 
   -- views changed one by one, where those that `Own` tells of stay
   pub alike_changed : (P : View → Type 0) (f : View → View) → ((v : View) → P v → IsAlike v (f v)) → (vs : List View) → AllByRecursion P vs → AreAlike vs (map f vs)

@@ -155,7 +155,7 @@ transaction_same id who cs new a b h =
     let y = changes_performed who several false cs b in
     let k : SameScenes id x y = changes_same id who several false cs a b h in
     let heard : watching y.views y.document ≡ watching x.views x.document =
-        ap (watching y.views) k.document ∙ watching_alike id x.views y.views x.document.views k.views k.listed in
+    ap (watching y.views) k.document ∙ watching_alike id x.views y.views x.document.views k.views k.listed in
     record {
       document = ap (λ (d : Document). record d { history = new }) k.document;
       notes = ap (λ (ns : List Notice). ns ++ save_point_change (watching y.views y.document) (at_save_point b.document.history) (at_save_point new)) k.notes

@@ -10,6 +10,9 @@ pub mod LeavingLemmas
 pub mod IsolationLemmas
 pub mod NoteLemmas
 pub mod RecordingLemmas
+pub mod MacroLemmas
+pub mod UndoRunLemmas
+pub mod SavePointLemmas
 pub mod Invariants
 pub mod StyleLemmas
 pub mod HandleLemmas

@@ -7,6 +7,7 @@ use Rattle.ed_types.specs.declared.message.Message.{Message}
 use Rattle.ed_types.specs.declared.refusal.Refusal.{Refusal}
 use Rattle.ed_types.specs.declared.refusal.Refusal.TheVariants.{OutOfMemory, NoSuchDocument, TooMany}
 use Rattle.ed_model.specs.declared.plan.Follow.TheVariants as follow
+use Rattle.ed_model.specs.declared.plan.DocumentChange.TheVariants as document_change
 use Rattle.ed_model.specs.declared.plan.ViewChange.TheVariants as view_change
 use Rattle.ed_model.specs.declared.plan.SessionChange.{SessionChange}
 use Rattle.ed_model.specs.declared.plan.SessionChange.TheVariants as session_change
@@ -19,16 +20,18 @@ use Rattle.ed_types.specs.Messages.{marks_of}
 use Rattle.ed_model.specs.LineEnds.{converted}
 use Rattle.ed_model.specs.Edits.{converted_if}
 use Rattle.ed_model.specs.Table.{plan_of, request}
-use Rattle.run_laws.specs.MessageKinds.{is_copying, is_about_documents, is_about_recording}
+use Rattle.run_laws.specs.MessageKinds.{is_copying, is_about_documents, is_about_recording, is_saving}
 
--- Whether a plan may take bytes to the clipboard, may make, attach, hold or release documents, and may start or stop a recording.
+-- Whether a plan may take bytes to the clipboard, may make, attach, hold or release documents, may start or stop a recording, and may
+-- set a save point.
 pub record Leave : Type 0 where
   pub copies : Bool
   pub documents : Bool
   pub recording : Bool
+  pub saves : Bool
 
 abbrev pub leave_of : Kind → Leave
-leave_of kind = record { copies = is_copying kind; documents = is_about_documents kind; recording = is_about_recording kind }
+leave_of kind = record { copies = is_copying kind; documents = is_about_documents kind; recording = is_about_recording kind; saves = is_saving kind }
 
 -- the plan keeps to its leave
 abbrev pub KeepsTo : Leave → Plan → Type 0
@@ -41,6 +44,8 @@ KeepsTo l (plan.ChangeSession (session_change.Create options) value) = l.documen
 KeepsTo l (plan.ChangeSession (session_change.AddReference document) value) = l.documents ≡ true
 KeepsTo l (plan.ChangeSession (session_change.Release document) value) = l.documents ≡ true
 KeepsTo l (plan.ChangeView (view_change.SetRecording on) value) = l.recording ≡ true
+KeepsTo l (plan.ChangeDocument document_change.SetSavePoint value) = l.saves ≡ true
+KeepsTo l (plan.ChangeDocument document_change.ForgetHistory value) = l.saves ≡ true
 KeepsTo l other = Unit {0}
 
 -- and is not refused for want of memory

@@ -3,6 +3,8 @@ pub mod MessageKinds
 pub mod Reached
 pub mod RefusalLaws
 pub mod HeldLaws
+pub mod UndoRunLaws
+pub mod SavePointLaws
 pub mod IsolationLaws
 pub mod MacroLaws
 pub mod StyleLaws

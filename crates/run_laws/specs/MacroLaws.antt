@@ -11,6 +11,7 @@ use Rattle.ed_types.specs.Messages.{kind_of, marks_of}
 use Rattle.ed_model.specs.Session.{Session, View}
 use Rattle.ed_model.specs.Recording.{recorded_messages, replies_in}
 use Rattle.ed_model.specs.Table.{table}
+use Rattle.ed_model.specs.SoundLaws.{IsSound}
 use Rattle.ed_model.specs.Run.{starting, outcomes, run_to}
 use Rattle.run_laws.specs.IsolationLaws.{Sending, sent}
 
@@ -33,12 +34,12 @@ CanStandBetween view m =
 abbrev pub recorded_of : (Kind → Bool) → ℕ → List Sending → Session → List Message
 recorded_of known view messages s = recorded_messages view (replies_in (outcomes known [] (map sent messages) (starting s)))
 
--- Between STARTRECORD and STOPRECORD to a view come such messages. What it recorded, sent to it from where it began, ends in the last
+-- Between STARTRECORD and STOPRECORD to a view of a sound session come such messages. What it recorded, sent to it from where it began, ends in the last
 -- session, but for whether it records.
 abbrev pub RecordingsCanBeReplayed : Type 0
 RecordingsCanBeReplayed =
     (known : Kind → Bool) (s : Session) (view : ℕ) (start stop : Message) (messages : List Sending) (begun ended : Session × Response) →
-    kind_of start.number ≡ Some StartRecord → table known s view start ≡ Ok begun →
+    IsSound s → kind_of start.number ≡ Some StartRecord → table known s view start ≡ Ok begun →
     AllByRecursion (CanStandBetween view) messages →
     kind_of stop.number ≡ Some StopRecord → table known (run_to known [] (map sent messages) (starting begun.0)).session view stop ≡ Ok ended →
     without_recording view (run_to known [] (map (sent_to view) (recorded_of known view messages begun.0)) (starting s)).session ≡ ended.0

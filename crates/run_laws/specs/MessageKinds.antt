@@ -1,7 +1,7 @@
 -- Messages by what they reach beside the text, marks and views of their document.
 use Rattle.std.specs.Prelude.{Bool, true, false}
 use Rattle.ed_types.specs.declared.kind.Kind.{Kind}
-use Rattle.ed_types.specs.declared.kind.Kind.TheVariants.{Cut, Copy, CopyRange, CopyText, SetDocPointer, CreateDocument, AddRefDocument, ReleaseDocument, StartRecord, StopRecord}
+use Rattle.ed_types.specs.declared.kind.Kind.TheVariants.{Cut, Copy, CopyRange, CopyText, SetDocPointer, CreateDocument, AddRefDocument, ReleaseDocument, StartRecord, StopRecord, SetSavePoint, EmptyUndoBuffer}
 
 -- it may take bytes to the clipboard
 abbrev pub is_copying : Kind → Bool
@@ -24,3 +24,9 @@ abbrev pub is_about_recording : Kind → Bool
 is_about_recording StartRecord = true
 is_about_recording StopRecord = true
 is_about_recording other = false
+
+-- it sets a save point
+abbrev pub is_saving : Kind → Bool
+is_saving SetSavePoint = true
+is_saving EmptyUndoBuffer = true
+is_saving other = false

@@ -4,10 +4,17 @@
 
 mod id_laws;
 mod isolation_laws;
+mod macro_laws;
+mod save_point_laws;
 mod small_laws;
+mod undo_run_laws;
 
 pub use id_laws::{handles_never_come_back, ids_never_come_back, opened_views_have_rising_ids};
 pub use isolation_laws::documents_are_apart;
+pub use macro_laws::recordings_can_be_replayed;
+pub use save_point_laws::an_unmodified_document_has_its_saved_text;
 pub use small_laws::{
-    documents_without_styles_have_none, documents_without_views_are_held, the_table_never_wants_memory,
+    documents_without_styles_have_none, documents_without_views_are_held,
+    the_table_never_wants_memory,
 };
+pub use undo_run_laws::undo_goes_back_over_commands;

@@ -1,0 +1,522 @@
+-- The text of the save point stays where undo and redo find it, whatever is done meanwhile.
+use Rattle.std.proofs.Common.{◌≡◌, ℕ, zero, suc, ◌+◌, ◌-◌, ◌≤◌, ◌<◌, nat_lt, cond, Bool, true, false, List, [], ◌∷◌, ◌++◌, length, map, take, drop, replicate, refl, ap, ◌∙◌, sym, subst, arith, inl, inr, Option, Some, None, Result, Ok, Err}
+use Rattle.std.specs.Prelude.{◌⊎◌, ℤ, pos, ◌==◌, ◌&&◌, ◌||◌, not, nat_le, reverse}
+use Rattle.std.proofs.lemmas.Bool.{cases_lt, eqb-true, eqb-false, eq-eqb, leb-true, and_parts, ltb-true}
+use Rattle.std.proofs.lemmas.List.{length-map}
+use Rattle.ed_types.specs.declared.kind.Kind.{Kind}
+use Rattle.ed_types.specs.declared.kind.Kind.TheVariants.{GetModify, SetText}
+use Rattle.ed_types.specs.declared.message.Message.{Message}
+use Rattle.ed_types.specs.declared.refusal.Refusal.{Refusal}
+use Rattle.ed_types.specs.declared.refusal.Refusal.TheVariants.{UnknownMessage}
+use Rattle.ed_types.specs.declared.script.Command.{Command}
+use Rattle.ed_types.specs.declared.script.Command.TheVariants.{OpenView, CloseView, LoadFile, SendMessage, Expect}
+use Rattle.ed_types.specs.Notices.{Response}
+use Rattle.ed_types.specs.Messages.{kind_of, marks_of}
+use Rattle.ed_model.specs.declared.plan.DocumentChange.{DocumentChange}
+use Rattle.ed_model.specs.declared.plan.DocumentChange.TheVariants as document_change
+use Rattle.ed_model.specs.declared.plan.Plan.{Plan}
+use Rattle.ed_model.specs.declared.plan.Plan.TheVariants as plan
+use Rattle.ed_model.specs.Numbers.{is_number, flag}
+use Rattle.ed_model.specs.Text.{Cell, bytes_of}
+use Rattle.ed_model.specs.Steps.{Step, edited, edited_cells}
+use Rattle.ed_model.specs.StepLaws.{CellsFollowBytes}
+use Rattle.ed_model.specs.LineEnds.{after_steps}
+use Rattle.ed_model.specs.History.{History, Change, Transaction, TextStep, ContainerStep, at_save_point, joins, appended, begins_transaction, reachable, seal_first, sealed_outside_groups, with_container_step, undo_changes, redo_changes, undone, undone_to, redone, redone_from, can_undo, can_redo, collecting_set, first_changes}
+use Rattle.ed_model.specs.HistoryLaws.{SameButForSeals, SealsChangeNoChange, GroupBegunChangesNoChange, GroupEndedChangesNoChange, AppendKeepsAllButThePast, AppendJoins, NothingJoinsNone, AppendCounts, NotCollectingAppendsNothing}
+use Rattle.ed_model.specs.DocumentPlans.{text_steps}
+use Rattle.ed_model.specs.Session.{Session, Document, View, document_at, view_at, text_of, keeps_no_styles}
+use Rattle.ed_model.specs.Requests.{Request, text}
+use Rattle.ed_model.specs.Edits.{steps_of}
+use Rattle.ed_model.specs.Performing.{Scene, scene_of, document_after, step_made, steps_made, sealed_scene, edit_made, quiet}
+use Rattle.ed_model.specs.Changes.{changed_document, restyled, styled}
+use Rattle.ed_model.specs.InverseLaws.{Fits, FitInTurn, after_undo, after_redo, UndoMakesItsSteps, RedoMakesItsSteps, UndoThenRedoGivesBackTheText}
+use Rattle.ed_model.specs.UndoLaws.{undone_text, redone_text, BegunStepIsOneTransactionMore, JoinedStepKeepsEarlierTexts, BegunContainerStepIsOneTransactionMore, JoinedContainerStepKeepsEarlierTexts, UndoKeepsEarlierTexts, RedoIsOneTransactionMore, SealsKeepEarlierTexts}
+use Rattle.ed_model.specs.Table.{table, table_from_view, table_from_kind, table_if_known, request, answered, recorded, record_note, plan_of, opened, closed_view}
+use Rattle.ed_model.specs.TableLaws.{Answered}
+use Rattle.ed_model.specs.SoundLaws.{IsSound, IsSoundDocument, FitsText, AreStepsOf, CommandKeepsSound}
+use Rattle.ed_model.specs.PlansFit.{IsSoundRequest, IsFitPlan, PlansFit, EditStepsFit, UndoStepsFit, RedoStepsFit}
+use Rattle.ed_model.specs.Run.{Running, after_command, after_opening, after_closing, after_message, loaded, file_at, set_text_message, run_to}
+use Rattle.run_laws.specs.MessageKinds.{is_saving}
+use Rattle.run_laws.specs.SavePointLaws.{SetsNoSavePoint, IsCollected, KeepsTheSavePoint, UnmodifiedIsTheSavedText, GetModifyTells}
+use Rattle.run_laws.proofs.Finding.{either, document_id, found_all, found_below}
+use Rattle.run_laws.proofs.TableWays.{table_at}
+use Rattle.run_laws.proofs.PlanShapes.{Leave, KeepsTo, IsShaped, leave_of, plan_is_shaped}
+use Rattle.run_laws.proofs.Going.{own_after, AllFrom, From, AnsweredFrom, OpenedFrom, ClosedFrom, Sent, table_from, opening_from, closing_from, all_same}
+use Rattle.run_laws.proofs.IdLemmas.{document_ids_never_come_back, next_document_rises}
+
+-- The laws of the history that this rests on.
+pub record Cited : Type 0 where
+  pub begun : BegunStepIsOneTransactionMore
+  pub joined : JoinedStepKeepsEarlierTexts
+  pub container_begun : BegunContainerStepIsOneTransactionMore
+  pub container_joined : JoinedContainerStepKeepsEarlierTexts
+  pub undo : UndoKeepsEarlierTexts
+  pub redo : RedoIsOneTransactionMore
+  pub seals : SealsKeepEarlierTexts
+  pub cells : CellsFollowBytes
+  pub undo_made : UndoMakesItsSteps
+  pub redo_made : RedoMakesItsSteps
+  pub undo_then_redo : UndoThenRedoGivesBackTheText
+  pub not_collecting : NotCollectingAppendsNothing
+  pub appended_keeps : AppendKeepsAllButThePast
+  pub append_joins : AppendJoins
+  pub joins_none : NothingJoinsNone
+  pub append_counts : AppendCounts
+  pub sealed : SealsChangeNoChange
+  pub group_begun : GroupBegunChangesNoChange
+  pub group_ended : GroupEndedChangesNoChange
+  pub fits : PlansFit
+  pub edit_fits : EditStepsFit
+  pub undo_fits : UndoStepsFit
+  pub redo_fits : RedoStepsFit
+
+-- undo or redo to the save point leads to this text
+abbrev Saved : List ℕ → List ℕ → History → Type 0
+Saved saved now h =
+    (k : ℕ) → h.save_point ≡ Some k →
+    (k ≤ length h.past → undone_text (length h.past - k) h.past now ≡ saved) × (length h.past < k → redone_text (k - length h.past) h.future now ≡ saved)
+
+abbrev SavedIn : List ℕ → Document → Type 0
+SavedIn saved d = Saved saved (text_of d) d.history
+
+none_less : (n : ℕ) → n - n ≡ 0
+none_less n = omega arith
+
+save_point_is : (n : ℕ) (o : Option ℕ) → is_number n o ≡ true → o ≡ Some n
+save_point_is n None e = absurd (cc)
+save_point_is n (Some k) e = ap Some (eqb-true k n e)
+
+not_save_point : (n k : ℕ) (o : Option ℕ) → is_number n o ≡ false → o ≡ Some k → k ≡ n → ⊥
+not_save_point n k None e f same = absurd (cc)
+not_save_point n k (Some j) e f same = let is : j ≡ k = cc in eqb-false j n e (is ∙ same)
+
+-- at the save point the text is the saved one
+saved_now : (saved now : List ℕ) (h : History) → at_save_point h ≡ true → Saved saved now h → now ≡ saved
+saved_now saved now h at s =
+    let n = length h.past in
+    ap (λ (j : ℕ). undone_text j h.past now) (sym (none_less n)) ∙ (s n (save_point_is n h.save_point at)).0 (omega arith)
+
+saved_first : (now : List ℕ) (h : History) → at_save_point h ≡ true → Saved now now h
+saved_first now h at k e =
+    let is : h.save_point ≡ Some (length h.past) = save_point_is (length h.past) h.save_point at in
+    let same : k ≡ length h.past = cc in
+    let zero_left : length h.past - k ≡ 0 = omega arith in
+    ((λ le. ap (λ (j : ℕ). undone_text j h.past now) zero_left), (λ lt. absurd (omega arith)))
+
+-- styles change no byte
+
+bytes_restyled : (styles : List ℕ) (cells : List Cell) → bytes_of (restyled styles cells) ≡ bytes_of cells
+bytes_restyled [] cells = refl
+bytes_restyled (s ∷ ss) [] = refl
+bytes_restyled (s ∷ ss) (c ∷ cells) = ap (λ rest. c.byte ∷ rest) (bytes_restyled ss cells)
+
+bytes_restyled_from : (n : ℕ) (styles : List ℕ) (cells : List Cell) → bytes_of (take n cells ++ restyled styles (drop n cells)) ≡ bytes_of cells
+bytes_restyled_from zero styles cells = bytes_restyled styles cells
+bytes_restyled_from (suc n) styles [] = bytes_restyled styles []
+bytes_restyled_from (suc n) styles (c ∷ cells) = ap (λ rest. c.byte ∷ rest) (bytes_restyled_from n styles cells)
+
+text_styled : (new : List ℕ) (d : Document) → text_of (styled new d) ≡ text_of d
+text_styled new d =
+    either (λ (cells : List Cell). bytes_of cells ≡ bytes_of d.cells) (keeps_no_styles d) d.cells (take d.end_styled d.cells ++ restyled new (drop d.end_styled d.cells)) refl
+    (bytes_restyled_from d.end_styled new d.cells)
+
+-- Seals.
+
+same_length : (h g : History) → SameButForSeals h g → length g.past ≡ length h.past
+same_length h g same =
+    let changes : Transaction → List Change = λ (t : Transaction). t.changes in
+    sym (length-map g.past changes) ∙ ap length same.past ∙ length-map h.past changes
+
+module _ (c : Cited) (saved : List ℕ) where
+  seals_saved : (h g : History) (now : List ℕ) → SameButForSeals h g → Saved saved now h → Saved saved now g
+  seals_saved h g now same s k e =
+      let n = same_length h g same in
+      let was = s k (sym same.save_point ∙ e) in (
+        (λ le. c.seals (length g.past - k) h g now same ∙ ap (λ (m : ℕ). undone_text (m - k) h.past now) n ∙ was.0 (omega arith)),
+        (λ lt. ap (λ (m : ℕ). redone_text (k - m) g.future now) n ∙ ap (λ (ts : List Transaction). redone_text (k - length h.past) ts now) same.future ∙ was.1 (omega arith)),
+      )
+
+  -- Changes appended.
+
+  still_reachable : (n k : ℕ) (o : Option ℕ) → reachable n o ≡ Some k → (o ≡ Some k) × (k ≤ n)
+  still_reachable n k None e = absurd (cc)
+  still_reachable n k (Some j) e = go (nat_le j n) refl e
+    where
+      go : (b : Bool) → nat_le j n ≡ b → cond b (Some j) None ≡ Some k → (Some j ≡ Some k) × (k ≤ n)
+      go true t f = let same : j ≡ k = cc in let le = leb-true j n t in (f, omega arith)
+      go false t f = absurd (cc)
+
+  appended_saved : (later : Bool) (change : Change) (h : History) (now new : List ℕ) → h.collecting ≡ true
+      → ((k : ℕ) → begins_transaction later change h ≡ true → undone_text (suc k) (appended later change h).past new ≡ undone_text k h.past now)
+      → ((k : ℕ) → joins later change h ≡ true → undone_text (suc k) (appended later change h).past new ≡ undone_text (suc k) h.past now)
+      → Saved saved now h → Saved saved new (appended later change h)
+  appended_saved later change h now new collects begun joined s k e =
+      let a = appended later change h in
+      let was = still_reachable (length h.past) k h.save_point (sym (c.appended_keeps later change h collects).save_point ∙ e) in
+      go (joins later change h) refl was ((s k was.0).0 was.1) (c.append_counts later change h)
+    where
+      go : (b : Bool) → joins later change h ≡ b → (h.save_point ≡ Some k) × (k ≤ length h.past) → undone_text (length h.past - k) h.past now ≡ saved
+          → length (appended later change h).past ≡ cond (begins_transaction later change h) (length h.past + 1) (length h.past)
+          → (k ≤ length (appended later change h).past → undone_text (length (appended later change h).past - k) (appended later change h).past new ≡ saved)
+          × (length (appended later change h).past < k → redone_text (k - length (appended later change h).past) (appended later change h).future new ≡ saved)
+      go false t was text count =
+          let begins : begins_transaction later change h ≡ true = rw (collects, t) refl in
+          let more : length (appended later change h).past ≡ length h.past + 1 = rw begins at count in
+          let le = was.1 in
+          let steps : length (appended later change h).past - k ≡ suc (length h.past - k) = omega arith in (
+            (λ fits. ap (λ (j : ℕ). undone_text j (appended later change h).past new) steps ∙ begun (length h.past - k) begins ∙ text),
+            (λ past. absurd (omega arith)),
+          )
+      go true t was text count =
+          let not_begun : begins_transaction later change h ≡ false = rw (collects, t) refl in
+          let alike : length (appended later change h).past ≡ length h.past = rw not_begun at count in
+          let le = was.1 in
+          let modified = left h.past refl t in
+          let apart : k ≡ length h.past → ⊥ = not_save_point (length h.past) k h.save_point modified was.0 in
+          let some : k < length h.past = below k (length h.past) le apart in
+          let steps : length (appended later change h).past - k ≡ suc (length h.past - k - 1) = omega arith in
+          let again : suc (length h.past - k - 1) ≡ length h.past - k = omega arith in (
+            (λ fits. ap (λ (j : ℕ). undone_text j (appended later change h).past new) steps ∙ joined (length h.past - k - 1) t ∙ ap (λ (j : ℕ). undone_text j h.past now) again ∙ text),
+            (λ past. absurd (omega arith)),
+          )
+        where
+          below : (a b : ℕ) → a ≤ b → (a ≡ b → ⊥) → a < b
+          below a b le ne = lt_of (cases_lt a b)
+            where
+              lt_of : (a < b) ⊎ (b ≤ a) → a < b
+              lt_of (inl l) = l
+              lt_of (inr l) = absurd (ne (omega arith))
+
+          left : (ts : List Transaction) → h.past ≡ ts → joins later change h ≡ true → at_save_point h ≡ false
+          left [] none joining = let not_joining = c.joins_none later change h none in absurd (cc)
+          left (x ∷ xs) some joining = (c.append_joins later change h x xs collects some joining).modified
+
+  step_saved : (later : Bool) (step : Step) (d : Document) → d.history.collecting ≡ true → Fits step (text_of d) → SavedIn saved d
+      → SavedIn saved (let e = document_after step d in record e { history = appended later (TextStep step) d.history })
+  step_saved later step d collects fits s =
+      subst (λ (new : List ℕ). Saved saved new (appended later (TextStep step) d.history)) (sym (c.cells step d.cells))
+      (appended_saved later (TextStep step) d.history (text_of d) (edited step (text_of d)) collects
+      (λ k begins. c.begun k later step d.history (text_of d) fits begins)
+      (λ k joining. c.joined k later step d.history (text_of d) fits collects joining) s)
+
+  steps_saved : (later : Bool) (steps : List Step) (scene : Scene) → scene.document.history.collecting ≡ true → FitInTurn steps (text_of scene.document) → SavedIn saved scene.document
+      → SavedIn saved (steps_made later steps scene).document
+  steps_saved later [] scene collects fits s = s
+  steps_saved later (step ∷ steps) scene collects fits s =
+      let d = scene.document in
+      steps_saved true steps (step_made later step scene) (c.appended_keeps later (TextStep step) d.history collects).collecting
+      (subst (FitInTurn steps) (sym (c.cells step d.cells)) fits.1) (step_saved later step d collects fits.0 s)
+
+  edit_saved : (steps : List Step) (scene : Scene) → scene.document.history.collecting ≡ true → FitInTurn steps (text_of scene.document) → SavedIn saved scene.document → SavedIn saved (edit_made steps scene).document
+  edit_saved steps scene collects fits s =
+      let first = c.sealed scene.document.history in
+      let inner = steps_made false steps (sealed_scene scene) in
+      either (λ (x : Scene). SavedIn saved x.document) (nat_lt 1 (length steps)) (sealed_scene inner) (steps_made false steps scene)
+      (seals_saved inner.document.history (sealed_outside_groups inner.document.history) (text_of inner.document) (c.sealed inner.document.history)
+      (steps_saved false steps (sealed_scene scene) (first.collecting ∙ collects) fits (seals_saved scene.document.history (sealed_outside_groups scene.document.history) (text_of scene.document) first s)))
+      (steps_saved false steps scene collects fits s)
+
+  -- Where nothing is collected the history stays.
+
+  sealed_stays : (h : History) → h.past ≡ [] → sealed_outside_groups h ≡ h
+  sealed_stays h none =
+      either (λ (g : History). g ≡ h) (h.depth == 0) (record h { past = seal_first h.past }) h
+      (ap (λ (ts : List Transaction). record h { past = ts }) (ap seal_first none ∙ sym none)) refl
+
+  steps_stay : (later : Bool) (steps : List Step) (scene : Scene) (h : History) → scene.document.history ≡ h → h.collecting ≡ false → (steps_made later steps scene).document.history ≡ h
+  steps_stay later [] scene h e off = e
+  steps_stay later (step ∷ steps) scene h e off =
+      steps_stay true steps (step_made later step scene) h (ap (appended later (TextStep step)) e ∙ c.not_collecting later (TextStep step) h off) off
+
+  edit_stays : (steps : List Step) (scene : Scene) → scene.document.history.collecting ≡ false → scene.document.history.past ≡ [] → (edit_made steps scene).document.history ≡ scene.document.history
+  edit_stays steps scene off none =
+      let h = scene.document.history in
+      let inner = steps_made false steps (sealed_scene scene) in
+      let same : inner.document.history ≡ h = steps_stay false steps (sealed_scene scene) h (sealed_stays h none) off in
+      either (λ (x : Scene). x.document.history ≡ h) (nat_lt 1 (length steps)) (sealed_scene inner) (steps_made false steps scene)
+      (ap sealed_outside_groups same ∙ sealed_stays h none) (steps_stay false steps scene h refl off)
+
+  -- Undo and redo.
+
+  undo_saved : (scene : Scene) (t : Transaction) (ts : List Transaction) → scene.document.history.past ≡ t ∷ ts → FitInTurn (text_steps (undo_changes scene.document.history)) (text_of scene.document)
+      → SavedIn saved scene.document → SavedIn saved (after_undo scene).document
+  undo_saved scene t ts some fits s =
+      let h = scene.document.history in
+      let now = text_of scene.document in
+      let new = text_of (after_undo scene).document in
+      let past : length h.past ≡ suc (length ts) = ap length some in
+      let is_undone : undone h ≡ record h { past = seal_first ts; future = t ∷ h.future } = ap (undone_to h) some in
+      let few : length (seal_first ts) ≡ length ts = length_sealed ts in
+      let back : redone_text 1 (t ∷ h.future) new ≡ now =
+      ap (λ (g : History). after_steps (text_steps (redo_changes g)) new) (sym is_undone) ∙ sym (c.redo_made (after_undo scene)) ∙ c.undo_then_redo scene (omega arith) fits in
+      let earlier : (j : ℕ) → undone_text j (seal_first ts) new ≡ undone_text (suc j) h.past now = λ j.
+      ap (λ (g : History). undone_text j g.past new) (sym is_undone) ∙ ap (undone_text j (undone h).past) (c.undo_made scene) ∙ c.undo j h now in
+      subst (Saved saved new) (sym is_undone)
+      (λ k e.
+      let was = s k e in (
+        (λ le.
+            let n : length (seal_first ts) - k ≡ length ts - k = omega arith in
+            let m : suc (length ts - k) ≡ length h.past - k = omega arith in
+            ap (λ (j : ℕ). undone_text j (seal_first ts) new) n ∙ earlier (length ts - k) ∙ ap (λ (j : ℕ). undone_text j h.past now) m ∙ was.0 (omega arith)),
+        (λ lt.
+            let n : k - length (seal_first ts) ≡ suc (k - length h.past) = omega arith in
+            ap (λ (j : ℕ). redone_text j (t ∷ h.future) new) n ∙ ap (redone_text (k - length h.past) h.future) back ∙ later k (cases_lt (length h.past) k) was lt past few),
+      ))
+    where
+      length_sealed : (xs : List Transaction) → length (seal_first xs) ≡ length xs
+      length_sealed [] = refl
+      length_sealed (x ∷ xs) = refl
+
+      later : (k : ℕ) → (length scene.document.history.past < k) ⊎ (k ≤ length scene.document.history.past)
+          → ((k ≤ length scene.document.history.past → undone_text (length scene.document.history.past - k) scene.document.history.past (text_of scene.document) ≡ saved)
+          × (length scene.document.history.past < k → redone_text (k - length scene.document.history.past) scene.document.history.future (text_of scene.document) ≡ saved))
+          → length (seal_first ts) < k → length scene.document.history.past ≡ suc (length ts) → length (seal_first ts) ≡ length ts
+          → redone_text (k - length scene.document.history.past) scene.document.history.future (text_of scene.document) ≡ saved
+      later k (inl l) was lt past few = was.1 l
+      later k (inr l) was lt past few =
+          let n : k - length scene.document.history.past ≡ 0 = omega arith in
+          let m : 0 ≡ length scene.document.history.past - k = omega arith in
+          ap (λ (j : ℕ). redone_text j scene.document.history.future (text_of scene.document)) n ∙ ap (λ (j : ℕ). undone_text j scene.document.history.past (text_of scene.document)) m ∙ was.0 l
+
+  redo_saved : (scene : Scene) (t : Transaction) (ts : List Transaction) → scene.document.history.future ≡ t ∷ ts → FitInTurn (text_steps (redo_changes scene.document.history)) (text_of scene.document)
+      → SavedIn saved scene.document → SavedIn saved (after_redo scene).document
+  redo_saved scene t ts some fits s =
+      let h = scene.document.history in
+      let now = text_of scene.document in
+      let new = text_of (after_redo scene).document in
+      let future : length h.future ≡ suc (length ts) = ap length some in
+      let is_redone : redone h ≡ record h { past = seal_first (t ∷ h.past); future = ts } = ap (redone_from h) some in
+      let on : redone_text 1 (t ∷ ts) now ≡ new = ap (λ (xs : List Transaction). after_steps (text_steps (reverse (first_changes xs))) now) (sym some) ∙ sym (c.redo_made scene) in
+      let earlier : (j : ℕ) → undone_text (suc j) (seal_first (t ∷ h.past)) new ≡ undone_text j h.past now = λ j.
+      ap (λ (g : History). undone_text (suc j) g.past new) (sym is_redone) ∙ ap (undone_text (suc j) (redone h).past) (c.redo_made scene) ∙ c.redo j h now (omega arith) fits in
+      subst (Saved saved new) (sym is_redone)
+      (λ k e.
+      let was = s k e in (
+        (λ le. first k (cases_lt (length h.past) k) was le earlier on some),
+        (λ lt.
+            let over : suc (length h.past) < k = lt in
+            let n : k - length h.past ≡ suc (k - suc (length h.past)) = omega arith in
+            ap (redone_text (k - suc (length h.past)) ts) (sym on) ∙ ap (λ (j : ℕ). redone_text j (t ∷ ts) now) (sym n) ∙ ap (λ (xs : List Transaction). redone_text (k - length h.past) xs now) (sym some) ∙ was.1 (omega arith)),
+      ))
+    where
+      first : (k : ℕ) → (length scene.document.history.past < k) ⊎ (k ≤ length scene.document.history.past)
+          → ((k ≤ length scene.document.history.past → undone_text (length scene.document.history.past - k) scene.document.history.past (text_of scene.document) ≡ saved)
+          × (length scene.document.history.past < k → redone_text (k - length scene.document.history.past) scene.document.history.future (text_of scene.document) ≡ saved))
+          → k ≤ suc (length scene.document.history.past)
+          → ((j : ℕ) → undone_text (suc j) (seal_first (t ∷ scene.document.history.past)) (text_of (after_redo scene).document) ≡ undone_text j scene.document.history.past (text_of scene.document))
+          → redone_text 1 (t ∷ ts) (text_of scene.document) ≡ text_of (after_redo scene).document → scene.document.history.future ≡ t ∷ ts
+          → undone_text (suc (length scene.document.history.past) - k) (seal_first (t ∷ scene.document.history.past)) (text_of (after_redo scene).document) ≡ saved
+      first k (inl l) was le earlier on some =
+          let n : suc (length scene.document.history.past) - k ≡ 0 = omega arith in
+          let m : 1 ≡ k - length scene.document.history.past = omega arith in
+          ap (λ (j : ℕ). undone_text j (seal_first (t ∷ scene.document.history.past)) (text_of (after_redo scene).document)) n ∙ sym on
+          ∙ ap (λ (xs : List Transaction). redone_text 1 xs (text_of scene.document)) (sym some)
+          ∙ ap (λ (j : ℕ). redone_text j scene.document.history.future (text_of scene.document)) m ∙ was.1 l
+      first k (inr l) was le earlier on some =
+          let n : suc (length scene.document.history.past) - k ≡ suc (length scene.document.history.past - k) = omega arith in
+          ap (λ (j : ℕ). undone_text j (seal_first (t ∷ scene.document.history.past)) (text_of (after_redo scene).document)) n ∙ earlier (length scene.document.history.past - k) ∙ was.0 l
+
+  -- Other changes.
+
+  container_saved : (token : ℤ) (coalesce : Bool) (h : History) (now : List ℕ) → Saved saved now h → Saved saved now (with_container_step token coalesce h)
+  container_saved token coalesce h now s =
+      let change = ContainerStep token coalesce in
+      let a = appended false change h in
+      let then_saved : Saved saved now a = go h.collecting refl in
+      either (λ (g : History). Saved saved now g) (coalesce || not h.collecting) a (sealed_outside_groups a) then_saved (seals_saved a (sealed_outside_groups a) now (c.sealed a) then_saved)
+    where
+      go : (b : Bool) → h.collecting ≡ b → Saved saved now (appended false (ContainerStep token coalesce) h)
+      go true on =
+          appended_saved false (ContainerStep token coalesce) h now now on (λ k begins. c.container_begun k false token coalesce h now begins)
+          (λ k joining. c.container_joined (suc k) false token coalesce h now on joining) s
+      go false off = subst (Saved saved now) (sym (c.not_collecting false (ContainerStep token coalesce) h off)) s
+
+  collecting_saved : (on : Bool) (h : History) (now : List ℕ) → Saved saved now h → Saved saved now (collecting_set on h)
+  collecting_saved true h now s = s
+  collecting_saved false h now s = λ k e. go k (at_save_point h) refl e
+    where
+      go : (k : ℕ) (b : Bool) → at_save_point h ≡ b → cond b (Some 0) None ≡ Some k → (k ≤ 0 → undone_text (0 - k) [] now ≡ saved) × (0 < k → redone_text (k - 0) [] now ≡ saved)
+      go k true at f =
+          let same : 0 ≡ k = cc in
+          let none_left : 0 - k ≡ 0 = omega arith in
+          ((λ le. ap (λ (j : ℕ). undone_text j [] now) none_left ∙ saved_now saved now h at s), (λ lt. absurd (omega arith)))
+      go k false at f = absurd (cc)
+
+  changed_saved : (bytes : List ℕ) (change : DocumentChange) (d : Document) (l : Leave) (value : ℤ) → l.saves ≡ false → KeepsTo l (plan.ChangeDocument change value) → SavedIn saved d
+      → SavedIn saved (changed_document bytes change d)
+  changed_saved bytes document_change.SetSavePoint d l answer barred keeps s = absurd (cc)
+  changed_saved bytes document_change.ForgetHistory d l answer barred keeps s = absurd (cc)
+  changed_saved bytes document_change.BeginGroup d l answer barred keeps s = seals_saved d.history (changed_document bytes document_change.BeginGroup d).history (text_of d) (c.group_begun d.history) s
+  changed_saved bytes document_change.EndGroup d l answer barred keeps s = seals_saved d.history (changed_document bytes document_change.EndGroup d).history (text_of d) (c.group_ended d.history) s
+  changed_saved bytes (document_change.CollectUndo on) d l answer barred keeps s = collecting_saved on d.history (text_of d) s
+  changed_saved bytes (document_change.AppendContainer token coalesce) d l answer barred keeps s = container_saved token coalesce d.history (text_of d) s
+  changed_saved bytes (document_change.StyleRun count style) d l answer barred keeps s = subst (λ (now : List ℕ). Saved saved now d.history) (sym (text_styled (replicate count style) d)) s
+  changed_saved bytes (document_change.StyleBytes count) d l answer barred keeps s = subst (λ (now : List ℕ). Saved saved now d.history) (sym (text_styled (take count bytes) d)) s
+  changed_saved bytes (document_change.SetReadOnly on) d l answer barred keeps s = s
+  changed_saved bytes (document_change.SetLineEnd to) d l answer barred keeps s = s
+  changed_saved bytes (document_change.SetLineEndTypes to) d l answer barred keeps s = s
+  changed_saved bytes (document_change.AddMarker line number) d l answer barred keeps s = s
+  changed_saved bytes (document_change.AddMarkers line mask) d l answer barred keeps s = s
+  changed_saved bytes (document_change.DeleteMarker line number) d l answer barred keeps s = s
+  changed_saved bytes (document_change.DeleteMarkers number) d l answer barred keeps s = s
+  changed_saved bytes (document_change.DeleteHandle handle) d l answer barred keeps s = s
+  changed_saved bytes (document_change.SetLevel line level) d l answer barred keeps s = s
+  changed_saved bytes (document_change.SetState line state) d l answer barred keeps s = s
+  changed_saved bytes (document_change.SetEndStyled place) d l answer barred keeps s = s
+  changed_saved bytes (document_change.NeedStyle start past) d l answer barred keeps s = s
+  changed_saved bytes (document_change.FillIndicator indicator start count value) d l answer barred keeps s = s
+
+  in_turn : (steps : List Step) (now : List ℕ) → AreStepsOf now steps → FitInTurn steps now
+  in_turn [] now h = tt
+  in_turn (step ∷ steps) now h = (h.0.0, in_turn steps (edited step now) h.1)
+
+  -- what a plan does to its own document
+  own_saved : (r : Request) (p : Plan) (l : Leave) → l.saves ≡ false → KeepsTo l p → IsSoundRequest r → IsSoundDocument r.session.limits r.document → IsFitPlan r p
+      → (r.document.history.collecting ≡ true) ⊎ (text_of (own_after r p) ≡ text_of r.document) → SavedIn saved r.document → SavedIn saved (own_after r p)
+  own_saved r (plan.Edit change value after) l barred keeps sound fit_document fit may s = go r.document.history.collecting refl may
+    where
+      go : (b : Bool) → r.document.history.collecting ≡ b → (r.document.history.collecting ≡ true) ⊎ (text_of (own_after r (plan.Edit change value after)) ≡ text_of r.document)
+          → SavedIn saved (own_after r (plan.Edit change value after))
+      go true on k = edit_saved (steps_of r change) (scene_of r) on (in_turn (steps_of r change) (text r) (c.edit_fits r change fit.0)) s
+      go false off (inl on) = absurd (cc)
+      go false off (inr same) =
+          let none = (fit_document.history.kept off).0 in
+          subst (Saved saved (text_of (own_after r (plan.Edit change value after)))) (sym (edit_stays (steps_of r change) (scene_of r) off none))
+          (subst (λ (now : List ℕ). Saved saved now r.document.history) (sym same) s)
+  own_saved r plan.Undo l barred keeps sound fit_document fit may s = go r.document.history.past refl
+    where
+      go : (ts : List Transaction) → r.document.history.past ≡ ts → SavedIn saved (own_after r plan.Undo)
+      go [] none =
+          let some = (and_parts (r.document.history.depth == 0) (nat_lt 0 (length r.document.history.past)) fit.0).1 in
+          let not_empty : 0 < length r.document.history.past = ltb-true 0 (length r.document.history.past) some in
+          let empty : length r.document.history.past ≡ 0 = ap length none in
+          absurd (omega arith)
+      go (t ∷ ts) some = undo_saved (scene_of r) t ts some (in_turn _ (text r) (c.undo_fits r sound)) s
+  own_saved r plan.Redo l barred keeps sound fit_document fit may s = go r.document.history.future refl
+    where
+      go : (ts : List Transaction) → r.document.history.future ≡ ts → SavedIn saved (own_after r plan.Redo)
+      go [] none =
+          let some = (and_parts (r.document.history.depth == 0) (nat_lt 0 (length r.document.history.future)) fit.0).1 in
+          let not_empty : 0 < length r.document.history.future = ltb-true 0 (length r.document.history.future) some in
+          let empty : length r.document.history.future ≡ 0 = ap length none in
+          absurd (omega arith)
+      go (t ∷ ts) some = redo_saved (scene_of r) t ts some (in_turn _ (text r) (c.redo_fits r sound)) s
+  own_saved r (plan.ChangeDocument change value) l barred keeps sound fit_document fit may s = changed_saved r.message.text change r.document l value barred keeps s
+  own_saved r (plan.Answer value) l barred keeps sound fit_document fit may s = s
+  own_saved r (plan.HandOut value start count) l barred keeps sound fit_document fit may s = s
+  own_saved r (plan.HandOutStyled start count) l barred keeps sound fit_document fit may s = s
+  own_saved r plan.Attempt l barred keeps sound fit_document fit may s = s
+  own_saved r (plan.ChangeView change value) l barred keeps sound fit_document fit may s = s
+  own_saved r (plan.ChangeSession change value) l barred keeps sound fit_document fit may s = s
+
+  -- Commands.
+
+  abbrev Keeps : ℕ → Document → Document → Type 0
+  Keeps id d e = d.id ≡ id → ((d.history.collecting ≡ true) ⊎ (text_of e ≡ text_of d)) → SavedIn saved d → SavedIn saved e
+
+  abbrev keeps_same : (id : ℕ) (d : Document) → Keeps id d d
+  keeps_same id d own may s = s
+
+  abbrev keeps_relisted : (id : ℕ) (d e : Document) (views : List ℕ) (held : ℕ) → Keeps id d e → Keeps id d (record e { views = views; held = held })
+  keeps_relisted id d e views held k own may s = k own may s
+
+  abbrev Go : ℕ → Session → Session → Type 0
+  Go id s t = AllFrom (Keeps id) (keeps_same id) (keeps_relisted id) s.next_document s.documents t.documents
+
+  message_keeps : (known : Kind → Bool) (id : ℕ) (s : Session) (view : ℕ) (m : Message)
+      → ((v : View) (kind : Kind) → view_at s.views view ≡ Some v → v.document ≡ id → kind_of m.number ≡ Some kind → is_saving kind ≡ false) → IsSound s
+      → AnsweredFrom (Keeps id) (keeps_same id) (keeps_relisted id) s (table known s view m)
+  message_keeps known id s view m barred sound =
+      table_from (Keeps id) (keeps_same id) (keeps_relisted id) c.fits known s view m sound
+      (λ kind r p sent own may saved_there.
+      let h : IsSoundRequest r = sent.0 in
+      let here : r.view.document ≡ id = sym (document_id r.session.documents r.view.document r.document h.document) ∙ own in
+      let shaped : IsShaped (leave_of kind) (Ok p) = subst (IsShaped (leave_of kind)) sent.5 (plan_is_shaped kind r) in
+      own_saved r p (leave_of kind) (barred r.view kind sent.2 here sent.4) shaped h
+      (found_all (IsSoundDocument r.session.limits) (λ (d : Document). d.id == r.view.document) r.session.documents r.document h.sound.documents h.document)
+      sent.6 may saved_there)
+
+  go_same : (id : ℕ) (s : Session) → Go id s s
+  go_same id s = all_same (Keeps id) (keeps_same id) (keeps_relisted id) s.next_document s.documents
+
+  after_message_goes : (id : ℕ) (s : Session) (o : Answered) → AnsweredFrom (Keeps id) (keeps_same id) (keeps_relisted id) s o → Go id s (after_message s o).0.session
+  after_message_goes id s (Ok done) h = h
+  after_message_goes id s (Err refusal) h = go_same id s
+
+  after_opening_goes : (id : ℕ) (s : Session) (o : Result (Session × ℕ) Refusal) → OpenedFrom (Keeps id) (keeps_same id) (keeps_relisted id) s o → Go id s (after_opening s o).0.session
+  after_opening_goes id s (Ok done) h = h
+  after_opening_goes id s (Err refusal) h = go_same id s
+
+  after_closing_goes : (id : ℕ) (s : Session) (o : Result Session Refusal) → ClosedFrom (Keeps id) (keeps_same id) (keeps_relisted id) s o → Go id s (after_closing s o).0.session
+  after_closing_goes id s (Ok t) h = h
+  after_closing_goes id s (Err refusal) h = go_same id s
+
+  loaded_keeps : (known : Kind → Bool) (id : ℕ) (s : Session) (view : ℕ) (v : Option View) (file : Option (List ℕ)) → IsSound s
+      → AnsweredFrom (Keeps id) (keeps_same id) (keeps_relisted id) s (loaded known s view v file)
+  loaded_keeps known id s view None file sound = tt
+  loaded_keeps known id s view (Some v) None sound = tt
+  loaded_keeps known id s view (Some v) (Some bytes) sound =
+      message_keeps known id s view (set_text_message bytes) (λ w kind sees on is. set_text_saves_nothing kind is) sound
+    where
+      set_text_saves_nothing : (kind : Kind) → kind_of (set_text_message bytes).number ≡ Some kind → is_saving kind ≡ false
+      set_text_saves_nothing kind is = let same : SetText ≡ kind = cc in subst (λ (k : Kind). is_saving k ≡ false) same refl
+
+  command_goes : (known : Kind → Bool) (files : List (List ℕ)) (id : ℕ) (command : Command) (s : Running) → IsSound s.session → SetsNoSavePoint id s.session command
+      → Go id s.session (after_command known files command s).0.session
+  command_goes known files id OpenView s sound none = after_opening_goes id s.session (opened s.session) (opening_from (Keeps id) (keeps_same id) (keeps_relisted id) s.session)
+  command_goes known files id (CloseView view) s sound none =
+      after_closing_goes id s.session (closed_view s.session (view_at s.session.views view)) (closing_from (Keeps id) (keeps_same id) (keeps_relisted id) s.session (view_at s.session.views view) sound)
+  command_goes known files id (LoadFile view file) s sound none =
+      after_message_goes id s.session _ (loaded_keeps known id s.session view (view_at s.session.views view) (file_at files file) sound)
+  command_goes known files id (SendMessage view message) s sound none = after_message_goes id s.session _ (message_keeps known id s.session view message none sound)
+  command_goes known files id (Expect value) s sound none = go_same id s.session
+
+  run_saved : CommandKeepsSound → (known : Kind → Bool) (files : List (List ℕ)) (cs : List Command) (s : Running) (id : ℕ) (d e : Document) → IsSound s.session → document_at s.session.documents id ≡ Some d
+      → SavedIn saved d → KeepsTheSavePoint known files id cs s → document_at (run_to known files cs s).session.documents id ≡ Some e → SavedIn saved e
+  run_saved keeps known files [] s id d e sound found there kept still = let same : d ≡ e = cc in subst (SavedIn saved) same there
+  run_saved keeps known files (command ∷ cs) s id d e sound found there kept still =
+      let t = (after_command known files command s).0 in
+      go (document_at t.session.documents id) refl kept.1 (keeps known files command s sound) (command_goes known files id command s sound kept.0)
+      (λ x sound_after found_after there_after. run_saved keeps known files cs t id x e sound_after found_after there_after kept.2 still)
+    where
+      go : (o : Option Document) → document_at (after_command known files command s).0.session.documents id ≡ o → IsCollected (document_at s.session.documents id) (document_at (after_command known files command s).0.session.documents id)
+          → IsSound (after_command known files command s).0.session → Go id s.session (after_command known files command s).0.session
+          → ((x : Document) → IsSound (after_command known files command s).0.session → document_at (after_command known files command s).0.session.documents id ≡ Some x → SavedIn saved x → SavedIn saved e) → SavedIn saved e
+      go None gone may sound_after on rest =
+          let t = (after_command known files command s).0 in
+          let below = found_below 0 s.session.next_document s.session.documents id d sound.document_ids found in
+          let rises = next_document_rises known files command s in
+          let none = document_ids_never_come_back c.fits keeps known files cs t id sound_after (omega arith) gone in
+          absurd (cc)
+      go (Some x) here may sound_after on rest =
+          let from : From (Keeps id) (keeps_same id) (keeps_relisted id) s.session.next_document (Some d) x =
+          subst (λ (o : Option Document). From (Keeps id) (keeps_same id) (keeps_relisted id) s.session.next_document o x) found (on id x here) in
+          let collected : IsCollected (Some d) (Some x) = subst (λ (o : Option Document). IsCollected o (Some x)) found (subst (IsCollected (document_at s.session.documents id)) here may) in
+          rest x sound_after here (from (document_id s.session.documents id d found) collected there)
+
+pub unmodified_is_the_saved_text : Cited → CommandKeepsSound → UnmodifiedIsTheSavedText
+unmodified_is_the_saved_text c keeps known files commands s id d e sound found at kept still at_again =
+    saved_now (text_of d) (text_of e) e.history at_again (run_saved c (text_of d) keeps known files commands s id d e sound found (saved_first (text_of d) d.history at) kept still)
+
+-- GETMODIFY.
+
+abbrev AnswersZeroOnlyIf : Bool → Answered → Type 0
+AnswersZeroOnlyIf at (Ok done) = done.1.value ≡ pos 0 → at ≡ true
+AnswersZeroOnlyIf at (Err refusal) = Unit {0}
+
+zero_only_if : (at : Bool) (b : Bool) (r : Request) (done : Session × Response) → done ≡ (r.session, cond b (let q = quiet (flag (not at)) in record q { notes = record_note r ∷ [] }) (quiet (flag (not at)))) → done.1.value ≡ pos 0 → at ≡ true
+zero_only_if true b r done e zero_is = refl
+zero_only_if false true r done e zero_is = let one : done.1.value ≡ pos 1 = ap (λ (x : Session × Response). x.1.value) e in absurd (cc)
+zero_only_if false false r done e zero_is = let one : done.1.value ≡ pos 1 = ap (λ (x : Session × Response). x.1.value) e in absurd (cc)
+
+pub get_modify_tells : GetModifyTells
+get_modify_tells known s view m v d done is sees finds e zero_is = go (known GetModify) refl
+  where
+    go : (b : Bool) → known GetModify ≡ b → at_save_point d.history ≡ true
+    go true knows =
+        let r = request s v d m in
+        let here : table known s view m ≡ Ok (r.session, recorded GetModify r (quiet (flag (not (at_save_point d.history))))) = table_at known s view m v GetModify d sees is knows finds in
+        zero_only_if (at_save_point d.history) (v.records && (marks_of GetModify).r) r done (let both : done ≡ (r.session, recorded GetModify r (quiet (flag (not (at_save_point d.history))))) = cc in both) zero_is
+    go false unknown =
+        let no : table known s view m ≡ Err UnknownMessage = ap (table_from_view known s m) sees ∙ ap (table_from_kind known s v m) is ∙ ap (λ b. table_if_known b s v GetModify m) unknown in
+        absurd (cc)
