@@ -6,6 +6,9 @@ use Rattle.std.proofs.lemmas.List.{length-take, length-drop, length-append, leng
 use Rattle.memchr.specs.Find.{OccursAt}
 use Rattle.ed_model.specs.Numbers.{meets}
 use Rattle.ed_model.specs.Matches.{folded, match_case, whole_word, word_start, word_before, word_after, is_match}
+use Rattle.target_search.specs.Cases.{is_either}
+use Rattle.target_search.specs.Rare.{IsRareOf}
+use Rattle.target_search.specs.declared.rare.RareByte.{RareByte}
 use Rattle.target_search.specs.Found.{stands_at, words_pass, IsPart}
 use Rattle.target_search.proofs.Fronts.{and_assoc, and_both, and_false, and_first, front_true, front_long, front_reads, front_pieces}
 
@@ -113,18 +116,16 @@ module _ (flags : ℕ) (text pattern : List ℕ) where
               part.reads (place - offset + j) (omega arith) ∙ ap (λ p. get_or text p 0) at ∙ sym (plain _) ∙ stands_reads place stands j l ∙ plain _;
         }))
 
-  -- a byte of the pattern in both its cases, which are those that are the same without case
+  -- where a byte of the part is not that of the pattern, in either case
   pub not_where_other_byte :
-      (rare lower upper : ℕ) → rare < length pattern
-      → ((flags other : ℕ) → folded flags other ≡ folded flags (get_or pattern rare 0) → (other == lower || other == upper) ≡ true)
-      → (part : List ℕ) (offset : ℕ) → IsPart text part offset
-      → (at place i : ℕ) → place ≡ offset + at → i ≡ at + rare → i < length part → (get_or part i 0 == lower || get_or part i 0 == upper) ≡ false → is_match flags text pattern place ≡ false
-  not_where_other_byte rare lower upper within cases part offset is at place i e f l other =
-      no_match_at place
+      (rare : RareByte) (part : List ℕ) (offset at : ℕ) → IsRareOf rare pattern → IsPart text part offset → at + rare.place < length part
+      → is_either rare.cases (get_or part (at + rare.place) 0) ≡ false → is_match flags text pattern (offset + at) ≡ false
+  not_where_other_byte rare part offset at of is l other =
+      no_match_at (offset + at)
       (λ stands.
-          let same : offset + i ≡ place + rare = omega arith in
-          let read : get_or part i 0 ≡ get_or text (place + rare) 0 = is.reads i l ∙ ap (λ p. get_or text p 0) same in
-          false≢true (sym other ∙ cases flags (get_or part i 0) (ap (folded flags) read ∙ stands_reads place stands rare within)))
+      let place : offset + (at + rare.place) ≡ offset + at + rare.place = omega arith in
+      let read : get_or part (at + rare.place) 0 ≡ get_or text (offset + at + rare.place) 0 = is.reads (at + rare.place) l ∙ ap (λ p. get_or text p 0) place in
+      false≢true (sym other ∙ of.no_other flags (get_or part (at + rare.place) 0) (ap (folded flags) read ∙ stands_reads (offset + at) stands rare.place of.within)))
 
 -- the bytes over the seam, in two pieces
 pub seam_slice : (xs ys : List ℕ) (place n b : ℕ) → place ≤ length xs → place + n ≤ length xs + length ys → length xs + b ≡ place + n

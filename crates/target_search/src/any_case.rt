@@ -29,7 +29,7 @@ impl<'a> Search<'a> {
         requires room { start + 64 + size_of self.now ≤ length part.now + 1 }
         ensures { MarksMatches self.now (offset + start) result }
     {
-        rare.marks(part, start) & other.marks(part, start)
+        rare.marks_with(other, part, start)
     }
 
     // The first match that begins where a mark is set.
