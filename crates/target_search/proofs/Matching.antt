@@ -1,5 +1,5 @@
 -- Where a pattern stands, told by what is found in a part of the text.
-use Rattle.std.proofs.Common.{◌≡◌, ℕ, ◌+◌, ◌-◌, ◌<◌, ◌≤◌, min, Bool, true, false, eqb, ◌==◌, ◌&&◌, ◌||◌, not, List, ◌++◌, length, map, get_or, take, drop, slice_range, refl, sym, ap, ◌∙◌, subst, arith, inl, inr}
+use Rattle.std.proofs.Common.{◌≡◌, ℕ, ◌+◌, ◌-◌, ◌<◌, ◌≤◌, min, Bool, true, false, eqb, ◌&&◌, ◌||◌, not, List, ◌++◌, length, map, get_or, take, drop, slice_range, refl, sym, ap, ◌∙◌, subst, arith, inl, inr}
 use Rattle.std.specs.List.{starts_with}
 use Rattle.std.proofs.lemmas.Bool.{cases_Bool, cases_lt, cond-true, false≢true}
 use Rattle.std.proofs.lemmas.List.{length-take, length-drop, length-append, length-take-le, get_or-take, get_or-drop, get_or_append_left, get_or-append_right, ext_get_or, take-append-drop}
@@ -10,7 +10,7 @@ use Rattle.target_search.specs.Cases.{is_either}
 use Rattle.target_search.specs.Rare.{IsRareOf}
 use Rattle.target_search.specs.declared.rare.RareByte.{RareByte}
 use Rattle.target_search.specs.Found.{stands_at, words_pass, IsPart}
-use Rattle.target_search.proofs.Fronts.{and_assoc, and_both, and_false, and_first, front_true, front_long, front_reads, front_pieces}
+use Rattle.target_search.proofs.Fronts.{and_assoc, and_both, and_false, and_true, and_first, front_true, front_long, front_reads, front_pieces}
 
 -- bytes of a part
 within_part : (xs : List ℕ) (from to k : ℕ) → k < length (slice_range xs from to) → (k < to - from) × (from + k < length xs)
@@ -52,6 +52,15 @@ same_slice text part offset at n is l =
     let place : offset + (at + k) ≡ offset + at + k = omega arith in
     read_part part at (at + n) k b ∙ is.reads (at + k) (omega arith) ∙ ap (λ p. get_or text p 0) place ∙ sym (read_part text (offset + at) (offset + at + n) k (omega arith)))
 
+allowed : (w s b a : Bool) → (w || s) ≡ false → (not ((w || s) && b) && not (w && a)) ≡ true
+allowed true s b a h = absurd (false≢true (sym h))
+allowed false true b a h = absurd (false≢true (sym h))
+allowed false false b a h = refl
+
+-- where words do not count, all are allowed
+pub words_allowed : (flags : ℕ) (text : List ℕ) (place end : ℕ) → (meets flags whole_word || meets flags word_start) ≡ false → words_pass flags text place end ≡ true
+words_allowed flags text place end h = allowed (meets flags whole_word) (meets flags word_start) (word_before text place) (word_after text end) h
+
 module _ (flags : ℕ) (text pattern : List ℕ) where
   -- a match is where the pattern stands and the words are allowed
   pub match_is : (place : ℕ) → is_match flags text pattern place ≡ (stands_at flags text pattern place && words_pass flags text place (place + length pattern))
@@ -66,12 +75,10 @@ module _ (flags : ℕ) (text pattern : List ℕ) where
         | inr other ↦ other
       ]
 
-  -- told by the two tests, one after the other
-  pub refused_first : (place : ℕ) (s : Bool) → s ≡ stands_at flags text pattern place → s ≡ false → s ≡ is_match flags text pattern place
-  refused_first place s e f = f ∙ sym (match_is place ∙ ap (λ b. b && words_pass flags text place (place + length pattern)) (sym e ∙ f))
-
-  pub told_second : (place : ℕ) (s w : Bool) → s ≡ stands_at flags text pattern place → s ≡ true → w ≡ words_pass flags text place (place + length pattern) → w ≡ is_match flags text pattern place
-  told_second place s w e t words = words ∙ sym (match_is place ∙ ap (λ b. b && words_pass flags text place (place + length pattern)) (sym e ∙ t))
+  -- told by the test of the words and then by that of the bytes
+  pub told_by_bytes : (place : ℕ) (s : Bool) → words_pass flags text place (place + length pattern) ≡ true → s ≡ stands_at flags text pattern place → s ≡ is_match flags text pattern place
+  told_by_bytes place s words e =
+      e ∙ sym (match_is place ∙ ap (λ w. stands_at flags text pattern place && w) words ∙ and_true (stands_at flags text pattern place))
 
   pub is_match_at : (place : ℕ) → stands_at flags text pattern place ≡ true → words_pass flags text place (place + length pattern) ≡ true → is_match flags text pattern place ≡ true
   is_match_at place s w = match_is place ∙ and_both _ _ s w
@@ -94,27 +101,26 @@ module _ (flags : ℕ) (text pattern : List ℕ) where
       ∙ front_reads (folded flags) (slice_range text place (place + length pattern)) pattern h k b
 
   -- the search of a substring, where case counts
-  module _ (case : meets flags match_case ≡ true) (needle : List ℕ) (same : needle ≡ pattern) (sub : List ℕ) (offset : ℕ) (part : IsPart text sub offset) where
+  module _ (case : meets flags match_case ≡ true) (sub : List ℕ) (offset : ℕ) (part : IsPart text sub offset) where
     plain : (b : ℕ) → folded flags b ≡ b
     plain b = cond-true _ _ _ case
 
-    pub stands_where_found : (k : ℕ) → OccursAt sub needle k → stands_at flags text pattern (offset + k) ≡ true
-    stands_where_found k found =
-        let occurs : OccursAt sub pattern k = subst (λ n. OccursAt sub n k) same found in
+    pub stands_where_found : (k : ℕ) → OccursAt sub pattern k → stands_at flags text pattern (offset + k) ≡ true
+    stands_where_found k occurs =
         stands_from_reads (offset + k) (omega (arith, occurs.fits, part.within))
         (λ j b.
         let place : offset + (k + j) ≡ offset + k + j = omega arith in
         ap (folded flags) (ap (λ p. get_or text p 0) (sym place) ∙ sym (part.reads (k + j) (omega (arith, occurs.fits))) ∙ occurs.reads j b))
 
-    pub not_where_not_found : (place : ℕ) → offset ≤ place → place + length pattern ≤ offset + length sub → (OccursAt sub needle (place - offset) → ⊥) → is_match flags text pattern place ≡ false
+    pub not_where_not_found : (place : ℕ) → offset ≤ place → place + length pattern ≤ offset + length sub → (OccursAt sub pattern (place - offset) → ⊥) → is_match flags text pattern place ≡ false
     not_where_not_found place a b apart =
         no_match_at place
-        (λ stands. apart (subst (λ n. OccursAt sub n (place - offset)) (sym same) record {
+        (λ stands. apart record {
           fits = omega arith;
           reads = λ j l.
               let at : offset + (place - offset + j) ≡ place + j = omega arith in
               part.reads (place - offset + j) (omega arith) ∙ ap (λ p. get_or text p 0) at ∙ sym (plain _) ∙ stands_reads place stands j l ∙ plain _;
-        }))
+        })
 
   -- where a byte of the part is not that of the pattern, in either case
   pub not_where_other_byte :

@@ -1,4 +1,4 @@
-use Rattle.std.proofs.Common.{◌≡◌, ◌&&◌, take, drop, sym, ap, ◌∙◌}
+use Rattle.std.proofs.Common.{◌&&◌, take, drop, sym, ◌∙◌}
 use Rattle.std.proofs.lemmas.Simd.{length-chunk, get_or-chunk}
 use Rattle.target_search.specs.Cases.{is_either}
 use Rattle.target_search.proofs.MarkedBytes.{marked_lane, clear_false}

@@ -1,5 +1,4 @@
-use Rattle.std.proofs.Common.{◌≡◌, ◌+◌, length, get_or, false, inl, inr, subst, sym, arith}
-use Rattle.ed_model.specs.Matches.{is_match}
+use Rattle.std.proofs.Common.{◌≡◌, ◌+◌, get_or, false, inl, inr, subst, arith}
 use Rattle.target_search.specs.Cases.{is_either}
 use Rattle.target_search.specs.Searches.{text_of, is_match_of}
 use Rattle.target_search.proofs.Fronts.{one_fails}
