@@ -1,5 +1,5 @@
 -- Lists that begin with another, compared byte by byte through a function.
-use Rattle.std.proofs.Common.{◌≡◌, ℕ, zero, suc, ◌<◌, ◌≤◌, Bool, true, false, eqb, ◌&&◌, List, [], ◌∷◌, ◌++◌, length, map, get_or, refl, sym, ap, arith, inl, inr}
+use Rattle.std.proofs.Common.{◌≡◌, ℕ, zero, suc, ◌<◌, ◌≤◌, Bool, true, false, eqb, ◌&&◌, List, [], ◌∷◌, ◌++◌, length, map, get_or, refl, sym, ap, arith, inl, inr, ◌⊎◌}
 use Rattle.std.specs.List.{starts_with}
 use Rattle.std.proofs.lemmas.Bool.{cases_Bool, eqb-true, eq-eqb, false≢true}
 
@@ -15,9 +15,17 @@ pub and_false : (a : Bool) → (a && false) ≡ false
 and_false true = refl
 and_false false = refl
 
+pub and_true : (a : Bool) → (a && true) ≡ a
+and_true true = refl
+and_true false = refl
+
 pub and_first : (a b : Bool) → (a && b) ≡ true → a ≡ true
 and_first true b h = refl
 and_first false b h = h
+
+pub one_fails : (a b : Bool) → (a && b) ≡ false → (a ≡ false) ⊎ (b ≡ false)
+one_fails true b h = inr h
+one_fails false b h = inl refl
 
 pub and_second : (a b : Bool) → (a && b) ≡ true → b ≡ true
 and_second true b h = h

@@ -1,24 +1,77 @@
 -- Marks of 64 bytes, bit by bit.
-use Rattle.std.proofs.Common.{◌≡◌, ℕ, suc, ◌+◌, ◌-◌, ◌*◌, ◌/◌, ◌%◌, ◌^◌, ◌<◌, ◌≤◌, ◌≢◌, Bool, true, false, cond, eqb, List, length, get_or, map, replicate, refl, sym, ap, ◌∙◌, arith, w8, subst, bit_and, bit_or, ◌||◌, ◌⊎◌, inl, inr, pow_pos, pow_mono, div-lt_iff_lt-mul, le-div_iff_mul-le}
+use Rattle.std.proofs.Common.{◌≡◌, ℕ, suc, ◌+◌, ◌-◌, ◌*◌, ◌/◌, ◌%◌, ◌^◌, ◌<◌, ◌≤◌, ◌≢◌, Bool, true, false, cond, eqb, List, length, get_or, map, replicate, refl, sym, ap, ◌∙◌, arith, subst, bit_and, bit_or, ◌||◌, ◌&&◌, inl, inr, pow_pos, pow_mono, div-lt_iff_lt-mul, le-div_iff_mul-le}
 use Rattle.std.specs.Int.{bit_at}
 use Rattle.std.specs.Simd.Lanes.{zip2, mask_l, top}
-use Rattle.std.proofs.lemmas.Simd.{length-zip2, get_or-zip2, length-replicate, get_or-replicate, bit_mask_l, tops_compared, mask_l-mod}
+use Rattle.std.proofs.lemmas.Simd.{length-zip2, get_or-zip2, length-replicate, get_or-replicate, bit_mask_l, mask_l-mod}
 use Rattle.std.proofs.lemmas.Nat.{and-not, and_comm}
-use Rattle.std.proofs.lemmas.Nat.Bits.{bit_at_and, bit_at_or, and_pow}
+use Rattle.std.proofs.lemmas.Nat.Bits.{and_pow}
 use Rattle.std.proofs.lemmas.Bool.{cases_eq}
+use Rattle.std.proofs.lemmas.List.{length-map}
+use Rattle.std.proofs.Math.ListN.{get_or-map}
 use Rattle.target_search.specs.Found.{NonePasses}
 use Rattle.std.proofs.Math.Nat.{two-pow-succ, div-eq_of_lt}
 
--- a bit of the mask of the lanes that hold a byte
+-- the lanes of 64 bytes that hold one of them
+abbrev holding : List ℕ → ℕ → List ℕ
+holding v byte = zip2 (λ a b. cond (eqb a b) 255 0) v (replicate 64 byte)
+
+length-holding : (v : List ℕ) (byte : ℕ) → length v ≡ 64 → length (holding v byte) ≡ 64
+length-holding v byte long = length-zip2 (λ a b. cond (eqb a b) 255 0) v (replicate 64 byte) (long ∙ sym (length-replicate 64 byte)) ∙ long
+
+get_or-holding : (v : List ℕ) (byte k : ℕ) → length v ≡ 64 → k < 64 → get_or (holding v byte) k 0 ≡ cond (eqb (get_or v k 0) byte) 255 0
+get_or-holding v byte k long l =
+    get_or-zip2 (λ a b. cond (eqb a b) 255 0) v (replicate 64 byte) k 0 0 0 (omega arith) (omega (arith, length-replicate 64 byte))
+    ∙ ap (λ b. cond (eqb (get_or v k 0) b) 255 0) (get_or-replicate 64 k byte 0 l)
+
+-- .. or one of two
+abbrev holding_either : List ℕ → ℕ → ℕ → List ℕ
+holding_either v a b = zip2 bit_or (holding v a) (holding v b)
+
+length-holding_either : (v : List ℕ) (a b : ℕ) → length v ≡ 64 → length (holding_either v a b) ≡ 64
+length-holding_either v a b long = length-zip2 bit_or (holding v a) (holding v b) (length-holding v a long ∙ sym (length-holding v b long)) ∙ length-holding v a long
+
+get_or-holding_either : (v : List ℕ) (a b k : ℕ) → length v ≡ 64 → k < 64
+    → get_or (holding_either v a b) k 0 ≡ bit_or (cond (eqb (get_or v k 0) a) 255 0) (cond (eqb (get_or v k 0) b) 255 0)
+get_or-holding_either v a b k long l =
+    get_or-zip2 bit_or (holding v a) (holding v b) k 0 0 0 (omega (arith, length-holding v a long)) (omega (arith, length-holding v b long))
+    ∙ (λ i. bit_or (get_or-holding v a k long l i) (get_or-holding v b k long l i))
+
+lane_top : (a b x y : Bool) → top 7 (bit_and (bit_or (cond a 255 0) (cond b 255 0)) (bit_or (cond x 255 0) (cond y 255 0))) ≡ ((a || b) && (x || y))
+lane_top true true true true = refl
+lane_top true true true false = refl
+lane_top true true false true = refl
+lane_top true true false false = refl
+lane_top true false true true = refl
+lane_top true false true false = refl
+lane_top true false false true = refl
+lane_top true false false false = refl
+lane_top false true true true = refl
+lane_top false true true false = refl
+lane_top false true false true = refl
+lane_top false true false false = refl
+lane_top false false true true = refl
+lane_top false false true false = refl
+lane_top false false false true = refl
+lane_top false false false false = refl
+
+-- a bit of the mask of the lanes where both are so
 pub marked_lane :
-    (v : List ℕ) (byte k : ℕ) → length v ≡ 64 → k < 64
-    → bit_at (mask_l (map (top 7) (zip2 (λ a b. cond (eqb a b) 255 0) v (replicate 64 byte))) % 2 ^ 64) k ≡ cond (eqb (get_or v k 0) byte) 1 0
-marked_lane v byte k long l =
-    let bits : List Bool = zip2 eqb v (replicate 64 byte) in
-    let size : length bits ≡ 64 = length-zip2 eqb v (replicate 64 byte) (long ∙ sym (length-replicate 64 byte)) ∙ long in
-    ap (λ m. bit_at m k) (ap (λ ms. mask_l ms % 2 ^ 64) (tops_compared w8 eqb v (replicate 64 byte)) ∙ mask_l-mod bits 64 (omega arith))
-    ∙ bit_mask_l bits k
-    ∙ ap (λ b. cond b 1 0) (get_or-zip2 eqb v (replicate 64 byte) k 0 0 false (omega arith) (omega (arith, length-replicate 64 byte)) ∙ ap (eqb (get_or v k 0)) (get_or-replicate 64 k byte 0 l))
+    (v w : List ℕ) (a b x y k : ℕ) → length v ≡ 64 → length w ≡ 64 → k < 64
+    → bit_at (mask_l (map (top 7) (zip2 bit_and (holding_either v a b) (holding_either w x y))) % 2 ^ 64) k
+    ≡ cond ((eqb (get_or v k 0) a || eqb (get_or v k 0) b) && (eqb (get_or w k 0) x || eqb (get_or w k 0) y)) 1 0
+marked_lane v w a b x y k p q l =
+    let one = length-holding_either v a b p in
+    let two = length-holding_either w x y q in
+    let lanes = zip2 bit_and (holding_either v a b) (holding_either w x y) in
+    let size : length lanes ≡ 64 = length-zip2 bit_and (holding_either v a b) (holding_either w x y) (one ∙ sym two) ∙ one in
+    ap (λ m. bit_at m k) (mask_l-mod (map (top 7) lanes) 64 (omega (arith, length-map lanes (top 7))))
+    ∙ bit_mask_l (map (top 7) lanes) k
+    ∙ ap (λ t. cond t 1 0)
+    (get_or-map (top 7) lanes k 0
+    ∙ ap (top 7)
+    (get_or-zip2 bit_and (holding_either v a b) (holding_either w x y) k 0 0 0 (omega arith) (omega arith)
+    ∙ (λ i. bit_and (get_or-holding_either v a b k p l i) (get_or-holding_either w x y k q l i)))
+    ∙ lane_top (eqb (get_or v k 0) a) (eqb (get_or v k 0) b) (eqb (get_or w k 0) x) (eqb (get_or w k 0) y))
 
 -- a bit that is clear
 pub clear_false : (b : Bool) (m : ℕ) → m ≡ cond b 1 0 → m ≡ 0 → b ≡ false
@@ -48,26 +101,8 @@ clear_above m j k high l =
     let a : m < 2 ^ k = omega (arith, two-pow-succ j, pow_mono {i = suc j} {j = k} (omega arith)) in
     ap (λ x. x % 2) (div-eq_of_lt a)
 
--- where a bit of the sum of two marks is clear, it is clear in both
-pub clear_either : (a b k : ℕ) → bit_at (bit_or a b) k ≡ 0 → (bit_at a k ≡ 0) × (bit_at b k ≡ 0)
-clear_either a b k h = (omega (arith, bit_at_or a b k), omega (arith, bit_at_or a b k))
-
-bit_at_below : (a k : ℕ) → bit_at a k < 2
-bit_at_below a k = omega arith
-
--- where one of what two marks have in common is clear, it is clear in one of them
-pub clear_one : (a b k : ℕ) → bit_at (bit_and a b) k ≡ 0 → (bit_at a k ≡ 0) ⊎ (bit_at b k ≡ 0)
-clear_one a b k h =
-    elim (cases_eq (bit_at a k) 0) [
-      | inl clear ↦ inl clear
-      | inr set ↦ inr (omega (arith, bit_at_and a b k, bit_at_below a k, bit_at_below b k))
-    ]
-
 bit_at_zero : (k : ℕ) → bit_at 0 k ≡ 0
 bit_at_zero k = ap (λ x. x % 2) (div-eq_of_lt (pow_pos k))
-
-pub neither : (a b : Bool) → a ≡ false → b ≡ false → (a || b) ≡ false
-neither a b p q = rw (p, q) refl
 
 -- marks that are clear where a test fails of the places from one on
 module _ (test : ℕ → Bool) (base : ℕ) where

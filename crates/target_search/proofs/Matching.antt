@@ -1,13 +1,16 @@
 -- Where a pattern stands, told by what is found in a part of the text.
-use Rattle.std.proofs.Common.{◌≡◌, ℕ, ◌+◌, ◌-◌, ◌<◌, ◌≤◌, min, Bool, true, false, eqb, ◌==◌, ◌&&◌, ◌||◌, not, List, ◌++◌, length, map, get_or, take, drop, slice_range, refl, sym, ap, ◌∙◌, subst, arith, inl, inr}
+use Rattle.std.proofs.Common.{◌≡◌, ℕ, ◌+◌, ◌-◌, ◌<◌, ◌≤◌, min, Bool, true, false, eqb, ◌&&◌, ◌||◌, not, List, ◌++◌, length, map, get_or, take, drop, slice_range, refl, sym, ap, ◌∙◌, subst, arith, inl, inr}
 use Rattle.std.specs.List.{starts_with}
 use Rattle.std.proofs.lemmas.Bool.{cases_Bool, cases_lt, cond-true, false≢true}
 use Rattle.std.proofs.lemmas.List.{length-take, length-drop, length-append, length-take-le, get_or-take, get_or-drop, get_or_append_left, get_or-append_right, ext_get_or, take-append-drop}
 use Rattle.memchr.specs.Find.{OccursAt}
 use Rattle.ed_model.specs.Numbers.{meets}
 use Rattle.ed_model.specs.Matches.{folded, match_case, whole_word, word_start, word_before, word_after, is_match}
+use Rattle.target_search.specs.Cases.{is_either}
+use Rattle.target_search.specs.Rare.{IsRareOf}
+use Rattle.target_search.specs.declared.rare.RareByte.{RareByte}
 use Rattle.target_search.specs.Found.{stands_at, words_pass, IsPart}
-use Rattle.target_search.proofs.Fronts.{and_assoc, and_both, and_false, and_first, front_true, front_long, front_reads, front_pieces}
+use Rattle.target_search.proofs.Fronts.{and_assoc, and_both, and_false, and_true, and_first, front_true, front_long, front_reads, front_pieces}
 
 -- bytes of a part
 within_part : (xs : List ℕ) (from to k : ℕ) → k < length (slice_range xs from to) → (k < to - from) × (from + k < length xs)
@@ -49,6 +52,15 @@ same_slice text part offset at n is l =
     let place : offset + (at + k) ≡ offset + at + k = omega arith in
     read_part part at (at + n) k b ∙ is.reads (at + k) (omega arith) ∙ ap (λ p. get_or text p 0) place ∙ sym (read_part text (offset + at) (offset + at + n) k (omega arith)))
 
+allowed : (w s b a : Bool) → (w || s) ≡ false → (not ((w || s) && b) && not (w && a)) ≡ true
+allowed true s b a h = absurd (false≢true (sym h))
+allowed false true b a h = absurd (false≢true (sym h))
+allowed false false b a h = refl
+
+-- where words do not count, all are allowed
+pub words_allowed : (flags : ℕ) (text : List ℕ) (place end : ℕ) → (meets flags whole_word || meets flags word_start) ≡ false → words_pass flags text place end ≡ true
+words_allowed flags text place end h = allowed (meets flags whole_word) (meets flags word_start) (word_before text place) (word_after text end) h
+
 module _ (flags : ℕ) (text pattern : List ℕ) where
   -- a match is where the pattern stands and the words are allowed
   pub match_is : (place : ℕ) → is_match flags text pattern place ≡ (stands_at flags text pattern place && words_pass flags text place (place + length pattern))
@@ -63,12 +75,10 @@ module _ (flags : ℕ) (text pattern : List ℕ) where
         | inr other ↦ other
       ]
 
-  -- told by the two tests, one after the other
-  pub refused_first : (place : ℕ) (s : Bool) → s ≡ stands_at flags text pattern place → s ≡ false → s ≡ is_match flags text pattern place
-  refused_first place s e f = f ∙ sym (match_is place ∙ ap (λ b. b && words_pass flags text place (place + length pattern)) (sym e ∙ f))
-
-  pub told_second : (place : ℕ) (s w : Bool) → s ≡ stands_at flags text pattern place → s ≡ true → w ≡ words_pass flags text place (place + length pattern) → w ≡ is_match flags text pattern place
-  told_second place s w e t words = words ∙ sym (match_is place ∙ ap (λ b. b && words_pass flags text place (place + length pattern)) (sym e ∙ t))
+  -- told by the test of the words and then by that of the bytes
+  pub told_by_bytes : (place : ℕ) (s : Bool) → words_pass flags text place (place + length pattern) ≡ true → s ≡ stands_at flags text pattern place → s ≡ is_match flags text pattern place
+  told_by_bytes place s words e =
+      e ∙ sym (match_is place ∙ ap (λ w. stands_at flags text pattern place && w) words ∙ and_true (stands_at flags text pattern place))
 
   pub is_match_at : (place : ℕ) → stands_at flags text pattern place ≡ true → words_pass flags text place (place + length pattern) ≡ true → is_match flags text pattern place ≡ true
   is_match_at place s w = match_is place ∙ and_both _ _ s w
@@ -91,40 +101,37 @@ module _ (flags : ℕ) (text pattern : List ℕ) where
       ∙ front_reads (folded flags) (slice_range text place (place + length pattern)) pattern h k b
 
   -- the search of a substring, where case counts
-  module _ (case : meets flags match_case ≡ true) (needle : List ℕ) (same : needle ≡ pattern) (sub : List ℕ) (offset : ℕ) (part : IsPart text sub offset) where
+  module _ (case : meets flags match_case ≡ true) (sub : List ℕ) (offset : ℕ) (part : IsPart text sub offset) where
     plain : (b : ℕ) → folded flags b ≡ b
     plain b = cond-true _ _ _ case
 
-    pub stands_where_found : (k : ℕ) → OccursAt sub needle k → stands_at flags text pattern (offset + k) ≡ true
-    stands_where_found k found =
-        let occurs : OccursAt sub pattern k = subst (λ n. OccursAt sub n k) same found in
+    pub stands_where_found : (k : ℕ) → OccursAt sub pattern k → stands_at flags text pattern (offset + k) ≡ true
+    stands_where_found k occurs =
         stands_from_reads (offset + k) (omega (arith, occurs.fits, part.within))
         (λ j b.
         let place : offset + (k + j) ≡ offset + k + j = omega arith in
         ap (folded flags) (ap (λ p. get_or text p 0) (sym place) ∙ sym (part.reads (k + j) (omega (arith, occurs.fits))) ∙ occurs.reads j b))
 
-    pub not_where_not_found : (place : ℕ) → offset ≤ place → place + length pattern ≤ offset + length sub → (OccursAt sub needle (place - offset) → ⊥) → is_match flags text pattern place ≡ false
+    pub not_where_not_found : (place : ℕ) → offset ≤ place → place + length pattern ≤ offset + length sub → (OccursAt sub pattern (place - offset) → ⊥) → is_match flags text pattern place ≡ false
     not_where_not_found place a b apart =
         no_match_at place
-        (λ stands. apart (subst (λ n. OccursAt sub n (place - offset)) (sym same) record {
+        (λ stands. apart record {
           fits = omega arith;
           reads = λ j l.
               let at : offset + (place - offset + j) ≡ place + j = omega arith in
               part.reads (place - offset + j) (omega arith) ∙ ap (λ p. get_or text p 0) at ∙ sym (plain _) ∙ stands_reads place stands j l ∙ plain _;
-        }))
+        })
 
-  -- a byte of the pattern in both its cases, which are those that are the same without case
+  -- where a byte of the part is not that of the pattern, in either case
   pub not_where_other_byte :
-      (rare lower upper : ℕ) → rare < length pattern
-      → ((flags other : ℕ) → folded flags other ≡ folded flags (get_or pattern rare 0) → (other == lower || other == upper) ≡ true)
-      → (part : List ℕ) (offset : ℕ) → IsPart text part offset
-      → (at place i : ℕ) → place ≡ offset + at → i ≡ at + rare → i < length part → (get_or part i 0 == lower || get_or part i 0 == upper) ≡ false → is_match flags text pattern place ≡ false
-  not_where_other_byte rare lower upper within cases part offset is at place i e f l other =
-      no_match_at place
+      (rare : RareByte) (part : List ℕ) (offset at : ℕ) → IsRareOf rare pattern → IsPart text part offset → at + rare.place < length part
+      → is_either rare.cases (get_or part (at + rare.place) 0) ≡ false → is_match flags text pattern (offset + at) ≡ false
+  not_where_other_byte rare part offset at of is l other =
+      no_match_at (offset + at)
       (λ stands.
-          let same : offset + i ≡ place + rare = omega arith in
-          let read : get_or part i 0 ≡ get_or text (place + rare) 0 = is.reads i l ∙ ap (λ p. get_or text p 0) same in
-          false≢true (sym other ∙ cases flags (get_or part i 0) (ap (folded flags) read ∙ stands_reads place stands rare within)))
+      let place : offset + (at + rare.place) ≡ offset + at + rare.place = omega arith in
+      let read : get_or part (at + rare.place) 0 ≡ get_or text (offset + at + rare.place) 0 = is.reads (at + rare.place) l ∙ ap (λ p. get_or text p 0) place in
+      false≢true (sym other ∙ of.no_other flags (get_or part (at + rare.place) 0) (ap (folded flags) read ∙ stands_reads (offset + at) stands rare.place of.within)))
 
 -- the bytes over the seam, in two pieces
 pub seam_slice : (xs ys : List ℕ) (place n b : ℕ) → place ≤ length xs → place + n ≤ length xs + length ys → length xs + b ≡ place + n

@@ -1,3 +1,4 @@
+pub mod Cases
 pub mod Found
 pub mod Rare
 pub mod Searches

@@ -5,15 +5,16 @@
 //! range     0             8        first place to last place forwards, last to first backwards
 //! ```
 //!
-//! Where case counts, candidates are found by `memchr`'s search of a substring, and where it does not, 64 places at once
-//! by two rare bytes of the pattern in both cases; each is tested for the words about it. Matches over the seam of the two slices
-//! are compared byte by byte. What a match is, and which one is answered, is said by `ed_model`: `match_in`.
+//! Where case counts and words do not, matches are found by `memchr`'s search of a substring. Else two rare bytes of the
+//! pattern, in both cases, tell of 64 places at once where it may stand; each of these is tested for the words about it and
+//! compared. Matches over the seam of the two slices are compared byte by byte. What a match is, and which one is
+//! answered, is said by `ed_model`: `match_in`.
 #![tactic(auto)]
 
 ghost use Rattle.std.specs.Prelude.{◌≡◌, ◌+◌, ◌≤◌, ◌++◌, length};
 ghost use Rattle.ed_model.specs.Matches.{match_in};
 
-mod any_case;
+mod by_rare_bytes;
 mod bytes;
 mod exact;
 mod flags;

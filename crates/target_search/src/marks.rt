@@ -1,19 +1,32 @@
-//! Marks of 64 bytes at once: which of them are one byte.
+//! Marks of 64 places at once: where two bytes stand at their distance, in either case.
 
-ghost use Rattle.std.specs.Prelude.{◌≡◌, ◌≢◌, ℕ, ◌+◌, ◌≤◌, ◌<◌, ◌==◌, false, length, slice_index};
+ghost use Rattle.std.specs.Prelude.{◌≡◌, ◌≢◌, ℕ, ◌+◌, ◌≤◌, ◌<◌, ◌&&◌, false, length, slice_index};
 ghost use Rattle.std.specs.Int.{bit_at};
+ghost use Rattle.target_search.specs.Cases.{is_either};
 
 use std::simd::prelude::*;
 
-/// Bit k is clear where byte k of the 64 from `at` on is another one.
+/// Bit k is clear where byte k of the 64 from `first_at` on is not `first`, in either case, or byte k of those from
+/// `second_at` on not `second`.
 #[inline(always)]
-pub(crate) fn marks_of(byte: u8, bytes: &[u8], at: usize) -> u64
-    requires { at + 64 ≤ length bytes.now }
-    ensures { (k : ℕ) → k < 64 → bit_at result k ≡ 0 → (slice_index bytes.now (at + k) == byte) ≡ false }
+pub(crate) fn marks_of_two(
+    bytes: &[u8],
+    first: (u8, u8),
+    first_at: usize,
+    second: (u8, u8),
+    second_at: usize,
+) -> u64
+    requires first { first_at + 64 ≤ length bytes.now }
+    requires second { second_at + 64 ≤ length bytes.now }
+    ensures { (k : ℕ) → k < 64 → bit_at result k ≡ 0
+        → (is_either first (slice_index bytes.now (first_at + k)) && is_either second (slice_index bytes.now (second_at + k))) ≡ false }
 {
-    u8x64::from_slice(&bytes[at..])
-        .simd_eq(u8x64::splat(byte))
-        .to_bitmask()
+    let firsts = u8x64::from_slice(&bytes[first_at..]);
+    let seconds = u8x64::from_slice(&bytes[second_at..]);
+    let are_first = firsts.simd_eq(u8x64::splat(first.0)) | firsts.simd_eq(u8x64::splat(first.1));
+    let are_second = seconds.simd_eq(u8x64::splat(second.0))
+        | seconds.simd_eq(u8x64::splat(second.1));
+    (are_first & are_second).to_bitmask()
 }
 
 /// The lowest bit that is set.

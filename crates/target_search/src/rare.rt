@@ -1,10 +1,11 @@
 //! Bytes of a pattern that are rare in texts, by which places where it cannot stand are passed over.
 
-ghost use Rattle.std.specs.Prelude.{◌≡◌, ℕ, ◌+◌, ◌≤◌, ◌<◌, ◌==◌, ◌||◌, true, false, length, slice_index};
+ghost use Rattle.std.specs.Prelude.{◌≡◌, ℕ, ◌+◌, ◌≤◌, ◌<◌, ◌&&◌, true, false, length, slice_index};
 ghost use Rattle.std.specs.Int.{bit_at};
 ghost use Rattle.ed_model.specs.Matches.{folded};
+ghost use Rattle.target_search.specs.Cases.{is_either};
 
-use crate::marks::marks_of;
+use crate::marks::marks_of_two;
 use memchr::arch::all::packedpair::{DefaultFrequencyRank, HeuristicFrequencyRank};
 
 /// A byte of a pattern in both cases.
@@ -12,13 +13,13 @@ use memchr::arch::all::packedpair::{DefaultFrequencyRank, HeuristicFrequencyRank
 pub(crate) struct RareByte {
     // Its place in the pattern.
     place: usize,
-    lower: u8,
-    upper: u8,
+    // In lower and in upper case.
+    cases: (u8, u8),
 }
 
 // The byte in lower and in upper case: no other one is the same without case.
 fn in_both_cases(byte: u8) -> (u8, u8)
-    ensures { (flags other : ℕ) → folded flags other ≡ folded flags byte → (other == result.0 || other == result.1) ≡ true }
+    ensures { (flags other : ℕ) → folded flags other ≡ folded flags byte → is_either result other ≡ true }
 {
     match byte {
         b'A'..=b'Z' => (byte + 32, byte),
@@ -64,11 +65,9 @@ impl RareByte {
         requires { place < length pattern.now }
         ensures { IsRareOf result pattern.now }
     {
-        let (lower, upper) = in_both_cases(pattern[place]);
         RareByte {
             place,
-            lower,
-            upper,
+            cases: in_both_cases(pattern[place]),
         }
     }
 
@@ -82,14 +81,21 @@ impl RareByte {
         (RareByte::at(pattern, first), RareByte::at(pattern, second))
     }
 
-    /// Bit k is clear where this byte is not what it is in the pattern, if that begins at the k-th place from `start` on.
+    /// Bit k is clear where one of these two is not what it is in the pattern, if that begins at the k-th place from
+    /// `start` on.
     #[inline(always)]
-    pub(crate) fn marks(&self, bytes: &[u8], start: usize) -> u64
-        requires within { start + self.now.place + 64 ≤ length bytes.now }
+    pub(crate) fn marks_with(&self, other: &Self, bytes: &[u8], start: usize) -> u64
+        requires first { start + self.now.place + 64 ≤ length bytes.now }
+        requires second { start + other.now.place + 64 ≤ length bytes.now }
         ensures { (k : ℕ) → k < 64 → bit_at result k ≡ 0
-            → (slice_index bytes.now (start + self.now.place + k) == self.now.lower || slice_index bytes.now (start + self.now.place + k) == self.now.upper) ≡ false }
+            → (is_either self.now.cases (slice_index bytes.now (start + self.now.place + k)) && is_either other.now.cases (slice_index bytes.now (start + other.now.place + k))) ≡ false }
     {
-        marks_of(self.lower, bytes, start + self.place)
-            | marks_of(self.upper, bytes, start + self.place)
+        marks_of_two(
+            bytes,
+            self.cases,
+            start + self.place,
+            other.cases,
+            start + other.place,
+        )
     }
 }

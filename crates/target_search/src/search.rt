@@ -42,7 +42,7 @@ impl<'a> Search<'a> {
         ensures { result ≡ is_match_of self.now (offset + at) }
     {
         let bytes = &part[at..at + self.pattern.len()];
-        are_same(self.flags, bytes, self.pattern) && self.words_allow(offset + at)
+        self.words_allow(offset + at) && are_same(self.flags, bytes, self.pattern)
     }
 
     // The first match in a part of the text, which begins at `offset`.
@@ -53,10 +53,10 @@ impl<'a> Search<'a> {
         requires room { size_of self.now ≤ length part.now }
         ensures { FindsFirst (is_match_of self.now) offset (offset + length part.now + 1 - size_of self.now) result }
     {
-        if self.flags.counts_case() {
+        if self.flags.counts_case() && !self.flags.starts_words() {
             self.first_exact(part, offset)
         } else {
-            self.first_in_any_case(part, offset)
+            self.first_by_rare_bytes(part, offset)
         }
     }
 
@@ -68,10 +68,10 @@ impl<'a> Search<'a> {
         requires room { size_of self.now ≤ length part.now }
         ensures { FindsLast (is_match_of self.now) offset (offset + length part.now + 1 - size_of self.now) result }
     {
-        if self.flags.counts_case() {
+        if self.flags.counts_case() && !self.flags.starts_words() {
             self.last_exact(part, offset)
         } else {
-            self.last_in_any_case(part, offset)
+            self.last_by_rare_bytes(part, offset)
         }
     }
 
@@ -160,11 +160,12 @@ impl<'a> Search<'a> {
         requires small { place + size_of self.now < 2 ^ 64 }
         ensures { result ≡ is_match_of self.now place }
     {
-        let (front, behind) = self.pattern.split_at(self.before.len() - place);
-        if !are_same(self.flags, &self.before[place..], front) {
+        if !self.words_allow(place) {
             return false;
         }
-        are_same(self.flags, &self.after[..behind.len()], behind) && self.words_allow(place)
+        let (front, behind) = self.pattern.split_at(self.before.len() - place);
+        are_same(self.flags, &self.before[place..], front)
+            && are_same(self.flags, &self.after[..behind.len()], behind)
     }
 
     // The first match that begins from `from` up to `end`, where all of these have bytes in both halves.

@@ -1,18 +1,14 @@
-use Rattle.std.proofs.Common.{◌-◌, ◌&&◌, eqb, length, map, take, refl, sym, ap, ◌∙◌, arith, length-append}
+use Rattle.std.proofs.Common.{◌-◌, ◌&&◌, eqb, length, map, take, sym, ap, ◌∙◌, arith, length-append}
 use Rattle.std.specs.List.{starts_with}
 use Rattle.ed_model.specs.Matches.{folded}
 use Rattle.target_search.specs.Searches.{text_of}
-use Rattle.target_search.proofs.Matching.{stands_over_seam, refused_first, told_second}
+use Rattle.target_search.proofs.Matching.{stands_over_seam, told_by_bytes, words_refuse}
 use Rattle.target_search.proofs.search.Search.is_match_over_seam.Goals as goal
 
-pub returns-then-not-are_same : goal.returns-then-not-are_same
-returns-then-not-are_same c =
+pub returns-then-not-words_allow : goal.returns-then-not-words_allow
+returns-then-not-words_allow c =
     let s = c.args.self.now in
-    let behind = c.split_at.result.1.now in
-    let second = starts_with eqb (map (folded s.flags) (take (length behind) s.after.now)) (map (folded s.flags) behind) in
-    let whole = stands_over_seam s.flags s.before.now s.after.now s.pattern.now c.split_at.result.0.now behind c.args.place (length s.before.now - c.args.place)
-    c.split_at.ensures.front c.split_at.ensures.back (omega arith) (omega arith) (omega (arith, length-append s.before.now s.after.now)) in
-    refused_first s.flags (text_of s) s.pattern.now c.args.place _ (ap (λ b. b && second) (sym c.if-not-are_same.true ∙ c.are_same.ensures) ∙ whole) refl
+    sym (words_refuse s.flags (text_of s) s.pattern.now c.args.place (sym c.words_allow.ensures ∙ c.if-not-words_allow.true))
 
 pub returns-then-are_same : goal.returns-then-are_same
 returns-then-are_same c =
@@ -21,8 +17,8 @@ returns-then-are_same c =
     let second = starts_with eqb (map (folded s.flags) (take (length behind) s.after.now)) (map (folded s.flags) behind) in
     let whole = stands_over_seam s.flags s.before.now s.after.now s.pattern.now c.split_at.result.0.now behind c.args.place (length s.before.now - c.args.place)
     c.split_at.ensures.front c.split_at.ensures.back (omega arith) (omega arith) (omega (arith, length-append s.before.now s.after.now)) in
-    told_second s.flags (text_of s) s.pattern.now c.args.place c.are_same-2.result c.words_allow.result
-    (c.are_same-2.ensures ∙ ap (λ b. b && second) (sym c.if-not-are_same.false ∙ c.are_same.ensures) ∙ whole) c.if-are_same.true c.words_allow.ensures
+    told_by_bytes s.flags (text_of s) s.pattern.now c.args.place c.are_same-then-are_same.result (sym c.words_allow.ensures ∙ c.if-not-words_allow.false)
+    (c.are_same-then-are_same.ensures ∙ ap (λ b. b && second) (sym c.if-are_same.true ∙ c.are_same.ensures) ∙ whole)
 
 pub returns-else-are_same : goal.returns-else-are_same
 returns-else-are_same c =
@@ -31,5 +27,5 @@ returns-else-are_same c =
     let second = starts_with eqb (map (folded s.flags) (take (length behind) s.after.now)) (map (folded s.flags) behind) in
     let whole = stands_over_seam s.flags s.before.now s.after.now s.pattern.now c.split_at.result.0.now behind c.args.place (length s.before.now - c.args.place)
     c.split_at.ensures.front c.split_at.ensures.back (omega arith) (omega arith) (omega (arith, length-append s.before.now s.after.now)) in
-    refused_first s.flags (text_of s) s.pattern.now c.args.place c.are_same-2.result
-    (c.are_same-2.ensures ∙ ap (λ b. b && second) (sym c.if-not-are_same.false ∙ c.are_same.ensures) ∙ whole) c.if-are_same.false
+    told_by_bytes s.flags (text_of s) s.pattern.now c.args.place c.are_same.result (sym c.words_allow.ensures ∙ c.if-not-words_allow.false)
+    (c.if-are_same.false ∙ ap (λ b. b && second) (sym c.if-are_same.false ∙ c.are_same.ensures) ∙ whole)

@@ -1,21 +1,26 @@
-use Rattle.std.proofs.Common.{◌+◌, inl, inr, arith}
-use Rattle.target_search.specs.Searches.{text_of}
-use Rattle.target_search.proofs.MarkedBytes.{clear_one}
+use Rattle.std.proofs.Common.{◌≡◌, ◌+◌, get_or, false, inl, inr, subst, arith}
+use Rattle.target_search.specs.Cases.{is_either}
+use Rattle.target_search.specs.Searches.{text_of, is_match_of}
+use Rattle.target_search.proofs.Fronts.{one_fails}
 use Rattle.target_search.proofs.Matching.{not_where_other_byte}
 use Rattle.target_search.proofs.search.Search.marks.Goals as goal
 
 pub returns : goal.returns
 returns c k l clear =
     let s = c.args.self.now in
+    let part = c.args.part.now in
     let rare = c.args.rare.now in
     let other = c.args.other.now in
     let at = c.args.start + k in
-    let place = c.args.offset + c.args.start + k in
-    elim (clear_one c.marks.result c.marks-2.result k clear) [
-      | inl first ↦
-          not_where_other_byte s.flags (text_of s) s.pattern.now rare.place rare.lower rare.upper c.requires.rare.within c.requires.rare.cases c.args.part.now c.args.offset c.requires.part
-          at place (c.args.start + rare.place + k) (omega arith) (omega arith) (omega (arith, c.requires.rare.within, c.requires.room)) (c.marks.ensures k l first)
-      | inr second ↦
-          not_where_other_byte s.flags (text_of s) s.pattern.now other.place other.lower other.upper c.requires.other.within c.requires.other.cases c.args.part.now c.args.offset c.requires.part
-          at place (c.args.start + other.place + k) (omega arith) (omega arith) (omega (arith, c.requires.other.within, c.requires.room)) (c.marks-2.ensures k l second)
-    ]
+    let place : c.args.offset + at ≡ c.args.offset + c.args.start + k = omega arith in
+    let first : c.args.start + rare.place + k ≡ at + rare.place = omega arith in
+    let second : c.args.start + other.place + k ≡ at + other.place = omega arith in
+    subst (λ p. is_match_of s p ≡ false) place
+    (elim (one_fails _ _ (c.marks_with.ensures k l clear)) [
+      | inl fails ↦
+          not_where_other_byte s.flags (text_of s) s.pattern.now rare part c.args.offset at c.requires.rare c.requires.part (omega (arith, c.requires.rare.within, c.requires.room))
+          (subst (λ i. is_either rare.cases (get_or part i 0) ≡ false) first fails)
+      | inr fails ↦
+          not_where_other_byte s.flags (text_of s) s.pattern.now other part c.args.offset at c.requires.other c.requires.part (omega (arith, c.requires.other.within, c.requires.room))
+          (subst (λ i. is_either other.cases (get_or part i 0) ≡ false) second fails)
+    ])

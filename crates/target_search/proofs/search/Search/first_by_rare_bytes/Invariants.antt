@@ -1,13 +1,13 @@
-use Rattle.std.proofs.Common.{◌-◌, ◌+◌, ◌≤◌, length}
+use Rattle.std.proofs.Common.{◌-◌, ◌+◌, ◌≤◌}
 use Rattle.target_search.specs.Found.{NonePasses}
 use Rattle.target_search.specs.Searches.{is_match_of}
-use Rattle.target_search.proofs.search.Search.first_exact.Given as goal
+use Rattle.target_search.proofs.search.Search.first_by_rare_bytes.Given as goal
 
 abbrev pub invariant-searching : goal.invariant-searching
 invariant-searching l = record {
-  within : l.start ≤ length l.part;
+  within : l.start ≤ l.end;
   none : NonePasses (is_match_of l.self) l.offset (l.offset + l.start);
 }
 
 abbrev pub decreases-searching : goal.decreases-searching
-decreases-searching l = length l.part - l.start
+decreases-searching l = l.end - l.start

@@ -1,5 +1,5 @@
-//! A search in a part of the text where case does not count. Two rare bytes of the pattern, in both cases, tell of 64 places
-//! at once at which of them it may stand, and these are compared.
+//! A search in a part of the text where case does not count, or words do. Two rare bytes of the pattern, in both cases,
+//! tell of 64 places at once at which of them it may stand, and these are compared.
 
 ghost use Rattle.std.specs.Prelude.{◌≡◌, ℕ, ◌+◌, ◌-◌, ◌≤◌, ◌<◌, ◌^◌, false, length};
 ghost use Rattle.std.specs.Int.{bit_at};
@@ -29,7 +29,7 @@ impl<'a> Search<'a> {
         requires room { start + 64 + size_of self.now ≤ length part.now + 1 }
         ensures { MarksMatches self.now (offset + start) result }
     {
-        rare.marks(part, start) & other.marks(part, start)
+        rare.marks_with(other, part, start)
     }
 
     // The first match that begins where a mark is set.
@@ -105,7 +105,7 @@ impl<'a> Search<'a> {
     }
 
     /// The first match in a part of the text, which begins at `offset`.
-    pub(crate) fn first_in_any_case(&self, part: &[u8], offset: usize) -> Option<usize>
+    pub(crate) fn first_by_rare_bytes(&self, part: &[u8], offset: usize) -> Option<usize>
         requires part { IsPart (text_of self.now) part.now offset }
         requires small { offset + length part.now < 2 ^ 64 }
         requires some { 0 < size_of self.now }
@@ -126,7 +126,7 @@ impl<'a> Search<'a> {
     }
 
     /// The last one.
-    pub(crate) fn last_in_any_case(&self, part: &[u8], offset: usize) -> Option<usize>
+    pub(crate) fn last_by_rare_bytes(&self, part: &[u8], offset: usize) -> Option<usize>
         requires part { IsPart (text_of self.now) part.now offset }
         requires small { offset + length part.now < 2 ^ 64 }
         requires some { 0 < size_of self.now }

@@ -2,7 +2,7 @@ use Rattle.std.proofs.Common.{◌≡◌, ◌+◌, ◌-◌, length, Some, subst, 
 use Rattle.target_search.specs.Found.{IsLastOf}
 use Rattle.target_search.specs.Searches.{size_of, is_match_of}
 use Rattle.target_search.proofs.Finding.{none_then, last_then, last_wider}
-use Rattle.target_search.proofs.search.Search.last_in_any_case.Goals as goal
+use Rattle.target_search.proofs.search.Search.last_by_rare_bytes.Goals as goal
 
 pub returns-in-Some : goal.returns-in-Some
 returns-in-Some c =
