@@ -2,6 +2,8 @@
 #![tactic(auto)]
 
 mod cells;
+mod laws;
 mod styling;
 
 pub use cells::Cells;
+pub use laws::costs_add_up;

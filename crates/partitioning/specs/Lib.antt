@@ -1,2 +1,3 @@
 pub mod Partitions
 pub mod Stored
+pub mod SumLaws

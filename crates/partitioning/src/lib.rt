@@ -14,11 +14,13 @@
 #![tactic(auto)]
 
 mod edits;
+mod laws;
 mod lookups;
 mod places;
 mod stepping;
 mod table;
 
+pub use laws::steps_add_up;
 pub use lookups::Probes;
 pub use places::Place;
 pub use table::Partitioning;
