@@ -2,38 +2,38 @@
 #![tactic(auto)]
 
 #[cfg(test)]
-mod cell_buffer;
+mod cell_buffer_tests;
 #[cfg(test)]
-mod char_cut;
+mod char_cut_tests;
 #[cfg(test)]
-mod decorations;
+mod decorations_tests;
 #[cfg(test)]
-mod document;
+mod document_table_tests;
 #[cfg(test)]
-mod document_table;
+mod document_tests;
 #[cfg(test)]
-mod ed_types;
+mod ed_types_tests;
 #[cfg(test)]
-mod editor_session;
+mod editor_session_tests;
 #[cfg(test)]
 mod lending;
 #[cfg(test)]
-mod line_index;
+mod line_index_tests;
 #[cfg(test)]
-mod macro_script;
+mod macro_script_tests;
 #[cfg(test)]
-mod marker_store;
+mod marker_store_tests;
 #[cfg(test)]
-mod notify;
+mod notify_tests;
 #[cfg(test)]
-mod partitioning;
+mod partitioning_tests;
 #[cfg(test)]
-mod run_styles;
+mod run_styles_tests;
 #[cfg(test)]
-mod selection;
+mod selection_tests;
 #[cfg(test)]
-mod split_vector;
+mod split_vector_tests;
 #[cfg(test)]
-mod target_search;
+mod target_search_tests;
 #[cfg(test)]
-mod undo_history;
+mod undo_history_tests;
