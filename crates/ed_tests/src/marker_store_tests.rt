@@ -1,6 +1,6 @@
 //! Rows of calls of a store of markers. Each helper tests what its call asks for.
 use marker_store::{GREATEST_LINES, MarkerStore};
-use std::alloc::AllocError;
+use std::alloc::{AllocError, Global};
 use std::process::Abort;
 use std::test::Fail;
 
@@ -46,8 +46,8 @@ fn assert_masks(rt: &impl Abort, store: &MarkerStore, masks: &[u32]) {
 }
 
 // Four lines: two copies of 3 with a 5 between them on line 1, and a 0 on line 3. Handles are 1 to 4.
-fn marked_lines(rt: &HostRuntime) -> Result<MarkerStore, Fail> {
-    let mut store = MarkerStore::new(rt.alloc())?;
+fn marked_lines(rt: &impl Abort, alloc: Global) -> Result<MarkerStore, Fail> {
+    let mut store = MarkerStore::new(alloc)?;
     shift(rt, &mut store, 1, 3);
     assert_eq!(rt; add(rt, &mut store, 1, 3)?, 1);
     assert_eq!(rt; add(rt, &mut store, 1, 5)?, 2);
@@ -70,7 +70,7 @@ fn a_fresh_store(rt: HostRuntime) -> Result<(), Fail> {
 
 #[test]
 fn looks_markers_up(rt: HostRuntime) -> Result<(), Fail> {
-    let store = marked_lines(&rt)?;
+    let store = marked_lines(&rt, rt.alloc())?;
     assert_masks(&rt, &store, &[0, 40, 0, 1]);
     assert_eq!(rt; store.markers(), 4);
     assert_eq!(rt; store.line_of_handle(2), Some(1));
@@ -92,7 +92,7 @@ fn looks_markers_up(rt: HostRuntime) -> Result<(), Fail> {
 
 #[test]
 fn takes_the_first_copy_away(rt: HostRuntime) -> Result<(), Fail> {
-    let mut store = marked_lines(&rt)?;
+    let mut store = marked_lines(&rt, rt.alloc())?;
     assert!(rt; remove(&rt, &mut store, 1, Some(3)));
     assert_eq!(rt; store.line_of_handle(1), None);
     assert_eq!(rt; store.line_of_handle(4), Some(1));
@@ -110,7 +110,7 @@ fn takes_the_first_copy_away(rt: HostRuntime) -> Result<(), Fail> {
 
 #[test]
 fn takes_markers_of_all_lines_away(rt: HostRuntime) -> Result<(), Fail> {
-    let mut store = marked_lines(&rt)?;
+    let mut store = marked_lines(&rt, rt.alloc())?;
     assert!(rt; !store.delete_all(Some(7)));
     assert!(rt; store.delete_all(Some(3)));
     assert_masks(&rt, &store, &[0, 32, 0, 1]);
@@ -125,7 +125,7 @@ fn takes_markers_of_all_lines_away(rt: HostRuntime) -> Result<(), Fail> {
 
 #[test]
 fn lines_come_and_go(rt: HostRuntime) -> Result<(), Fail> {
-    let mut store = marked_lines(&rt)?;
+    let mut store = marked_lines(&rt, rt.alloc())?;
     shift(&rt, &mut store, 1, 2);
     assert_masks(&rt, &store, &[0, 0, 0, 40, 0, 1]);
     shift(&rt, &mut store, 6, 1);
