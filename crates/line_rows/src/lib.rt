@@ -1,0 +1,6 @@
+//! What a document keeps of its lines.
+#![tactic(auto)]
+
+mod values;
+
+pub use values::LineValues;
