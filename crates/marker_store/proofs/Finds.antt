@@ -1,0 +1,175 @@
+-- What a search of lines finds.
+use Rattle.std.proofs.Common.{◌≡◌, ℕ, ◌+◌, ◌-◌, ◌<◌, ◌≤◌, ◌≢◌, inl, inr, Bool, true, false, zero, suc, List, [], ◌∷◌, ◌++◌, length, get_or, take, drop, refl, sym, ap, ◌∙◌, arith, append-nil, eq-eqb}
+use Rattle.std.specs.Prelude.{find, reverse, min, not, bit_and, ◌==◌, ◌||◌, Some, None}
+use Rattle.std.specs.List.{list_any, range_with_len}
+use Rattle.std.proofs.lemmas.Bool.{cases_eq, cases_lt, ne_eqb}
+use Rattle.std.proofs.lemmas.List.{take_more, take-append-drop, reverse-append}
+use Rattle.ed_model.specs.Rows.{Marker}
+use Rattle.ed_model.specs.Numbers.{meets}
+use Rattle.ed_model.specs.DocumentPlans.{mask_of}
+use Rattle.marker_store.specs.Lines.{is_met, has_handle, first_from, last_up_to}
+use Rattle.marker_store.specs.Entries.{Entry, no_entry, AllFrom, row, rows_from}
+use Rattle.marker_store.proofs.Rows.{from_less, row-append, row-here, row-other, row_behind, length-rows}
+use Rattle.marker_store.proofs.Calls.{markers_at}
+
+-- In a range of lines.
+
+pub find_none : (p : ℕ → Bool) (a n : ℕ) → ((k : ℕ) → a ≤ k → k < a + n → p k ≡ false) → find p (range_with_len a n) ≡ None
+find_none p a zero none = refl
+find_none p a (suc n) none = rw (none a (omega arith) (omega arith)) (find_none p (a + 1) n (λ k l h. none k (omega arith) (omega arith)))
+
+pub find_some : (p : ℕ → Bool) (a n i : ℕ) → a ≤ i → i < a + n → p i ≡ true → ((k : ℕ) → a ≤ k → k < i → p k ≡ false) → find p (range_with_len a n) ≡ Some i
+find_some p a zero i l h is none = absurd (omega arith)
+find_some p a (suc n) i l h is none =
+    elim (cases_eq a i) [
+      | inl q ↦ let here : p a ≡ true = ap p q ∙ is in rw here (ap Some q)
+      | inr ne ↦ rw (none a (omega arith) (omega arith)) (find_some p (a + 1) n i (omega arith) (omega arith) is (λ k m j. none k (omega arith) (omega arith)))
+    ]
+
+range_last : (a n : ℕ) → range_with_len a (suc n) ≡ range_with_len a n ++ (a + n) ∷ []
+range_last a zero = let e : a + 0 ≡ a = omega arith in rw e refl
+range_last a (suc n) = let e : a + suc n ≡ a + 1 + n = omega arith in rw e (ap (λ l. a ∷ l) (range_last (a + 1) n))
+
+back : (n : ℕ) → reverse (range_with_len 0 (suc n)) ≡ n ∷ reverse (range_with_len 0 n)
+back n = let e : 0 + n ≡ n = omega arith in ap reverse (range_last 0 n) ∙ reverse-append (range_with_len 0 n) ((0 + n) ∷ []) ∙ rw e refl
+
+pub last_none : (p : ℕ → Bool) (n : ℕ) → ((k : ℕ) → k < n → p k ≡ false) → find p (reverse (range_with_len 0 n)) ≡ None
+last_none p zero none = refl
+last_none p (suc n) none = rw (back n, none n (omega arith)) (last_none p n (λ k h. none k (omega arith)))
+
+pub last_some : (p : ℕ → Bool) (n i : ℕ) → i < n → p i ≡ true → ((k : ℕ) → i < k → k < n → p k ≡ false) → find p (reverse (range_with_len 0 n)) ≡ Some i
+last_some p zero i h is none = absurd (omega arith)
+last_some p (suc n) i h is none =
+    elim (cases_eq n i) [
+      | inl q ↦ let here : p n ≡ true = ap p q ∙ is in rw (back n, here) (ap Some q)
+      | inr ne ↦ rw (back n, none n (omega arith) (omega arith)) (last_some p n i (omega arith) is (λ k m j. none k m (omega arith)))
+    ]
+
+-- Of a handle.
+
+-- no entry is the marker with the handle
+abbrev pub NoneHas : ℕ → List Entry → Type 0
+NoneHas handle [] = Unit {0}
+NoneHas handle (e ∷ es) = (e.marker.handle ≢ handle) × NoneHas handle es
+
+has-append : (handle : ℕ) (xs ys : List Entry) → NoneHas handle xs → NoneHas handle ys → NoneHas handle (xs ++ ys)
+has-append handle [] ys a b = b
+has-append handle (x ∷ xs) ys a b = (a.0, has-append handle xs ys a.1 b)
+
+pub has_more : (handle i : ℕ) (es : List Entry) (e : Entry) → NoneHas handle (take i es) → i < length es → e ≡ get_or es i no_entry → e.marker.handle ≢ handle → NoneHas handle (take (i + 1) es)
+has_more handle i es e a l q ne =
+    rw (take_more es i no_entry l) (has-append handle (take i es) (get_or es i no_entry ∷ []) a ((λ n. ne (ap (λ (x : Entry). x.marker.handle) q ∙ n)), tt))
+
+any_none : (handle k : ℕ) (es : List Entry) → NoneHas handle es → list_any (λ (m : Marker). m.handle == handle) (row k es) ≡ false
+any_none handle k [] a = refl
+any_none handle k (e ∷ es) a =
+    elim (cases_eq e.line k) [
+      | inl h ↦ rw (row-here k e es h, ne_eqb e.marker.handle handle a.0) (any_none handle k es a.1)
+      | inr h ↦ rw (row-other k e es h) (any_none handle k es a.1)
+    ]
+
+any_or : (p : Marker → Bool) (m : Marker) (ms : List Marker) → list_any p ms ≡ true → list_any p (m ∷ ms) ≡ true
+any_or p m ms h = go (p m)
+  where
+    go : (b : Bool) → (b || list_any p ms) ≡ true
+    go true = refl
+    go false = h
+
+any_some : (handle i : ℕ) (es : List Entry) (e : Entry) → e ≡ get_or es i no_entry → i < length es → e.marker.handle ≡ handle → list_any (λ (m : Marker). m.handle == handle) (row e.line es) ≡ true
+any_some handle i [] e q l h = absurd (omega arith)
+any_some handle zero (x ∷ es) e q l h =
+    let here : x.marker.handle ≡ handle = ap (λ (y : Entry). y.marker.handle) (sym q) ∙ h in
+    rw (row-here e.line x es (ap (λ (y : Entry). y.line) (sym q)), eq-eqb x.marker.handle handle here) refl
+any_some handle (suc i) (x ∷ es) e q l h =
+    elim (cases_eq x.line e.line) [
+      | inl a ↦ rw (row-here e.line x es a) (any_or (λ (m : Marker). m.handle == handle) x.marker (row e.line es) (any_some handle i es e q (omega arith) h))
+      | inr a ↦ rw (row-other e.line x es a) (any_some handle i es e q (omega arith) h)
+    ]
+
+module _ (handle n : ℕ) (es : List Entry) where
+  has_at : (k : ℕ) → k < n → has_handle handle (rows_from 0 n es) k ≡ list_any (λ (m : Marker). m.handle == handle) (row k es)
+  has_at k h = ap (λ ms. list_any (λ (m : Marker). m.handle == handle) ms) (markers_at n k es h)
+
+  pub line_none : NoneHas handle es → first_from (has_handle handle (rows_from 0 n es)) (rows_from 0 n es) 0 ≡ None
+  line_none a =
+      let size : length (rows_from 0 n es) - 0 ≡ n = omega (arith, length-rows 0 n es) in
+      ap (λ m. find (has_handle handle (rows_from 0 n es)) (range_with_len 0 m)) size
+      ∙ find_none (has_handle handle (rows_from 0 n es)) 0 n (λ k l h. has_at k (omega arith) ∙ any_none handle k es a)
+
+  pub line_some :
+      (i : ℕ) (e : Entry) → e ≡ get_or es i no_entry → i < length es → e.marker.handle ≡ handle → e.line < n → NoneHas handle (take i es) → AllFrom e.line (drop i es)
+      → first_from (has_handle handle (rows_from 0 n es)) (rows_from 0 n es) 0 ≡ Some e.line
+  line_some i e q l h w a b =
+      let size : length (rows_from 0 n es) - 0 ≡ n = omega (arith, length-rows 0 n es) in
+      let near : (k : ℕ) → k < e.line → row k es ≡ row k (take i es)
+      = λ k m. ap (row k) (sym (take-append-drop i es)) ∙ row-append k (take i es) (drop i es) ∙ ap (λ r. row k (take i es) ++ r) (row_behind k (drop i es) (from_less (k + 1) e.line _ (omega arith) b)) ∙ append-nil (row k (take i es)) in
+      ap (λ m. find (has_handle handle (rows_from 0 n es)) (range_with_len 0 m)) size
+      ∙ find_some (has_handle handle (rows_from 0 n es)) 0 n e.line (omega arith) (omega arith) (has_at e.line w ∙ any_some handle i es e q l h)
+      (λ k m j. has_at k (omega arith) ∙ ap (λ ms. list_any (λ (m : Marker). m.handle == handle) ms) (near k j) ∙ any_none handle k (take i es) a)
+
+-- Of a mask.
+
+module _ (mask n : ℕ) (es : List Entry) where
+  met_at : (k : ℕ) → k < n → is_met mask (rows_from 0 n es) k ≡ meets (mask_of (row k es)) mask
+  met_at k h = ap (λ ms. meets (mask_of ms) mask) (markers_at n k es h)
+
+  met_empty : (k : ℕ) → k < n → row k es ≡ [] → is_met mask (rows_from 0 n es) k ≡ false
+  met_empty k h e = met_at k h ∙ ap (λ ms. meets (mask_of ms) mask) e
+
+  met_yes : (k m : ℕ) → k < n → m ≡ mask_of (row k es) → (bit_and m mask ≡ 0 → ⊥) → is_met mask (rows_from 0 n es) k ≡ true
+  met_yes k m h e ne = met_at k h ∙ ap (λ x. meets x mask) (sym e) ∙ ap not (ne_eqb (bit_and m mask) 0 ne)
+
+  met_no : (k m : ℕ) → k < n → m ≡ mask_of (row k es) → bit_and m mask ≡ 0 → is_met mask (rows_from 0 n es) k ≡ false
+  met_no k m h e z = met_at k h ∙ ap (λ x. meets x mask) (sym e) ∙ ap not (eq-eqb (bit_and m mask) 0 z)
+
+  size : length (rows_from 0 n es) ≡ n
+  size = length-rows 0 n es
+
+  -- no line from the one up to the other is met
+  abbrev pub NoneMet : ℕ → ℕ → Type 0
+  NoneMet from to = (k : ℕ) → from ≤ k → k < to → k < n → is_met mask (rows_from 0 n es) k ≡ false
+
+  -- nor is one where no marker is
+  pub none_met_more : (from line to : ℕ) → NoneMet from line → ((k : ℕ) → line ≤ k → k < to → row k es ≡ []) → NoneMet from to
+  none_met_more from line to none empty k a b h =
+      elim (cases_lt k line) [ inl l ↦ none k a l h | inr l ↦ met_empty k h (empty k l b) ]
+
+  pub none_met_next : (from line m : ℕ) → NoneMet from line → m ≡ mask_of (row line es) → bit_and m mask ≡ 0 → NoneMet from (line + 1)
+  none_met_next from line m none e z k a b h =
+      elim (cases_eq k line) [
+        | inl q ↦ rw q (met_no line m (omega arith) e z)
+        | inr ne ↦ none k a (omega arith) h
+      ]
+
+  pub next_none : (from : ℕ) → NoneMet from n → first_from (is_met mask (rows_from 0 n es)) (rows_from 0 n es) from ≡ None
+  next_none from none =
+      find_none (is_met mask (rows_from 0 n es)) from (length (rows_from 0 n es) - from) (λ k l h. none k l (omega (arith, size)) (omega (arith, size)))
+
+  pub next_some : (from line m : ℕ) → from ≤ line → line < n → NoneMet from line → m ≡ mask_of (row line es) → (bit_and m mask ≡ 0 → ⊥)
+      → first_from (is_met mask (rows_from 0 n es)) (rows_from 0 n es) from ≡ Some line
+  next_some from line m l h none e ne =
+      find_some (is_met mask (rows_from 0 n es)) from (length (rows_from 0 n es) - from) line l (omega (arith, size)) (met_yes line m h e ne)
+      (λ k a b. none k a b (omega arith))
+
+  pub previous_none : (from : ℕ) → NoneMet 0 (min (from + 1) n) → last_up_to (is_met mask (rows_from 0 n es)) (rows_from 0 n es) from ≡ None
+  previous_none from none =
+      ap (λ j. find (is_met mask (rows_from 0 n es)) (reverse (range_with_len 0 (min (from + 1) j)))) size
+      ∙ last_none (is_met mask (rows_from 0 n es)) (min (from + 1) n) (λ k h. none k (omega arith) h (omega arith))
+
+  pub previous_some : (from line m : ℕ) → line < min (from + 1) n → NoneMet (line + 1) (min (from + 1) n) → m ≡ mask_of (row line es) → (bit_and m mask ≡ 0 → ⊥)
+      → last_up_to (is_met mask (rows_from 0 n es)) (rows_from 0 n es) from ≡ Some line
+  previous_some from line m h none e ne =
+      ap (λ j. find (is_met mask (rows_from 0 n es)) (reverse (range_with_len 0 (min (from + 1) j)))) size
+      ∙ last_some (is_met mask (rows_from 0 n es)) (min (from + 1) n) line h (met_yes line m (omega arith) e ne) (λ k a b. none k (omega arith) b (omega arith))
+
+  -- going back, where no marker is
+  pub none_met_back : (low high to : ℕ) → NoneMet high to → ((k : ℕ) → low ≤ k → k < high → row k es ≡ []) → NoneMet low to
+  none_met_back low high to none empty k a b h =
+      elim (cases_lt k high) [ inl l ↦ met_empty k h (empty k a l) | inr l ↦ none k l b h ]
+
+  pub none_met_here : (line to m : ℕ) → NoneMet (line + 1) to → m ≡ mask_of (row line es) → bit_and m mask ≡ 0 → NoneMet line to
+  none_met_here line to m none e z k a b h =
+      elim (cases_eq k line) [
+        | inl q ↦ rw q (met_no line m (omega arith) e z)
+        | inr ne ↦ none k (omega arith) b h
+      ]

@@ -1,0 +1,9 @@
+pub mod Calls
+pub mod Deletions
+pub mod Finds
+pub mod Indexes
+pub mod Joins
+pub mod Moves
+pub mod Passes
+pub mod Rows
+pub mod Starts

@@ -1,0 +1,7 @@
+use Rattle.std.proofs.Common.{◌≡◌, take}
+use Rattle.ed_model.specs.DocumentPlans.{mask_of}
+use Rattle.marker_store.specs.Entries.{row}
+use Rattle.marker_store.proofs.placed.PlacedMarkers.mask.Given as goal
+
+abbrev pub invariant-loop-index : goal.invariant-loop-index
+invariant-loop-index g l = l.mask ≡ mask_of (row l.line (take l.index l.self.entries))

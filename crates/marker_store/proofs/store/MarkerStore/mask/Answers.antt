@@ -1,0 +1,16 @@
+use Rattle.std.proofs.Common.{◌<◌, arith, sym, ap, ◌∙◌}
+use Rattle.ed_model.specs.DocumentPlans.{mask_of}
+use Rattle.marker_store.proofs.Rows.{length-rows}
+use Rattle.marker_store.proofs.Calls.{markers_at}
+use Rattle.marker_store.proofs.store.MarkerStore.mask.Goals as goal
+
+pub mask-requires : goal.mask-requires
+mask-requires g c =
+    let line = rw (← c.self.view_is) at c.requires in
+    omega (arith, line, length-rows 0 c.self.inside.placed.count c.self.inside.placed.entries)
+
+pub returns : goal.returns
+returns g c =
+    let line = rw (← c.self.view_is) at c.requires in
+    let inside : c.args.line < c.self.inside.placed.count = omega (arith, line, length-rows 0 c.self.inside.placed.count c.self.inside.placed.entries) in
+    rw (← c.self.view_is) (c.mask.ensures ∙ ap mask_of (sym (markers_at c.self.inside.placed.count c.args.line c.self.inside.placed.entries inside)))

@@ -1,0 +1,153 @@
+-- How markers are stored: in one list, in the order of their lines, and behind one another on a line. The start that
+-- belongs to a marker says how many lines end before it and how many markers stand before it or at it.
+use Rattle.std.specs.Prelude.{◌≡◌, ◌⊎◌, ℕ, zero, suc, ◌+◌, ◌-◌, ◌^◌, ◌<◌, ◌≤◌, ◌==◌, if◌then◌else◌, List, [], ◌∷◌, ◌++◌, length, map, take, drop, slice_index_or, Option, Some, None, refl}
+use Rattle.std.specs.Coded.{Coded, code_by, coded×, coded_list, coded_ℕ}
+use Rattle.partitioning.specs.Partitions.{ArePartitions}
+use Rattle.ed_model.specs.Rows.{Marker}
+use Rattle.marker_store.specs.Lines.{marker, marker_code}
+
+-- a marker and its line
+pub record Entry : Type 0 where
+  pub line : ℕ
+  pub marker : Marker
+
+abbrev pub entry : ℕ → Marker → Entry
+entry line marker = record { line = line; marker = marker }
+
+-- how many lines there are, the markers in order, and how many more fit in without more memory
+pub record Placed : Type 0 where
+  pub count : ℕ
+  pub entries : List Entry
+  pub room : ℕ
+
+abbrev pub placed : ℕ → List Entry → ℕ → Placed
+placed count entries room = record { count = count; entries = entries; room = room }
+
+abbrev pub entry_code : Coded Entry
+entry_code = code_by (ℕ × Marker) (coded× coded_ℕ marker_code) (λ e. (e.line, e.marker)) (λ p. entry p.0 p.1) (λ _. refl)
+
+abbrev pub placed_code : Coded Placed
+placed_code =
+    code_by (ℕ × (List Entry × ℕ)) (coded× coded_ℕ (coded× (coded_list entry_code) coded_ℕ))
+    (λ p. (p.count, (p.entries, p.room))) (λ q. placed q.0 q.1.0 q.1.1) (λ _. refl)
+
+-- the entries of these starts, of which the first belongs to the k-th marker, counted from 1
+abbrev pub entries_from : ℕ → List ℕ → List Marker → List Entry
+entries_from k [] ms = []
+entries_from k (s ∷ ss) [] = []
+entries_from k (s ∷ ss) (m ∷ ms) = entry (s - k) m ∷ entries_from (suc k) ss ms
+
+-- the first start belongs to no marker
+abbrev pub entries_of : List ℕ → List Marker → List Entry
+entries_of [] ms = []
+entries_of (s ∷ ss) ms = entries_from 1 ss ms
+
+-- each entry's line is before the line, or is not before it
+abbrev pub AllBefore : ℕ → List Entry → Type 0
+AllBefore line [] = Unit {0}
+AllBefore line (e ∷ es) = (e.line < line) × AllBefore line es
+
+abbrev pub AllFrom : ℕ → List Entry → Type 0
+AllFrom line [] = Unit {0}
+AllFrom line (e ∷ es) = (line ≤ e.line) × AllFrom line es
+
+-- the entries before the index are before the line, and the others are not
+pub record IsCut (line : ℕ) (es : List Entry) (index : ℕ) : Type 0 where
+  pub within : index ≤ length es
+  pub before : AllBefore line (take index es)
+  pub behind : AllFrom line (drop index es)
+
+abbrev pub raised : ℕ → List Entry → List Entry
+raised n es = map (λ (e : Entry). entry (e.line + n) e.marker) es
+
+abbrev pub lowered : ℕ → List Entry → List Entry
+lowered n es = map (λ (e : Entry). entry (e.line - n) e.marker) es
+
+-- what a call does to the entries, with the index that it finds
+pub record IsRaised (line n : ℕ) (old new : List Entry) : Type 0 where
+  pub index : ℕ
+  pub cut : IsCut line old index
+  pub is : new ≡ take index old ++ raised n (drop index old)
+
+-- the lines behind the line, n of them, are joined to it; no entry is on one of them but the last
+pub record IsLowered (line n : ℕ) (old new : List Entry) : Type 0 where
+  pub index : ℕ
+  pub before : AllBefore (line + 1) (take index old)
+  pub behind : AllFrom (line + n) (drop index old)
+  pub is : new ≡ take index old ++ lowered n (drop index old)
+
+pub record IsPut (line : ℕ) (marker : Marker) (old new : List Entry) : Type 0 where
+  pub index : ℕ
+  pub cut : IsCut (line + 1) old index
+  pub is : new ≡ take index old ++ (entry line marker ∷ drop index old)
+
+-- What holds of the fields: a start for each marker and one more, in the order of the lines, each marker on a line that
+-- there is, and the room that was promised.
+pub record IsPlaced (starts : List ℕ) (end starts_room : ℕ) (markers : List Marker) (spare room : ℕ) : Type 0 where
+  pub paired : length starts ≡ length markers + 1
+  pub sound : ArePartitions starts end
+  pub some : length markers < end
+  pub within : AllBefore (end - length markers) (entries_of starts markers)
+  pub for_starts : room ≤ starts_room
+  pub for_markers : room ≤ spare
+
+-- the list of a line
+abbrev pub row : ℕ → List Entry → List Marker
+row k [] = []
+row k (e ∷ es) = if e.line == k then e.marker ∷ row k es else row k es
+
+-- the lists of n lines from line k on
+abbrev pub rows_from : ℕ → ℕ → List Entry → List (List Marker)
+rows_from k zero es = []
+rows_from k (suc n) es = row k es ∷ rows_from (suc k) n es
+
+abbrev pub rows_of : Placed → List (List Marker)
+rows_of p = rows_from 0 p.count p.entries
+
+-- What holds of a store: its lines are no more than can be, and its markers fewer than handles were given.
+pub record IsStore (p : Placed) (next_handle : ℕ) : Type 0 where
+  pub some : 0 < p.count
+  pub few : p.count ≤ 2 ^ 62
+  pub fewer : length p.entries < next_handle
+  pub within : AllBefore p.count p.entries
+
+abbrev pub no_entry : Entry
+no_entry = entry 0 (marker 0 0)
+
+-- the line's entries go
+pub record IsCleared (line : ℕ) (old new : List Entry) : Type 0 where
+  pub from : ℕ
+  pub to : ℕ
+  pub from_cut : IsCut line old from
+  pub to_cut : IsCut (line + 1) old to
+  pub is : new ≡ take from old ++ drop to old
+
+-- no entry is a marker with the number on the line
+abbrev pub NoneIs : ℕ → ℕ → List Entry → Type 0
+NoneIs line number [] = Unit {0}
+NoneIs line number (e ∷ es) = (e.line ≡ line → e.marker.number ≡ number → ⊥) × NoneIs line number es
+
+-- the index is that of the line's first marker with the number
+pub record IsFirst (line number : ℕ) (es : List Entry) (index : ℕ) : Type 0 where
+  pub within : index < length es
+  pub none_before : NoneIs line number (take index es)
+  pub on_line : (slice_index_or es index no_entry).line ≡ line
+  pub with_number : (slice_index_or es index no_entry).marker.number ≡ number
+
+-- the line's first marker with the number goes, if there is one
+abbrev pub IsFirstGone : ℕ → ℕ → List Entry → List Entry → Type 0
+IsFirstGone line number old new =
+    (NoneIs line number old × (new ≡ old))
+    ⊎ ((index : ℕ) × IsFirst line number old index × (new ≡ take index old ++ drop (index + 1) old))
+
+-- no line from the line on has a marker, or the lines from there up to the one that is found
+abbrev pub IsMarkedFrom : ℕ → Placed → Option ℕ → Type 0
+IsMarkedFrom line p None = AllBefore line p.entries
+IsMarkedFrom line p (Some marked) =
+    (line ≤ marked) × (marked < p.count) × ((k : ℕ) → line ≤ k → k < marked → row k p.entries ≡ [])
+
+-- the same of the lines before the line, back to the one that is found
+abbrev pub IsMarkedBefore : ℕ → Placed → Option ℕ → Type 0
+IsMarkedBefore line p None = AllFrom line p.entries
+IsMarkedBefore line p (Some marked) =
+    (marked < line) × (marked < p.count) × ((k : ℕ) → marked < k → k < line → row k p.entries ≡ [])

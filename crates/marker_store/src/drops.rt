@@ -1,0 +1,26 @@
+//! Which markers a call takes away.
+ghost use Rattle.std.specs.Prelude.{◌≡◌};
+ghost use Rattle.marker_store.specs.Dropping.{is_dropped};
+
+use crate::markers::Marker;
+
+/// All markers, those with a number, or the one with a handle.
+#[derive(Clone, Copy, Drop)]
+pub enum Drops {
+    Each,
+    Number(u32),
+    Handle(u32),
+}
+
+impl Drops {
+    /// Returns whether the marker is one of them.
+    pub(crate) fn takes(&self, marker: &Marker) -> bool
+        ensures { result ≡ is_dropped self.now marker.now }
+    {
+        match *self {
+            Drops::Each => true,
+            Drops::Number(number) => marker.number() == number,
+            Drops::Handle(handle) => marker.handle() == handle,
+        }
+    }
+}

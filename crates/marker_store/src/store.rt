@@ -1,0 +1,234 @@
+//! `MarkerStore` and its calls. A clause sees it as the list of markers of each line, the next handle and its room.
+ghost use Rattle.std.specs.Prelude.{◌≡◌, ◌≢◌, ◌≤◌, ◌<◌, ◌+◌, ◌-◌, ◌^◌, ◌==◌, ◌↔◌, [], ◌∷◌, ◌++◌, length, max, slice_set, option_map, is_some, IsTrue, IsSome, IfOk, OnOk, OnErr, IsOk};
+ghost use Rattle.ed_model.specs.Changes.{new_markers, without_marker, is_of_number};
+ghost use Rattle.ed_model.specs.DocumentPlans.{mask_of};
+ghost use Rattle.marker_store.specs.Lines.{marked_lines, markers_of, marker_total, with_fresh, with_joined, without, is_met, has_handle, first_from, last_up_to};
+
+use crate::drops::Drops;
+use crate::markers::Marker;
+use crate::placed::PlacedMarkers;
+use std::alloc::{AllocError, Allocator, Global};
+use std::marker::Model;
+
+/// How many lines there can be.
+pub const GREATEST_LINES: usize = 1 << 62;
+
+/// The markers of each line, in their order.
+///
+/// Lines are counted from 0; there is always one at least. A marker has a number from 0 to 31, and a handle: handles
+/// rise from 1, and none is used again.
+#[derive(Drop)]
+pub struct MarkerStore<A: Allocator = Global> {
+    placed: PlacedMarkers<A>,
+    next_handle: u32,
+}
+
+impl<A: Allocator> Model for MarkerStore<A> {
+    ghost use Rattle.marker_store.specs.Lines.{MarkedLines, marked_lines, marked_lines_code};
+    ghost use Rattle.marker_store.specs.Entries.{rows_of, IsStore};
+
+    ghost Value = { MarkedLines };
+
+    ghost coded = { marked_lines_code };
+
+    ghost view = { λ s. marked_lines (rows_of s.placed) s.next_handle s.placed.room };
+
+    ghost invariant = { λ s. IsStore s.placed s.next_handle };
+}
+
+impl<A: Allocator + Copy> MarkerStore<A> {
+    /// Returns the markers of one line, which has none. The next handle is 1.
+    ///
+    /// # Errors
+    ///
+    /// `AllocError` where the memory for the store itself is refused.
+    pub fn new(alloc: A) -> Result<Self, AllocError>
+        ensures { IfOk result (λ s. s ≡ marked_lines ([] ∷ []) 1 0) }
+    {
+        let placed = PlacedMarkers::new(alloc)?;
+        Ok(MarkerStore {
+            placed,
+            next_handle: 1,
+        })
+    }
+}
+
+impl<A: Allocator> MarkerStore<A> {
+    /// Returns the number of lines.
+    pub fn lines(&self) -> usize
+        ensures lines { result ≡ length self.now.lines }
+        ensures within { (0 < length self.now.lines) × (length self.now.lines ≤ GREATEST_LINES) }
+    {
+        self.placed.count()
+    }
+
+    /// Returns the number of markers on all lines.
+    pub fn markers(&self) -> usize
+        ensures markers { result ≡ marker_total self.now.lines }
+        ensures fewer { marker_total self.now.lines < self.now.next_handle }
+    {
+        self.placed.len()
+    }
+
+    /// Returns the handle that the next marker gets.
+    pub fn next_handle(&self) -> u32
+        ensures { result ≡ self.now.next_handle }
+    {
+        self.next_handle
+    }
+
+    /// Makes room for `count` more markers, on whichever lines.
+    ///
+    /// # Errors
+    ///
+    /// `AllocError` where the memory is refused. All is then as it was.
+    pub fn reserve(&mut self, count: usize) -> Result<(), AllocError>
+        ensures ok { OnOk result (self.new ≡ record self.old { room = max self.old.room count }) }
+        ensures room_is_there { count ≤ self.old.room → IsOk result × (self.new ≡ self.old) }
+        ensures err { OnErr result (self.new ≡ self.old) }
+    {
+        self.placed.reserve(count)
+    }
+
+    /// Puts a marker with the number behind those of the line, and returns its handle. It takes room for one.
+    pub fn add_reserved(&mut self, line: usize, number: u32) -> u32
+        requires line { line < length self.old.lines }
+        requires number { number < 32 }
+        requires room { 0 < self.old.room }
+        requires handles { self.old.next_handle < 2 ^ 32 - 1 }
+        ensures handle { result ≡ self.old.next_handle }
+        ensures lines { self.new.lines ≡ slice_set self.old.lines line (markers_of line self.old.lines ++ new_markers self.old.next_handle (number ∷ [])) }
+        ensures next_handle { self.new.next_handle ≡ self.old.next_handle + 1 }
+        ensures room { self.new.room + 1 ≡ self.old.room }
+    {
+        let handle = self.next_handle;
+        self.placed.put(line, Marker::new(handle, number));
+        self.next_handle += 1;
+        handle
+    }
+
+    /// Takes the line's first marker with the number away, or all of its markers where no number is named. Returns
+    /// whether there was one. Their room comes back.
+    pub fn delete(&mut self, line: usize, number: Option<u32>) -> bool
+        requires { line < length self.old.lines }
+        ensures went { IsTrue result ↔ (marker_total self.new.lines ≢ marker_total self.old.lines) }
+        ensures lines { self.new.lines ≡ slice_set self.old.lines line (without_marker number (markers_of line self.old.lines)) }
+        ensures next_handle { self.new.next_handle ≡ self.old.next_handle }
+        ensures room { self.new.room + marker_total self.new.lines ≡ self.old.room + marker_total self.old.lines }
+    {
+        let markers = self.placed.len();
+        match number {
+            None => self.placed.clear_line(line),
+            Some(number) => self.placed.remove_first(line, number),
+        }
+        self.placed.len() != markers
+    }
+
+    /// Takes all markers with the number away, or all markers where none is named. Returns whether there was one. Their
+    /// room comes back.
+    pub fn delete_all(&mut self, number: Option<u32>) -> bool
+        ensures went { IsTrue result ↔ (marker_total self.new.lines ≢ marker_total self.old.lines) }
+        ensures lines { self.new.lines ≡ without (is_of_number number) self.old.lines }
+        ensures next_handle { self.new.next_handle ≡ self.old.next_handle }
+        ensures room { self.new.room + marker_total self.new.lines ≡ self.old.room + marker_total self.old.lines }
+    {
+        let markers = self.placed.len();
+        match number {
+            None => self.placed.remove_all(Drops::Each),
+            Some(number) => self.placed.remove_all(Drops::Number(number)),
+        }
+        self.placed.len() != markers
+    }
+
+    /// Takes the marker with the handle away, and returns its line, or `None` where no marker has the handle. Its room
+    /// comes back.
+    pub fn delete_handle(&mut self, handle: u32) -> Option<usize>
+        ensures line { result ≡ first_from (has_handle handle self.old.lines) self.old.lines 0 }
+        ensures lines { self.new.lines ≡ without (λ m. m.handle == handle) self.old.lines }
+        ensures next_handle { self.new.next_handle ≡ self.old.next_handle }
+        ensures room { self.new.room + marker_total self.new.lines ≡ self.old.room + marker_total self.old.lines }
+    {
+        let line = self.line_of_handle(handle);
+        self.placed.remove_all(Drops::Handle(handle));
+        line
+    }
+
+    /// Returns the line of the marker with the handle, or `None` where no marker has it.
+    pub fn line_of_handle(&self, handle: u32) -> Option<usize>
+        ensures { result ≡ first_from (has_handle handle self.now.lines) self.now.lines 0 }
+    {
+        self.placed.line_of_handle(handle)
+    }
+
+    /// Returns the line's mask: the bit of each number that a marker of the line has.
+    pub fn mask(&self, line: usize) -> u32
+        requires { line < length self.now.lines }
+        ensures { result ≡ mask_of (markers_of line self.now.lines) }
+    {
+        self.placed.mask(line)
+    }
+
+    /// Returns the first line, from `from` on, whose mask has a bit in common with `mask`.
+    pub fn next(&self, from: usize, mask: u32) -> Option<usize>
+        ensures { result ≡ first_from (is_met mask self.now.lines) self.now.lines from }
+    {
+        let lines = self.placed.count();
+        let mut line = from;
+        'looking: while line < lines {
+            let marked = self.placed.marked_from(line)?;
+            if self.placed.mask(marked) & mask != 0 {
+                return Some(marked);
+            }
+            line = marked + 1;
+        }
+        None
+    }
+
+    /// Returns the last line, up to and with `from`, whose mask has a bit in common with `mask`.
+    pub fn previous(&self, from: usize, mask: u32) -> Option<usize>
+        ensures { result ≡ last_up_to (is_met mask self.now.lines) self.now.lines from }
+    {
+        let lines = self.placed.count();
+        // How many lines are left to look at.
+        let mut left = if from < lines { from + 1 } else { lines };
+        'looking: while left > 0 {
+            let marked = self.placed.marked_before(left)?;
+            if self.placed.mask(marked) & mask != 0 {
+                return Some(marked);
+            }
+            left = marked;
+        }
+        None
+    }
+
+    /// Puts `count` lines without markers in before `line`, or at the end. It takes no memory.
+    pub fn shift(&mut self, line: usize, count: usize)
+        requires line { line ≤ length self.old.lines }
+        requires fits { length self.old.lines + count ≤ GREATEST_LINES }
+        ensures { self.new ≡ record self.old { lines = with_fresh line count self.old.lines } }
+    {
+        self.placed.raise(line, count);
+    }
+
+    /// Joins the `count` lines behind `line` to it: their markers come behind its own, in their order. It takes no memory.
+    pub fn merge(&mut self, line: usize, count: usize)
+        requires { line + count < length self.old.lines }
+        ensures { self.new ≡ record self.old { lines = with_joined line count self.old.lines } }
+    {
+        let mut left = count;
+        'joining: while left > 0 {
+            left -= self.placed.join_next(line, left);
+        }
+    }
+
+    /// Leaves one line, without markers. Their room comes back, and handles go on from where they were.
+    pub fn restart(&mut self)
+        ensures lines { self.new.lines ≡ [] ∷ [] }
+        ensures next_handle { self.new.next_handle ≡ self.old.next_handle }
+        ensures room { self.new.room ≡ self.old.room + marker_total self.old.lines }
+    {
+        self.placed.remove_all(Drops::Each);
+        let lines = self.placed.count();
+        self.merge(0, lines - 1);
+    }
+}
