@@ -1,3 +1,4 @@
 pub mod Edits
 pub mod Padded
-pub mod Rows
+pub mod RowParts
+pub mod RowReads

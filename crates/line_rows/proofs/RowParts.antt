@@ -103,3 +103,16 @@ rows_carried (edit ∷ edits) ms ls ss e f =
     ap (after_edits rows_together edits) (rows_edited edit ms ls ss e f)
     ∙ rows_carried edits (after_edit markers_together ms edit) (after_edit (first_or base_level) ls edit) (after_edit (first_or (pos 0)) ss edit)
     (same_edit markers_together (first_or base_level) edit ms ls e) (same_edit markers_together (first_or (pos 0)) edit ms ss f)
+
+pub same_edits : {A B : Type 0} (t : List A → A) (u : List B → B) (edits : List LineEdit) (xs : List A) (ys : List B) → length xs ≡ length ys → length (after_edits t edits xs) ≡ length (after_edits u edits ys)
+same_edits t u [] xs ys e = e
+same_edits t u (edit ∷ edits) xs ys e = same_edits t u edits (after_edit t xs edit) (after_edit u ys edit) (same_edit t u edit xs ys e)
+
+-- the rows, once each part was carried
+pub carried : (edits : List LineEdit) (ms ms' : List (List Marker)) (ls ls' : List ℕ) (ss ss' : List ℤ) (level : ℕ) (state : ℤ) → length ms ≡ length ls → length ms ≡ length ss → level ≡ base_level → state ≡ pos 0 →
+    ms' ≡ after_edits markers_together edits ms → ls' ≡ after_edits (first_or level) edits ls → ss' ≡ after_edits (first_or state) edits ss → rows_of ms' ls' ss' ≡ after_edits rows_together edits (rows_of ms ls ss)
+carried edits ms ms' ls ls' ss ss' level state e f base zeros em el es =
+    ap (λ m. rows_of m ls' ss') em
+    ∙ ap (λ l. rows_of (after_edits markers_together edits ms) l ss') (el ∙ ap (λ d. after_edits (first_or d) edits ls) base)
+    ∙ ap (rows_of (after_edits markers_together edits ms) (after_edits (first_or base_level) edits ls)) (es ∙ ap (λ d. after_edits (first_or d) edits ss) zeros)
+    ∙ sym (rows_carried edits ms ls ss e f)
