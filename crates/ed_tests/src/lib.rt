@@ -3,3 +3,5 @@
 
 #[cfg(test)]
 mod decorations;
+#[cfg(test)]
+mod line_rows;

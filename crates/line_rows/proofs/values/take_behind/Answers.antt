@@ -8,8 +8,8 @@ use Rattle.line_rows.proofs.values.take_behind.Goals.{then-before-line-via-then-
 pub returns-then-before-line-clause-values : goal.returns-then-before-line-clause-values
 returns-then-before-line-clause-values g c = λ default lines h w.
     elim c.then-before-line.branch [
-      then-before-line-via-then-before-line b ↦ padded_joined_behind default c.args.stored.now.items lines c.args.line c.args.count h (omega arith) w
-    | then-before-line-via-else-before-line+then-before-line-le1 b ↦ padded_joined_behind default c.args.stored.now.items lines c.args.line c.args.count h (omega arith) w
+      | then-before-line-via-then-before-line b ↦ padded_joined_behind default c.args.stored.now.items lines c.args.line c.args.count h (omega arith) w
+      | then-before-line-via-else-before-line+then-before-line-le1 b ↦ padded_joined_behind default c.args.stored.now.items lines c.args.line c.args.count h (omega arith) w
     ]
 
 pub returns-clause-values : goal.returns-clause-values
