@@ -6,6 +6,8 @@ mod cell_buffer_tests;
 #[cfg(test)]
 mod char_cut_tests;
 #[cfg(test)]
+mod decorations;
+#[cfg(test)]
 mod decorations_tests;
 #[cfg(test)]
 mod document_table_tests;
@@ -19,6 +21,8 @@ mod editor_session_tests;
 mod lending;
 #[cfg(test)]
 mod line_index_tests;
+#[cfg(test)]
+mod line_rows;
 #[cfg(test)]
 mod macro_script_tests;
 #[cfg(test)]

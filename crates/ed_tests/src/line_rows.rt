@@ -1,0 +1,95 @@
+//! Rows of calls of `LineRows`.
+use line_index::LineEdit;
+use line_rows::{BASE_LEVEL, LineRows};
+use std::alloc::AllocError;
+use std::process::Abort;
+use std::test::Fail;
+
+// `count` fresh lines come before a line.
+fn come(
+    rt: &impl Abort,
+    rows: &mut LineRows,
+    line: usize,
+    count: usize,
+) -> Result<(), AllocError> {
+    rows.reserve(count)?;
+    let lines = rows.count();
+    assert!(rt; line <= lines && count <= 1000 && lines <= 1000);
+    rows.carry(&[LineEdit::Come { line, count }]);
+    Ok(())
+}
+
+// The `count` lines behind a line are joined to it.
+fn join(rt: &impl Abort, rows: &mut LineRows, line: usize, count: usize) {
+    let lines = rows.count();
+    assert!(rt; lines <= 1000 && line < lines && count < lines - line);
+    rows.carry(&[LineEdit::Join { line, count }]);
+}
+
+fn mark(
+    rt: &impl Abort,
+    rows: &mut LineRows,
+    line: usize,
+    number: u32,
+) -> Result<u32, AllocError> {
+    rows.reserve_markers(1)?;
+    assert!(rt; line < rows.count() && number < 32 && rows.next_handle() < 1000);
+    Ok(rows.add_reserved(line, number))
+}
+
+fn set(
+    rt: &impl Abort,
+    rows: &mut LineRows,
+    line: usize,
+    level: u32,
+    state: i32,
+) -> Result<(), AllocError> {
+    assert!(rt; line < 1000);
+    rows.reserve_levels(line + 1)?;
+    rows.reserve_states(line + 1)?;
+    assert!(rt; line < rows.count());
+    let _ = rows.set_level(line, level);
+    let _ = rows.set_state(line, state);
+    Ok(())
+}
+
+fn has(rt: &impl Abort, rows: &LineRows, line: usize, mask: u32, level: u32, state: i32) {
+    assert!(rt; line < rows.count());
+    assert!(rt; rows.mask(line) == mask && rows.level(line) == level && rows.state(line) == state);
+}
+
+// Rows go with their lines; lines that meet keep all markers, and the first's level and state.
+#[test]
+fn rows_through_edits(rt: HostRuntime) -> Result<(), Fail> {
+    let mut rows = LineRows::new(rt.alloc())?;
+    assert!(&rt; rows.count() == 1 && rows.next_handle() == 1);
+    come(&rt, &mut rows, 1, 3)?;
+    assert!(&rt; mark(&rt, &mut rows, 1, 5)? == 1);
+    assert!(&rt; mark(&rt, &mut rows, 2, 31)? == 2);
+    set(&rt, &mut rows, 1, 0x2400, -7)?;
+    set(&rt, &mut rows, 2, 0x401, 9)?;
+    has(&rt, &rows, 1, 1 << 5, 0x2400, -7);
+    has(&rt, &rows, 2, 1 << 31, 0x401, 9);
+    // fresh lines before line 1 move it on, and are fresh
+    come(&rt, &mut rows, 1, 2)?;
+    assert!(&rt; rows.count() == 6);
+    has(&rt, &rows, 1, 0, BASE_LEVEL, 0);
+    has(&rt, &rows, 2, 0, BASE_LEVEL, 0);
+    has(&rt, &rows, 3, 1 << 5, 0x2400, -7);
+    assert!(&rt; rows.line_of_handle(2) == Some(4));
+    assert!(&rt; rows.next(0, 1 << 31) == Some(4) && rows.previous(5, 1 << 5) == Some(3));
+    join(&rt, &mut rows, 3, 1);
+    has(&rt, &rows, 3, 1 << 5 | 1 << 31, 0x2400, -7);
+    assert!(&rt; rows.levels().count() == 5);
+    assert!(&rt; rows.delete_handle(1) == Some(3) && rows.delete_handle(1) == None);
+    assert!(&rt; rows.delete_all(Some(31)) && !rows.delete_all(None));
+    assert!(&rt; mark(&rt, &mut rows, 0, 0)? == 3);
+    assert!(&rt; 0 < rows.count());
+    assert!(&rt; rows.delete(0, None));
+    rows.reserve(1)?;
+    assert!(&rt; rows.count() <= 1000);
+    rows.carry(&[LineEdit::Restart]);
+    assert!(&rt; rows.count() == 1);
+    has(&rt, &rows, 0, 0, BASE_LEVEL, 0);
+    Ok(())
+}

@@ -1,0 +1,4 @@
+pub mod Edits
+pub mod Padded
+pub mod RowParts
+pub mod RowReads

@@ -1,0 +1,61 @@
+use Rattle.std.proofs.Common.{◌≡◌, ◌+◌, ◌-◌, ◌<◌, ◌≤◌, ◌==◌, ◌∷◌, ◌++◌, ℕ, ℤ, pos, Bool, List, length, set, drop, Option, sym, ap, ◌∙◌, subst, arith}
+use Rattle.line_rows.proofs.RowReads.{parts_length}
+use Rattle.line_rows.proofs.RowParts.{same_edits, carried}
+use Rattle.line_index.specs.Edits.{FitLines, after_edits}
+use Rattle.ed_model.specs.Rows.{rows_together}
+use Rattle.line_rows.specs.Rows.{markers_together}
+use Rattle.line_rows.specs.Values.{first_or}
+use Rattle.line_rows.specs.Kept.{row_room, KeptRows, levels_of, row_at}
+use Rattle.line_rows.proofs.rows.LineRows.carry.Goals as goal
+
+pub carry_markers-requires-clause-lines : goal.carry_markers-requires-clause-lines
+carry_markers-requires-clause-lines c =
+    let d = c.self.inside in
+    let P : ℕ → Type 0 = λ n. FitLines n c.args.edits.now in
+    subst P (sym (parts_length d.markers.lines d.levels.values d.states.values d.markers.next_handle (row_room d.levels.room d.levels.reach d.states.reach d.markers.room) c.args.self.now c.self.invariant.levelled c.self.invariant.stated c.self.view_is)) c.requires.lines
+
+pub carry-requires-clause-lines : goal.carry-requires-clause-lines
+carry-requires-clause-lines c =
+    let d = c.self.inside in
+    let P : ℕ → Type 0 = λ n. FitLines n c.args.edits.now in
+    subst P (sym (sym c.self.invariant.levelled ∙ parts_length d.markers.lines d.levels.values d.states.values d.markers.next_handle (row_room d.levels.room d.levels.reach d.states.reach d.markers.room) c.args.self.now c.self.invariant.levelled c.self.invariant.stated c.self.view_is)) c.requires.lines
+
+pub carry-requires-2-clause-lines : goal.carry-requires-2-clause-lines
+carry-requires-2-clause-lines c =
+    let d = c.self.inside in
+    let P : ℕ → Type 0 = λ n. FitLines n c.args.edits.now in
+    subst P (sym (sym c.self.invariant.stated ∙ parts_length d.markers.lines d.levels.values d.states.values d.markers.next_handle (row_room d.levels.room d.levels.reach d.states.reach d.markers.room) c.args.self.now c.self.invariant.levelled c.self.invariant.stated c.self.view_is)) c.requires.lines
+
+pub carry_markers-requires-clause-fits : goal.carry_markers-requires-clause-fits
+carry_markers-requires-clause-fits c =
+    let d = c.self.inside in
+    omega (arith, c.requires.fits, parts_length d.markers.lines d.levels.values d.states.values d.markers.next_handle (row_room d.levels.room d.levels.reach d.states.reach d.markers.room) c.args.self.now c.self.invariant.levelled c.self.invariant.stated c.self.view_is)
+
+pub carry-requires-clause-fits : goal.carry-requires-clause-fits
+carry-requires-clause-fits c =
+    let d = c.self.inside in
+    omega (arith, c.requires.fits, parts_length d.markers.lines d.levels.values d.states.values d.markers.next_handle (row_room d.levels.room d.levels.reach d.states.reach d.markers.room) c.args.self.now c.self.invariant.levelled c.self.invariant.stated c.self.view_is)
+
+pub carry-requires-2-clause-fits : goal.carry-requires-2-clause-fits
+carry-requires-2-clause-fits c =
+    let d = c.self.inside in
+    omega (arith, c.requires.fits, parts_length d.markers.lines d.levels.values d.states.values d.markers.next_handle (row_room d.levels.room d.levels.reach d.states.reach d.markers.room) c.args.self.now c.self.invariant.levelled c.self.invariant.stated c.self.view_is)
+
+pub invariant_of-self : goal.invariant_of-self
+invariant_of-self c =
+    let d = c.self.inside in
+    let edits = c.args.edits.now in
+    record {
+      levelled = ap length c.carry_markers.ensures.lines ∙ same_edits markers_together (first_or d.levels.default) edits d.markers.lines d.levels.values c.self.invariant.levelled ∙ sym (ap length c.carry.ensures.values);
+      stated = ap length c.carry_markers.ensures.lines ∙ same_edits markers_together (first_or d.states.default) edits d.markers.lines d.states.values c.self.invariant.stated ∙ sym (ap length c.carry-2.ensures.values);
+      base = c.carry.ensures.default ∙ c.self.invariant.base;
+      zero_state = c.carry-2.ensures.default ∙ c.self.invariant.zero_state;
+      for_states = omega (arith, c.carry.ensures.room, c.carry-2.ensures.room, c.self.invariant.for_states);
+    }
+
+pub returns-clause-rows : goal.returns-clause-rows
+returns-clause-rows c =
+    let d = c.self.inside in
+    carried c.args.edits.now d.markers.lines c.carry_markers.new.markers.lines d.levels.values c.carry.new.self.values d.states.values c.carry-2.new.self.values d.levels.default d.states.default c.self.invariant.levelled c.self.invariant.stated c.self.invariant.base c.self.invariant.zero_state
+    c.carry_markers.ensures.lines c.carry.ensures.values c.carry-2.ensures.values
+    ∙ ap (λ (v : KeptRows). after_edits rows_together c.args.edits.now v.rows) c.self.view_is

@@ -1,0 +1,36 @@
+use Rattle.std.proofs.Common.{◌≡◌, ◌+◌, ◌-◌, ◌<◌, ◌≤◌, ◌==◌, ◌∷◌, ◌++◌, ℕ, ℤ, pos, Bool, List, length, set, drop, Option, sym, ap, ◌∙◌, subst, arith}
+use Rattle.line_rows.proofs.RowReads.{went, rows_count, parts_length, rows_deleted}
+use Rattle.ed_model.specs.Changes.{marker_count}
+use Rattle.std.proofs.lemmas.List.{length-set, length-map}
+use Rattle.marker_store.specs.Lines.{marker_total}
+use Rattle.ed_model.specs.Rows.{Marker}
+use Rattle.line_rows.specs.Kept.{row_room, KeptRows, levels_of, row_at}
+use Rattle.line_rows.proofs.rows.LineRows.delete.Goals as goal
+
+pub delete-requires : goal.delete-requires
+delete-requires c =
+    let d = c.self.inside in
+    omega (arith, parts_length d.markers.lines d.levels.values d.states.values d.markers.next_handle (row_room d.levels.room d.levels.reach d.states.reach d.markers.room) c.args.self.now c.self.invariant.levelled c.self.invariant.stated c.self.view_is)
+
+pub returns-clause-rows : goal.returns-clause-rows
+returns-clause-rows c =
+    let d = c.self.inside in
+    rows_deleted d.markers.lines c.delete.new.self.lines d.levels.values d.states.values d.markers.next_handle (row_room d.levels.room d.levels.reach d.states.reach d.markers.room) c.args.self.now c.args.line c.args.number c.self.invariant.levelled c.self.invariant.stated c.delete.ensures.lines c.self.view_is
+
+pub returns-clause-went : goal.returns-clause-went
+returns-clause-went c =
+    let d = c.self.inside in
+    let new = c.delete.new.self in
+    let long : length new.lines ≡ length d.markers.lines = ap length c.delete.ensures.lines ∙ length-set {A = List Marker} d.markers.lines c.args.line _ in
+    let after = rows_count new.lines d.levels.values d.states.values (long ∙ c.self.invariant.levelled) (long ∙ c.self.invariant.stated) in
+    let before = rows_count d.markers.lines d.levels.values d.states.values c.self.invariant.levelled c.self.invariant.stated in
+    went c.delete.result (marker_total new.lines) (marker_total d.markers.lines) _ _ after (before ∙ ap (λ (v : KeptRows). marker_count v.rows) c.self.view_is) c.delete.ensures.went
+
+pub returns-clause-marker_room : goal.returns-clause-marker_room
+returns-clause-marker_room c =
+    let d = c.self.inside in
+    let new = c.delete.new.self in
+    let long : length new.lines ≡ length d.markers.lines = ap length c.delete.ensures.lines ∙ length-set {A = List Marker} d.markers.lines c.args.line _ in
+    let after = rows_count new.lines d.levels.values d.states.values (long ∙ c.self.invariant.levelled) (long ∙ c.self.invariant.stated) in
+    let before = rows_count d.markers.lines d.levels.values d.states.values c.self.invariant.levelled c.self.invariant.stated in
+    ap (λ n. new.room + n) (sym after) ∙ c.delete.ensures.room ∙ ap (λ n. d.markers.room + n) before ∙ ap (λ (v : KeptRows). v.room.markers + marker_count v.rows) c.self.view_is

@@ -1,0 +1,32 @@
+use Rattle.std.proofs.Common.{◌≡◌, ◌+◌, ◌-◌, ◌<◌, ◌≤◌, ◌==◌, ◌∷◌, ◌++◌, ℕ, ℤ, pos, Bool, List, length, set, drop, Option, sym, ap, ◌∙◌, subst, arith}
+use Rattle.line_rows.proofs.RowReads.{went, rows_count, rows_dropped}
+use Rattle.ed_model.specs.Changes.{is_of_number}
+use Rattle.ed_model.specs.Changes.{marker_count}
+use Rattle.std.proofs.lemmas.List.{length-set, length-map}
+use Rattle.marker_store.specs.Lines.{marker_total}
+use Rattle.ed_model.specs.Rows.{Marker}
+use Rattle.line_rows.specs.Kept.{row_room, KeptRows, levels_of, row_at}
+use Rattle.line_rows.proofs.rows.LineRows.delete_all.Goals as goal
+
+pub returns-clause-rows : goal.returns-clause-rows
+returns-clause-rows c =
+    let d = c.self.inside in
+    rows_dropped (is_of_number c.args.number) d.markers.lines c.delete_all.new.self.lines d.levels.values d.states.values d.markers.next_handle (row_room d.levels.room d.levels.reach d.states.reach d.markers.room) c.args.self.now c.delete_all.ensures.lines c.self.view_is
+
+pub returns-clause-went : goal.returns-clause-went
+returns-clause-went c =
+    let d = c.self.inside in
+    let new = c.delete_all.new.self in
+    let long : length new.lines ≡ length d.markers.lines = ap length c.delete_all.ensures.lines ∙ length-map {A = List Marker} {B = List Marker} d.markers.lines _ in
+    let after = rows_count new.lines d.levels.values d.states.values (long ∙ c.self.invariant.levelled) (long ∙ c.self.invariant.stated) in
+    let before = rows_count d.markers.lines d.levels.values d.states.values c.self.invariant.levelled c.self.invariant.stated in
+    went c.delete_all.result (marker_total new.lines) (marker_total d.markers.lines) _ _ after (before ∙ ap (λ (v : KeptRows). marker_count v.rows) c.self.view_is) c.delete_all.ensures.went
+
+pub returns-clause-marker_room : goal.returns-clause-marker_room
+returns-clause-marker_room c =
+    let d = c.self.inside in
+    let new = c.delete_all.new.self in
+    let long : length new.lines ≡ length d.markers.lines = ap length c.delete_all.ensures.lines ∙ length-map {A = List Marker} {B = List Marker} d.markers.lines _ in
+    let after = rows_count new.lines d.levels.values d.states.values (long ∙ c.self.invariant.levelled) (long ∙ c.self.invariant.stated) in
+    let before = rows_count d.markers.lines d.levels.values d.states.values c.self.invariant.levelled c.self.invariant.stated in
+    ap (λ n. new.room + n) (sym after) ∙ c.delete_all.ensures.room ∙ ap (λ n. d.markers.room + n) before ∙ ap (λ (v : KeptRows). v.room.markers + marker_count v.rows) c.self.view_is

@@ -1,0 +1,30 @@
+use Rattle.std.proofs.Common.{◌≡◌, ◌+◌, ◌-◌, ◌<◌, ◌≤◌, ◌==◌, ◌∷◌, ◌++◌, ℕ, ℤ, pos, Bool, List, length, set, drop, Option, sym, ap, ◌∙◌, subst, arith}
+use Rattle.line_rows.proofs.RowReads.{went, rows_count, rows_dropped, found_from}
+use Rattle.ed_model.specs.Rows.{Marker}
+use Rattle.std.specs.List.{list_any}
+use Rattle.ed_model.specs.Numbers.{meets}
+use Rattle.ed_model.specs.DocumentPlans.{mask_of}
+use Rattle.ed_model.specs.Changes.{marker_count}
+use Rattle.std.proofs.lemmas.List.{length-set, length-map}
+use Rattle.marker_store.specs.Lines.{marker_total}
+use Rattle.line_rows.specs.Kept.{row_room, KeptRows, levels_of, row_at}
+use Rattle.line_rows.proofs.rows.LineRows.delete_handle.Goals as goal
+
+pub returns-clause-line : goal.returns-clause-line
+returns-clause-line c =
+    let d = c.self.inside in
+    c.delete_handle.ensures.line ∙ found_from (λ ms. list_any (λ (m : Marker). m.handle == c.args.handle) ms) d.markers.lines d.levels.values d.states.values d.markers.next_handle (row_room d.levels.room d.levels.reach d.states.reach d.markers.room) c.args.self.now 0 c.self.invariant.levelled c.self.invariant.stated c.self.view_is
+
+pub returns-clause-rows : goal.returns-clause-rows
+returns-clause-rows c =
+    let d = c.self.inside in
+    rows_dropped (λ (m : Marker). m.handle == c.args.handle) d.markers.lines c.delete_handle.new.self.lines d.levels.values d.states.values d.markers.next_handle (row_room d.levels.room d.levels.reach d.states.reach d.markers.room) c.args.self.now c.delete_handle.ensures.lines c.self.view_is
+
+pub returns-clause-marker_room : goal.returns-clause-marker_room
+returns-clause-marker_room c =
+    let d = c.self.inside in
+    let new = c.delete_handle.new.self in
+    let long : length new.lines ≡ length d.markers.lines = ap length c.delete_handle.ensures.lines ∙ length-map {A = List Marker} {B = List Marker} d.markers.lines _ in
+    let after = rows_count new.lines d.levels.values d.states.values (long ∙ c.self.invariant.levelled) (long ∙ c.self.invariant.stated) in
+    let before = rows_count d.markers.lines d.levels.values d.states.values c.self.invariant.levelled c.self.invariant.stated in
+    ap (λ n. new.room + n) (sym after) ∙ c.delete_handle.ensures.room ∙ ap (λ n. d.markers.room + n) before ∙ ap (λ (v : KeptRows). v.room.markers + marker_count v.rows) c.self.view_is

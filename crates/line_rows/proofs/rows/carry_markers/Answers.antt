@@ -1,0 +1,30 @@
+use Rattle.std.proofs.Common.{◌≡◌, ◌+◌, ◌<◌, ◌∷◌, List, length, drop, get_or, sym, ap, ◌∙◌, subst, arith}
+use Rattle.std.proofs.lemmas.List.{drop_more}
+use Rattle.line_index.specs.declared.edit.LineEdit.{LineEdit}
+use Rattle.line_index.specs.declared.edit.LineEdit.TheVariants.{Come}
+use Rattle.line_index.specs.Edits.{after_edits, FitLines, lines_after_edit, fresh_by, fresh_lines}
+use Rattle.line_rows.specs.Rows.{markers_together}
+use Rattle.line_rows.proofs.Edits.{edit_length, edit_adds}
+use Rattle.line_rows.proofs.rows.carry_markers.Goals as goal
+
+pub loop-edit-preserved : goal.loop-edit-preserved
+loop-edit-preserved c =
+    let edits = c.args.edits.now in
+    let i = c.loop-edit.edit-index in
+    let edit = get_or edits i (Come 0 0) in
+    let left = drop (i + 1) edits in
+    let old = c.loop-edit.markers.lines in
+    let inside : i < length edits = omega arith in
+    let next : drop i edits ≡ edit ∷ left = drop_more edits i (Come 0 0) inside in
+    let P : List LineEdit → Type 0 = λ es. FitLines (length old) es in
+    let fit = subst P next c.loop-edit.invariant.lines in
+    let fresh : fresh_lines (drop i edits) ≡ fresh_by edit + fresh_lines left = ap fresh_lines next in
+    let long : length c.carry_one.new.markers.lines ≡ lines_after_edit (length old) edit = ap length c.carry_one.ensures.lines ∙ edit_length markers_together old edit fit.0 in
+    let adds = edit_adds (length old) edit in
+    record {
+      markers = ap (after_edits markers_together left) c.carry_one.ensures.lines ∙ ap (λ es. after_edits markers_together es old) (sym next) ∙ c.loop-edit.invariant.markers;
+      next_handle = c.carry_one.ensures.next_handle ∙ c.loop-edit.invariant.next_handle;
+      lines = rw long fit.1;
+      fits = omega (arith, c.loop-edit.invariant.fits);
+      room = omega (arith, c.loop-edit.invariant.room, c.carry_one.ensures.room);
+    }

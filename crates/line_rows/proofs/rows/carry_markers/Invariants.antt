@@ -1,0 +1,16 @@
+use Rattle.std.proofs.Common.{◌≡◌, ◌+◌, ◌≤◌, ◌^◌, length, drop}
+use Rattle.line_index.specs.Edits.{after_edits, FitLines, fresh_lines}
+use Rattle.line_rows.specs.Rows.{markers_together}
+use Rattle.line_rows.proofs.rows.carry_markers.Given as goal
+
+-- the edits that are left lead to the same markers
+abbrev pub invariant-loop-edit : goal.invariant-loop-edit
+invariant-loop-edit l =
+    let left = drop l.edit-index l.edits in
+    record {
+      markers : after_edits markers_together left l.markers.lines ≡ after_edits markers_together l.edits l.initial.markers.lines;
+      next_handle : l.markers.next_handle ≡ l.initial.markers.next_handle;
+      lines : FitLines (length l.markers.lines) left;
+      fits : length l.markers.lines + fresh_lines left ≤ 2 ^ 62;
+      room : l.initial.markers.room ≤ l.markers.room;
+    }

@@ -1,0 +1,55 @@
+-- What a contract sees of `LineRows`.
+use Rattle.std.specs.Prelude.{◌≡◌, ℕ, ℤ, pos, ◌≤◌, ◌-◌, ◌+◌, ◌==◌, Bool, List, length, map, min, slice_index_or, Option, find, reverse}
+use Rattle.std.specs.List.{range_with_len, list_any}
+use Rattle.ed_model.specs.Numbers.{meets}
+use Rattle.ed_model.specs.Rows.{Marker, Row, fresh_row, base_level}
+use Rattle.ed_model.specs.DocumentPlans.{mask_of}
+
+-- For how many fresh lines there is room; of how many lines, from the first on, a level can be set, and of how many a state; and for
+-- how many markers.
+pub record RowRoom : Type 0 where
+  pub lines : ℕ
+  pub levels : ℕ
+  pub states : ℕ
+  pub markers : ℕ
+
+-- the row of each line, and the handle that the next marker gets
+pub record KeptRows : Type 0 where
+  pub rows : List Row
+  pub next_handle : ℕ
+  pub room : RowRoom
+
+abbrev pub row_room : ℕ → ℕ → ℕ → ℕ → RowRoom
+row_room lines levels states markers = record { lines = lines; levels = levels; states = states; markers = markers }
+
+abbrev pub kept_rows : List Row → ℕ → RowRoom → KeptRows
+kept_rows rows handle room = record { rows = rows; next_handle = handle; room = room }
+
+abbrev pub row_at : List Row → ℕ → Row
+row_at rows line = slice_index_or rows line fresh_row
+
+abbrev pub levels_of : List Row → List ℕ
+levels_of rows = map (λ (row : Row). row.level) rows
+
+-- whether the line's mask has a bit in common with the mask
+abbrev pub is_marked : ℕ → List Row → ℕ → Bool
+is_marked mask rows line = meets (mask_of (row_at rows line).markers) mask
+
+-- whether the line has a marker with the handle
+abbrev pub has_handle : ℕ → List Row → ℕ → Bool
+has_handle handle rows line = list_any (λ (m : Marker). m.handle == handle) (row_at rows line).markers
+
+-- the first line that passes, from the line on, or from the line back
+abbrev pub first_from : (ℕ → Bool) → List Row → ℕ → Option ℕ
+first_from test rows line = find test (range_with_len line (length rows - line))
+
+abbrev pub last_up_to : (ℕ → Bool) → List Row → ℕ → Option ℕ
+last_up_to test rows line = find test (reverse (range_with_len 0 (min (line + 1) (length rows))))
+
+-- as many levels and states as lines with markers, and no less room for fresh lines among the states than among the levels
+pub record AreParts (lines : List (List Marker)) (levels : List ℕ) (states : List ℤ) (level : ℕ) (state : ℤ) (level_room state_room : ℕ) : Type 0 where
+  pub levelled : length lines ≡ length levels
+  pub stated : length lines ≡ length states
+  pub base : level ≡ base_level
+  pub zero_state : state ≡ pos 0
+  pub for_states : level_room ≤ state_room

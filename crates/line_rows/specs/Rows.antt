@@ -1,0 +1,24 @@
+-- Rows of lines, whose markers, levels and states are kept apart.
+use Rattle.std.specs.Prelude.{◌≡◌, ℕ, ℤ, pos, List, [], ◌∷◌, length, flat_map}
+use Rattle.ed_model.specs.Rows.{Marker, Row, base_level, rows_together}
+use Rattle.line_index.specs.declared.edit.LineEdit.{LineEdit}
+use Rattle.line_index.specs.Edits.{after_edits}
+use Rattle.line_rows.specs.Values.{first_or}
+
+-- the row of each line, of its markers, its level and its state
+abbrev pub rows_of : List (List Marker) → List ℕ → List ℤ → List Row
+rows_of [] levels states = []
+rows_of (m ∷ ms) [] states = []
+rows_of (m ∷ ms) (l ∷ ls) [] = []
+rows_of (m ∷ ms) (l ∷ ls) (s ∷ ss) = record { markers = m; level = l; state = s } ∷ rows_of ms ls ss
+
+-- the markers of lines that meet
+abbrev pub markers_together : List (List Marker) → List Marker
+markers_together markers = flat_map (λ ms. ms) markers
+
+-- rows are carried as their markers, levels and states are, each by itself
+abbrev pub PartsCarryRows : Type 0
+PartsCarryRows =
+    (edits : List LineEdit) (markers : List (List Marker)) (levels : List ℕ) (states : List ℤ) → length markers ≡ length levels → length markers ≡ length states
+    → after_edits rows_together edits (rows_of markers levels states)
+    ≡ rows_of (after_edits markers_together edits markers) (after_edits (first_or base_level) edits levels) (after_edits (first_or (pos 0)) edits states)

@@ -1,0 +1,307 @@
+//! `LineRows` and its calls.
+ghost use Rattle.std.specs.Prelude.{◌≡◌, ◌≢◌, ◌↔◌, IsTrue, ◌≤◌, ◌<◌, ◌+◌, ◌-◌, ◌^◌, ◌==◌, ◌∷◌, ◌++◌, [], length, max, slice_set, pos, IfOk, OnOk, OnErr, IsOk};
+ghost use Rattle.ed_model.specs.Changes.{with_markers, new_markers, without_marker, without_markers, is_of_number, marker_count};
+ghost use Rattle.ed_model.specs.DocumentPlans.{mask_of};
+ghost use Rattle.ed_model.specs.Rows.{Marker, fresh_row, rows_together};
+ghost use Rattle.line_index.specs.Edits.{after_edit, after_edits, FitsLines, FitLines, fresh_by, fresh_lines};
+ghost use Rattle.line_rows.specs.Kept.{kept_rows, row_room, row_at, levels_of, is_marked, has_handle, first_from, last_up_to};
+ghost use Rattle.line_rows.specs.Rows.{markers_together};
+
+use crate::values::LineValues;
+use line_index::LineEdit;
+use marker_store::MarkerStore;
+use std::alloc::{AllocError, Global};
+use std::marker::Model;
+
+/// The fold level of a line that none was set for.
+pub const BASE_LEVEL: u32 = 0x400;
+
+/// The markers, the fold level and the state of each line, counted from 0.
+#[derive(Drop)]
+pub struct LineRows {
+    markers: MarkerStore,
+    levels: LineValues<u32>,
+    states: LineValues<i32>,
+}
+
+impl Model for LineRows {
+    ghost use Rattle.line_rows.specs.Kept.{KeptRows, kept_rows, row_room, AreParts};
+    ghost use Rattle.line_rows.specs.Rows.{rows_of};
+
+    ghost Value = { KeptRows };
+
+    ghost view = { λ r. kept_rows (rows_of r.markers.lines r.levels.values r.states.values) r.markers.next_handle (row_room r.levels.room r.levels.reach r.states.reach r.markers.room) };
+
+    ghost invariant = { λ r. AreParts r.markers.lines r.levels.values r.states.values r.levels.default r.states.default r.levels.room r.states.room };
+}
+
+// Carries the markers of lines through one edit.
+fn carry_one(markers: &mut MarkerStore, edit: LineEdit)
+    requires lines { FitsLines (length markers.old.lines) edit }
+    requires fits { length markers.old.lines + fresh_by edit ≤ 2 ^ 62 }
+    ensures lines { markers.new.lines ≡ after_edit markers_together markers.old.lines edit }
+    ensures next_handle { markers.new.next_handle ≡ markers.old.next_handle }
+    ensures room { markers.old.room ≤ markers.new.room }
+{
+    match edit {
+        LineEdit::Come { line, count } => markers.shift(line, count),
+        LineEdit::Join { line, count } => markers.merge(line, count),
+        LineEdit::Restart => markers.restart(),
+    }
+}
+
+// Carries the markers of lines through edits.
+fn carry_markers(markers: &mut MarkerStore, edits: &[LineEdit])
+    requires lines { FitLines (length markers.old.lines) edits.now }
+    requires fits { length markers.old.lines + fresh_lines edits.now ≤ 2 ^ 62 }
+    ensures lines { markers.new.lines ≡ after_edits markers_together edits.now markers.old.lines }
+    ensures next_handle { markers.new.next_handle ≡ markers.old.next_handle }
+    ensures room { markers.old.room ≤ markers.new.room }
+{
+    for edit in edits {
+        carry_one(markers, *edit);
+    }
+}
+
+impl LineRows {
+    /// Returns the rows of one fresh line. The next handle is 1.
+    ///
+    /// # Errors
+    ///
+    /// `AllocError` where memory is refused.
+    pub fn new(alloc: Global) -> Result<Self, AllocError>
+        ensures rows { IfOk result (λ r. r.rows ≡ fresh_row ∷ []) }
+        ensures next_handle { IfOk result (λ r. r.next_handle ≡ 1) }
+    {
+        let markers = MarkerStore::new(alloc)?;
+        Ok(LineRows {
+            markers,
+            levels: LineValues::new(alloc, BASE_LEVEL),
+            states: LineValues::new(alloc, 0),
+        })
+    }
+
+    /// Returns the number of lines, which is at least 1.
+    pub fn count(&self) -> usize
+        ensures count { result ≡ length self.now.rows }
+        ensures within { (0 < length self.now.rows) × (length self.now.rows ≤ 2 ^ 62) }
+    {
+        self.markers.lines()
+    }
+
+    /// Makes room for `lines` fresh lines.
+    ///
+    /// # Errors
+    ///
+    /// `AllocError` where memory is refused. All is then as it was.
+    pub fn reserve(&mut self, lines: usize) -> Result<(), AllocError>
+        ensures ok { OnOk result (self.new ≡ record self.old { room = record self.old.room { lines = max self.old.room.lines lines } }) }
+        ensures room_is_there { lines ≤ self.old.room.lines → IsOk result × (self.new ≡ self.old) }
+        ensures err { OnErr result (self.new ≡ self.old) }
+    {
+        let Ok(()) = self.states.reserve(lines, 0) else {
+            return Err(AllocError);
+        };
+        let Ok(()) = self.levels.reserve(lines, 0) else {
+            return Err(AllocError);
+        };
+        Ok(())
+    }
+
+    /// Makes room for the levels of the first `count` lines.
+    ///
+    /// # Errors
+    ///
+    /// `AllocError` where memory is refused. All is then as it was.
+    pub fn reserve_levels(&mut self, count: usize) -> Result<(), AllocError>
+        ensures ok { OnOk result (self.new ≡ record self.old { room = record self.old.room { levels = max self.old.room.levels count } }) }
+        ensures room_is_there { count ≤ self.old.room.levels → IsOk result × (self.new ≡ self.old) }
+        ensures err { OnErr result (self.new ≡ self.old) }
+    {
+        let Ok(()) = self.levels.reserve(0, count) else {
+            return Err(AllocError);
+        };
+        Ok(())
+    }
+
+    /// Makes room for the states of the first `count` lines.
+    ///
+    /// # Errors
+    ///
+    /// `AllocError` where memory is refused. All is then as it was.
+    pub fn reserve_states(&mut self, count: usize) -> Result<(), AllocError>
+        ensures ok { OnOk result (self.new ≡ record self.old { room = record self.old.room { states = max self.old.room.states count } }) }
+        ensures room_is_there { count ≤ self.old.room.states → IsOk result × (self.new ≡ self.old) }
+        ensures err { OnErr result (self.new ≡ self.old) }
+    {
+        let Ok(()) = self.states.reserve(0, count) else {
+            return Err(AllocError);
+        };
+        Ok(())
+    }
+
+    /// Makes room for `count` markers.
+    ///
+    /// # Errors
+    ///
+    /// `AllocError` where memory is refused. All is then as it was.
+    pub fn reserve_markers(&mut self, count: usize) -> Result<(), AllocError>
+        ensures ok { OnOk result (self.new ≡ record self.old { room = record self.old.room { markers = max self.old.room.markers count } }) }
+        ensures room_is_there { count ≤ self.old.room.markers → IsOk result × (self.new ≡ self.old) }
+        ensures err { OnErr result (self.new ≡ self.old) }
+    {
+        let Ok(()) = self.markers.reserve(count) else {
+            return Err(AllocError);
+        };
+        Ok(())
+    }
+
+    /// Carries the rows through edits of lines. There must be room for the fresh lines. Markers of lines that go give
+    /// their room back.
+    pub fn carry(&mut self, edits: &[LineEdit])
+        requires lines { FitLines (length self.old.rows) edits.now }
+        requires fits { length self.old.rows + fresh_lines edits.now ≤ 2 ^ 62 }
+        requires room { fresh_lines edits.now ≤ self.old.room.lines }
+        ensures rows { self.new.rows ≡ after_edits rows_together edits.now self.old.rows }
+        ensures next_handle { self.new.next_handle ≡ self.old.next_handle }
+        ensures line_room { self.new.room.lines + fresh_lines edits.now ≡ self.old.room.lines }
+        ensures level_room { self.new.room.levels ≡ self.old.room.levels }
+        ensures state_room { self.new.room.states ≡ self.old.room.states }
+        ensures marker_room { self.old.room.markers ≤ self.new.room.markers }
+    {
+        carry_markers(&mut self.markers, edits);
+        self.levels.carry(edits);
+        self.states.carry(edits);
+    }
+
+    /// Lends the levels of all lines.
+    pub fn levels(&self) -> &LineValues<u32>
+        ensures { result.now.values ≡ levels_of self.now.rows }
+    {
+        &self.levels
+    }
+
+    /// Returns the fold level of a line.
+    pub fn level(&self, line: usize) -> u32
+        requires { line < length self.now.rows }
+        ensures { result ≡ (row_at self.now.rows line).level }
+    {
+        self.levels.get(line)
+    }
+
+    /// Returns the state of a line.
+    pub fn state(&self, line: usize) -> i32
+        requires { line < length self.now.rows }
+        ensures { result ≡ (row_at self.now.rows line).state }
+    {
+        self.states.get(line)
+    }
+
+    /// Sets the fold level of a line, for which there must be room. Returns the one before.
+    pub fn set_level(&mut self, line: usize, level: u32) -> u32
+        requires line { line < length self.old.rows }
+        requires room { line < self.old.room.levels }
+        ensures before { result ≡ (row_at self.old.rows line).level }
+        ensures rows { self.new ≡ record self.old { rows = slice_set self.old.rows line (record (row_at self.old.rows line) { level = level }) } }
+    {
+        let before = self.levels.get(line);
+        self.levels.set(line, level);
+        before
+    }
+
+    /// Sets the state of a line, for which there must be room. Returns the one before.
+    pub fn set_state(&mut self, line: usize, state: i32) -> i32
+        requires line { line < length self.old.rows }
+        requires room { line < self.old.room.states }
+        ensures before { result ≡ (row_at self.old.rows line).state }
+        ensures rows { self.new ≡ record self.old { rows = slice_set self.old.rows line (record (row_at self.old.rows line) { state = state }) } }
+    {
+        let before = self.states.get(line);
+        self.states.set(line, state);
+        before
+    }
+
+    /// Returns the handle that the next marker gets.
+    pub fn next_handle(&self) -> u32
+        ensures { result ≡ self.now.next_handle }
+    {
+        self.markers.next_handle()
+    }
+
+    /// Puts a marker with a number behind those of a line, and returns its handle. It takes the room of one.
+    pub fn add_reserved(&mut self, line: usize, number: u32) -> u32
+        requires line { line < length self.old.rows }
+        requires number { number < 32 }
+        requires room { 0 < self.old.room.markers }
+        requires handles { self.old.next_handle < 2 ^ 32 - 1 }
+        ensures handle { result ≡ self.old.next_handle }
+        ensures rows { self.new ≡ record self.old { rows = with_markers line ((row_at self.old.rows line).markers ++ new_markers self.old.next_handle (number ∷ [])) self.old.rows; next_handle = self.old.next_handle + 1; room = record self.old.room { markers = self.old.room.markers - 1 } } }
+    {
+        self.markers.add_reserved(line, number)
+    }
+
+    /// Takes a line's first marker with a number away, or all of its markers where no number is named. Their room comes
+    /// back. Returns whether there was one.
+    pub fn delete(&mut self, line: usize, number: Option<u32>) -> bool
+        requires { line < length self.old.rows }
+        ensures went { IsTrue result ↔ (marker_count self.new.rows ≢ marker_count self.old.rows) }
+        ensures rows { self.new.rows ≡ with_markers line (without_marker number (row_at self.old.rows line).markers) self.old.rows }
+        ensures next_handle { self.new.next_handle ≡ self.old.next_handle }
+        ensures room { self.new.room ≡ record self.old.room { markers = self.new.room.markers } }
+        ensures marker_room { self.new.room.markers + marker_count self.new.rows ≡ self.old.room.markers + marker_count self.old.rows }
+    {
+        self.markers.delete(line, number)
+    }
+
+    /// Takes all markers with a number away, or all markers where none is named. Their room comes back. Returns whether
+    /// there was one.
+    pub fn delete_all(&mut self, number: Option<u32>) -> bool
+        ensures went { IsTrue result ↔ (marker_count self.new.rows ≢ marker_count self.old.rows) }
+        ensures rows { self.new.rows ≡ without_markers (is_of_number number) self.old.rows }
+        ensures next_handle { self.new.next_handle ≡ self.old.next_handle }
+        ensures room { self.new.room ≡ record self.old.room { markers = self.new.room.markers } }
+        ensures marker_room { self.new.room.markers + marker_count self.new.rows ≡ self.old.room.markers + marker_count self.old.rows }
+    {
+        self.markers.delete_all(number)
+    }
+
+    /// Takes the marker with a handle away, and returns its line, or `None` where no marker has it. Its room comes back.
+    pub fn delete_handle(&mut self, handle: u32) -> Option<usize>
+        ensures line { result ≡ first_from (has_handle handle self.old.rows) self.old.rows 0 }
+        ensures rows { self.new.rows ≡ without_markers (λ m. m.handle == handle) self.old.rows }
+        ensures next_handle { self.new.next_handle ≡ self.old.next_handle }
+        ensures room { self.new.room ≡ record self.old.room { markers = self.new.room.markers } }
+        ensures marker_room { self.new.room.markers + marker_count self.new.rows ≡ self.old.room.markers + marker_count self.old.rows }
+    {
+        self.markers.delete_handle(handle)
+    }
+
+    /// Returns the line of the marker with a handle, or `None` where no marker has it.
+    pub fn line_of_handle(&self, handle: u32) -> Option<usize>
+        ensures { result ≡ first_from (has_handle handle self.now.rows) self.now.rows 0 }
+    {
+        self.markers.line_of_handle(handle)
+    }
+
+    /// Returns a line's mask: the bit of each number that a marker of the line has.
+    pub fn mask(&self, line: usize) -> u32
+        requires { line < length self.now.rows }
+        ensures { result ≡ mask_of (row_at self.now.rows line).markers }
+    {
+        self.markers.mask(line)
+    }
+
+    /// Returns the first line, from `from` on, whose mask has a bit in common with `mask`.
+    pub fn next(&self, from: usize, mask: u32) -> Option<usize>
+        ensures { result ≡ first_from (is_marked mask self.now.rows) self.now.rows from }
+    {
+        self.markers.next(from, mask)
+    }
+
+    /// Returns the last line, up to and with `from`, whose mask has a bit in common with `mask`.
+    pub fn previous(&self, from: usize, mask: u32) -> Option<usize>
+        ensures { result ≡ last_up_to (is_marked mask self.now.rows) self.now.rows from }
+    {
+        self.markers.previous(from, mask)
+    }
+}

@@ -1,0 +1,190 @@
+//! `LineValues`: a value for each line, as a fold level or a line state.
+ghost use Rattle.std.specs.Prelude.{◌≡◌, ◌≤◌, ◌<◌, ◌+◌, ◌-◌, ◌^◌, ℕ, ◌∷◌, [], length, max, slice_set, slice_index_or, OnOk, OnErr, IsOk};
+ghost use Rattle.line_index.specs.Edits.{with_fresh, with_joined, after_edit, after_edits, FitsLines, FitLines, fresh_by, fresh_lines};
+ghost use Rattle.line_rows.specs.Values.{valued, first_or, padded};
+
+use line_index::LineEdit;
+use split_vector::SplitVector;
+use std::alloc::{AllocError, Global};
+use std::marker::Model;
+
+/// A value for each line of a text, counted from 0. Values are stored for the first lines only, up to the last that ever
+/// had one set.
+#[derive(Drop)]
+pub struct LineValues<T: Copy> {
+    stored: SplitVector<T>,
+    // That of all lines behind them.
+    default: T,
+    lines: usize,
+    // How many fresh lines were asked for and fit in.
+    room: usize,
+    // Of how many lines, from the first on, a value can be set.
+    reach: usize,
+}
+
+impl<T: Copy> Model for LineValues<T> {
+    ghost use Rattle.std.specs.Prelude.{◌≤◌, ◌+◌, length};
+    ghost use Rattle.line_rows.specs.Values.{Valued, valued, valued_code, padded};
+
+    ghost Value = { Valued T };
+
+    ghost coded = { valued_code T.code };
+
+    ghost view = { λ v. valued v.default (padded v.default v.lines v.stored.items) v.room v.reach };
+
+    ghost invariant = { λ v. record { fewer : length v.stored.items ≤ v.lines; for_lines : v.room ≤ v.stored.spare; for_values : v.reach + v.room ≤ length v.stored.items + v.stored.spare } };
+}
+
+// Appends defaults up to `len` values, where there are fewer.
+fn pad<T: Copy>(stored: &mut SplitVector<T>, default: T, len: usize)
+    requires { len ≤ length stored.old.items + stored.old.spare }
+    ensures items { stored.new.items ≡ padded default len stored.old.items }
+    ensures all { length stored.new.items + stored.new.spare ≡ length stored.old.items + stored.old.spare }
+{
+    let before = stored.len();
+    stored.insert_fill_reserved(before, len.saturating_sub(before), default);
+}
+
+// Puts `count` fresh lines in before a line.
+fn put_in<T: Copy>(stored: &mut SplitVector<T>, default: T, line: usize, count: usize)
+    requires { count ≤ stored.old.spare }
+    ensures values { (lines : ℕ) → length stored.old.items ≤ lines → line ≤ lines → padded default (lines + count) stored.new.items ≡ with_fresh (first_or default) line count (padded default lines stored.old.items) }
+    ensures few { length stored.new.items ≤ length stored.old.items + count }
+    ensures spare { stored.old.spare ≤ stored.new.spare + count }
+    ensures all { length stored.new.items + stored.new.spare ≡ length stored.old.items + stored.old.spare }
+{
+    if stored.len() <= line {
+        return;
+    }
+    stored.insert_fill_reserved(line, count, default);
+}
+
+// Takes the `count` lines behind a line away.
+fn take_behind<T: Copy>(stored: &mut SplitVector<T>, line: usize, count: usize)
+    ensures values { (default : T) (lines : ℕ) → length stored.old.items ≤ lines → line + count < lines → padded default (lines - count) stored.new.items ≡ with_joined (first_or default) line count (padded default lines stored.old.items) }
+    ensures few { (lines : ℕ) → length stored.old.items ≤ lines → line + count < lines → length stored.new.items ≤ lines - count }
+    ensures spare { stored.old.spare ≤ stored.new.spare }
+    ensures all { length stored.new.items + stored.new.spare ≡ length stored.old.items + stored.old.spare }
+{
+    let before = stored.len();
+    if before <= line || before - line <= 1 {
+        return;
+    }
+    let behind = before - line - 1;
+    stored.delete(line + 1, count.min(behind));
+}
+
+impl<T: Copy> LineValues<T> {
+    /// Returns the values of one line, which has the default. Takes no memory.
+    pub fn new(alloc: Global, default: T) -> Self
+        ensures { result ≡ valued default (default ∷ []) 0 0 }
+    {
+        LineValues {
+            stored: SplitVector::new(alloc),
+            default,
+            lines: 1,
+            room: 0,
+            reach: 0,
+        }
+    }
+
+    /// Returns the number of lines.
+    pub fn count(&self) -> usize
+        ensures { result ≡ length self.now.values }
+    {
+        self.lines
+    }
+
+    /// Returns the value of a line.
+    pub fn get(&self, line: usize) -> T
+        requires { line < length self.now.values }
+        ensures { result ≡ slice_index_or self.now.values line result }
+    {
+        if line < self.stored.len() {
+            self.stored.get(line)
+        } else {
+            self.default
+        }
+    }
+
+    /// Makes room for `lines` fresh lines, and for the values of the first `reach` lines.
+    ///
+    /// # Errors
+    ///
+    /// `AllocError` where memory is refused. All is then as it was.
+    pub fn reserve(&mut self, lines: usize, reach: usize) -> Result<(), AllocError>
+        ensures ok { OnOk result (self.new ≡ record self.old { room = max self.old.room lines; reach = max self.old.reach reach }) }
+        ensures room_is_there { lines ≤ self.old.room → reach ≤ self.old.reach → IsOk result × (self.new ≡ self.old) }
+        ensures err { OnErr result (self.new ≡ self.old) }
+    {
+        if lines <= self.room && reach <= self.reach {
+            return Ok(());
+        }
+        let room = self.room.max(lines);
+        let reach = self.reach.max(reach);
+        let Some(wanted) = reach.saturating_sub(self.stored.len()).checked_add(room) else {
+            return Err(AllocError);
+        };
+        let Ok(()) = self.stored.reserve(wanted) else {
+            return Err(AllocError);
+        };
+        self.room = room;
+        self.reach = reach;
+        Ok(())
+    }
+
+    /// Sets the value of a line, for which there must be room.
+    pub fn set(&mut self, line: usize, value: T)
+        requires line { line < length self.old.values }
+        requires room { line < self.old.reach }
+        ensures { self.new ≡ record self.old { values = slice_set self.old.values line value } }
+    {
+        let reached = self.stored.len().max(line + 1);
+        pad(&mut self.stored, self.default, reached);
+        self.stored.set(line, value);
+    }
+
+    fn carry_one(&mut self, edit: LineEdit)
+        requires lines { FitsLines (length self.old.values) edit }
+        requires fits { length self.old.values + fresh_by edit < 2 ^ 63 }
+        requires room { fresh_by edit ≤ self.old.room }
+        ensures values { self.new.values ≡ after_edit (first_or self.old.default) self.old.values edit }
+        ensures default { self.new.default ≡ self.old.default }
+        ensures room { self.new.room + fresh_by edit ≡ self.old.room }
+        ensures reach { self.new.reach ≡ self.old.reach }
+    {
+        match edit {
+            LineEdit::Come { line, count } => {
+                put_in(&mut self.stored, self.default, line, count);
+                self.lines += count;
+                self.room -= count;
+            }
+            LineEdit::Join { line, count } => {
+                take_behind(&mut self.stored, line, count);
+                self.lines -= count;
+            }
+            LineEdit::Restart => {
+                let stored = self.stored.len();
+                self.stored.delete(0, stored);
+                self.lines = 1;
+                self.room -= 1;
+            }
+        }
+    }
+
+    /// Carries the values of lines through edits: fresh lines get the default, and lines that are joined keep the value of
+    /// the first. There must be room for the fresh lines.
+    pub fn carry(&mut self, edits: &[LineEdit])
+        requires lines { FitLines (length self.old.values) edits.now }
+        requires fits { length self.old.values + fresh_lines edits.now < 2 ^ 63 }
+        requires room { fresh_lines edits.now ≤ self.old.room }
+        ensures values { self.new.values ≡ after_edits (first_or self.old.default) edits.now self.old.values }
+        ensures default { self.new.default ≡ self.old.default }
+        ensures room { self.new.room + fresh_lines edits.now ≡ self.old.room }
+        ensures reach { self.new.reach ≡ self.old.reach }
+    {
+        for edit in edits {
+            self.carry_one(*edit);
+        }
+    }
+}
