@@ -72,13 +72,13 @@ pub record AnswersWithinLimits : Type 0 where
   -- five bytes are too many; in a large document six are taken, and the seventh is not
   pub large_document :
       said_within six_bytes_if_large (
-        send SetText (pos 0) (pos 0) (codes "abcde") ∷
-        send CreateDocument (pos 0) (pos 256) [] ∷
-        send SetDocPointer (pos 0) (pos 2) [] ∷
-        send SetText (pos 0) (pos 0) (codes "abcdef") ∷
-        send AppendText (pos 1) (pos 0) (codes "g") ∷
-        send GetLength (pos 0) (pos 0) [] ∷
-        [])
+      send SetText (pos 0) (pos 0) (codes "abcde") ∷
+      send CreateDocument (pos 0) (pos 256) [] ∷
+      send SetDocPointer (pos 0) (pos 2) [] ∷
+      send SetText (pos 0) (pos 0) (codes "abcdef") ∷
+      send AppendText (pos 1) (pos 0) (codes "g") ∷
+      send GetLength (pos 0) (pos 0) [] ∷
+      [])
       ≡ answer 1 ∷ Err TooLong ∷ answer 2 ∷ answer 0 ∷ answer 0 ∷ Err TooLong ∷ answer 6 ∷ []
   pub handles_used_up :
       said_within two_handles (send MarkerAdd (pos 0) (pos 1) [] ∷ send MarkerAdd (pos 0) (pos 1) [] ∷ send MarkerAdd (pos 0) (pos 1) [] ∷ [])
