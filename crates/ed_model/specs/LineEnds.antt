@@ -1,5 +1,5 @@
 -- Line ends of a kind, and turning others into it. [Scintilla: line ends; the order of the steps: own]
-use Rattle.std.specs.Prelude.{ℕ, ◌+◌, ◌==◌, ◌&&◌, ◌||◌, not, if◌then◌else◌, Bool, true, false, List, [], ◌∷◌, ◌++◌, fold}
+use Rattle.std.specs.Prelude.{ℕ, ◌+◌, ◌==◌, ◌&&◌, ◌||◌, not, if◌then◌else◌, Bool, true, false, List, [], ◌∷◌, ◌++◌, length, fold}
 use Rattle.ed_model.specs.declared.plan.LineEnd.{LineEnd}
 use Rattle.ed_model.specs.declared.plan.LineEnd.TheVariants.{CrLf, Cr, Lf}
 use Rattle.ed_model.specs.Text.{line_feed, carriage_return}
@@ -38,14 +38,25 @@ is_return_foreign CrLf = true
 is_return_foreign Cr = false
 is_return_foreign Lf = true
 
+-- whether a CR is missing before the byte, or an LF behind it
+abbrev pub lacks_return : Bool → LineEnd → ℕ → Bool
+lacks_return after_return to b = b == line_feed && not after_return && is_feed_foreign to
+
+abbrev pub lacks_feed : LineEnd → ℕ → List ℕ → Bool
+lacks_feed to b bs = b == carriage_return && not (begins_with_line_feed bs) && is_return_foreign to
+
+-- the step that puts in what is missing about the byte at p
+abbrev pub missing_at : ℕ → Bool → Bool → List Step
+missing_at p true feed = Insert p (carriage_return ∷ []) ∷ []
+missing_at p false true = Insert (p + 1) (line_feed ∷ []) ∷ []
+missing_at p false false = []
+
+-- one call for the rest, so that it computes in as many steps as there are bytes
 abbrev pub missing_from : ℕ → Bool → LineEnd → List ℕ → List Step
 missing_from p after_return to [] = []
 missing_from p after_return to (b ∷ bs) =
-    if b == line_feed && not after_return && is_feed_foreign to
-    then Insert p (carriage_return ∷ []) ∷ missing_from (p + 2) false to bs
-    else (if b == carriage_return && not (begins_with_line_feed bs) && is_return_foreign to
-    then Insert (p + 1) (line_feed ∷ []) ∷ missing_from (p + 2) false to bs
-    else missing_from (p + 1) (b == carriage_return) to bs)
+    let missing = missing_at p (lacks_return after_return to b) (lacks_feed to b bs) in
+    missing ++ missing_from (p + 1 + length missing) (b == carriage_return) to bs
 
 -- whether the CR, or the LF, of a CRLF is unwanted
 abbrev pub is_return_unwanted : LineEnd → Bool
@@ -58,14 +69,24 @@ is_feed_unwanted CrLf = false
 is_feed_unwanted Cr = true
 is_feed_unwanted Lf = false
 
+-- whether the byte is unwanted
+abbrev pub is_unwanted : Bool → LineEnd → ℕ → List ℕ → Bool
+is_unwanted after_return to b bs =
+    (b == carriage_return && begins_with_line_feed bs && is_return_unwanted to) || (b == line_feed && after_return && is_feed_unwanted to)
+
+abbrev pub unwanted_at : ℕ → ℕ → Bool → List Step
+unwanted_at p b true = Delete p (b ∷ []) ∷ []
+unwanted_at p b false = []
+
+abbrev pub place_after : ℕ → Bool → ℕ
+place_after p true = p
+place_after p false = p + 1
+
 abbrev pub unwanted_from : ℕ → Bool → LineEnd → List ℕ → List Step
 unwanted_from p after_return to [] = []
 unwanted_from p after_return to (b ∷ bs) =
-    if b == carriage_return && begins_with_line_feed bs && is_return_unwanted to
-    then Delete p (carriage_return ∷ []) ∷ unwanted_from p false to bs
-    else (if b == line_feed && after_return && is_feed_unwanted to
-    then Delete p (line_feed ∷ []) ∷ unwanted_from p false to bs
-    else unwanted_from (p + 1) (b == carriage_return) to bs)
+    let unwanted = is_unwanted after_return to b bs in
+    unwanted_at p b unwanted ++ unwanted_from (place_after p unwanted) (b == carriage_return) to bs
 
 abbrev pub after_steps : List Step → List ℕ → List ℕ
 after_steps steps text = fold (λ t step. edited step t) text steps

@@ -1,7 +1,9 @@
 -- Worked examples of single definitions: rows and indicators under steps, display lines, folding, and joins.
-use Rattle.std.specs.Prelude.{◌≡◌, ℕ, pos, List, [], ◌∷◌, map, length, fold, true, false, codes, Bool, Some, None}
+use Rattle.std.specs.Prelude.{◌≡◌, ℕ, pos, List, [], ◌∷◌, map, length, replicate, ◌++◌, fold, true, false, codes, Bool, Some, None}
 use Rattle.ed_model.specs.declared.plan.LineEndTypes.TheVariants.{Default}
 use Rattle.ed_model.specs.Steps.{Step, Insert, Delete}
+use Rattle.ed_model.specs.declared.plan.LineEnd.TheVariants.{CrLf, Cr, Lf}
+use Rattle.ed_model.specs.LineEnds.{converted, conversion_steps, after_steps}
 use Rattle.ed_model.specs.Carry.{carried_by}
 use Rattle.ed_model.specs.Rows.{Row, Marker, Flags, rows_together, base_level}
 use Rattle.ed_model.specs.Indicators.{indicator_after, inserted_value}
@@ -61,3 +63,13 @@ pub record StepsThatJoin : Type 0 where
   pub deletions : transactions_of (Delete 5 (codes "x") ∷ Delete 5 (codes "x") ∷ Delete 4 (codes "x") ∷ Delete 4 (codes "x") ∷ Delete 1 (codes "xyz") ∷ []) ≡ 1 ∷ 4 ∷ []
   pub typing : transactions_of (Insert 0 (codes "a") ∷ Insert 1 (codes "bc") ∷ Insert 3 (codes "d") ∷ Insert 3 (codes "e") ∷ []) ≡ 1 ∷ 3 ∷ []
   pub not_both : transactions_of (Insert 0 (codes "a") ∷ Delete 0 (codes "a") ∷ Insert 0 (codes "b") ∷ []) ≡ 1 ∷ 1 ∷ 1 ∷ []
+
+-- Lines of 80 bytes: each `a` 80 times and the line end.
+abbrev pub long_lines : List ℕ → List ℕ
+long_lines end = let line = replicate 80 0x61 ++ end in line ++ line ++ line
+
+pub record LineEndsOfLongLines : Type 0 where
+  pub made_crlf : conversion_steps CrLf (long_lines (0x0A ∷ [])) ≡ Insert 80 (0x0D ∷ []) ∷ Insert 162 (0x0D ∷ []) ∷ Insert 244 (0x0D ∷ []) ∷ []
+  pub made_lf : conversion_steps Lf (long_lines (0x0D ∷ 0x0A ∷ [])) ≡ Delete 80 (0x0D ∷ []) ∷ Delete 161 (0x0D ∷ []) ∷ Delete 242 (0x0D ∷ []) ∷ []
+  pub made_cr : conversion_steps Cr (long_lines (0x0D ∷ 0x0A ∷ [])) ≡ Delete 81 (0x0A ∷ []) ∷ Delete 162 (0x0A ∷ []) ∷ Delete 243 (0x0A ∷ []) ∷ []
+  pub text : after_steps (conversion_steps Lf (long_lines (0x0D ∷ []))) (long_lines (0x0D ∷ [])) ≡ long_lines (0x0A ∷ [])

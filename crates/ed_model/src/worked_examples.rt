@@ -1,7 +1,7 @@
 //! Worked examples of single definitions, each computed from it.
 
 ghost use Rattle.ed_model.specs.WorkedCharacters.{CutsOfAMixedText, WellFormedSequences, IllFormedSequences, MatchesInATextOfWords, MatchesBackwards, MatchesOfBothCases, LinesOfATextWithEachLineEnd, LinesOfATextWithUnicodeLineEnds};
-ghost use Rattle.ed_model.specs.WorkedLines.{MarkersUnderSteps, IndicatorUnderSteps, DisplayLinesAroundAHiddenLine, FoldsOfNestedLevels, StepsThatJoin};
+ghost use Rattle.ed_model.specs.WorkedLines.{MarkersUnderSteps, IndicatorUnderSteps, DisplayLinesAroundAHiddenLine, FoldsOfNestedLevels, LineEndsOfLongLines, StepsThatJoin};
 ghost use Rattle.ed_model.specs.WorkedLimits.{AnswersWithinLimits, SessionsWithinLimits};
 ghost use Rattle.ed_model.specs.WorkedRecording.{RecordsWhatCanBeReplayed};
 
@@ -19,7 +19,7 @@ pub fn worked_matches()
     ensures matches_of_both_cases { MatchesOfBothCases }
 {}
 
-/// Where lines start and end, which rows and values steps leave, which lines are shown, and how they fold.
+/// Where lines start and end, which rows and values steps leave, which lines are shown, how they fold, and how line ends are converted.
 pub fn worked_lines()
     ensures lines_of_a_text_with_each_line_end { LinesOfATextWithEachLineEnd }
     ensures lines_of_a_text_with_unicode_line_ends { LinesOfATextWithUnicodeLineEnds }
@@ -27,6 +27,7 @@ pub fn worked_lines()
     ensures indicator_under_steps { IndicatorUnderSteps }
     ensures display_lines_around_a_hidden_line { DisplayLinesAroundAHiddenLine }
     ensures folds_of_nested_levels { FoldsOfNestedLevels }
+    ensures line_ends_of_long_lines { LineEndsOfLongLines }
 {}
 
 /// Which steps join into one transaction.
