@@ -2,11 +2,11 @@
 ghost use Rattle.std.specs.Prelude.{◌≡◌, ◌+◌, ◌≤◌, length, IfOk};
 ghost use Rattle.line_index.specs.Index.{IsIndexOf};
 
+use ed_model::LineEndTypes;
 use line_index::{
     LineChange, LineEdit, LineIndex, lines_for_deletion, lines_for_insertion, lines_in, near_step,
     room_for_steps,
 };
-use ed_model::LineEndTypes;
 use partitioning::{Place, Probes};
 use std::alloc::{AllocError, Global};
 use std::process::Abort;
