@@ -80,7 +80,13 @@ fn room_for_two_steps(rt: HostRuntime) -> Result<(), Fail> {
     let mut table = DocumentTable::new(rt.alloc());
     let id = table.create(7)?;
     assert!(rt; table.get(id).is_some());
-    table.reserve(id, 5, lines_for_insertion(b"cde") + lines_for_insertion(b"ab"), 2, 5)?;
+    table.reserve(
+        id,
+        5,
+        lines_for_insertion(b"cde") + lines_for_insertion(b"ab"),
+        2,
+        5,
+    )?;
     table.insert_reserved(id, false, 0, b"cde");
     assert!(rt; table.get(id).is_some());
     table.insert_reserved(id, true, 0, b"ab");

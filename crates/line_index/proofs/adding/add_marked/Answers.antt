@@ -10,13 +10,14 @@ add_at-line-requires g c =
     let text = c.args.before.now ++ c.args.after.now in
     let bit = c.lowest-bit.result in
     let found = c.lowest-bit.ensures in
-    let inv = c.adding.invariant in
-    (omega (arith, c.requires.base),
-    can_go_on c.args.types text c.args.base c.args.place (c.args.place + bit) (c.args.place + bit + 1) (c.args.place + 64) c.args.first c.adding.line c.args.starts.now c.adding.starts
-    c.requires.can
-    (added_up_to c.args.types text c.args.base c.args.place c.args.first c.adding.line c.adding.left bit c.args.starts.now c.adding.starts inv c.requires.can.free.within
-    (omega (arith, found.within)) (inv.behind bit found.within found.set) found.below)
-    (omega arith) (omega arith) (omega (arith, found.within)))
+    let inv = c.adding.invariant in (
+      omega (arith, c.requires.base),
+      can_go_on c.args.types text c.args.base c.args.place (c.args.place + bit) (c.args.place + bit + 1) (c.args.place + 64) c.args.first c.adding.line c.args.starts.now c.adding.starts
+          c.requires.can
+          (added_up_to c.args.types text c.args.base c.args.place c.args.first c.adding.line c.adding.left bit c.args.starts.now c.adding.starts inv c.requires.can.free.within
+          (omega (arith, found.within)) (inv.behind bit found.within found.set) found.below)
+          (omega arith) (omega arith) (omega (arith, found.within)),
+    )
 
 pub adding-preserved : goal.adding-preserved
 adding-preserved g c =

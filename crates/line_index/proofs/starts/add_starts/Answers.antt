@@ -33,7 +33,7 @@ add_at-line-requires g c =
     let inv = c.adding.invariant in (
       omega (arith, inv.low, c.requires.near),
       can_go_on c.args.types text c.args.base c.args.from c.adding.place (c.adding.place + 1) c.args.to c.args.first c.adding.line c.args.starts.now c.adding.starts
-      c.requires.can inv.added inv.low (omega arith) (omega arith),
+          c.requires.can inv.added inv.low (omega arith) (omega arith),
     )
 
 pub adding-preserved : goal.adding-preserved
