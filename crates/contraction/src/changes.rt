@@ -1,6 +1,6 @@
 //! What changes flags: lines are shown and hidden, expanded and contracted.
 
-ghost use Rattle.std.specs.Prelude.{◌≡◌, ◌+◌, ◌≤◌, ◌<◌, false, length};
+ghost use Rattle.std.specs.Prelude.{◌≡◌, ◌+◌, ◌≤◌, ◌<◌, if◌then◌else◌, false, length};
 ghost use Rattle.ed_model.specs.Folding.{lines_shown, lines_hidden, with_expanded};
 
 use crate::contraction::Contraction;
@@ -36,7 +36,7 @@ impl<P: Place> Contraction<P> {
         requires room { on ≡ false → 0 < self.old.room.contracted }
         ensures flags { self.new.flags ≡ with_expanded line on self.old.flags }
         ensures hidden { self.new.room.hidden ≡ self.old.room.hidden }
-        ensures contracted { self.old.room.contracted ≤ self.new.room.contracted + 1 }
+        ensures contracted { self.old.room.contracted ≤ self.new.room.contracted + (if on then 0 else 1) }
     {
         let _ = &self.hidden;
         let _ = self.contracted.length(); // it says that the number behind the line is not too great
