@@ -7,8 +7,6 @@
 mod held;
 mod lines;
 mod pieces;
-#[cfg(test)]
-mod tests;
 
 pub use held::Document;
 pub use lines::lines_in;

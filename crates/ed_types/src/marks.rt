@@ -239,16 +239,3 @@ impl Kind {
         }
     }
 }
-
-#[cfg(test)]
-mod tests {
-    use super::*;
-
-    #[test]
-    fn marks_of_some_messages(rt: HostRuntime) {
-        let query = Some(Columns::QUERY);
-        assert_eq!(rt; columns_of(2182), query);
-        assert_eq!(rt; columns_of(2001), Some(Columns::RECORDED_EDIT));
-        assert_eq!(rt; columns_of(2005), None);
-    }
-}

@@ -5,16 +5,12 @@
 #![tactic(auto)]
 
 mod argument;
-#[cfg(test)]
-mod lending_tests;
 mod lines;
 mod movement;
 mod plan;
 mod run;
 mod session;
 mod state;
-#[cfg(test)]
-mod tests;
 mod view;
 
 pub use run::Run;

@@ -20,5 +20,3 @@ pub use ed_types::{Cause, Command, ScriptFault};
 pub use listing::list;
 pub use script::Script;
 
-#[cfg(test)]
-mod tests;

@@ -18,8 +18,6 @@ mod lookups;
 mod places;
 mod stepping;
 mod table;
-#[cfg(test)]
-mod tests;
 
 pub use lookups::Probes;
 pub use places::Place;

@@ -1,7 +1,7 @@
 //! `Partitioning`: how it is made and read, and its room.
 ghost use Rattle.std.specs.Prelude.{◌≡◌, ◌≤◌, ◌<◌, ◌+◌, ◌^◌, ℕ, [], ◌∷◌, length, slice_index, IfOk, OnOk, OnErr, IsOk};
 ghost use Rattle.partitioning.specs.Partitions.{ArePartitions, IsLastAtMost, IsFloorLog};
-ghost use Rattle.split_vector.specs.Split.{counted};
+ghost use Rattle.split_vector.specs.Split.{counted, most_room};
 
 use crate::lookups::Probes;
 use crate::places::Place;
@@ -130,6 +130,8 @@ impl<P: Place, A: Allocator> Partitioning<P, A> {
     pub fn reserve(&mut self, count: usize) -> Result<(), AllocError>
         ensures ok { OnOk result ((count ≤ self.new.room) × (self.new ≡ record self.old { room = self.new.room })) }
         ensures room_is_there { count ≤ self.old.room → IsOk result × (self.new ≡ self.old) }
+        ensures room_stays { self.old.room ≤ self.new.room }
+        ensures at_most { OnOk result (self.new.room ≤ most_room (length self.old.starts) self.old.room count) }
         ensures err { OnErr result (self.new ≡ self.old) }
     {
         self.body.reserve(count)

@@ -8,7 +8,5 @@
 mod edits;
 mod styles;
 mod table;
-#[cfg(test)]
-mod tests;
 
 pub use styles::RunStyles;

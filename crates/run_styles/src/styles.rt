@@ -1,5 +1,5 @@
 //! `RunStyles` and its calls. A clause sees it as its default value, its list of values and its room for runs.
-ghost use Rattle.std.specs.Prelude.{◌≡◌, ◌≤◌, ◌<◌, ◌+◌, ◌↔◌, [], length, slice_get, Some, All, IsTrue, IfOk, IfNone, IfSome, OnOk, OnErr, IsOk};
+ghost use Rattle.std.specs.Prelude.{◌≡◌, ◌≤◌, ◌<◌, ◌+◌, ◌↔◌, [], length, max, slice_get, Some, All, IsTrue, IfOk, IfNone, IfSome, OnOk, OnErr, IsOk};
 ghost use Rattle.run_styles.specs.Expansion.{IsExact};
 ghost use Rattle.run_styles.specs.Runs.{runs, inserted, deleted, filled, inserted_value, run_count, IsRunStart, IsRunEnd, IsChangedRange};
 
@@ -114,6 +114,8 @@ impl<P: Place, V: Copy + Eq, A: Allocator> RunStyles<P, V, A> {
     pub fn reserve(&mut self, count: usize) -> Result<(), AllocError>
         ensures ok { OnOk result ((count ≤ self.new.room) × (self.new ≡ record self.old { room = self.new.room })) }
         ensures room_is_there { count ≤ self.old.room → IsOk result × (self.new ≡ self.old) }
+        ensures room_stays { self.old.room ≤ self.new.room }
+        ensures at_most { OnOk result (self.new.room ≤ max self.old.room count) }
         ensures err { OnErr result (self.new ≡ self.old) }
     {
         if count <= self.room {

@@ -1,5 +1,5 @@
 -- What a contract sees of a `SplitVector`.
-use Rattle.std.specs.Prelude.{ℕ, ◌+◌, ◌-◌, ◌^◌, ◌==◌, nat_lt, nat_le, ◌&&◌, if◌then◌else◌, min, List, take, drop, ◌++◌, refl}
+use Rattle.std.specs.Prelude.{ℕ, ◌+◌, ◌-◌, ◌^◌, ◌==◌, nat_lt, nat_le, ◌&&◌, if◌then◌else◌, min, max, ◌*◌, List, take, drop, ◌++◌, refl}
 use Rattle.std.specs.Coded.{Coded, code_by, coded×, coded_list, coded_ℕ}
 
 -- the items, how many more fit into the block, how many items lie before the gap, and how many were moved or written so far
@@ -35,6 +35,11 @@ apart p q = (p - q) + (q - p)
 -- how far the place g lies outside the range from low to high
 abbrev pub outside : ℕ → ℕ → ℕ → ℕ
 outside low high g = (low - g) + (g - high)
+
+-- the most room that a block of so many items and so much room has once room for `count` more was asked for: that, or what a
+-- block of twice the size has
+abbrev pub most_room : ℕ → ℕ → ℕ → ℕ
+most_room items room count = max count (items + 2 * room)
 
 -- where the gap lies after count items went in at the place, or after none did
 abbrev pub gap_after : ℕ → ℕ → ℕ → ℕ

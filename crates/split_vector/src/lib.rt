@@ -28,8 +28,6 @@ mod cells;
 mod raw;
 mod reads;
 mod runs;
-#[cfg(test)]
-mod tests;
 mod vector;
 
 // A crate can name a vector in a contract only if the types of its fields are exported.

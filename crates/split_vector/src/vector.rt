@@ -1,7 +1,7 @@
 //! `SplitVector` and its calls. A clause sees a vector as its `items`, `spare`, `gap` and `moved`.
 ghost use Rattle.std.specs.Prelude.{◌≡◌, ◌≤◌, ◌<◌, ◌+◌, ◌*◌, ◌^◌, ◌==◌, ◌⊎◌, [], ◌∷◌, ◌++◌, length, replicate, slice_index_or, slice_set, slice_range, OnOk, OnErr, IsOk};
 ghost use Rattle.std.specs.Borrow.{sem};
-ghost use Rattle.split_vector.specs.Split.{split, inserted, deleted, gap_after, moved_after, gap_closed, moved_closed};
+ghost use Rattle.split_vector.specs.Split.{split, inserted, deleted, gap_after, moved_after, gap_closed, moved_closed, most_room};
 
 use crate::block::Block;
 use std::alloc::{AllocError, Allocator, Global};
@@ -107,6 +107,7 @@ impl<T: Copy, A: Allocator> SplitVector<T, A> {
         ensures ok { OnOk result ((self.new.items ≡ self.old.items) × (count ≤ self.new.spare) × (self.new.gap ≡ self.old.gap) × (self.new.moved ≡ self.old.moved)) }
         ensures room_is_there { count ≤ self.old.spare → IsOk result × (self.new ≡ self.old) }
         ensures doubles { OnOk result ((self.new ≡ self.old) ⊎ (2 * (length self.old.items + self.old.spare) ≤ length self.new.items + self.new.spare)) }
+        ensures at_most { OnOk result (self.new.spare ≤ most_room (length self.old.items) self.old.spare count) }
         ensures err { OnErr result (self.new ≡ self.old) }
         ensures within { length self.new.items + self.new.spare < 2 ^ 63 }
     {

@@ -1,6 +1,6 @@
 //! Each call that takes memory once on its happy path.
-use crate::DocumentTable;
 use document::lines_in;
+use document_table::DocumentTable;
 use std::alloc::AllocError;
 use std::test::Fail;
 

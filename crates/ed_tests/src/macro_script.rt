@@ -1,8 +1,8 @@
 //! Tests of what no clause says: that memory suffices, and values from outside.
 
-use crate::printing::{append_integer, append_number, append_outcome, append_text};
-use crate::{Cause, Command, Script, ScriptFault, assemble, list};
 use ed_types::{Bytes, Message, Note, Outcome, Refusal, Reply};
+use macro_script::printing::{append_integer, append_number, append_outcome, append_text};
+use macro_script::{Cause, Command, Script, ScriptFault, assemble, list};
 use std::alloc::{AllocError, Global};
 use std::test::Fail;
 

@@ -1,5 +1,5 @@
 //! Rows of calls, at both kinds of place. Each helper tests what its call asks for.
-use crate::{Partitioning, Place, Probes};
+use partitioning::{Partitioning, Place, Probes};
 use std::alloc::{AllocError, Global};
 use std::process::Abort;
 use std::test::Fail;

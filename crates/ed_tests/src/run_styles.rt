@@ -1,8 +1,8 @@
 //! Rows of calls, at each kind of place and at several kinds of values. Each helper tests what its call asks for.
 ghost use Rattle.run_styles.specs.Expansion.{IsExact};
 
-use crate::RunStyles;
 use partitioning::Place;
+use run_styles::RunStyles;
 use std::alloc::{AllocError, Global};
 use std::process::Abort;
 use std::test::Fail;

@@ -1,5 +1,5 @@
 //! The calls in rows, at several types of items. The lists are written out by hand.
-use crate::SplitVector;
+use split_vector::SplitVector;
 use std::alloc::AllocError;
 use std::test::Fail;
 

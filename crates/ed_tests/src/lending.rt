@@ -2,8 +2,8 @@
 
 ghost use Rattle.std.specs.Prelude.{◌≡◌};
 
-use crate::Session;
-use ed_types::{Bytes, Message, Refusal};
+use ed_types::{Bytes, Kind, Message, Refusal};
+use editor_session::Session;
 use std::alloc::{AllocError, Global};
 use std::test::Fail;
 
@@ -12,7 +12,7 @@ fn put(session: &mut Session, place: i64, bytes: &[u8], alloc: Global) -> Result
     let mut text = Vec::with_capacity(alloc, bytes.len())?;
     text.extend_from_slice(bytes)?;
     let insertion = Message {
-        number: 2003,
+        number: Kind::InsertText.number(),
         w: place,
         l: 0,
         text: Bytes::new(text),

@@ -1,5 +1,5 @@
 //! Each call that takes memory once on its happy path, and lines about CR LF.
-use crate::{Document, lines_in};
+use document::{Document, lines_in};
 use std::alloc::AllocError;
 use std::process::Abort;
 use std::test::Fail;

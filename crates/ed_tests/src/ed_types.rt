@@ -1,0 +1,15 @@
+//! Marks of messages, from the message table.
+
+use ed_types::{Columns, columns_of};
+
+/// The marks of a message, by their letters.
+fn marks(q: bool, n: bool, e: bool, r: bool) -> Option<Columns> {
+    Some(Columns { q, n, e, r })
+}
+
+#[test]
+fn marks_of_some_messages(rt: HostRuntime) {
+    assert_eq!(rt; columns_of(2182), marks(true, false, false, false));
+    assert_eq!(rt; columns_of(2001), marks(false, false, true, true));
+    assert_eq!(rt; columns_of(2005), None);
+}
