@@ -45,8 +45,8 @@ visible_twice p q s t u flags both one =
     ap (λ n. map (shown_at q t (with_visible p s flags)) (range_with_len 0 n)) (length-with_visible p s flags)
     ∙ map_same (shown_at q t (with_visible p s flags)) (shown_at p u flags) 0 (length flags)
     (λ k h l.
-      ap (λ (f : Flags). cond (q k) (record f { visible = t k }) f) (visible_at p s flags k (omega arith))
-      ∙ go k (p k) (q k) (both k (omega arith)) (one k (omega arith)))
+    ap (λ (f : Flags). cond (q k) (record f { visible = t k }) f) (visible_at p s flags k (omega arith))
+    ∙ go k (p k) (q k) (both k (omega arith)) (one k (omega arith)))
   where
     go : (k : ℕ) (b d : Bool) → (d ≡ true → (b ≡ true) × (u k ≡ t k)) → (d ≡ false → b ≡ true → u k ≡ s k)
         → cond d (record (cond b (record (flags_at flags k) { visible = s k }) (flags_at flags k)) { visible = t k }) (cond b (record (flags_at flags k) { visible = s k }) (flags_at flags k))
@@ -78,15 +78,15 @@ child_in_range levels header last k e =
     rw (← e)
     (same_tests (ltb header k && leb k last) (leb (header + 1) k && ltb k (last + 1))
     (λ t.
-      let both = and_parts (ltb header k) (leb k last) t in
-      let low : header < k = ltb-true header k both.0 in
-      let high : k ≤ last = leb-true k last both.1 in
-      and_from (leb (header + 1) k) (ltb k (last + 1)) (le-leb (header + 1) k (omega arith)) (lt-ltb k (last + 1) (omega arith)))
+    let both = and_parts (ltb header k) (leb k last) t in
+    let low : header < k = ltb-true header k both.0 in
+    let high : k ≤ last = leb-true k last both.1 in
+    and_from (leb (header + 1) k) (ltb k (last + 1)) (le-leb (header + 1) k (omega arith)) (lt-ltb k (last + 1) (omega arith)))
     (λ t.
-      let both = and_parts (leb (header + 1) k) (ltb k (last + 1)) t in
-      let low : header + 1 ≤ k = leb-true (header + 1) k both.0 in
-      let high : k < last + 1 = ltb-true k (last + 1) both.1 in
-      and_from (ltb header k) (leb k last) (lt-ltb header k (omega arith)) (le-leb k last (omega arith))))
+    let both = and_parts (leb (header + 1) k) (ltb k (last + 1)) t in
+    let low : header + 1 ≤ k = leb-true (header + 1) k both.0 in
+    let high : k < last + 1 = ltb-true k (last + 1) both.1 in
+    and_from (ltb header k) (leb k last) (lt-ltb header k (omega arith)) (le-leb k last (omega arith))))
 
 -- line 0 is none of them
 pub range_behind_first : (first past k : ℕ) → 0 < first → (ltb 0 k && is_between first past k) ≡ is_between first past k
@@ -94,8 +94,8 @@ range_behind_first first past k h =
     same_tests (ltb 0 k && is_between first past k) (is_between first past k)
     (λ t. (and_parts (ltb 0 k) (is_between first past k) t).1)
     (λ t.
-      let low : first ≤ k = leb-true first k (and_parts (leb first k) (ltb k past) t).0 in
-      and_from (ltb 0 k) (is_between first past k) (lt-ltb 0 k (omega arith)) t)
+    let low : first ≤ k = leb-true first k (and_parts (leb first k) (ltb k past) t).0 in
+    and_from (ltb 0 k) (is_between first past k) (lt-ltb 0 k (omega arith)) t)
 
 pub children_hidden : (levels : List ℕ) (header last : ℕ) (flags : List Flags) → last ≡ last_child levels header
     → lines_hidden (header + 1) (last + 1) flags ≡ with_visible (is_child levels header) (λ _. false) flags
@@ -181,12 +181,12 @@ module _ (levels : List ℕ) (flags : List Flags) (header : ℕ) where
       open_apart line (last + 1) k h (omega (arith, is.from))
       ∙ elim (cases_Bool (is_child levels line k)) [
         | inl child ↦
-          rw (some, parts.0, child, shut) (and_none (open_to levels flags header line k))
+            rw (some, parts.0, child, shut) (and_none (open_to levels flags header line k))
         | inr other ↦
-          rw other
-          (and_true (open_to levels flags header line k) (list_all (lets_through levels flags k) (range_with_len line (last + 1 - line)))
-          (all_through (lets_through levels flags k) line (last + 1 - line)
-          (λ j a b. no_child_through j k (outside line k l other j a (omega (arith, is.from))))))
+            rw other
+            (and_true (open_to levels flags header line k) (list_all (lets_through levels flags k) (range_with_len line (last + 1 - line)))
+            (all_through (lets_through levels flags k) line (last + 1 - line)
+            (λ j a b. no_child_through j k (outside line k l other j a (omega (arith, is.from))))))
       ]
     where
       and_none : (b : Bool) → (b && false) ≡ false
@@ -197,17 +197,17 @@ module _ (levels : List ℕ) (flags : List Flags) (header : ℕ) where
       outside line k l other j a b =
           same_tests (is_child levels j k) false
           (λ t.
-            let is = last_child_is levels line l in
-            let of_j = last_child_is levels j (omega (arith, is.within)) in
-            let both = and_parts (ltb j k) (leb k (last_child levels j)) t in
-            let low : j < k = ltb-true j k both.0 in
-            let high : k ≤ last_child levels j = leb-true k (last_child levels j) both.1 in
-            let inside : last_child levels j ≤ last_child levels line = elim (cases_eq line j) [
-              | inl q ↦ rw q (le_refl (last_child levels j))
-              | inr ne ↦ nested levels line j (last_child levels line) (last_child levels j) is of_j (omega arith) b
-            ] in
-            let child : is_child levels line k ≡ true = and_from (ltb line k) (leb k (last_child levels line)) (lt-ltb line k (omega arith)) (le-leb k (last_child levels line) (omega arith)) in
-            absurd (false≢true (sym other ∙ child)))
+          let is = last_child_is levels line l in
+          let of_j = last_child_is levels j (omega (arith, is.within)) in
+          let both = and_parts (ltb j k) (leb k (last_child levels j)) t in
+          let low : j < k = ltb-true j k both.0 in
+          let high : k ≤ last_child levels j = leb-true k (last_child levels j) both.1 in
+          let inside : last_child levels j ≤ last_child levels line = elim (cases_eq line j) [
+            | inl q ↦ rw q (le_refl (last_child levels j))
+            | inr ne ↦ nested levels line j (last_child levels line) (last_child levels j) is of_j (omega arith) b
+          ] in
+          let child : is_child levels line k ≡ true = and_from (ltb line k) (leb k (last_child levels line)) (lt-ltb line k (omega arith)) (le-leb k (last_child levels line) (omega arith)) in
+          absurd (false≢true (sym other ∙ child)))
           (λ t. absurd (false≢true t))
 
   -- the children of the header, with those hidden that a contracted header before the line hides
@@ -240,28 +240,31 @@ module _ (levels : List ℕ) (flags : List Flags) (header : ℕ) where
       let still = closed_still line now e h inside in
       elim (cases_Bool (is_closed levels flags line)) [
         | inl closed ↦
-          let is = last_child_is levels line (omega arith) in
-          let here : next ≡ last_child levels line + 1 = q ∙ rw (still, closed) refl in
-          let lies : last_child levels line ≤ last_child levels header = nested levels header line (last_child levels header) (last_child levels line) top is h le in
-          (rw here
-          (r ∙ rw (still, closed) refl ∙ children_hidden levels line (last_child levels line) now refl
-          ∙ ap (with_visible (is_child levels line) (λ _. false)) e
-          ∙ visible_twice (is_child levels header) (is_child levels line) (open_to levels flags header line) (λ _. false) (open_to levels flags header (last_child levels line + 1)) (with_expanded header true flags)
-          (λ k l t.
-            let both = and_parts (ltb line k) (leb k (last_child levels line)) t in
-            let low : line < k = ltb-true line k both.0 in
-            let high : k ≤ last_child levels line = leb-true k (last_child levels line) both.1 in
-            (and_from (ltb header k) (leb k (last_child levels header)) (lt-ltb header k (omega arith)) (le-leb k (last_child levels header) (omega arith)),
-            open_behind line k h (omega arith) closed ∙ rw t refl))
-          (λ k l f t. open_behind line k h (omega arith) closed ∙ rw f refl)),
-          omega (arith, here, is.from))
+            let is = last_child_is levels line (omega arith) in
+            let here : next ≡ last_child levels line + 1 = q ∙ rw (still, closed) refl in
+            let lies : last_child levels line ≤ last_child levels header = nested levels header line (last_child levels header) (last_child levels line) top is h le in (
+              rw here
+                  (r ∙ rw (still, closed) refl ∙ children_hidden levels line (last_child levels line) now refl
+                  ∙ ap (with_visible (is_child levels line) (λ _. false)) e
+                  ∙ visible_twice (is_child levels header) (is_child levels line) (open_to levels flags header line) (λ _. false) (open_to levels flags header (last_child levels line + 1)) (with_expanded header true flags)
+                  (λ k l t.
+                  let both = and_parts (ltb line k) (leb k (last_child levels line)) t in
+                  let low : line < k = ltb-true line k both.0 in
+                  let high : k ≤ last_child levels line = leb-true k (last_child levels line) both.1 in (
+                    and_from (ltb header k) (leb k (last_child levels header)) (lt-ltb header k (omega arith)) (le-leb k (last_child levels header) (omega arith)),
+                    open_behind line k h (omega arith) closed ∙ rw t refl,
+                  ))
+                  (λ k l f t. open_behind line k h (omega arith) closed ∙ rw f refl)),
+              omega (arith, here, is.from),
+            )
         | inr clear ↦
-          let here : next ≡ line + 1 = q ∙ rw (still, clear) refl in
-          (rw here
-          (r ∙ rw (still, clear) refl ∙ e
-          ∙ visible_same (is_child levels header) (is_child levels header) (open_to levels flags header line) (open_to levels flags header (line + 1)) (with_expanded header true flags)
-          (λ k l. refl) (λ k l t. sym (open_more line k h clear))),
-          omega (arith, here))
+            let here : next ≡ line + 1 = q ∙ rw (still, clear) refl in (
+              rw here
+                  (r ∙ rw (still, clear) refl ∙ e
+                  ∙ visible_same (is_child levels header) (is_child levels header) (open_to levels flags header line) (open_to levels flags header (line + 1)) (with_expanded header true flags)
+                  (λ k l. refl) (λ k l t. sym (open_more line k h clear))),
+              omega (arith, here),
+            )
       ]
 
   pub passed_all : (line : ℕ) (now : List Flags) → last_child levels header < line → Passed line now → now ≡ expanded levels header flags
@@ -269,10 +272,10 @@ module _ (levels : List ℕ) (flags : List Flags) (header : ℕ) where
       e ∙ visible_same (is_child levels header) (is_child levels header) (open_to levels flags header line) (is_open_between levels flags header) (with_expanded header true flags)
       (λ k l. refl)
       (λ k l t.
-        let both = and_parts (ltb header k) (leb k (last_child levels header)) t in
-        let low : header < k = ltb-true header k both.0 in
-        let high : k ≤ last_child levels header = leb-true k (last_child levels header) both.1 in
-        open_all line k low (omega arith))
+      let both = and_parts (ltb header k) (leb k (last_child levels header)) t in
+      let low : header < k = ltb-true header k both.0 in
+      let high : k ≤ last_child levels header = leb-true k (last_child levels header) both.1 in
+      open_all line k low (omega arith))
 
 pub length-expanded : (levels : List ℕ) (header : ℕ) (flags : List Flags) → length (expanded levels header flags) ≡ length flags
 length-expanded levels header flags =

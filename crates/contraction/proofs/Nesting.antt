@@ -16,12 +16,16 @@ one_later test a n None e f = λ k h l.
       | inl q ↦ rw q e
       | inr ne ↦ f k (omega arith) (omega arith)
     ]
-one_later test a n (Some j) e f =
-    (omega (arith, f.0), omega (arith, f.1), f.2, λ k h l.
+one_later test a n (Some j) e f = (
+  omega (arith, f.0),
+  omega (arith, f.1),
+  f.2,
+  λ k h l.
       elim (cases_eq k a) [
         | inl q ↦ rw q e
         | inr ne ↦ f.3 k (omega arith) l
-      ])
+      ],
+)
 
 found_at_once : (test : ℕ → Bool) (a n : ℕ) (b : Bool) → test a ≡ b → Found test (a + 1) n (find test (range_with_len (a + 1) n)) → Found test a (suc n) (cond b (Some a) (find test (range_with_len (a + 1) n)))
 found_at_once test a n true e f = (le_refl a, omega arith, e, λ k h l. absurd (omega arith))

@@ -17,6 +17,7 @@ impl<P: Place> Contraction<P> {
         requires header { header < length self.old.flags }
         requires room { (length self.old.flags ≤ self.old.room.hidden) × (0 < self.old.room.contracted) }
         ensures flags { self.new.flags ≡ contracted_at levels.now header self.old.flags }
+        ensures lines { length self.new.flags ≡ length self.old.flags }
         ensures hidden { self.new.room.hidden ≡ self.old.room.hidden }
         ensures contracted { self.old.room.contracted ≤ self.new.room.contracted + 1 }
     {
@@ -60,6 +61,7 @@ impl<P: Place> Contraction<P> {
         requires header { header < length self.old.flags }
         requires room { length self.old.flags ≤ self.old.room.hidden }
         ensures flags { self.new.flags ≡ expanded_at levels.now header self.old.flags }
+        ensures lines { length self.new.flags ≡ length self.old.flags }
         ensures hidden { self.new.room.hidden ≡ self.old.room.hidden }
         ensures contracted { self.old.room.contracted ≤ self.new.room.contracted }
     {
@@ -115,6 +117,7 @@ impl<P: Place> Contraction<P> {
         requires line { line < length self.old.flags }
         requires room { length self.old.flags ≤ self.old.room.hidden }
         ensures flags { self.new.flags ≡ revealed levels.now line self.old.flags }
+        ensures lines { length self.new.flags ≡ length self.old.flags }
         ensures hidden { self.new.room.hidden ≡ self.old.room.hidden }
         ensures contracted { self.old.room.contracted ≤ self.new.room.contracted }
     {

@@ -2,6 +2,8 @@
 #![tactic(auto)]
 
 #[cfg(test)]
+mod contraction;
+#[cfg(test)]
 mod document;
 #[cfg(test)]
 mod document_table;
