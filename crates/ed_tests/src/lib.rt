@@ -2,7 +2,7 @@
 #![tactic(auto)]
 
 #[cfg(test)]
-mod contraction;
+mod contracting;
 #[cfg(test)]
 mod document;
 #[cfg(test)]
