@@ -20,22 +20,20 @@ fn view_of<P: Place>(
     Ok(view)
 }
 
-// Whether each line is visible, one digit a line.
-fn visible<P: Place>(alloc: Global, view: &Contraction<P>) -> Result<Vec<u8>, AllocError> {
-    let mut digits = Vec::new(alloc);
-    for line in 0..view.count() {
-        digits.push(if view.visible(line) { 1 } else { 0 })?;
+// The lines are as many as these, and visible where these say so.
+fn assert_visible<P: Place>(rt: &impl Abort, view: &Contraction<P>, wanted: &[bool]) {
+    assert!(rt; view.count() == wanted.len());
+    for line in 0..wanted.len() {
+        assert!(rt; view.visible(line) == wanted[line]);
     }
-    Ok(digits)
 }
 
-// Whether each line is expanded, one digit a line.
-fn expanded<P: Place>(alloc: Global, view: &Contraction<P>) -> Result<Vec<u8>, AllocError> {
-    let mut digits = Vec::new(alloc);
-    for line in 0..view.count() {
-        digits.push(if view.expanded(line) { 1 } else { 0 })?;
+// The lines are as many as these, and expanded where these say so.
+fn assert_expanded<P: Place>(rt: &impl Abort, view: &Contraction<P>, wanted: &[bool]) {
+    assert!(rt; view.count() == wanted.len());
+    for line in 0..wanted.len() {
+        assert!(rt; view.expanded(line) == wanted[line]);
     }
-    Ok(digits)
 }
 
 fn display_of<P: Place>(rt: &impl Abort, view: &Contraction<P>, line: usize) -> usize {
@@ -134,15 +132,15 @@ fn inner_folds<P: Place>(rt: &impl Abort, alloc: Global) -> Result<(), AllocErro
     contract(rt, &mut view, &levels, 1)?;
     contract(rt, &mut view, &levels, 0)?;
     expand(rt, &mut view, &levels, 0)?;
-    assert_eq!(rt; visible(alloc, &view)?.as_slice(), [1, 1, 0, 1].as_slice());
-    assert_eq!(rt; expanded(alloc, &view)?.as_slice(), [1, 0, 1, 1].as_slice());
+    assert_visible(rt, &view, &[true, true, false, true]);
+    assert_expanded(rt, &view, &[true, false, true, true]);
     assert!(rt; !view.is_all_visible());
     assert_eq!(rt; display_of(rt, &view, 2), 1);
     assert_eq!(rt; view.doc_of(2), 3);
     assert_eq!(rt; view.doc_of(3), 4);
     ensure(rt, &mut view, &levels, 2)?;
-    assert_eq!(rt; visible(alloc, &view)?.as_slice(), [1, 1, 1, 1].as_slice());
-    assert_eq!(rt; expanded(alloc, &view)?.as_slice(), [1, 1, 1, 1].as_slice());
+    assert_visible(rt, &view, &[true, true, true, true]);
+    assert_expanded(rt, &view, &[true, true, true, true]);
     assert!(rt; view.is_all_visible());
     Ok(())
 }
@@ -150,7 +148,7 @@ fn inner_folds<P: Place>(rt: &impl Abort, alloc: Global) -> Result<(), AllocErro
 fn hidden_lines<P: Place>(rt: &impl Abort, alloc: Global) -> Result<(), AllocError> {
     let mut view: Contraction<P> = view_of(rt, alloc, 4)?;
     hide(rt, &mut view, 0, 4)?;
-    assert_eq!(rt; visible(alloc, &view)?.as_slice(), [1, 0, 0, 0].as_slice());
+    assert_visible(rt, &view, &[true, false, false, false]);
     assert!(rt; !view.is_all_visible());
     assert_eq!(rt; display_of(rt, &view, 3), 0);
     assert_eq!(rt; view.doc_of(0), 0);
@@ -166,27 +164,21 @@ fn carried_lines<P: Place>(rt: &impl Abort, alloc: Global) -> Result<(), AllocEr
     hide(rt, &mut view, 2, 3)?;
     set_expanded(rt, &mut view, 2, false)?;
     come(rt, &mut view, 2, 1);
-    assert_eq!(rt;
-        visible(alloc, &view)?.as_slice(),
-        [1, 1, 1, 0, 1].as_slice()
-    );
-    assert_eq!(rt;
-        expanded(alloc, &view)?.as_slice(),
-        [1, 1, 1, 0, 1].as_slice()
-    );
+    assert_visible(rt, &view, &[true, true, true, false, true]);
+    assert_expanded(rt, &view, &[true, true, true, false, true]);
     join(rt, &mut view, 3, 1);
-    assert_eq!(rt; visible(alloc, &view)?.as_slice(), [1, 1, 1, 0].as_slice());
+    assert_visible(rt, &view, &[true, true, true, false]);
     join(rt, &mut view, 2, 1);
-    assert_eq!(rt; visible(alloc, &view)?.as_slice(), [1, 1, 1].as_slice());
-    assert_eq!(rt; expanded(alloc, &view)?.as_slice(), [1, 1, 1].as_slice());
+    assert_visible(rt, &view, &[true, true, true]);
+    assert_expanded(rt, &view, &[true, true, true]);
     set_expanded(rt, &mut view, 1, false)?;
     set_expanded(rt, &mut view, 1, true)?;
-    assert_eq!(rt; expanded(alloc, &view)?.as_slice(), [1, 1, 1].as_slice());
+    assert_expanded(rt, &view, &[true, true, true]);
     hide(rt, &mut view, 1, 3)?;
     assert!(rt; 1 <= P::GREATEST);
     assert!(rt; view.count() < P::GREATEST);
     view.carry(&[LineEdit::Restart]);
-    assert_eq!(rt; visible(alloc, &view)?.as_slice(), [1].as_slice());
+    assert_visible(rt, &view, &[true]);
     assert!(rt; view.is_all_visible());
     Ok(())
 }
