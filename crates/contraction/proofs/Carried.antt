@@ -27,28 +27,28 @@ module _ (h h' c c' : List ℕ) (n line count : ℕ) where
       kept_at h' c' (n + count) k m
       ∙ elim (cases_lt k line) [
         | inl a ↦
-          let s : holds h' k ≡ holds h k = p k ∙ rw (lt-ltb k line a) refl in
-          let t : holds c' k ≡ holds c k = q k ∙ rw (lt-ltb k line a) refl in
-          rw (s, t) (sym (kept_at h c n k (omega arith))) ∙ sym (get_or-take line f k fresh_flags a)
-          ∙ sym (get_or_append_left (take line f) rest fresh_flags k (omega arith))
+            let s : holds h' k ≡ holds h k = p k ∙ rw (lt-ltb k line a) refl in
+            let t : holds c' k ≡ holds c k = q k ∙ rw (lt-ltb k line a) refl in
+            rw (s, t) (sym (kept_at h c n k (omega arith))) ∙ sym (get_or-take line f k fresh_flags a)
+            ∙ sym (get_or_append_left (take line f) rest fresh_flags k (omega arith))
         | inr a ↦
-          elim (cases_lt k (line + count)) [
-            | inl b ↦
-              let s : holds h' k ≡ false = p k ∙ rw (le-ltb k line a, lt-ltb k (line + count) b) refl in
-              let t : holds c' k ≡ false = q k ∙ rw (le-ltb k line a, lt-ltb k (line + count) b) refl in
-              let here : get_or (replicate count fresh_flags) (k - line) fresh_flags ≡ fresh_flags = get_or-replicate count (k - line) fresh_flags fresh_flags (omega arith) in
-              rw (s, t) (sym here)
-              ∙ sym (get_or_append_left (replicate count fresh_flags) (drop line f) fresh_flags (k - line) (omega (arith, length-replicate count fresh_flags)))
-              ∙ sym (get_or-append_right (take line f) rest line k fresh_flags front a)
-            | inr b ↦
-              let s : holds h' k ≡ holds h (k - count) = p k ∙ rw (le-ltb k line a, le-ltb k (line + count) b) refl in
-              let t : holds c' k ≡ holds c (k - count) = q k ∙ rw (le-ltb k line a, le-ltb k (line + count) b) refl in
-              let place : line + (k - line - count) ≡ k - count = omega arith in
-              rw (s, t) (sym (kept_at h c n (k - count) (omega arith))) ∙ ap (λ j. get_or f j fresh_flags) (sym place)
-              ∙ sym (get_or-drop line f (k - line - count) fresh_flags)
-              ∙ sym (get_or-append_right (replicate count fresh_flags) (drop line f) count (k - line) fresh_flags (length-replicate count fresh_flags) (omega arith))
-              ∙ sym (get_or-append_right (take line f) rest line k fresh_flags front a)
-          ]
+            elim (cases_lt k (line + count)) [
+              | inl b ↦
+                  let s : holds h' k ≡ false = p k ∙ rw (le-ltb k line a, lt-ltb k (line + count) b) refl in
+                  let t : holds c' k ≡ false = q k ∙ rw (le-ltb k line a, lt-ltb k (line + count) b) refl in
+                  let here : get_or (replicate count fresh_flags) (k - line) fresh_flags ≡ fresh_flags = get_or-replicate count (k - line) fresh_flags fresh_flags (omega arith) in
+                  rw (s, t) (sym here)
+                  ∙ sym (get_or_append_left (replicate count fresh_flags) (drop line f) fresh_flags (k - line) (omega (arith, length-replicate count fresh_flags)))
+                  ∙ sym (get_or-append_right (take line f) rest line k fresh_flags front a)
+              | inr b ↦
+                  let s : holds h' k ≡ holds h (k - count) = p k ∙ rw (le-ltb k line a, le-ltb k (line + count) b) refl in
+                  let t : holds c' k ≡ holds c (k - count) = q k ∙ rw (le-ltb k line a, le-ltb k (line + count) b) refl in
+                  let place : line + (k - line - count) ≡ k - count = omega arith in
+                  rw (s, t) (sym (kept_at h c n (k - count) (omega arith))) ∙ ap (λ j. get_or f j fresh_flags) (sym place)
+                  ∙ sym (get_or-drop line f (k - line - count) fresh_flags)
+                  ∙ sym (get_or-append_right (replicate count fresh_flags) (drop line f) count (k - line) fresh_flags (length-replicate count fresh_flags) (omega arith))
+                  ∙ sym (get_or-append_right (take line f) rest line k fresh_flags front a)
+            ]
       ]
 
   pub with_fresh_kept : line ≤ n → ((k : ℕ) → holds h' k ≡ holds_with_fresh h line count k) → ((k : ℕ) → holds c' k ≡ holds_with_fresh c line count k)
@@ -83,23 +83,23 @@ module _ (h h' c c' : List ℕ) (n m line count : ℕ) where
       kept_at h' c' m k b
       ∙ elim (cases_order k line) [
         | inl e ↦
-          let s : holds h' line ≡ holds h line = p line ∙ rw (lt-ltb line (line + 1) (omega arith)) refl in
-          let t : holds c' line ≡ holds c line = q line ∙ rw (lt-ltb line (line + 1) (omega arith)) refl in
-          rw (e, s, t) (sym (joined_line l) ∙ sym (get_or_at (take line f) one rest fresh_flags line front))
+            let s : holds h' line ≡ holds h line = p line ∙ rw (lt-ltb line (line + 1) (omega arith)) refl in
+            let t : holds c' line ≡ holds c line = q line ∙ rw (lt-ltb line (line + 1) (omega arith)) refl in
+            rw (e, s, t) (sym (joined_line l) ∙ sym (get_or_at (take line f) one rest fresh_flags line front))
         | inr (inl a) ↦
-          let s : holds h' k ≡ holds h k = p k ∙ rw (lt-ltb k (line + 1) (omega arith)) refl in
-          let t : holds c' k ≡ holds c k = q k ∙ rw (lt-ltb k (line + 1) (omega arith)) refl in
-          rw (s, t) (sym (kept_at h c n k (omega arith))) ∙ sym (get_or-take line f k fresh_flags a)
-          ∙ sym (get_or_append_left (take line f) (one ∷ rest) fresh_flags k (omega arith))
+            let s : holds h' k ≡ holds h k = p k ∙ rw (lt-ltb k (line + 1) (omega arith)) refl in
+            let t : holds c' k ≡ holds c k = q k ∙ rw (lt-ltb k (line + 1) (omega arith)) refl in
+            rw (s, t) (sym (kept_at h c n k (omega arith))) ∙ sym (get_or-take line f k fresh_flags a)
+            ∙ sym (get_or_append_left (take line f) (one ∷ rest) fresh_flags k (omega arith))
         | inr (inr a) ↦
-          let s : holds h' k ≡ holds h (k + count) = p k ∙ rw (le-ltb k (line + 1) (omega arith)) refl in
-          let t : holds c' k ≡ holds c (k + count) = q k ∙ rw (le-ltb k (line + 1) (omega arith)) refl in
-          let place : line + (count + 1) + (k - line - 1) ≡ k + count = omega arith in
-          let behind : k - line ≡ suc (k - line - 1) = omega arith in
-          rw (s, t) (sym (kept_at h c n (k + count) (omega arith))) ∙ ap (λ j. get_or f j fresh_flags) (sym place)
-          ∙ sym (get_or-drop (line + (count + 1)) f (k - line - 1) fresh_flags)
-          ∙ ap (λ j. get_or (one ∷ rest) j fresh_flags) (sym behind)
-          ∙ sym (get_or-append_right (take line f) (one ∷ rest) line k fresh_flags front (omega arith))
+            let s : holds h' k ≡ holds h (k + count) = p k ∙ rw (le-ltb k (line + 1) (omega arith)) refl in
+            let t : holds c' k ≡ holds c (k + count) = q k ∙ rw (le-ltb k (line + 1) (omega arith)) refl in
+            let place : line + (count + 1) + (k - line - 1) ≡ k + count = omega arith in
+            let behind : k - line ≡ suc (k - line - 1) = omega arith in
+            rw (s, t) (sym (kept_at h c n (k + count) (omega arith))) ∙ ap (λ j. get_or f j fresh_flags) (sym place)
+            ∙ sym (get_or-drop (line + (count + 1)) f (k - line - 1) fresh_flags)
+            ∙ ap (λ j. get_or (one ∷ rest) j fresh_flags) (sym behind)
+            ∙ sym (get_or-append_right (take line f) (one ∷ rest) line k fresh_flags front (omega arith))
       ]
 
   pub with_joined_kept : line + count < n → m + count ≡ n → ((k : ℕ) → holds h' k ≡ holds_without h (line + 1) count k) → ((k : ℕ) → holds c' k ≡ holds_without c (line + 1) count k)

@@ -24,15 +24,15 @@ behind_first : (first from past k : ℕ) → from ≡ max first 1 → is_between
 behind_first first from past k e =
     same_tests (is_between from past k) (ltb 0 k && is_between first past k)
     (λ t.
-      let both = and_parts (leb from k) (ltb k past) t in
-      let low : from ≤ k = leb-true from k both.0 in
-      and_from (ltb 0 k) (is_between first past k) (lt-ltb 0 k (omega arith)) (and_from (leb first k) (ltb k past) (le-leb first k (omega arith)) both.1))
+    let both = and_parts (leb from k) (ltb k past) t in
+    let low : from ≤ k = leb-true from k both.0 in
+    and_from (ltb 0 k) (is_between first past k) (lt-ltb 0 k (omega arith)) (and_from (leb first k) (ltb k past) (le-leb first k (omega arith)) both.1))
     (λ t.
-      let both = and_parts (ltb 0 k) (is_between first past k) t in
-      let parts = and_parts (leb first k) (ltb k past) both.1 in
-      let some : 0 < k = ltb-true 0 k both.0 in
-      let low : first ≤ k = leb-true first k parts.0 in
-      and_from (leb from k) (ltb k past) (le-leb from k (omega arith)) parts.1)
+    let both = and_parts (ltb 0 k) (is_between first past k) t in
+    let parts = and_parts (leb first k) (ltb k past) both.1 in
+    let some : 0 < k = ltb-true 0 k both.0 in
+    let low : first ≤ k = leb-true first k parts.0 in
+    and_from (leb from k) (ltb k past) (le-leb from k (omega arith)) parts.1)
 
 pub hidden_after : (h h' c : Partitions) (v : ViewLines) (first from past : ℕ) → view_lines h c ≡ v → h'.length ≡ h.length → from ≡ max first 1
     → ((k : ℕ) → holds h'.starts k ≡ (is_between from past k || holds h.starts k)) → flags_kept h'.starts c.starts h'.length ≡ lines_hidden first past v.flags
@@ -46,13 +46,13 @@ one_line : (line k : ℕ) → is_between line (line + 1) k ≡ eqb k line
 one_line line k =
     same_tests (is_between line (line + 1) k) (eqb k line)
     (λ t.
-      let both = and_parts (leb line k) (ltb k (line + 1)) t in
-      let low : line ≤ k = leb-true line k both.0 in
-      let high : k < line + 1 = ltb-true k (line + 1) both.1 in
-      eq-eqb k line (omega arith))
+    let both = and_parts (leb line k) (ltb k (line + 1)) t in
+    let low : line ≤ k = leb-true line k both.0 in
+    let high : k < line + 1 = ltb-true k (line + 1) both.1 in
+    eq-eqb k line (omega arith))
     (λ t.
-      let e : k ≡ line = eqb-true k line t in
-      and_from (leb line k) (ltb k (line + 1)) (le-leb line k (omega arith)) (lt-ltb k (line + 1) (omega arith)))
+    let e : k ≡ line = eqb-true k line t in
+    and_from (leb line k) (ltb k (line + 1)) (le-leb line k (omega arith)) (lt-ltb k (line + 1) (omega arith)))
 
 pub expanded_after : (h c c' : Partitions) (v : ViewLines) (line : ℕ) → view_lines h c ≡ v → line < h.length
     → ((k : ℕ) → holds c'.starts k ≡ holds_outside c.starts line (line + 1) k) → flags_kept h.starts c'.starts h.length ≡ with_expanded line true v.flags

@@ -1,20 +1,22 @@
 -- The flags that two sets of lines stand for.
-use Rattle.std.proofs.Common.{◌≡◌, ℕ, zero, suc, ◌+◌, ◌-◌, ◌<◌, ◌≤◌, Bool, true, false, not, ◌&&◌, ◌||◌, cond, ltb, leb, eqb, List, [], ◌∷◌, ◌++◌, length, get_or, set, take, drop, map, replicate, filter, count_by, refl, sym, ap, ◌∙◌, ◌⊎◌, inl, inr, arith, add-one}
+use Rattle.std.proofs.Common.{◌≡◌, ℕ, zero, suc, ◌+◌, ◌-◌, ◌*◌, ◌<◌, ◌≤◌, max, Bool, true, false, not, ◌&&◌, ◌||◌, cond, ltb, leb, eqb, List, [], ◌∷◌, ◌++◌, length, get_or, set, take, drop, map, replicate, filter, count_by, refl, sym, ap, ◌∙◌, ◌⊎◌, inl, inr, arith, add-one}
 use Rattle.std.specs.List.{range_with_len, list_all}
 use Rattle.std.specs.Prelude.{slice_get, unwrap_or, Result, Ok, Err, OnOk}
 use Rattle.std.proofs.lemmas.Bool.{cases_lt, cases_eq, eq-eqb, ne_eqb, false≢true}
 use Rattle.std.proofs.lemmas.List.Folds.{list_all_at}
+use Rattle.std.proofs.lemmas.List.Filters.{length-filter_both}
 use Rattle.std.proofs.lemmas.List.Sums.{list_all-from_AllPass, sum_by-cons}
 use Rattle.contraction.proofs.LineSets.{same_tests, index_of, rising_to, there}
-use Rattle.contraction.proofs.Outside.{outside_before}
+use Rattle.contraction.proofs.Outside.{outside_before, last_of_all}
 use Rattle.std.proofs.lemmas.List.{get_or_default, ext_get_or, length-replicate, get_or-replicate, length-set, get_or-set_same, get_or-set_other}
-use Rattle.std.proofs.lemmas.List.FromFn.{length-map-range_with_len, get_or-map-range_with_len, fill_by_all, take-map-range_with_len}
+use Rattle.std.proofs.lemmas.List.FromFn.{length-range_with_len, length-map-range_with_len, get_or-map-range_with_len, fill_by_all, take-map-range_with_len}
 use Rattle.ed_model.specs.Rows.{Flags, fresh_flags}
 use Rattle.ed_model.specs.Folding.{flags_at, is_visible, is_expanded, with_visible, with_expanded}
 use Rattle.ed_model.specs.DisplayLines.{display_line, line_shown, all_visible}
 use Rattle.partitioning.specs.Partitions.{Partitions, ArePartitions, IsLastAtMost}
 use Rattle.contraction.specs.LineSets.{starts_at, holds, lines_outside}
-use Rattle.contraction.specs.ViewLines.{ViewLines, view_lines, flags_kept, room_in_all}
+use Rattle.contraction.specs.ViewLines.{ViewLines, view_lines, flags_kept, room_in_all, contracted_lines}
+use Rattle.split_vector.specs.Split.{most_room}
 
 pub length-kept : (h c : List ℕ) (n : ℕ) → length (flags_kept h c n) ≡ n
 length-kept h c n = length-map-range_with_len (λ line. record { visible = not (holds h line); expanded = not (holds c line) }) 0 n
@@ -40,10 +42,10 @@ expanded_in h c v k e l = sym (ap (λ w. is_expanded w.flags k) e) ∙ ap (λ f.
 pub none_in : (s : List ℕ) (k : ℕ) → length s ≡ 1 → get_or s 0 0 ≡ 0 → holds s k ≡ false
 none_in s k one first = same_tests (holds s k) false
     (λ t.
-      let i = index_of s (k + 1) t in
-      let z : i.0 ≡ 0 = omega (arith, i.1) in
-      let f : get_or s 0 0 ≡ k + 1 = ap (λ j. get_or s j 0) (sym z) ∙ i.2 in
-      absurd (omega arith))
+    let i = index_of s (k + 1) t in
+    let z : i.0 ≡ 0 = omega (arith, i.1) in
+    let f : get_or s 0 0 ≡ k + 1 = ap (λ j. get_or s j 0) (sym z) ∙ i.2 in
+    absurd (omega arith))
     (λ t. absurd (false≢true t))
 
 -- all are visible exactly where no line is hidden
@@ -52,24 +54,24 @@ all_visible_in h c v e sound =
     sym (ap (λ w. all_visible w.flags) e)
     ∙ elim (cases_lt 1 (length h.starts)) [
       | inl some ↦
-        let rises = rising_to h.starts sound.rising 0 1 (omega arith) some in
-        let start : ℕ = get_or h.starts 1 0 in
-        let line : ℕ = start - 1 in
-        let back : start - 1 + 1 ≡ start = omega arith in
-        let inside : start - 1 < h.length = omega (arith, sound.within 1 some) in
-        let hidden : holds h.starts (start - 1) ≡ true = there h.starts 1 (start - 1 + 1) some (sym back) in
-        let flags = kept_at h.starts c.starts h.length (start - 1) inside in
-        list_all_at (λ (f : Flags). f.visible) (flags_kept h.starts c.starts h.length) (start - 1) fresh_flags (omega (arith, length-kept h.starts c.starts h.length))
-        (ap (λ f. f.visible) flags ∙ ap not hidden)
-        ∙ sym (ne_eqb (length h.starts) 1 (λ q. omega arith))
+          let rises = rising_to h.starts sound.rising 0 1 (omega arith) some in
+          let start : ℕ = get_or h.starts 1 0 in
+          let line : ℕ = start - 1 in
+          let back : start - 1 + 1 ≡ start = omega arith in
+          let inside : start - 1 < h.length = omega (arith, sound.within 1 some) in
+          let hidden : holds h.starts (start - 1) ≡ true = there h.starts 1 (start - 1 + 1) some (sym back) in
+          let flags = kept_at h.starts c.starts h.length (start - 1) inside in
+          list_all_at (λ (f : Flags). f.visible) (flags_kept h.starts c.starts h.length) (start - 1) fresh_flags (omega (arith, length-kept h.starts c.starts h.length))
+          (ap (λ f. f.visible) flags ∙ ap not hidden)
+          ∙ sym (ne_eqb (length h.starts) 1 (λ q. omega arith))
       | inr one ↦
-        let only : length h.starts ≡ 1 = omega (arith, sound.some) in
-        list_all-from_AllPass (λ (f : Flags). f.visible) (flags_kept h.starts c.starts h.length)
-        (λ k d l.
+          let only : length h.starts ≡ 1 = omega (arith, sound.some) in
+          list_all-from_AllPass (λ (f : Flags). f.visible) (flags_kept h.starts c.starts h.length)
+          (λ k d l.
           let inside : k < h.length = omega (arith, length-kept h.starts c.starts h.length) in
           let none : holds h.starts k ≡ false = none_in h.starts k only sound.first in
           ap (λ f. f.visible) (get_or_default (flags_kept h.starts c.starts h.length) k d fresh_flags l ∙ kept_at h.starts c.starts h.length k inside) ∙ ap not none)
-        ∙ sym (eq-eqb (length h.starts) 1 only)
+          ∙ sym (eq-eqb (length h.starts) 1 only)
     ]
 
 count_map : (p : Flags → Bool) (f : ℕ → Flags) (ks : List ℕ) → count_by p (map f ks) ≡ length (filter (λ k. p (f k)) ks)
@@ -134,10 +136,11 @@ pub hidden_reserved : {T E : Type 0} (r : Result T E) (h h' c : Partitions) (v :
 hidden_reserved (Err x) h h' c v n m e some q ok = tt
 hidden_reserved (Ok x) h h' c v n m e some q ok =
     let size : length h'.starts ≡ length h.starts = ap (λ w. length w.starts) ok.1 in
-    let room : room_in_all (record h { room = h'.room }) ≡ room_in_all h' = ap (λ k. k + h'.room - 1) (sym size) in
-    (omega (arith, ok.0),
-    ap (λ w. view_lines w c) ok.1 ∙ ap (λ (w : ViewLines). record w { room = record w.room { hidden = room_in_all (record h { room = h'.room }) } }) e
-    ∙ ap (λ k. record v { room = record v.room { hidden = k } }) room)
+    let room : room_in_all (record h { room = h'.room }) ≡ room_in_all h' = ap (λ k. k + h'.room - 1) (sym size) in (
+      omega (arith, ok.0),
+      ap (λ w. view_lines w c) ok.1 ∙ ap (λ (w : ViewLines). record w { room = record w.room { hidden = room_in_all (record h { room = h'.room }) } }) e
+          ∙ ap (λ k. record v { room = record v.room { hidden = k } }) room,
+    )
 
 -- lines shown and hidden, expanded and contracted
 
@@ -183,3 +186,32 @@ with_expanded_kept h c c' n line on l same =
         let q : holds c' k ≡ holds c k = same k ∙ rw (ne_eqb k line ne) refl in
         kept_at h c' n k m ∙ rw q refl ∙ sym (kept_at h c n k m)
         ∙ sym (get_or-set_other (flags_kept h c n) line k (record (flags_at (flags_kept h c n) line) { expanded = on }) fresh_flags ne)
+
+-- .. and not too much
+
+pub contracted_count : (h c : Partitions) (v : ViewLines) → view_lines h c ≡ v → c.length ≡ h.length → ArePartitions c.starts c.length → contracted_lines v.flags + 1 ≡ length c.starts
+contracted_count h c v e size sound =
+    let test : ℕ → Bool = λ k. not (not (holds c.starts k)) in
+    let counted = count_map (λ (f : Flags). not f.expanded) (flags_of h.starts c.starts) (range_with_len 0 h.length) in
+    let both = length-filter_both (λ k. not (holds c.starts k)) test (λ k. refl) (range_with_len 0 h.length) in
+    let size' = length-range_with_len 0 h.length in
+    let outside : length (filter (λ k. not (holds c.starts k)) (range_with_len 0 h.length)) + (length c.starts - 1) ≡ h.length =
+    rw (← size) (outside_before c.starts c.length sound c.length (length c.starts - 1) (last_of_all c.starts c.length sound)) in
+    let same = ap (λ w. contracted_lines w.flags) e in
+    omega (arith, sound.some)
+
+pub contracted_bound : {T E : Type 0} (r : Result T E) (h c : Partitions) (v : ViewLines) (room count : ℕ) → view_lines h c ≡ v → c.length ≡ h.length → ArePartitions c.starts c.length
+    → OnOk r (room ≤ most_room (length c.starts) c.room count) → OnOk r (room ≤ most_room (contracted_lines v.flags + 1) v.room.contracted count)
+contracted_bound (Err x) h c v room count e size sound most = tt
+contracted_bound (Ok x) h c v room count e size sound most =
+    let own : c.room ≡ v.room.contracted = ap (λ w. w.room.contracted) e in
+    rw (contracted_count h c v e size sound, ← own) most
+
+pub hidden_bound : {T E : Type 0} (r : Result T E) (h h' c : Partitions) (v : ViewLines) (n m : ℕ) → view_lines h c ≡ v → 0 < length h.starts → n ≡ m - (length h.starts - 1)
+    → OnOk r ((n ≤ h'.room) × (h' ≡ record h { room = h'.room })) → OnOk r (h'.room ≤ most_room (length h.starts) h.room n)
+    → OnOk r (room_in_all h' ≤ max m (2 * v.room.hidden + 1))
+hidden_bound (Err x) h h' c v n m e some q ok most = tt
+hidden_bound (Ok x) h h' c v n m e some q ok most =
+    let size : length h'.starts ≡ length h.starts = ap (λ w. length w.starts) ok.1 in
+    let own : room_in_all h ≡ v.room.hidden = ap (λ w. w.room.hidden) e in
+    omega (arith, most)

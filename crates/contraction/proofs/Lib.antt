@@ -1,6 +1,9 @@
 pub mod Carried
 pub mod Changed
+pub mod Expanding
 pub mod FoldLines
 pub mod Kept
 pub mod LineSets
+pub mod Nesting
 pub mod Outside
+pub mod Revealing

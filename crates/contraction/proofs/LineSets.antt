@@ -62,10 +62,10 @@ found_at s end y i r sound last e =
     same_tests (eqb r y) (starts_at s y)
     (λ t. there s i y last.within (sym e ∙ eqb-true r y t))
     (λ t. let k = index_of s y t in
-      elim (cases_lt i k.0) [
-        | inl h ↦ absurd (omega (arith, last.last k.0 h k.1, k.2))
-        | inr h ↦ eq-eqb r y (omega (arith, e, last.at_most, k.2, rising_to s sound.rising k.0 i h last.within))
-      ])
+    elim (cases_lt i k.0) [
+      | inl h ↦ absurd (omega (arith, last.last k.0 h k.1, k.2))
+      | inr h ↦ eq-eqb r y (omega (arith, e, last.at_most, k.2, rising_to s sound.rising k.0 i h last.within))
+    ])
 
 -- in parts of the list
 
@@ -96,43 +96,43 @@ pub at_low : (s : List ℕ) (n a y : ℕ) → IsCut s n a → starts_at (take n 
 at_low s n a y cut =
     same_tests (starts_at (take n s) y) (leb y a && starts_at s y)
     (λ t.
-      let k = index_of (take n s) y t in
-      let size = length-take n s in
-      let inside : k.0 < n = omega (arith, k.1) in
-      let within : k.0 < length s = omega (arith, k.1) in
-      let same = get_or-take n s k.0 0 inside in
-      and_from (leb y a) (starts_at s y) (le-leb y a (omega (arith, cut.below k.0 inside within, k.2))) (there s k.0 y within (sym same ∙ k.2)))
+    let k = index_of (take n s) y t in
+    let size = length-take n s in
+    let inside : k.0 < n = omega (arith, k.1) in
+    let within : k.0 < length s = omega (arith, k.1) in
+    let same = get_or-take n s k.0 0 inside in
+    and_from (leb y a) (starts_at s y) (le-leb y a (omega (arith, cut.below k.0 inside within, k.2))) (there s k.0 y within (sym same ∙ k.2)))
     (λ t.
-      let both = and_parts (leb y a) (starts_at s y) t in
-      let k = index_of s y both.1 in
-      let low : y ≤ a = leb-true y a both.0 in
-      let size = length-take n s in
-      elim (cases_lt k.0 n) [
-        | inl h ↦ there (take n s) k.0 y (omega (arith, k.1)) (get_or-take n s k.0 0 h ∙ k.2)
-        | inr h ↦ absurd (omega (arith, cut.above k.0 h k.1, k.2))
-      ])
+    let both = and_parts (leb y a) (starts_at s y) t in
+    let k = index_of s y both.1 in
+    let low : y ≤ a = leb-true y a both.0 in
+    let size = length-take n s in
+    elim (cases_lt k.0 n) [
+      | inl h ↦ there (take n s) k.0 y (omega (arith, k.1)) (get_or-take n s k.0 0 h ∙ k.2)
+      | inr h ↦ absurd (omega (arith, cut.above k.0 h k.1, k.2))
+    ])
 
 -- .. and those behind it
 pub at_high : (s : List ℕ) (n a y : ℕ) → IsCut s n a → starts_at (drop n s) y ≡ (ltb a y && starts_at s y)
 at_high s n a y cut =
     same_tests (starts_at (drop n s) y) (ltb a y && starts_at s y)
     (λ t.
-      let k = index_of (drop n s) y t in
-      let size = length-drop n s in
-      let within : n + k.0 < length s = omega (arith, k.1) in
-      let same = get_or-drop n s k.0 0 in
-      and_from (ltb a y) (starts_at s y) (lt-ltb a y (omega (arith, cut.above (n + k.0) (omega arith) within, k.2))) (there s (n + k.0) y within (sym same ∙ k.2)))
+    let k = index_of (drop n s) y t in
+    let size = length-drop n s in
+    let within : n + k.0 < length s = omega (arith, k.1) in
+    let same = get_or-drop n s k.0 0 in
+    and_from (ltb a y) (starts_at s y) (lt-ltb a y (omega (arith, cut.above (n + k.0) (omega arith) within, k.2))) (there s (n + k.0) y within (sym same ∙ k.2)))
     (λ t.
-      let both = and_parts (ltb a y) (starts_at s y) t in
-      let k = index_of s y both.1 in
-      let high : a < y = ltb-true a y both.0 in
-      let size = length-drop n s in
-      elim (cases_lt k.0 n) [
-        | inl h ↦ absurd (omega (arith, cut.below k.0 h k.1, k.2))
-        | inr h ↦
+    let both = and_parts (ltb a y) (starts_at s y) t in
+    let k = index_of s y both.1 in
+    let high : a < y = ltb-true a y both.0 in
+    let size = length-drop n s in
+    elim (cases_lt k.0 n) [
+      | inl h ↦ absurd (omega (arith, cut.below k.0 h k.1, k.2))
+      | inr h ↦
           let e : n + (k.0 - n) ≡ k.0 = omega arith in
           there (drop n s) (k.0 - n) y (omega (arith, k.1)) (get_or-drop n s (k.0 - n) 0 ∙ ap (λ j. get_or s j 0) e ∙ k.2)
-      ])
+    ])
 
 -- starts that are moved
 starts_at_raised : (s : List ℕ) (c y : ℕ) → starts_at (map (λ x. x + c) s) y ≡ (leb c y && starts_at s (y - c))
@@ -182,18 +182,18 @@ module _ (s : List ℕ) (end line i : ℕ) (sound : ArePartitions s end) (last :
       let high = at_high s (i + 1) line (k + 1 - c) cut in
       elim (cases_lt k line) [
         | inl h ↦
-          rw (parts, low, moved, high, le-leb (k + 1) line (omega arith), le-ltb line (k + 1 - c) (omega arith), lt-ltb k line h)
-          (or_none (starts_at s (k + 1)) (leb c (k + 1)))
+            rw (parts, low, moved, high, le-leb (k + 1) line (omega arith), le-ltb line (k + 1 - c) (omega arith), lt-ltb k line h)
+            (or_none (starts_at s (k + 1)) (leb c (k + 1)))
         | inr h ↦
-          elim (cases_lt k (line + c)) [
-            | inl m ↦
-              rw (parts, low, moved, high, lt-leb (k + 1) line (omega arith), le-ltb line (k + 1 - c) (omega arith), le-ltb k line h, lt-ltb k (line + c) m)
-              (and_none (leb c (k + 1)))
-            | inr m ↦
-              let e : k + 1 - c ≡ k - c + 1 = omega arith in
-              rw (parts, low, moved, high, lt-leb (k + 1) line (omega arith), lt-ltb line (k + 1 - c) (omega arith), le-ltb k line h, le-ltb k (line + c) m, le-leb c (k + 1) (omega arith), e)
-              refl
-          ]
+            elim (cases_lt k (line + c)) [
+              | inl m ↦
+                  rw (parts, low, moved, high, lt-leb (k + 1) line (omega arith), le-ltb line (k + 1 - c) (omega arith), le-ltb k line h, lt-ltb k (line + c) m)
+                  (and_none (leb c (k + 1)))
+              | inr m ↦
+                  let e : k + 1 - c ≡ k - c + 1 = omega arith in
+                  rw (parts, low, moved, high, lt-leb (k + 1) line (omega arith), lt-ltb line (k + 1 - c) (omega arith), le-ltb k line h, le-ltb k (line + c) m, le-leb c (k + 1) (omega arith), e)
+                  refl
+            ]
       ]
     where
       or_none : (x y : Bool) → (x || (y && false)) ≡ x
@@ -234,13 +234,13 @@ left s end first past i j k sound one two h =
     let high = at_high s (j + 1) past (k + 1) (cut_at s end past j sound two) in
     elim (cases_lt k first) [
       | inl a ↦
-        rw (parts, low, high, le-leb (k + 1) first (omega arith), le-ltb past (k + 1) (omega arith), lt-leb first k a)
-        (or_right_none (starts_at s (k + 1)))
+          rw (parts, low, high, le-leb (k + 1) first (omega arith), le-ltb past (k + 1) (omega arith), lt-leb first k a)
+          (or_right_none (starts_at s (k + 1)))
       | inr a ↦
-        elim (cases_lt k past) [
-          | inl b ↦ rw (parts, low, high, lt-leb (k + 1) first (omega arith), le-ltb past (k + 1) (omega arith), le-leb first k a, lt-ltb k past b) refl
-          | inr b ↦ rw (parts, low, high, lt-leb (k + 1) first (omega arith), lt-ltb past (k + 1) (omega arith), le-leb first k a, le-ltb k past b) refl
-        ]
+          elim (cases_lt k past) [
+            | inl b ↦ rw (parts, low, high, lt-leb (k + 1) first (omega arith), le-ltb past (k + 1) (omega arith), le-leb first k a, lt-ltb k past b) refl
+            | inr b ↦ rw (parts, low, high, lt-leb (k + 1) first (omega arith), lt-ltb past (k + 1) (omega arith), le-leb first k a, le-ltb k past b) refl
+          ]
     ]
   where
     or_right_none : (x : Bool) → (x || false) ≡ x
@@ -258,8 +258,8 @@ none_within s t first past i last gone h =
     elim (cases_lt past (get_or t (i + 1) 0)) [
       | inl l ↦ l
       | inr l ↦
-        let outside : holds_outside s first past k ≡ false = rw (le-leb first k (omega arith), lt-ltb k past (omega arith)) refl in
-        absurd (false≢true (sym outside ∙ sym (gone k) ∙ is))
+          let outside : holds_outside s first past k ≡ false = rw (le-leb first k (omega arith), lt-ltb k past (omega arith)) refl in
+          absurd (false≢true (sym outside ∙ sym (gone k) ∙ is))
     ]
 
 -- lines went away, and those behind them moved
@@ -277,17 +277,17 @@ went s t end line c i k sound last gone =
     let e : k + 1 + c ≡ k + c + 1 = omega arith in
     elim (cases_lt k line) [
       | inl h ↦
-        let kept : starts_at t (k + 1) ≡ starts_at s (k + 1) = gone k ∙ rw (lt-leb line k h) refl in
-        elim (cases_lt (k + c) line) [
-          | inl m ↦
-            rw (parts, low, moved, high, le-leb (k + 1) line (omega arith), le-ltb line (k + 1 + c) (omega arith), lt-ltb k line h, kept) (or_right_none (starts_at s (k + 1)))
-          | inr m ↦
-            let out : starts_at t (k + 1 + c) ≡ false = rw e (gone (k + c) ∙ rw (le-leb line (k + c) m, lt-ltb (k + c) (line + c) (omega arith)) refl) in
-            rw (parts, low, moved, high, le-leb (k + 1) line (omega arith), lt-ltb k line h, kept, out) (or_and_none (starts_at s (k + 1)) (ltb line (k + 1 + c)))
-        ]
+          let kept : starts_at t (k + 1) ≡ starts_at s (k + 1) = gone k ∙ rw (lt-leb line k h) refl in
+          elim (cases_lt (k + c) line) [
+            | inl m ↦
+                rw (parts, low, moved, high, le-leb (k + 1) line (omega arith), le-ltb line (k + 1 + c) (omega arith), lt-ltb k line h, kept) (or_right_none (starts_at s (k + 1)))
+            | inr m ↦
+                let out : starts_at t (k + 1 + c) ≡ false = rw e (gone (k + c) ∙ rw (le-leb line (k + c) m, lt-ltb (k + c) (line + c) (omega arith)) refl) in
+                rw (parts, low, moved, high, le-leb (k + 1) line (omega arith), lt-ltb k line h, kept, out) (or_and_none (starts_at s (k + 1)) (ltb line (k + 1 + c)))
+          ]
       | inr h ↦
-        let kept : starts_at t (k + 1 + c) ≡ starts_at s (k + c + 1) = rw e (gone (k + c) ∙ rw (le-leb line (k + c) (omega arith), le-ltb (k + c) (line + c) (omega arith)) refl) in
-        rw (parts, low, moved, high, lt-leb (k + 1) line (omega arith), lt-ltb line (k + 1 + c) (omega arith), le-ltb k line h, kept) refl
+          let kept : starts_at t (k + 1 + c) ≡ starts_at s (k + c + 1) = rw e (gone (k + c) ∙ rw (le-leb line (k + c) (omega arith), le-ltb (k + c) (line + c) (omega arith)) refl) in
+          rw (parts, low, moved, high, lt-leb (k + 1) line (omega arith), lt-ltb line (k + 1 + c) (omega arith), le-ltb k line h, kept) refl
     ]
   where
     or_right_none : (x : Bool) → (x || false) ≡ x
@@ -313,8 +313,8 @@ between_more first line k b h =
     elim (cases_eq k line) [
       | inl e ↦ rw (eq-eqb k line e, le-leb first k (omega arith), lt-ltb k (line + 1) (omega arith)) refl
       | inr ne ↦
-        elim (cases_lt k line) [
-          | inl l ↦ rw (ne_eqb k line ne, lt-ltb k line l, lt-ltb k (line + 1) (omega arith)) refl
-          | inr l ↦ rw (ne_eqb k line ne, le-ltb k line l, le-ltb k (line + 1) (omega arith)) refl
-        ]
+          elim (cases_lt k line) [
+            | inl l ↦ rw (ne_eqb k line ne, lt-ltb k line l, lt-ltb k (line + 1) (omega arith)) refl
+            | inr l ↦ rw (ne_eqb k line ne, le-ltb k line l, le-ltb k (line + 1) (omega arith)) refl
+          ]
     ]

@@ -31,11 +31,14 @@ last_before_start s end m i sound last e =
     let some : 0 < i = elim (cases_lt 0 i) [
       | inl h ↦ h
       | inr h ↦ let z : i ≡ 0 = omega arith in let f : get_or s 0 0 ≡ m + 1 = rw z at e in absurd (omega (arith, sound.first))
-    ] in (some, record {
-      within = omega (arith, last.within);
-      at_most = omega (arith, rising_to s sound.rising (i - 1) i (omega arith) last.within);
-      last = λ k a b. omega (arith, rising_to s sound.rising i k (omega arith) b);
-    })
+    ] in (
+      some,
+      record {
+        within = omega (arith, last.within);
+        at_most = omega (arith, rising_to s sound.rising (i - 1) i (omega arith) last.within);
+        last = λ k a b. omega (arith, rising_to s sound.rising i k (omega arith) b);
+      },
+    )
 
 module _ (s : List ℕ) (end : ℕ) (sound : ArePartitions s end) where
   outside_one : (m : ℕ) → length (filter (λ line. not (holds s line)) (range_with_len 0 (m + 1)))
@@ -55,21 +58,21 @@ module _ (s : List ℕ) (end : ℕ) (sound : ArePartitions s end) where
       let all : length (filter (λ line. not (holds s line)) (range_with_len 0 (m + 1))) + i ≡ m + 1 =
       elim (cases_eq (get_or s i 0) (m + 1)) [
         | inl e ↦
-          let before = last_before_start s end m i sound last' e in
-          let in_set : starts_at s (m + 1) ≡ true = there s i (m + 1) last.within e in
-          let step : length (filter (λ line. not (holds s line)) (range_with_len 0 (m + 1))) ≡ length (filter (λ line. not (holds s line)) (range_with_len 0 m)) + 0
-          = outside_one m ∙ rw in_set refl in
-          omega (arith, step, before.0, outside_before m (i - 1) before.1)
+            let before = last_before_start s end m i sound last' e in
+            let in_set : starts_at s (m + 1) ≡ true = there s i (m + 1) last.within e in
+            let step : length (filter (λ line. not (holds s line)) (range_with_len 0 (m + 1))) ≡ length (filter (λ line. not (holds s line)) (range_with_len 0 m)) + 0
+            = outside_one m ∙ rw in_set refl in
+            omega (arith, step, before.0, outside_before m (i - 1) before.1)
         | inr ne ↦
-          let not_in_set : starts_at s (m + 1) ≡ false = not_there s end (m + 1) i (get_or s i 0) sound last' refl ne in
-          let step : length (filter (λ line. not (holds s line)) (range_with_len 0 (m + 1))) ≡ length (filter (λ line. not (holds s line)) (range_with_len 0 m)) + 1
-          = outside_one m ∙ rw not_in_set refl in
-          omega (arith, step, outside_before m i (last_before s end m i sound last' ne))
+            let not_in_set : starts_at s (m + 1) ≡ false = not_there s end (m + 1) i (get_or s i 0) sound last' refl ne in
+            let step : length (filter (λ line. not (holds s line)) (range_with_len 0 (m + 1))) ≡ length (filter (λ line. not (holds s line)) (range_with_len 0 m)) + 1
+            = outside_one m ∙ rw not_in_set refl in
+            omega (arith, step, outside_before m i (last_before s end m i sound last' ne))
       ] in
       rw next at all
 
   -- the last of all starts is at most any place from the end on
-  last_of_all : IsLastAtMost s end (length s - 1)
+  pub last_of_all : IsLastAtMost s end (length s - 1)
   last_of_all = record {
     within = omega (arith, sound.some);
     at_most = sound.within (length s - 1) (omega (arith, sound.some));
@@ -83,34 +86,34 @@ module _ (s : List ℕ) (end : ℕ) (sound : ArePartitions s end) where
       unwrap_or-slice_get (lines_outside s end) n end
       ∙ elim (cases_lt (n + i) end) [
         | inl inside ↦
-          let test : ℕ → Bool = λ line. not (holds s line) in
-          let last : IsLastAtMost s (n + i) i = record {
-            within = h;
-            at_most = low;
-            last = λ k a b. omega (arith, next (omega arith), rising_to s sound.rising (i + 1) k (omega arith) b);
-          } in
-          let last' : IsLastAtMost s (n + i + 1) i = record {
-            within = h;
-            at_most = omega arith;
-            last = λ k a b. omega (arith, next (omega arith), rising_to s sound.rising (i + 1) k (omega arith) b);
-          } in
-          let out : starts_at s (n + i + 1) ≡ false = not_there s end (n + i + 1) i (get_or s i 0) sound last' refl (λ e. omega arith) in
-          let count : length (filter test (range_with_len 0 (n + i))) ≡ n = omega (arith, outside_before (n + i) i last) in
-          let cut : end ≡ (n + i) + suc (end - (n + i) - 1) = omega arith in
-          let parts : lines_outside s end ≡ filter test (range_with_len 0 (n + i)) ++ (n + i) ∷ filter test (range_with_len (n + i + 1) (end - (n + i) - 1)) =
-          ap (λ e. filter test (range_with_len 0 e)) cut ∙ ap (filter test) (range-append 0 (n + i) (suc (end - (n + i) - 1)))
-          ∙ filter-append test (range_with_len 0 (n + i)) (range_with_len (0 + (n + i)) (suc (end - (n + i) - 1)))
-          ∙ rw (zero-add (n + i), out) refl in
-          let least : min (n + i) end ≡ n + i = omega arith in
-          rw (parts, least) (get_or_at (filter test (range_with_len 0 (n + i))) (n + i) (filter test (range_with_len (n + i + 1) (end - (n + i) - 1))) end n count)
+            let test : ℕ → Bool = λ line. not (holds s line) in
+            let last : IsLastAtMost s (n + i) i = record {
+              within = h;
+              at_most = low;
+              last = λ k a b. omega (arith, next (omega arith), rising_to s sound.rising (i + 1) k (omega arith) b);
+            } in
+            let last' : IsLastAtMost s (n + i + 1) i = record {
+              within = h;
+              at_most = omega arith;
+              last = λ k a b. omega (arith, next (omega arith), rising_to s sound.rising (i + 1) k (omega arith) b);
+            } in
+            let out : starts_at s (n + i + 1) ≡ false = not_there s end (n + i + 1) i (get_or s i 0) sound last' refl (λ e. omega arith) in
+            let count : length (filter test (range_with_len 0 (n + i))) ≡ n = omega (arith, outside_before (n + i) i last) in
+            let cut : end ≡ (n + i) + suc (end - (n + i) - 1) = omega arith in
+            let parts : lines_outside s end ≡ filter test (range_with_len 0 (n + i)) ++ (n + i) ∷ filter test (range_with_len (n + i + 1) (end - (n + i) - 1)) =
+            ap (λ e. filter test (range_with_len 0 e)) cut ∙ ap (filter test) (range-append 0 (n + i) (suc (end - (n + i) - 1)))
+            ∙ filter-append test (range_with_len 0 (n + i)) (range_with_len (0 + (n + i)) (suc (end - (n + i) - 1)))
+            ∙ rw (zero-add (n + i), out) refl in
+            let least : min (n + i) end ≡ n + i = omega arith in
+            rw (parts, least) (get_or_at (filter test (range_with_len 0 (n + i))) (n + i) (filter test (range_with_len (n + i + 1) (end - (n + i) - 1))) end n count)
         | inr past ↦
-          let least : min (n + i) end ≡ end = omega arith in
-          let all : length (lines_outside s end) + (length s - 1) ≡ end = outside_before end (length s - 1) last_of_all in
-          let top : i + 1 ≡ length s = elim (cases_lt (i + 1) (length s)) [
-            | inl l ↦ absurd (omega (arith, next l, sound.within (i + 1) l))
-            | inr l ↦ omega arith
-          ] in
-          rw least (get_or_past (lines_outside s end) n end (omega arith))
+            let least : min (n + i) end ≡ end = omega arith in
+            let all : length (lines_outside s end) + (length s - 1) ≡ end = outside_before end (length s - 1) last_of_all in
+            let top : i + 1 ≡ length s = elim (cases_lt (i + 1) (length s)) [
+              | inl l ↦ absurd (omega (arith, next l, sound.within (i + 1) l))
+              | inr l ↦ omega arith
+            ] in
+            rw least (get_or_past (lines_outside s end) n end (omega arith))
       ]
 
 some_pass : (p : ℕ → Bool) (a n x : ℕ) → a ≤ x → x < a + n → p x ≡ true → 0 < length (filter p (range_with_len a n))

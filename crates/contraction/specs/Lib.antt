@@ -1,3 +1,4 @@
+pub mod Folding
 pub mod Levels
 pub mod LineSets
 pub mod ViewLines

@@ -1,5 +1,5 @@
 -- What a contract sees of a `Contraction`.
-use Rattle.std.specs.Prelude.{◌≡◌, ℕ, ◌+◌, ◌-◌, not, List, length, map, refl}
+use Rattle.std.specs.Prelude.{◌≡◌, ℕ, ◌+◌, ◌-◌, not, List, length, map, count_by}
 use Rattle.std.specs.List.{range_with_len}
 use Rattle.ed_model.specs.Rows.{Flags}
 use Rattle.partitioning.specs.Partitions.{Partitions}
@@ -34,3 +34,7 @@ view_lines hidden contracted =
 -- both sets are of as many lines
 pub record AreViewLines (hidden contracted : Partitions) : Type 0 where
   pub lines : contracted.length ≡ hidden.length
+
+-- how many lines are contracted
+abbrev pub contracted_lines : List Flags → ℕ
+contracted_lines flags = count_by (λ (f : Flags). not f.expanded) flags

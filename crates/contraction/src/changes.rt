@@ -1,6 +1,6 @@
 //! What changes flags: lines are shown and hidden, expanded and contracted.
 
-ghost use Rattle.std.specs.Prelude.{◌≡◌, ◌+◌, ◌≤◌, ◌<◌, false, length};
+ghost use Rattle.std.specs.Prelude.{◌≡◌, ◌+◌, ◌≤◌, ◌<◌, if◌then◌else◌, false, length};
 ghost use Rattle.ed_model.specs.Folding.{lines_shown, lines_hidden, with_expanded};
 
 use crate::contraction::Contraction;
@@ -12,6 +12,7 @@ impl<P: Place> Contraction<P> {
     pub fn show(&mut self, first: usize, past: usize)
         requires { past ≤ length self.old.flags }
         ensures flags { self.new.flags ≡ lines_shown first past self.old.flags }
+        ensures lines { length self.new.flags ≡ length self.old.flags }
         ensures room { self.new.room ≡ self.old.room }
     {
         let _ = &self.contracted;
@@ -23,6 +24,7 @@ impl<P: Place> Contraction<P> {
         requires within { past ≤ length self.old.flags }
         requires room { length self.old.flags ≤ self.old.room.hidden }
         ensures flags { self.new.flags ≡ lines_hidden first past self.old.flags }
+        ensures lines { length self.new.flags ≡ length self.old.flags }
         ensures room { self.new.room ≡ self.old.room }
     {
         let _ = &self.contracted;
@@ -35,8 +37,9 @@ impl<P: Place> Contraction<P> {
         requires line { line < length self.old.flags }
         requires room { on ≡ false → 0 < self.old.room.contracted }
         ensures flags { self.new.flags ≡ with_expanded line on self.old.flags }
+        ensures lines { length self.new.flags ≡ length self.old.flags }
         ensures hidden { self.new.room.hidden ≡ self.old.room.hidden }
-        ensures contracted { self.old.room.contracted ≤ self.new.room.contracted + 1 }
+        ensures contracted { self.old.room.contracted ≤ self.new.room.contracted + (if on then 0 else 1) }
     {
         let _ = &self.hidden;
         let _ = self.contracted.length(); // it says that the number behind the line is not too great

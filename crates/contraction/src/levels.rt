@@ -32,7 +32,8 @@ impl<'a> Levels<'a> {
     /// Returns the levels of `count` lines, of which the first have those of two slices.
     pub fn new(before: &'a [u32], after: &'a [u32], count: usize) -> Self
         requires { length before.now + length after.now ≤ count }
-        ensures { result ≡ all_levels before.now after.now count }
+        ensures levels { result ≡ all_levels before.now after.now count }
+        ensures lines { length result ≡ count }
     {
         Levels {
             before,

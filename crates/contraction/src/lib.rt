@@ -13,6 +13,7 @@
 mod carry;
 mod changes;
 mod contraction;
+mod folding;
 pub mod folds;
 mod levels;
 mod line_set;

@@ -9,8 +9,14 @@ use Rattle.contraction.proofs.line_set.insert_range.Goals as goal
 pub insert-requires-clause-room : goal.insert-requires-clause-room
 insert-requires-clause-room g c = λ out.
     let inv = c.loop-line.invariant in
-    omega (arith, inv.room, inv.whole, c.requires.room, c.requires.range,
-    room_for c.loop-line.starts.starts c.loop-line.starts.length c.loop-line.line inv.sound (omega (arith, inv.whole, c.requires.range)) out)
+    omega (
+      arith,
+      inv.room,
+      inv.whole,
+      c.requires.room,
+      c.requires.range,
+      room_for c.loop-line.starts.starts c.loop-line.starts.length c.loop-line.line inv.sound (omega (arith, inv.whole, c.requires.range)) out,
+    )
 
 pub loop-line-init : goal.loop-line-init
 loop-line-init g c =
@@ -28,11 +34,11 @@ returns-clause-lines g c = λ k.
     let b = holds c.args.starts.now.starts k in
     elim (cases_lt c.args.past c.args.first) [
       | inl none ↦
-        let e : c.loop-line.line ≡ c.args.first = inv.empty (omega arith) in
-        inv.lines k ∙ ap (λ m. is_between c.args.first m k || b) e ∙ between_none c.args.first c.args.first k b (le_refl c.args.first)
-        ∙ sym (between_none c.args.first c.args.past k b (omega arith))
+          let e : c.loop-line.line ≡ c.args.first = inv.empty (omega arith) in
+          inv.lines k ∙ ap (λ m. is_between c.args.first m k || b) e ∙ between_none c.args.first c.args.first k b (le_refl c.args.first)
+          ∙ sym (between_none c.args.first c.args.past k b (omega arith))
       | inr some ↦
-        let high = c.loop-line.auto.line-end some in
-        let e : c.loop-line.line ≡ c.args.past = omega arith in
-        inv.lines k ∙ ap (λ m. is_between c.args.first m k || b) e
+          let high = c.loop-line.auto.line-end some in
+          let e : c.loop-line.line ≡ c.args.past = omega arith in
+          inv.lines k ∙ ap (λ m. is_between c.args.first m k || b) e
     ]

@@ -1,5 +1,5 @@
-use Rattle.std.proofs.Common.{ap, arith}
-use Rattle.contraction.proofs.Kept.{lines_of}
+use Rattle.std.proofs.Common.{ap, sym, ◌∙◌, arith}
+use Rattle.contraction.proofs.Kept.{lines_of, length-kept}
 use Rattle.contraction.proofs.Changed.{hidden_after}
 use Rattle.contraction.proofs.contraction.Contraction.hide.Goals as goal
 
@@ -9,10 +9,20 @@ insert_range-requires-clause-range g c =
 
 pub insert_range-requires-clause-room : goal.insert_range-requires-clause-room
 insert_range-requires-clause-room g c =
-    omega (arith, c.requires.room, lines_of c.self.inside.hidden c.self.inside.contracted c.args.self.now c.self.view_is,
-    ap (λ w. w.room.hidden) c.self.view_is, c.count.ensures.sound.some)
+    omega (
+      arith,
+      c.requires.room,
+      lines_of c.self.inside.hidden c.self.inside.contracted c.args.self.now c.self.view_is,
+      ap (λ w. w.room.hidden) c.self.view_is,
+      c.count.ensures.sound.some,
+    )
 
 pub returns-clause-flags : goal.returns-clause-flags
 returns-clause-flags g c =
     hidden_after c.self.inside.hidden c.insert_range.new.starts c.self.inside.contracted c.args.self.now c.args.first c.max.result c.args.past c.self.view_is
     c.insert_range.ensures.length c.max.ensures c.insert_range.ensures.lines
+
+pub returns-clause-lines : goal.returns-clause-lines
+returns-clause-lines g c =
+    length-kept c.insert_range.new.starts.starts c.self.inside.contracted.starts c.insert_range.new.starts.length ∙ c.insert_range.ensures.length
+    ∙ sym (lines_of c.self.inside.hidden c.self.inside.contracted c.args.self.now c.self.view_is)

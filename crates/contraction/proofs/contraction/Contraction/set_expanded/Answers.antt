@@ -1,13 +1,19 @@
 use Rattle.std.proofs.Common.{◌<◌, ap, sym, ◌∙◌, arith}
 use Rattle.ed_model.specs.Folding.{with_expanded}
-use Rattle.contraction.proofs.Kept.{lines_of}
+use Rattle.contraction.proofs.Kept.{lines_of, length-kept}
 use Rattle.contraction.proofs.Changed.{expanded_after, contracted_after}
 use Rattle.contraction.proofs.contraction.Contraction.set_expanded.Goals as goal
 
 pub overflow_add-line : goal.overflow_add-line
 overflow_add-line g c =
-    omega (arith, c.requires.line, c.length.type_inv, c.length.ensures.length, c.self.invariant.lines,
-    lines_of c.self.inside.hidden c.self.inside.contracted c.args.self.now c.self.view_is)
+    omega (
+      arith,
+      c.requires.line,
+      c.length.type_inv,
+      c.length.ensures.length,
+      c.self.invariant.lines,
+      lines_of c.self.inside.hidden c.self.inside.contracted c.args.self.now c.self.view_is,
+    )
 
 pub remove_range-requires : goal.remove_range-requires
 remove_range-requires g c =
@@ -34,3 +40,13 @@ returns-else-on-clause-flags g c =
     contracted_after c.self.inside.hidden c.self.inside.contracted c.insert.new.starts c.args.self.now c.args.line c.self.view_is inside
     c.insert.ensures.lines
     ∙ ap (λ b. with_expanded c.args.line b c.args.self.now.flags) (sym c.if-on.false)
+
+pub returns-then-on-clause-lines : goal.returns-then-on-clause-lines
+returns-then-on-clause-lines g c =
+    length-kept c.self.inside.hidden.starts c.remove_range.new.starts.starts c.self.inside.hidden.length
+    ∙ sym (lines_of c.self.inside.hidden c.self.inside.contracted c.args.self.now c.self.view_is)
+
+pub returns-else-on-clause-lines : goal.returns-else-on-clause-lines
+returns-else-on-clause-lines g c =
+    length-kept c.self.inside.hidden.starts c.insert.new.starts.starts c.self.inside.hidden.length
+    ∙ sym (lines_of c.self.inside.hidden c.self.inside.contracted c.args.self.now c.self.view_is)

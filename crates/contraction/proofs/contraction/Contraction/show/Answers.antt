@@ -1,5 +1,5 @@
-use Rattle.std.proofs.Common.{arith}
-use Rattle.contraction.proofs.Kept.{lines_of}
+use Rattle.std.proofs.Common.{sym, ◌∙◌, arith}
+use Rattle.contraction.proofs.Kept.{lines_of, length-kept}
 use Rattle.contraction.proofs.Changed.{shown_after}
 use Rattle.contraction.proofs.contraction.Contraction.show.Goals as goal
 
@@ -13,3 +13,8 @@ pub returns-clause-flags : goal.returns-clause-flags
 returns-clause-flags g c =
     shown_after c.self.inside.hidden c.remove_range.new.starts c.self.inside.contracted c.args.self.now c.args.first c.args.past c.self.view_is
     c.remove_range.ensures.length c.remove_range.ensures.lines
+
+pub returns-clause-lines : goal.returns-clause-lines
+returns-clause-lines g c =
+    length-kept c.remove_range.new.starts.starts c.self.inside.contracted.starts c.remove_range.new.starts.length ∙ c.remove_range.ensures.length
+    ∙ sym (lines_of c.self.inside.hidden c.self.inside.contracted c.args.self.now c.self.view_is)

@@ -1,0 +1,282 @@
+-- What a header's children become, when it is contracted or expanded.
+use Rattle.std.proofs.Common.{◌≡◌, ℕ, zero, suc, ◌+◌, ◌-◌, ◌<◌, ◌≤◌, Bool, true, false, not, ◌&&◌, ◌||◌, cond, ltb, leb, eqb, List, [], ◌∷◌, ◌++◌, length, get_or, map, sym, refl, ap, ◌∙◌, ◌⊎◌, inl, inr, arith, le_refl}
+use Rattle.std.specs.List.{range_with_len, list_all}
+use Rattle.std.proofs.lemmas.Bool.{cases_lt, cases_eq, cases_Bool, and_parts, and_from, false≢true, not-true, leb-true, le-leb, lt-leb, ltb-true, lt-ltb, le-ltb}
+use Rattle.std.proofs.lemmas.List.{get_or-set_other, length-set}
+use Rattle.std.proofs.lemmas.List.Folds.{list_all-append}
+use Rattle.std.proofs.lemmas.List.FromFn.{length-map-range_with_len, get_or-map-range_with_len}
+use Rattle.ed_model.specs.Rows.{Flags, fresh_flags}
+use Rattle.ed_model.specs.Folding.{flags_at, is_expanded, with_visible, with_expanded, is_between, lines_shown, lines_hidden, contracted, expanded, is_open_between, is_header, is_child, last_child}
+use Rattle.contraction.proofs.LineSets.{same_tests}
+use Rattle.contraction.specs.Folding.{is_closed, closed_at, behind_closed}
+use Rattle.contraction.proofs.Outside.{range-append}
+use Rattle.contraction.proofs.Nesting.{last_child_is, nested}
+
+-- a line after some were shown or hidden
+abbrev pub shown_at : (ℕ → Bool) → (ℕ → Bool) → List Flags → ℕ → Flags
+shown_at passes shown flags k = let f = flags_at flags k in cond (passes k) (record f { visible = shown k }) f
+
+pub length-with_visible : (passes shown : ℕ → Bool) (flags : List Flags) → length (with_visible passes shown flags) ≡ length flags
+length-with_visible passes shown flags = length-map-range_with_len (shown_at passes shown flags) 0 (length flags)
+
+pub visible_at : (passes shown : ℕ → Bool) (flags : List Flags) (k : ℕ) → k < length flags → flags_at (with_visible passes shown flags) k ≡ shown_at passes shown flags k
+visible_at passes shown flags k l = get_or-map-range_with_len (shown_at passes shown flags) 0 (length flags) k k fresh_flags l (omega arith)
+
+map_same : (f g : ℕ → Flags) (a n : ℕ) → ((k : ℕ) → a ≤ k → k < a + n → f k ≡ g k) → map f (range_with_len a n) ≡ map g (range_with_len a n)
+map_same f g a zero same = refl
+map_same f g a (suc n) same = rw (same a (omega arith) (omega arith), map_same f g (a + 1) n (λ k h l. same k (omega arith) (omega arith))) refl
+
+-- two tests that pass the same lines, and show the same of them
+pub visible_same : (p q s t : ℕ → Bool) (flags : List Flags) → ((k : ℕ) → k < length flags → p k ≡ q k) → ((k : ℕ) → k < length flags → p k ≡ true → s k ≡ t k)
+    → with_visible p s flags ≡ with_visible q t flags
+visible_same p q s t flags pq st =
+    map_same (shown_at p s flags) (shown_at q t flags) 0 (length flags) (λ k h l. go k (p k) (q k) refl (pq k (omega arith)) (st k (omega arith)))
+  where
+    go : (k : ℕ) (b d : Bool) → p k ≡ b → b ≡ d → (b ≡ true → s k ≡ t k)
+        → cond b (record (flags_at flags k) { visible = s k }) (flags_at flags k) ≡ cond d (record (flags_at flags k) { visible = t k }) (flags_at flags k)
+    go k true d e f st = rw (← f, st refl) refl
+    go k false d e f st = rw (← f) refl
+
+-- one after the other
+pub visible_twice : (p q s t u : ℕ → Bool) (flags : List Flags)
+    → ((k : ℕ) → k < length flags → q k ≡ true → (p k ≡ true) × (u k ≡ t k)) → ((k : ℕ) → k < length flags → q k ≡ false → p k ≡ true → u k ≡ s k)
+    → with_visible q t (with_visible p s flags) ≡ with_visible p u flags
+visible_twice p q s t u flags both one =
+    ap (λ n. map (shown_at q t (with_visible p s flags)) (range_with_len 0 n)) (length-with_visible p s flags)
+    ∙ map_same (shown_at q t (with_visible p s flags)) (shown_at p u flags) 0 (length flags)
+    (λ k h l.
+    ap (λ (f : Flags). cond (q k) (record f { visible = t k }) f) (visible_at p s flags k (omega arith))
+    ∙ go k (p k) (q k) (both k (omega arith)) (one k (omega arith)))
+  where
+    go : (k : ℕ) (b d : Bool) → (d ≡ true → (b ≡ true) × (u k ≡ t k)) → (d ≡ false → b ≡ true → u k ≡ s k)
+        → cond d (record (cond b (record (flags_at flags k) { visible = s k }) (flags_at flags k)) { visible = t k }) (cond b (record (flags_at flags k) { visible = s k }) (flags_at flags k))
+        ≡ cond b (record (flags_at flags k) { visible = u k }) (flags_at flags k)
+    go k true true y n = rw (y refl).1 refl
+    go k false true y n = absurd (false≢true (y refl).0)
+    go k true false y n = rw (n refl refl) refl
+    go k false false y n = refl
+
+-- what it shows does not expand
+pub expanded_still : (p s : ℕ → Bool) (flags : List Flags) (k : ℕ) → k < length flags → is_expanded (with_visible p s flags) k ≡ is_expanded flags k
+expanded_still p s flags k l = ap (λ (f : Flags). f.expanded) (visible_at p s flags k l) ∙ go (p k)
+  where
+    go : (b : Bool) → (cond b (record (flags_at flags k) { visible = s k }) (flags_at flags k)).expanded ≡ is_expanded flags k
+    go true = refl
+    go false = refl
+
+pub expanded_other : (line k : ℕ) (on : Bool) (flags : List Flags) → (k ≡ line → ⊥) → is_expanded (with_expanded line on flags) k ≡ is_expanded flags k
+expanded_other line k on flags ne =
+    ap (λ (f : Flags). f.expanded) (get_or-set_other flags line k (record (flags_at flags line) { expanded = on }) fresh_flags ne)
+
+pub length-with_expanded : (line : ℕ) (on : Bool) (flags : List Flags) → length (with_expanded line on flags) ≡ length flags
+length-with_expanded line on flags = length-set flags line (record (flags_at flags line) { expanded = on })
+
+-- the children as a range
+
+pub child_in_range : (levels : List ℕ) (header last k : ℕ) → last ≡ last_child levels header → is_child levels header k ≡ is_between (header + 1) (last + 1) k
+child_in_range levels header last k e =
+    rw (← e)
+    (same_tests (ltb header k && leb k last) (leb (header + 1) k && ltb k (last + 1))
+    (λ t.
+    let both = and_parts (ltb header k) (leb k last) t in
+    let low : header < k = ltb-true header k both.0 in
+    let high : k ≤ last = leb-true k last both.1 in
+    and_from (leb (header + 1) k) (ltb k (last + 1)) (le-leb (header + 1) k (omega arith)) (lt-ltb k (last + 1) (omega arith)))
+    (λ t.
+    let both = and_parts (leb (header + 1) k) (ltb k (last + 1)) t in
+    let low : header + 1 ≤ k = leb-true (header + 1) k both.0 in
+    let high : k < last + 1 = ltb-true k (last + 1) both.1 in
+    and_from (ltb header k) (leb k last) (lt-ltb header k (omega arith)) (le-leb k last (omega arith))))
+
+-- line 0 is none of them
+pub range_behind_first : (first past k : ℕ) → 0 < first → (ltb 0 k && is_between first past k) ≡ is_between first past k
+range_behind_first first past k h =
+    same_tests (ltb 0 k && is_between first past k) (is_between first past k)
+    (λ t. (and_parts (ltb 0 k) (is_between first past k) t).1)
+    (λ t.
+    let low : first ≤ k = leb-true first k (and_parts (leb first k) (ltb k past) t).0 in
+    and_from (ltb 0 k) (is_between first past k) (lt-ltb 0 k (omega arith)) t)
+
+pub children_hidden : (levels : List ℕ) (header last : ℕ) (flags : List Flags) → last ≡ last_child levels header
+    → lines_hidden (header + 1) (last + 1) flags ≡ with_visible (is_child levels header) (λ _. false) flags
+children_hidden levels header last flags e =
+    visible_same (λ k. ltb 0 k && is_between (header + 1) (last + 1) k) (is_child levels header) (λ _. false) (λ _. false) flags
+    (λ k l. range_behind_first (header + 1) (last + 1) k (omega arith) ∙ sym (child_in_range levels header last k e))
+    (λ k l t. refl)
+
+pub children_shown : (levels : List ℕ) (header last : ℕ) (flags : List Flags) → last ≡ last_child levels header
+    → lines_shown (header + 1) (last + 1) flags ≡ with_visible (is_child levels header) (λ _. true) flags
+children_shown levels header last flags e =
+    visible_same (is_between (header + 1) (last + 1)) (is_child levels header) (λ _. true) (λ _. true) flags
+    (λ k l. sym (child_in_range levels header last k e)) (λ k l t. refl)
+
+-- open as far as the headers before a line say
+
+abbrev pub lets_through : List ℕ → List Flags → ℕ → ℕ → Bool
+lets_through levels flags k inner = not (is_header levels inner && is_child levels inner k) || is_expanded flags inner
+
+abbrev pub open_to : List ℕ → List Flags → ℕ → ℕ → ℕ → Bool
+open_to levels flags header line k = list_all (lets_through levels flags k) (range_with_len (header + 1) (line - (header + 1)))
+
+all_through : (test : ℕ → Bool) (a n : ℕ) → ((k : ℕ) → a ≤ k → k < a + n → test k ≡ true) → list_all test (range_with_len a n) ≡ true
+all_through test a zero each = refl
+all_through test a (suc n) each = rw (each a (omega arith) (omega arith)) (all_through test (a + 1) n (λ k h l. each k (omega arith) (omega arith)))
+
+module _ (levels : List ℕ) (flags : List Flags) (header : ℕ) where
+  pub open_none : (k : ℕ) → open_to levels flags header (header + 1) k ≡ true
+  open_none k = let e : header + 1 - (header + 1) ≡ 0 = omega arith in rw e refl
+
+  open_apart : (line later k : ℕ) → header < line → line ≤ later
+      → open_to levels flags header later k ≡ (open_to levels flags header line k && list_all (lets_through levels flags k) (range_with_len line (later - line)))
+  open_apart line later k h le =
+      let e : later - (header + 1) ≡ (line - (header + 1)) + (later - line) = omega arith in
+      let f : header + 1 + (line - (header + 1)) ≡ line = omega arith in
+      ap (λ n. list_all (lets_through levels flags k) (range_with_len (header + 1) n)) e
+      ∙ ap (list_all (lets_through levels flags k)) (range-append (header + 1) (line - (header + 1)) (later - line))
+      ∙ list_all-append (lets_through levels flags k) (range_with_len (header + 1) (line - (header + 1))) (range_with_len (header + 1 + (line - (header + 1))) (later - line))
+      ∙ ap (λ a. open_to levels flags header line k && list_all (lets_through levels flags k) (range_with_len a (later - line))) f
+
+  and_true : (b d : Bool) → d ≡ true → (b && d) ≡ b
+  and_true true d e = e
+  and_true false d e = refl
+
+  no_child_through : (inner k : ℕ) → is_child levels inner k ≡ false → lets_through levels flags k inner ≡ true
+  no_child_through inner k e = go (is_header levels inner) (is_expanded flags inner) (is_child levels inner k) e
+    where
+      go : (a b d : Bool) → d ≡ false → (not (a && d) || b) ≡ true
+      go true b d e = rw e refl
+      go false b d e = refl
+
+  -- what lies at a line or behind it does not close the line
+  pub open_all : (line k : ℕ) → header < k → k ≤ line → open_to levels flags header line k ≡ is_open_between levels flags header k
+  open_all line k h le =
+      open_apart k line k h le
+      ∙ and_true (open_to levels flags header k k) (list_all (lets_through levels flags k) (range_with_len k (line - k)))
+      (all_through (lets_through levels flags k) k (line - k)
+      (λ j a b. no_child_through j k (rw (le-ltb j k a) refl)))
+
+  -- one more line, which is no contracted header
+  pub open_more : (line k : ℕ) → header < line → is_closed levels flags line ≡ false → open_to levels flags header (line + 1) k ≡ open_to levels flags header line k
+  open_more line k h e =
+      let one : line + 1 - line ≡ 1 = omega arith in
+      open_apart line (line + 1) k h (omega arith)
+      ∙ and_true (open_to levels flags header line k) (list_all (lets_through levels flags k) (range_with_len line (line + 1 - line)))
+      (rw (one, through (is_header levels line) (is_expanded flags line) (is_child levels line k) e) refl)
+    where
+      through : (a b d : Bool) → (a && not b) ≡ false → (not (a && d) || b) ≡ true
+      through true true true e = refl
+      through true true false e = refl
+      through true false d e = absurd (false≢true (sym e))
+      through false b d e = refl
+
+  -- .. or one that is, with its children
+  pub open_behind : (line k : ℕ) → header < line → line < length levels → is_closed levels flags line ≡ true
+      → open_to levels flags header (last_child levels line + 1) k ≡ cond (is_child levels line k) false (open_to levels flags header line k)
+  open_behind line k h l e =
+      let last = last_child levels line in
+      let is = last_child_is levels line l in
+      let some : last + 1 - line ≡ suc (last - line) = omega (arith, is.from) in
+      let parts = and_parts (is_header levels line) (not (is_expanded flags line)) e in
+      let shut : is_expanded flags line ≡ false = not-true (is_expanded flags line) parts.1 in
+      open_apart line (last + 1) k h (omega (arith, is.from))
+      ∙ elim (cases_Bool (is_child levels line k)) [
+        | inl child ↦
+            rw (some, parts.0, child, shut) (and_none (open_to levels flags header line k))
+        | inr other ↦
+            rw other
+            (and_true (open_to levels flags header line k) (list_all (lets_through levels flags k) (range_with_len line (last + 1 - line)))
+            (all_through (lets_through levels flags k) line (last + 1 - line)
+            (λ j a b. no_child_through j k (outside line k l other j a (omega (arith, is.from))))))
+      ]
+    where
+      and_none : (b : Bool) → (b && false) ≡ false
+      and_none true = refl
+      and_none false = refl
+
+      outside : (line k : ℕ) → line < length levels → is_child levels line k ≡ false → (j : ℕ) → line ≤ j → j ≤ last_child levels line → is_child levels j k ≡ false
+      outside line k l other j a b =
+          same_tests (is_child levels j k) false
+          (λ t.
+          let is = last_child_is levels line l in
+          let of_j = last_child_is levels j (omega (arith, is.within)) in
+          let both = and_parts (ltb j k) (leb k (last_child levels j)) t in
+          let low : j < k = ltb-true j k both.0 in
+          let high : k ≤ last_child levels j = leb-true k (last_child levels j) both.1 in
+          let inside : last_child levels j ≤ last_child levels line = elim (cases_eq line j) [
+            | inl q ↦ rw q (le_refl (last_child levels j))
+            | inr ne ↦ nested levels line j (last_child levels line) (last_child levels j) is of_j (omega arith) b
+          ] in
+          let child : is_child levels line k ≡ true = and_from (ltb line k) (leb k (last_child levels line)) (lt-ltb line k (omega arith)) (le-leb k (last_child levels line) (omega arith)) in
+          absurd (false≢true (sym other ∙ child)))
+          (λ t. absurd (false≢true t))
+
+  -- the children of the header, with those hidden that a contracted header before the line hides
+  abbrev pub Passed : ℕ → List Flags → Type 0
+  Passed line now = now ≡ with_visible (is_child levels header) (open_to levels flags header line) (with_expanded header true flags)
+
+  pub size_now : (line : ℕ) (now : List Flags) → Passed line now → length now ≡ length flags
+  size_now line now e =
+      ap length e ∙ length-with_visible (is_child levels header) (open_to levels flags header line) (with_expanded header true flags) ∙ length-with_expanded header true flags
+
+  -- headers behind are still as they were
+  pub closed_still : (line : ℕ) (now : List Flags) → Passed line now → header < line → line < length flags → is_closed levels now line ≡ is_closed levels flags line
+  closed_still line now e h l =
+      ap (λ b. is_header levels line && not b)
+      (ap (λ fs. is_expanded fs line) e
+      ∙ expanded_still (is_child levels header) (open_to levels flags header line) (with_expanded header true flags) line (omega (arith, length-with_expanded header true flags))
+      ∙ expanded_other header line true flags (λ q. omega arith))
+
+  pub passed_start : (last : ℕ) (now : List Flags) → last ≡ last_child levels header → now ≡ lines_shown (header + 1) (last + 1) (with_expanded header true flags) → Passed (header + 1) now
+  passed_start last now e q =
+      q ∙ children_shown levels header last (with_expanded header true flags) e
+      ∙ visible_same (is_child levels header) (is_child levels header) (λ _. true) (open_to levels flags header (header + 1)) (with_expanded header true flags)
+      (λ k l. refl) (λ k l t. sym (open_none k))
+
+  pub passed_next : (line next : ℕ) (now new : List Flags) → header < line → header < length levels → line ≤ last_child levels header → length levels ≡ length flags → Passed line now
+      → next ≡ behind_closed levels line now → new ≡ closed_at levels line now → Passed next new × (line < next)
+  passed_next line next now new h within le size e q r =
+      let top = last_child_is levels header within in
+      let inside : line < length flags = omega (arith, top.within) in
+      let still = closed_still line now e h inside in
+      elim (cases_Bool (is_closed levels flags line)) [
+        | inl closed ↦
+            let is = last_child_is levels line (omega arith) in
+            let here : next ≡ last_child levels line + 1 = q ∙ rw (still, closed) refl in
+            let lies : last_child levels line ≤ last_child levels header = nested levels header line (last_child levels header) (last_child levels line) top is h le in (
+              rw here
+                  (r ∙ rw (still, closed) refl ∙ children_hidden levels line (last_child levels line) now refl
+                  ∙ ap (with_visible (is_child levels line) (λ _. false)) e
+                  ∙ visible_twice (is_child levels header) (is_child levels line) (open_to levels flags header line) (λ _. false) (open_to levels flags header (last_child levels line + 1)) (with_expanded header true flags)
+                  (λ k l t.
+                  let both = and_parts (ltb line k) (leb k (last_child levels line)) t in
+                  let low : line < k = ltb-true line k both.0 in
+                  let high : k ≤ last_child levels line = leb-true k (last_child levels line) both.1 in (
+                    and_from (ltb header k) (leb k (last_child levels header)) (lt-ltb header k (omega arith)) (le-leb k (last_child levels header) (omega arith)),
+                    open_behind line k h (omega arith) closed ∙ rw t refl,
+                  ))
+                  (λ k l f t. open_behind line k h (omega arith) closed ∙ rw f refl)),
+              omega (arith, here, is.from),
+            )
+        | inr clear ↦
+            let here : next ≡ line + 1 = q ∙ rw (still, clear) refl in (
+              rw here
+                  (r ∙ rw (still, clear) refl ∙ e
+                  ∙ visible_same (is_child levels header) (is_child levels header) (open_to levels flags header line) (open_to levels flags header (line + 1)) (with_expanded header true flags)
+                  (λ k l. refl) (λ k l t. sym (open_more line k h clear))),
+              omega (arith, here),
+            )
+      ]
+
+  pub passed_all : (line : ℕ) (now : List Flags) → last_child levels header < line → Passed line now → now ≡ expanded levels header flags
+  passed_all line now h e =
+      e ∙ visible_same (is_child levels header) (is_child levels header) (open_to levels flags header line) (is_open_between levels flags header) (with_expanded header true flags)
+      (λ k l. refl)
+      (λ k l t.
+      let both = and_parts (ltb header k) (leb k (last_child levels header)) t in
+      let low : header < k = ltb-true header k both.0 in
+      let high : k ≤ last_child levels header = leb-true k (last_child levels header) both.1 in
+      open_all line k low (omega arith))
+
+pub length-expanded : (levels : List ℕ) (header : ℕ) (flags : List Flags) → length (expanded levels header flags) ≡ length flags
+length-expanded levels header flags =
+    length-with_visible (is_child levels header) (is_open_between levels flags header) (with_expanded header true flags) ∙ length-with_expanded header true flags

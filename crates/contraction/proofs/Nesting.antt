@@ -1,0 +1,74 @@
+-- The last child of a line, and how folds lie in one another.
+use Rattle.std.proofs.Common.{◌≡◌, ℕ, zero, suc, ◌+◌, ◌-◌, ◌<◌, ◌≤◌, Bool, true, false, not, ◌&&◌, cond, ltb, leb, List, [], ◌∷◌, length, Option, Some, None, sym, refl, ap, ◌∙◌, ◌⊎◌, inl, inr, arith, le_refl}
+use Rattle.std.specs.Prelude.{find}
+use Rattle.std.specs.List.{range_with_len}
+use Rattle.std.proofs.lemmas.Bool.{cases_lt, cases_eq, leb-true, leb-false}
+use Rattle.ed_model.specs.Folding.{number_at, line_before, last_child, last_child_at}
+
+-- the first of a range that passes, or none
+abbrev pub Found : (ℕ → Bool) → ℕ → ℕ → Option ℕ → Type 0
+Found test a n None = (k : ℕ) → a ≤ k → k < a + n → test k ≡ false
+Found test a n (Some j) = (a ≤ j) × (j < a + n) × (test j ≡ true) × ((k : ℕ) → a ≤ k → k < j → test k ≡ false)
+
+one_later : (test : ℕ → Bool) (a n : ℕ) (o : Option ℕ) → test a ≡ false → Found test (a + 1) n o → Found test a (suc n) o
+one_later test a n None e f = λ k h l.
+    elim (cases_eq k a) [
+      | inl q ↦ rw q e
+      | inr ne ↦ f k (omega arith) (omega arith)
+    ]
+one_later test a n (Some j) e f = (
+  omega (arith, f.0),
+  omega (arith, f.1),
+  f.2,
+  λ k h l.
+      elim (cases_eq k a) [
+        | inl q ↦ rw q e
+        | inr ne ↦ f.3 k (omega arith) l
+      ],
+)
+
+found_at_once : (test : ℕ → Bool) (a n : ℕ) (b : Bool) → test a ≡ b → Found test (a + 1) n (find test (range_with_len (a + 1) n)) → Found test a (suc n) (cond b (Some a) (find test (range_with_len (a + 1) n)))
+found_at_once test a n true e f = (le_refl a, omega arith, e, λ k h l. absurd (omega arith))
+found_at_once test a n false e f = one_later test a n (find test (range_with_len (a + 1) n)) e f
+
+pub found : (test : ℕ → Bool) (a n : ℕ) → Found test a n (find test (range_with_len a n))
+found test a zero = λ k h l. absurd (omega arith)
+found test a (suc n) = found_at_once test a n (test a) refl (found test (a + 1) n)
+
+-- the lines behind the line up to this have greater numbers, and the next has not
+pub record IsLastChild (levels : List ℕ) (line last : ℕ) : Type 0 where
+  pub from : line ≤ last
+  pub within : last < length levels
+  pub above : (j : ℕ) → line < j → j ≤ last → number_at levels line < number_at levels j
+  pub next : last + 1 < length levels → number_at levels (last + 1) ≤ number_at levels line
+
+from_found : (levels : List ℕ) (line : ℕ) (o : Option ℕ) → line < length levels
+    → Found (λ j. leb (number_at levels j) (number_at levels line)) (line + 1) (length levels - (line + 1)) o
+    → IsLastChild levels line (line_before (length levels) o)
+from_found levels line None l f = record {
+  from = omega arith;
+  within = omega arith;
+  above = λ j a b. leb-false (number_at levels j) (number_at levels line) (f j (omega arith) (omega arith));
+  next = λ h. absurd (omega arith);
+}
+from_found levels line (Some next) l f =
+    let back : next - 1 + 1 ≡ next = omega (arith, f.0) in
+    record {
+      from = omega (arith, f.0);
+      within = omega (arith, f.1);
+      above = λ j a b. leb-false (number_at levels j) (number_at levels line) (f.3 j (omega arith) (omega (arith, f.0)));
+      next = λ h. rw back (leb-true (number_at levels next) (number_at levels line) f.2);
+    }
+
+pub last_child_is : (levels : List ℕ) (line : ℕ) → line < length levels → IsLastChild levels line (last_child levels line)
+last_child_is levels line l =
+    let test : ℕ → Bool = λ j. leb (number_at levels j) (number_at levels line) in
+    from_found levels line (find test (range_with_len (line + 1) (length levels - (line + 1)))) l (found test (line + 1) (length levels - (line + 1)))
+
+-- the fold of a child lies in the fold
+pub nested : (levels : List ℕ) (a b la lb : ℕ) → IsLastChild levels a la → IsLastChild levels b lb → a < b → b ≤ la → lb ≤ la
+nested levels a b la lb one two h k =
+    elim (cases_lt la lb) [
+      | inr l ↦ l
+      | inl l ↦ absurd (omega (arith, one.above b h k, two.above (la + 1) (omega arith) (omega arith), one.next (omega (arith, two.within))))
+    ]

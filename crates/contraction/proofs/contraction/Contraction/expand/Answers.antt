@@ -1,0 +1,43 @@
+use Rattle.std.proofs.Common.{◌≡◌, ◌+◌, ◌<◌, ◌≤◌, length, sym, ap, ◌∙◌, arith}
+use Rattle.ed_model.specs.Folding.{last_child, lines_shown}
+use Rattle.contraction.proofs.Expanding.{Passed, size_now, passed_start, passed_next, passed_all}
+use Rattle.contraction.proofs.contraction.Contraction.expand.Goals as goal
+
+pub children-init : goal.children-init
+children-init g c =
+    let start = passed_start c.args.levels.now c.args.self.now.flags c.args.header c.last_child-last.result c.show.new.self.flags c.last_child-last.ensures.last
+    (c.show.ensures.flags ∙ ap (λ fs. lines_shown (c.args.header + 1) (c.last_child-last.result + 1) fs) c.set_expanded.ensures.flags) in
+    record {
+      flags = start;
+      behind = omega arith;
+      lines = size_now c.args.levels.now c.args.self.now.flags c.args.header (c.args.header + 1) c.show.new.self.flags start;
+      hidden = ap (λ r. r.hidden) c.show.ensures.room ∙ c.set_expanded.ensures.hidden;
+      contracted = omega (arith, ap (λ r. r.contracted) c.show.ensures.room, c.set_expanded.ensures.contracted);
+    }
+
+pub children-smaller : goal.children-smaller
+children-smaller g c =
+    let inv = c.children.invariant in
+    let under : c.children.line ≤ last_child c.args.levels.now c.args.header = omega (arith, c.last_child-last.ensures.last) in
+    let next = passed_next c.args.levels.now c.args.self.now.flags c.args.header c.children.line c.close-line.result c.children.self.flags c.close-line.new.self.flags
+    inv.behind (omega (arith, c.requires.header, c.requires.lines)) under c.requires.lines inv.flags c.close-line.ensures.next c.close-line.ensures.flags in
+    omega (arith, next.1)
+
+pub children-preserved : goal.children-preserved
+children-preserved g c =
+    let inv = c.children.invariant in
+    let under : c.children.line ≤ last_child c.args.levels.now c.args.header = omega (arith, c.last_child-last.ensures.last) in
+    let next = passed_next c.args.levels.now c.args.self.now.flags c.args.header c.children.line c.close-line.result c.children.self.flags c.close-line.new.self.flags
+    inv.behind (omega (arith, c.requires.header, c.requires.lines)) under c.requires.lines inv.flags c.close-line.ensures.next c.close-line.ensures.flags in
+    record {
+      flags = next.0;
+      behind = omega (arith, next.1);
+      lines = size_now c.args.levels.now c.args.self.now.flags c.args.header c.close-line.result c.close-line.new.self.flags next.0;
+      hidden = ap (λ r. r.hidden) c.close-line.ensures.room ∙ inv.hidden;
+      contracted = omega (arith, ap (λ r. r.contracted) c.close-line.ensures.room, inv.contracted);
+    }
+
+pub returns-clause-flags : goal.returns-clause-flags
+returns-clause-flags g c =
+    let inv = c.children.invariant in
+    passed_all c.args.levels.now c.args.self.now.flags c.args.header c.children.line c.children.self.flags (omega (arith, c.last_child-last.ensures.last)) inv.flags

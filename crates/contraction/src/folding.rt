@@ -1,0 +1,131 @@
+//! Folds are contracted and expanded.
+
+ghost use Rattle.std.specs.Prelude.{◌≡◌, ◌+◌, ◌≤◌, ◌<◌, length, fold, reverse};
+ghost use Rattle.ed_model.specs.Folding.{contracted as contracted_at, expanded as expanded_at, opened, revealed, fold_parents};
+ghost use Rattle.contraction.specs.Folding.{is_closed as is_closed_at, closed_at, behind_closed};
+
+use crate::contraction::Contraction;
+use crate::folds::{fold_parent, is_header, last_child};
+use crate::levels::Levels;
+use partitioning::Place;
+
+impl<P: Place> Contraction<P> {
+    /// Contracts a header, which hides its children. There must be room for all lines to be hidden, and for one more to be
+    /// contracted.
+    pub fn contract(&mut self, levels: &Levels, header: usize)
+        requires lines { length levels.now ≡ length self.old.flags }
+        requires header { header < length self.old.flags }
+        requires room { (length self.old.flags ≤ self.old.room.hidden) × (0 < self.old.room.contracted) }
+        ensures flags { self.new.flags ≡ contracted_at levels.now header self.old.flags }
+        ensures lines { length self.new.flags ≡ length self.old.flags }
+        ensures hidden { self.new.room.hidden ≡ self.old.room.hidden }
+        ensures contracted { self.old.room.contracted ≤ self.new.room.contracted + 1 }
+    {
+        let _ = levels.count(); // it says that the number behind a line is not too great
+        self.set_expanded(header, false);
+        let last = last_child(levels, header);
+        self.hide(header + 1, last + 1);
+    }
+
+    // Whether a line is a header that is contracted.
+    fn is_closed(&self, levels: &Levels, line: usize) -> bool
+        requires lines { length levels.now ≡ length self.now.flags }
+        requires line { line < length self.now.flags }
+        ensures { result ≡ is_closed_at levels.now self.now.flags line }
+    {
+        is_header(levels, line) && !self.expanded(line)
+    }
+
+    // Hides the children of a line if it is a header that is contracted. Returns the line behind them, or else the next.
+    fn close(&mut self, levels: &Levels, line: usize) -> usize
+        requires lines { length levels.now ≡ length self.old.flags }
+        requires line { line < length self.old.flags }
+        requires room { length self.old.flags ≤ self.old.room.hidden }
+        ensures flags { self.new.flags ≡ closed_at levels.now line self.old.flags }
+        ensures next { result ≡ behind_closed levels.now line self.old.flags }
+        ensures room { self.new.room ≡ self.old.room }
+    {
+        let _ = levels.count();
+        if !self.is_closed(levels, line) {
+            return line + 1;
+        }
+        let past = last_child(levels, line) + 1;
+        self.hide(line + 1, past);
+        past
+    }
+
+    /// Expands a header, which shows each child that no contracted header between hides. There must be room for all lines
+    /// to be hidden.
+    pub fn expand(&mut self, levels: &Levels, header: usize)
+        requires lines { length levels.now ≡ length self.old.flags }
+        requires header { header < length self.old.flags }
+        requires room { length self.old.flags ≤ self.old.room.hidden }
+        ensures flags { self.new.flags ≡ expanded_at levels.now header self.old.flags }
+        ensures lines { length self.new.flags ≡ length self.old.flags }
+        ensures hidden { self.new.room.hidden ≡ self.old.room.hidden }
+        ensures contracted { self.old.room.contracted ≤ self.new.room.contracted }
+    {
+        let _ = levels.count();
+        self.set_expanded(header, true);
+        let last = last_child(levels, header);
+        self.show(header + 1, last + 1);
+        let mut line = header + 1;
+        'children: while line <= last {
+            line = self.close(levels, line);
+        }
+    }
+
+    // Makes a header visible, and expands it if it is contracted.
+    fn open(&mut self, levels: &Levels, header: usize)
+        requires lines { length levels.now ≡ length self.old.flags }
+        requires header { header < length self.old.flags }
+        requires room { length self.old.flags ≤ self.old.room.hidden }
+        ensures flags { self.new.flags ≡ opened levels.now self.old.flags header }
+        ensures lines { length self.new.flags ≡ length self.old.flags }
+        ensures hidden { self.new.room.hidden ≡ self.old.room.hidden }
+        ensures contracted { self.old.room.contracted ≤ self.new.room.contracted }
+    {
+        let _ = levels.count();
+        let expanded = self.expanded(header);
+        self.show(header, header + 1);
+        if !expanded {
+            self.expand(levels, header);
+        }
+    }
+
+    // Opens the fold parents of a line, the outermost first. It calls itself once for each of them: their numbers fall, so
+    // they are fewer than 4096.
+    fn open_parents(&mut self, levels: &Levels, line: usize)
+        requires lines { length levels.now ≡ length self.old.flags }
+        requires line { line < length self.old.flags }
+        requires room { length self.old.flags ≤ self.old.room.hidden }
+        ensures flags { self.new.flags ≡ fold (opened levels.now) self.old.flags (reverse (fold_parents levels.now line)) }
+        ensures lines { length self.new.flags ≡ length self.old.flags }
+        ensures hidden { self.new.room.hidden ≡ self.old.room.hidden }
+        ensures contracted { self.old.room.contracted ≤ self.new.room.contracted }
+    {
+        if let Some(parent) = fold_parent(levels, line) {
+            self.open_parents(levels, parent);
+            self.open(levels, parent);
+        }
+    }
+
+    /// Makes a line visible that is hidden: its fold parents are made visible and expanded first, the outermost before all.
+    /// There must be room for all lines to be hidden.
+    pub fn ensure(&mut self, levels: &Levels, line: usize)
+        requires lines { length levels.now ≡ length self.old.flags }
+        requires line { line < length self.old.flags }
+        requires room { length self.old.flags ≤ self.old.room.hidden }
+        ensures flags { self.new.flags ≡ revealed levels.now line self.old.flags }
+        ensures lines { length self.new.flags ≡ length self.old.flags }
+        ensures hidden { self.new.room.hidden ≡ self.old.room.hidden }
+        ensures contracted { self.old.room.contracted ≤ self.new.room.contracted }
+    {
+        let _ = levels.count();
+        if self.visible(line) {
+            return;
+        }
+        self.open_parents(levels, line);
+        self.show(line, line + 1);
+    }
+}

@@ -1,0 +1,222 @@
+//! Lines of a view, shown and hidden, folded, and carried through what becomes of lines.
+
+use contraction::{Contraction, Levels, folds};
+use line_index::LineEdit;
+use partitioning::Place;
+use std::alloc::{AllocError, Global};
+use std::process::Abort;
+use std::test::Fail;
+
+// All lines of a view, visible and expanded, with room to fold.
+fn view_of<P: Place>(
+    rt: &impl Abort,
+    alloc: Global,
+    lines: usize,
+) -> Result<Contraction<P>, AllocError> {
+    assert!(rt; lines <= P::GREATEST);
+    let mut view = Contraction::new(alloc, lines)?;
+    view.reserve_hidden(lines)?;
+    view.reserve_contracted(lines)?;
+    Ok(view)
+}
+
+// The lines are as many as these, and visible where these say so.
+fn assert_visible<P: Place>(rt: &impl Abort, view: &Contraction<P>, wanted: &[bool]) {
+    assert!(rt; view.count() == wanted.len());
+    for line in 0..wanted.len() {
+        assert!(rt; view.visible(line) == wanted[line]);
+    }
+}
+
+// The lines are as many as these, and expanded where these say so.
+fn assert_expanded<P: Place>(rt: &impl Abort, view: &Contraction<P>, wanted: &[bool]) {
+    assert!(rt; view.count() == wanted.len());
+    for line in 0..wanted.len() {
+        assert!(rt; view.expanded(line) == wanted[line]);
+    }
+}
+
+fn display_of<P: Place>(rt: &impl Abort, view: &Contraction<P>, line: usize) -> usize {
+    assert!(rt; line < view.count());
+    view.display_of(line)
+}
+
+fn contract<P: Place>(
+    rt: &impl Abort,
+    view: &mut Contraction<P>,
+    levels: &Levels,
+    header: usize,
+) -> Result<(), AllocError> {
+    assert!(rt; levels.count() == view.count());
+    assert!(rt; header < view.count());
+    view.reserve_hidden(view.count())?;
+    view.reserve_contracted(1)?;
+    view.contract(levels, header);
+    Ok(())
+}
+
+fn expand<P: Place>(
+    rt: &impl Abort,
+    view: &mut Contraction<P>,
+    levels: &Levels,
+    header: usize,
+) -> Result<(), AllocError> {
+    assert!(rt; levels.count() == view.count());
+    assert!(rt; header < view.count());
+    view.reserve_hidden(view.count())?;
+    view.expand(levels, header);
+    Ok(())
+}
+
+fn ensure<P: Place>(
+    rt: &impl Abort,
+    view: &mut Contraction<P>,
+    levels: &Levels,
+    line: usize,
+) -> Result<(), AllocError> {
+    assert!(rt; levels.count() == view.count());
+    assert!(rt; line < view.count());
+    view.reserve_hidden(view.count())?;
+    view.ensure(levels, line);
+    Ok(())
+}
+
+fn show<P: Place>(rt: &impl Abort, view: &mut Contraction<P>, first: usize, past: usize) {
+    assert!(rt; past <= view.count());
+    view.show(first, past);
+}
+
+fn hide<P: Place>(
+    rt: &impl Abort,
+    view: &mut Contraction<P>,
+    first: usize,
+    past: usize,
+) -> Result<(), AllocError> {
+    assert!(rt; past <= view.count());
+    view.reserve_hidden(view.count())?;
+    view.hide(first, past);
+    Ok(())
+}
+
+fn set_expanded<P: Place>(
+    rt: &impl Abort,
+    view: &mut Contraction<P>,
+    line: usize,
+    on: bool,
+) -> Result<(), AllocError> {
+    assert!(rt; line < view.count());
+    view.reserve_contracted(1)?;
+    view.set_expanded(line, on);
+    Ok(())
+}
+
+fn come<P: Place>(rt: &impl Abort, view: &mut Contraction<P>, line: usize, count: usize) {
+    assert!(rt; line <= view.count());
+    assert!(rt; view.count() <= P::GREATEST);
+    assert!(rt; count <= P::GREATEST - view.count());
+    view.carry(&[LineEdit::Come { line, count }]);
+}
+
+fn join<P: Place>(rt: &impl Abort, view: &mut Contraction<P>, line: usize, count: usize) {
+    assert!(rt; line < view.count());
+    assert!(rt; count < view.count() - line);
+    view.carry(&[LineEdit::Join { line, count }]);
+}
+
+fn inner_folds<P: Place>(rt: &impl Abort, alloc: Global) -> Result<(), AllocError> {
+    let before = [0x2400, 0x2401];
+    let after = [0x402, 0x401];
+    let levels = Levels::new(&before, &after, 4);
+    let mut view: Contraction<P> = view_of(rt, alloc, 4)?;
+    assert!(rt; view.is_all_visible());
+    contract(rt, &mut view, &levels, 1)?;
+    contract(rt, &mut view, &levels, 0)?;
+    expand(rt, &mut view, &levels, 0)?;
+    assert_visible(rt, &view, &[true, true, false, true]);
+    assert_expanded(rt, &view, &[true, false, true, true]);
+    assert!(rt; !view.is_all_visible());
+    assert_eq!(rt; display_of(rt, &view, 2), 1);
+    assert_eq!(rt; view.doc_of(2), 3);
+    assert_eq!(rt; view.doc_of(3), 4);
+    ensure(rt, &mut view, &levels, 2)?;
+    assert_visible(rt, &view, &[true, true, true, true]);
+    assert_expanded(rt, &view, &[true, true, true, true]);
+    assert!(rt; view.is_all_visible());
+    Ok(())
+}
+
+fn hidden_lines<P: Place>(rt: &impl Abort, alloc: Global) -> Result<(), AllocError> {
+    let mut view: Contraction<P> = view_of(rt, alloc, 4)?;
+    hide(rt, &mut view, 0, 4)?;
+    assert_visible(rt, &view, &[true, false, false, false]);
+    assert!(rt; !view.is_all_visible());
+    assert_eq!(rt; display_of(rt, &view, 3), 0);
+    assert_eq!(rt; view.doc_of(0), 0);
+    assert_eq!(rt; view.doc_of(1), 4);
+    show(rt, &mut view, 1, 3);
+    assert_eq!(rt; view.doc_of(2), 2);
+    assert_eq!(rt; display_of(rt, &view, 3), 2);
+    Ok(())
+}
+
+fn carried_lines<P: Place>(rt: &impl Abort, alloc: Global) -> Result<(), AllocError> {
+    let mut view: Contraction<P> = view_of(rt, alloc, 4)?;
+    hide(rt, &mut view, 2, 3)?;
+    set_expanded(rt, &mut view, 2, false)?;
+    come(rt, &mut view, 2, 1);
+    assert_visible(rt, &view, &[true, true, true, false, true]);
+    assert_expanded(rt, &view, &[true, true, true, false, true]);
+    join(rt, &mut view, 3, 1);
+    assert_visible(rt, &view, &[true, true, true, false]);
+    join(rt, &mut view, 2, 1);
+    assert_visible(rt, &view, &[true, true, true]);
+    assert_expanded(rt, &view, &[true, true, true]);
+    set_expanded(rt, &mut view, 1, false)?;
+    set_expanded(rt, &mut view, 1, true)?;
+    assert_expanded(rt, &view, &[true, true, true]);
+    hide(rt, &mut view, 1, 3)?;
+    assert!(rt; 1 <= P::GREATEST);
+    assert!(rt; view.count() < P::GREATEST);
+    view.carry(&[LineEdit::Restart]);
+    assert_visible(rt, &view, &[true]);
+    assert!(rt; view.is_all_visible());
+    Ok(())
+}
+
+#[test]
+fn inner_folds_stay_contracted(rt: HostRuntime) -> Result<(), Fail> {
+    inner_folds::<u32>(&rt, rt.alloc())?;
+    inner_folds::<u64>(&rt, rt.alloc())?;
+    Ok(())
+}
+
+#[test]
+fn lines_are_hidden_and_shown(rt: HostRuntime) -> Result<(), Fail> {
+    hidden_lines::<u32>(&rt, rt.alloc())?;
+    hidden_lines::<u64>(&rt, rt.alloc())?;
+    Ok(())
+}
+
+#[test]
+fn flags_go_with_their_lines(rt: HostRuntime) -> Result<(), Fail> {
+    carried_lines::<u32>(&rt, rt.alloc())?;
+    carried_lines::<u64>(&rt, rt.alloc())?;
+    Ok(())
+}
+
+#[test]
+fn folds_by_levels(rt: HostRuntime) {
+    let before = [0x2400, 0x2401];
+    let after = [0x402, 0x401];
+    let levels = Levels::new(&before, &after, 6);
+    assert_eq!(rt; levels.count(), 6);
+    assert_eq!(rt; levels.level(4), 0x400);
+    assert_eq!(rt; folds::last_child(&levels, 0), 3);
+    assert_eq!(rt; folds::last_child(&levels, 1), 2);
+    assert_eq!(rt; folds::last_child_at(&levels, 0, 0x3FF), 5);
+    assert_eq!(rt; folds::fold_parent(&levels, 2), Some(1));
+    assert_eq!(rt; folds::fold_parent(&levels, 3), Some(0));
+    assert_eq!(rt; folds::fold_parent(&levels, 4), None);
+    assert_eq!(rt; folds::fold_header(&levels, 1), Some(1));
+    assert_eq!(rt; folds::fold_header(&levels, 2), Some(1));
+}
