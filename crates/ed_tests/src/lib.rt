@@ -6,25 +6,15 @@ mod cell_buffer_tests;
 #[cfg(test)]
 mod char_cut_tests;
 #[cfg(test)]
-mod contracting;
-#[cfg(test)]
-mod decorations;
+mod contraction_tests;
 #[cfg(test)]
 mod decorations_tests;
-#[cfg(test)]
-mod document;
-#[cfg(test)]
-mod document_table;
 #[cfg(test)]
 mod document_table_tests;
 #[cfg(test)]
 mod document_tests;
 #[cfg(test)]
-mod ed_types;
-#[cfg(test)]
 mod ed_types_tests;
-#[cfg(test)]
-mod editor_session;
 #[cfg(test)]
 mod editor_session_tests;
 #[cfg(test)]
@@ -32,9 +22,7 @@ mod lending;
 #[cfg(test)]
 mod line_index_tests;
 #[cfg(test)]
-mod line_rows;
-#[cfg(test)]
-mod macro_script;
+mod line_rows_tests;
 #[cfg(test)]
 mod macro_script_tests;
 #[cfg(test)]
@@ -42,17 +30,11 @@ mod marker_store_tests;
 #[cfg(test)]
 mod notify_tests;
 #[cfg(test)]
-mod partitioning;
-#[cfg(test)]
 mod partitioning_tests;
-#[cfg(test)]
-mod run_styles;
 #[cfg(test)]
 mod run_styles_tests;
 #[cfg(test)]
 mod selection_tests;
-#[cfg(test)]
-mod split_vector;
 #[cfg(test)]
 mod split_vector_tests;
 #[cfg(test)]
