@@ -18,12 +18,7 @@ fn put<P: Place>(
     Ok(())
 }
 
-fn take<P: Place>(
-    rt: &impl Abort,
-    indicators: &mut Decorations<P>,
-    place: usize,
-    count: usize,
-) {
+fn take<P: Place>(rt: &impl Abort, indicators: &mut Decorations<P>, place: usize, count: usize) {
     let length = indicators.length();
     assert!(rt; place <= length && count <= length - place);
     indicators.delete(place, count);

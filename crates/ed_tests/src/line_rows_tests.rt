@@ -6,12 +6,7 @@ use std::process::Abort;
 use std::test::Fail;
 
 // `count` fresh lines come before a line.
-fn come(
-    rt: &impl Abort,
-    rows: &mut LineRows,
-    line: usize,
-    count: usize,
-) -> Result<(), AllocError> {
+fn come(rt: &impl Abort, rows: &mut LineRows, line: usize, count: usize) -> Result<(), AllocError> {
     rows.reserve(count)?;
     let lines = rows.count();
     assert!(rt; line <= lines && count <= 1000 && lines <= 1000);
@@ -26,12 +21,7 @@ fn join(rt: &impl Abort, rows: &mut LineRows, line: usize, count: usize) {
     rows.carry(&[LineEdit::Join { line, count }]);
 }
 
-fn mark(
-    rt: &impl Abort,
-    rows: &mut LineRows,
-    line: usize,
-    number: u32,
-) -> Result<u32, AllocError> {
+fn mark(rt: &impl Abort, rows: &mut LineRows, line: usize, number: u32) -> Result<u32, AllocError> {
     rows.reserve_markers(1)?;
     assert!(rt; line < rows.count() && number < 32 && rows.next_handle() < 1000);
     Ok(rows.add_reserved(line, number))

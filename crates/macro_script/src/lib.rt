@@ -19,4 +19,3 @@ pub use assembling::assemble;
 pub use ed_types::{Cause, Command, ScriptFault};
 pub use listing::list;
 pub use script::{SCRIPT_LIMIT, Script};
-
