@@ -60,7 +60,7 @@ def theorem(name):
     while os.path.exists("%s.file%d" % (base, len(files) + 1)):
         files.append(read("%s.file%d" % (base, len(files) + 1)))
     given = "".join("(" + quoted(f) + ") ∷ " for f in files) + "[]"
-    return "abbrev pub %s : Type 0\n%s = Prints (%s)\n    (lines (\n%s))\n    (lines (\n%s))\n" % (
+    return "abbrev pub %s : Type 0\n%s = Prints (%s)\n    (joined_lines (\n%s))\n    (joined_lines (\n%s))\n" % (
         type_name(name), type_name(name), given, lines_of(read(base + ".sci")), lines_of(read(base + ".out")))
 
 
@@ -74,7 +74,7 @@ def main():
         module = type_name(group) + "Examples"
         with open(os.path.join(MODEL, "specs", module + ".antt"), "w") as f:
             f.write("-- Worked examples, written by tools/example_theorems.py from examples/.\n")
-            f.write("use Rattle.std.specs.Prelude.{[], ◌∷◌, codes}\nuse Rattle.ed_model.specs.Prints.{Prints, lines}\n\n")
+            f.write("use Rattle.std.specs.Prelude.{[], ◌∷◌, codes}\nuse Rattle.ed_model.specs.Prints.{Prints, joined_lines}\n\n")
             f.write("\n".join(theorem(name) for name in names))
         rust.append("ghost use Rattle.ed_model.specs.%s.{%s};" % (module, ", ".join(type_name(n) for n in names)))
     for group, names in GROUPS.items():

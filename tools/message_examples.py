@@ -30,7 +30,7 @@ def read(*path):
 
 def table():
     """The messages of the table in the definitions: number, name and marks."""
-    row = r"row_of \w+ = row (\d+) (\w+) +-- (\w+)"
+    row = r"row_of kinds\.\w+ = row (\d+) (\w+) +-- (\w+)"
     found = re.findall(row, read("crates", "ed_types", "specs", "Messages.antt"))
     return [(int(number), name, MARKS[marks]) for number, marks, name in found]
 

@@ -5,7 +5,7 @@ use Rattle.std.specs.List.{range_with_len}
 use Rattle.std.proofs.lemmas.List.{reverse-append}
 use Rattle.std.proofs.lemmas.List.Sums.{fold-append}
 use Rattle.ed_model.specs.Rows.{Flags}
-use Rattle.ed_model.specs.Folding.{is_parent_of, parents_among, fold_parents, fold_parent, opened, lines_shown, is_expanded, expanded, is_between}
+use Rattle.ed_model.specs.Folding.{is_parent_of, parents_among, fold_parents, fold_parent, header_opened, lines_shown, is_expanded, expanded, is_between}
 use Rattle.contraction.proofs.FoldLines.{last_before, reverse_more}
 use Rattle.contraction.proofs.Expanding.{length-with_visible, length-expanded}
 
@@ -33,22 +33,22 @@ pub parents_are : (levels : List ℕ) (line : ℕ) (o : Option ℕ) → o ≡ fo
 parents_are levels line o e = among levels line line ∙ ap (parents_from levels) (sym e)
 
 -- with no parent, and with one
-pub none_opened : (levels : List ℕ) (line : ℕ) (flags : List Flags) → None ≡ fold_parent levels line → fold (opened levels) flags (reverse (fold_parents levels line)) ≡ flags
-none_opened levels line flags e = ap (λ l. fold (opened levels) flags (reverse l)) (parents_are levels line None e)
+pub none_opened : (levels : List ℕ) (line : ℕ) (flags : List Flags) → None ≡ fold_parent levels line → fold (header_opened levels) flags (reverse (fold_parents levels line)) ≡ flags
+none_opened levels line flags e = ap (λ l. fold (header_opened levels) flags (reverse l)) (parents_are levels line None e)
 
 pub parent_opened : (levels : List ℕ) (line parent : ℕ) (flags now new : List Flags) → Some parent ≡ fold_parent levels line
-    → now ≡ fold (opened levels) flags (reverse (fold_parents levels parent)) → new ≡ opened levels now parent
-    → new ≡ fold (opened levels) flags (reverse (fold_parents levels line))
+    → now ≡ fold (header_opened levels) flags (reverse (fold_parents levels parent)) → new ≡ header_opened levels now parent
+    → new ≡ fold (header_opened levels) flags (reverse (fold_parents levels line))
 parent_opened levels line parent flags now new e one two =
-    two ∙ ap (λ fs. opened levels fs parent) one
-    ∙ sym (ap (λ l. fold (opened levels) flags (reverse l)) (parents_are levels line (Some parent) e)
-    ∙ ap (fold (opened levels) flags) (reverse-append (parent ∷ []) (fold_parents levels parent))
-    ∙ fold-append (opened levels) flags (reverse (fold_parents levels parent)) (parent ∷ []))
+    two ∙ ap (λ fs. header_opened levels fs parent) one
+    ∙ sym (ap (λ l. fold (header_opened levels) flags (reverse l)) (parents_are levels line (Some parent) e)
+    ∙ ap (fold (header_opened levels) flags) (reverse-append (parent ∷ []) (fold_parents levels parent))
+    ∙ fold-append (header_opened levels) flags (reverse (fold_parents levels parent)) (parent ∷ []))
 
 pub length-shown : (first past : ℕ) (flags : List Flags) → length (lines_shown first past flags) ≡ length flags
 length-shown first past flags = length-with_visible (is_between first past) (λ _. true) flags
 
-pub length-opened : (levels : List ℕ) (flags : List Flags) (header : ℕ) → length (opened levels flags header) ≡ length flags
+pub length-opened : (levels : List ℕ) (flags : List Flags) (header : ℕ) → length (header_opened levels flags header) ≡ length flags
 length-opened levels flags header = go (is_expanded flags header)
   where
     go : (b : Bool) → length (cond b (lines_shown header (header + 1) flags) (expanded levels header (lines_shown header (header + 1) flags))) ≡ length flags

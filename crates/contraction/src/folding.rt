@@ -1,7 +1,7 @@
 //! Folds are contracted and expanded.
 
 ghost use Rattle.std.specs.Prelude.{◌≡◌, ◌+◌, ◌≤◌, ◌<◌, length, fold, reverse};
-ghost use Rattle.ed_model.specs.Folding.{contracted as contracted_at, expanded as expanded_at, opened, revealed, fold_parents};
+ghost use Rattle.ed_model.specs.Folding.{contracted as contracted_at, expanded as expanded_at, header_opened, revealed, fold_parents};
 ghost use Rattle.contraction.specs.Folding.{is_closed as is_closed_at, closed_at, behind_closed};
 
 use crate::contraction::Contraction;
@@ -80,7 +80,7 @@ impl<P: Place> Contraction<P> {
         requires lines { length levels.now ≡ length self.old.flags }
         requires header { header < length self.old.flags }
         requires room { length self.old.flags ≤ self.old.room.hidden }
-        ensures flags { self.new.flags ≡ opened levels.now self.old.flags header }
+        ensures flags { self.new.flags ≡ header_opened levels.now self.old.flags header }
         ensures lines { length self.new.flags ≡ length self.old.flags }
         ensures hidden { self.new.room.hidden ≡ self.old.room.hidden }
         ensures contracted { self.old.room.contracted ≤ self.new.room.contracted }
@@ -99,7 +99,7 @@ impl<P: Place> Contraction<P> {
         requires lines { length levels.now ≡ length self.old.flags }
         requires line { line < length self.old.flags }
         requires room { length self.old.flags ≤ self.old.room.hidden }
-        ensures flags { self.new.flags ≡ fold (opened levels.now) self.old.flags (reverse (fold_parents levels.now line)) }
+        ensures flags { self.new.flags ≡ fold (header_opened levels.now) self.old.flags (reverse (fold_parents levels.now line)) }
         ensures lines { length self.new.flags ≡ length self.old.flags }
         ensures hidden { self.new.room.hidden ≡ self.old.room.hidden }
         ensures contracted { self.old.room.contracted ≤ self.new.room.contracted }

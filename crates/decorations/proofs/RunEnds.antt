@@ -4,7 +4,7 @@ use Rattle.std.specs.List.{slice_get}
 use Rattle.std.proofs.lemmas.Option.{slice_get-get_or, slice_get_past, unwrap_or-slice_get}
 use Rattle.std.proofs.lemmas.List.{length-drop, length-reverse, length-take-le, length-replicate, get_or-reverse, get_or-take, get_or-drop}
 use Rattle.std.proofs.lemmas.Bool.{ne_eqb}
-use Rattle.ed_model.specs.DocumentPlans.{run_length, run_start, run_past}
+use Rattle.ed_model.specs.StylePlans.{run_length, run_start, run_past}
 use Rattle.run_styles.specs.Runs.{IsRunStart, IsRunEnd}
 use Rattle.decorations.specs.Decorated.{run_about}
 use Rattle.decorations.proofs.Values.{zeros_at}

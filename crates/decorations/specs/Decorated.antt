@@ -2,7 +2,7 @@
 use Rattle.std.specs.Prelude.{ℕ, ◌≡◌, ◌^◌, ◌==◌, not, List, [], map, filter, sum, pos, slice_index_or, All, Option}
 use Rattle.std.specs.List.{range_with_len}
 use Rattle.ed_model.specs.TextPlans.{at_place}
-use Rattle.ed_model.specs.DocumentPlans.{run_start, run_past}
+use Rattle.ed_model.specs.StylePlans.{run_start, run_past}
 
 -- The length of the text, and for each of the 32 indicators its value at each place. For how many insertions there is room, and for
 -- a fill of which indicator.

@@ -6,7 +6,7 @@ use Rattle.ed_model.specs.Text.{Cell, bytes_of}
 use Rattle.ed_model.specs.Steps.{Step, edited}
 use Rattle.ed_model.specs.LineEnds.{after_steps}
 use Rattle.ed_model.specs.History.{History, Transaction, Change, TextStep, ContainerStep, at_save_point, joins, joins_last, belongs, with_change, appended, begins_transaction, sealed_outside_groups, group_begun, group_ended, with_container_step, redo_changes, undone, undone_to, redone, redone_from, emptied, collecting_set, saved}
-use Rattle.ed_model.specs.DocumentPlans.{text_steps}
+use Rattle.ed_model.specs.UndoPlans.{text_steps}
 use Rattle.ed_model.specs.Session.{Document, text_of, keeps_no_styles}
 use Rattle.ed_model.specs.Performing.{Scene, step_made, steps_made, sealed_scene}
 use Rattle.ed_model.specs.Changes.{restyled, styled}

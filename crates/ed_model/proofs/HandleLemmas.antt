@@ -9,7 +9,7 @@ use Rattle.ed_model.specs.Lines.{line_starts}
 use Rattle.ed_model.specs.Rows.{Row, Marker, fresh_row, rows_together}
 use Rattle.ed_model.specs.Session.{Document, text_of}
 use Rattle.ed_model.specs.Changes.{changed_document, with_markers, new_markers, with_new_markers, without_marker, is_of_number}
-use Rattle.ed_model.specs.DocumentPlans.{numbers_in}
+use Rattle.ed_model.specs.LinePlans.{numbers_in}
 use Rattle.ed_model.specs.SoundLaws.{occurrences, handles_in}
 use Rattle.ed_model.specs.HandleLaws.{StepsGiveNoHandle, ChangesGiveNoOldHandle, NextHandlesNeverFall}
 use Rattle.ed_model.proofs.SoundCarry.{handles_carried, handles_carried_by, occurrences_append}

@@ -14,7 +14,9 @@ use Rattle.ed_model.specs.declared.plan.Plan.TheVariants as plan
 use Rattle.ed_model.specs.Numbers.{within}
 use Rattle.ed_model.specs.Session.{Document, View, watching, references}
 use Rattle.ed_model.specs.Requests.{Request, Planned, size, end_or_size, with_argument, argument, text_length, text_range, counted_range, with_line, line_argument}
-use Rattle.ed_model.specs.DocumentPlans.{found_target, with_reference, release_of, change_session, document_named}
+use Rattle.ed_model.specs.Requests.{change_session}
+use Rattle.ed_model.specs.TargetPlans.{found_target}
+use Rattle.ed_model.specs.SessionPlans.{with_reference, release_of, document_named}
 use Rattle.ed_model.specs.Changes.{change_told, changed_document}
 use Rattle.ed_model.specs.Table.{plan_of, performed}
 

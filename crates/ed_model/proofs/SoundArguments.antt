@@ -9,7 +9,7 @@ use Rattle.ed_model.specs.Lines.{line_starts, start_of_line, start_after_line, e
 use Rattle.ed_model.specs.Characters.{cuts, cuts_from, cut_before, cut_after, character_length}
 use Rattle.ed_model.specs.Matches.{match_in, is_match, starts_within}
 use Rattle.ed_model.specs.declared.plan.LineEndTypes.{LineEndTypes}
-use Rattle.ed_model.specs.Requests.{Request, Planned, text, size, lines, with_argument, argument, text_length, text_range, counted_range, with_line, line_argument, end_or_size}
+use Rattle.ed_model.specs.Requests.{Request, Planned, text, size, line_total, with_argument, argument, text_length, text_range, counted_range, with_line, line_argument, end_or_size}
 use Rattle.ed_model.specs.SoundLaws.{Rise}
 use Rattle.ed_model.specs.PlansFit.{IsFitPlanned}
 use Rattle.ed_model.proofs.SoundLists.{starts_rise}
@@ -70,8 +70,8 @@ with_line_fits : (r : Request) (o : Option ℕ) (bad : Planned) (plan : ℕ → 
 with_line_fits r None bad plan b h = b
 with_line_fits r (Some line) bad plan b h = h line refl
 
-pub line_fits : (r : Request) (bad : Planned) (plan : ℕ → Planned) → IsFitPlanned r bad → ((line : ℕ) → line < lines r → IsFitPlanned r (plan line)) → IsFitPlanned r (line_argument r bad plan)
-line_fits r bad plan b h = with_line_fits r (line_among (lines r) r.message.w) bad plan b (λ line e. h line (line_bound (lines r) r.message.w line e))
+pub line_fits : (r : Request) (bad : Planned) (plan : ℕ → Planned) → IsFitPlanned r bad → ((line : ℕ) → line < line_total r → IsFitPlanned r (plan line)) → IsFitPlanned r (line_argument r bad plan)
+line_fits r bad plan b h = with_line_fits r (line_among (line_total r) r.message.w) bad plan b (λ line e. h line (line_bound (line_total r) r.message.w line e))
 
 pub if_fits : (r : Request) (b : Bool) (x y : Planned) → (b ≡ true → IsFitPlanned r x) → (b ≡ false → IsFitPlanned r y) → IsFitPlanned r (if b then x else y)
 if_fits r b x y f g = cond_both b x y (IsFitPlanned r) f g

@@ -15,7 +15,7 @@ use Rattle.ed_model.specs.Rows.{Row, Marker, rows_together, flags_together, fres
 use Rattle.ed_model.specs.Indicators.{filled}
 use Rattle.ed_model.specs.History.{History, saved, group_begun, group_ended, emptied, collecting_set, with_container_step}
 use Rattle.ed_model.specs.Session.{Document, View, text_of, lines_in, limit_of, keeps_no_styles}
-use Rattle.ed_model.specs.DocumentPlans.{numbers_in}
+use Rattle.ed_model.specs.LinePlans.{numbers_in}
 use Rattle.ed_model.specs.Changes.{changed_document, changed_lines, with_markers, with_new_markers, new_markers, without_marker, without_markers, is_of_number, restyled, styled}
 use Rattle.ed_model.specs.SoundLaws.{FitsText, IsSoundDocument, StandsOn, occurrences, handles_in}
 use Rattle.ed_model.proofs.CarryLemmas.{length-carried}

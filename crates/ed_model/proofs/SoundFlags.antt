@@ -7,7 +7,7 @@ use Rattle.std.proofs.lemmas.Bool.{cond_both, le-ltb, and_left}
 use Rattle.ed_model.specs.declared.plan.ViewChange.{ViewChange}
 use Rattle.ed_model.specs.declared.plan.ViewChange.TheVariants as view_change
 use Rattle.ed_model.specs.Rows.{Flags}
-use Rattle.ed_model.specs.Folding.{flags_at, is_visible, is_expanded, with_visible, with_expanded, is_between, lines_shown, lines_hidden, contracted, expanded, opened, revealed, is_child, is_open_between, last_child, fold_parents}
+use Rattle.ed_model.specs.Folding.{flags_at, is_visible, is_expanded, with_visible, with_expanded, is_between, lines_shown, lines_hidden, contracted, expanded, header_opened, revealed, is_child, is_open_between, last_child, fold_parents}
 use Rattle.ed_model.specs.Session.{Document, View, lines_in}
 use Rattle.ed_model.specs.Changes.{changed_view}
 use Rattle.ed_model.specs.SoundLaws.{StandsOn}
@@ -71,21 +71,21 @@ expanded_flags n levels header flags f =
     with_visible_flags n (is_child levels header) (is_open_between levels flags header) (with_expanded header true flags)
     (no_child levels header (is_open_between levels flags header 0)) (with_expanded_flags n header true flags f)
 
-pub opened_flags : (n : ℕ) (levels : List ℕ) (flags : List Flags) (header : ℕ) → AreFlags n flags → AreFlags n (opened levels flags header)
+pub opened_flags : (n : ℕ) (levels : List ℕ) (flags : List Flags) (header : ℕ) → AreFlags n flags → AreFlags n (header_opened levels flags header)
 opened_flags n levels flags header f =
     let shown = lines_shown_flags n header (header + 1) flags f in
     cond_both (is_expanded flags header) (lines_shown header (header + 1) flags) (expanded levels header (lines_shown header (header + 1) flags)) (λ g. AreFlags n g)
     (λ _. shown) (λ _. expanded_flags n levels header (lines_shown header (header + 1) flags) shown)
 
-all_opened : (n : ℕ) (levels : List ℕ) (flags : List Flags) (headers : List ℕ) → AreFlags n flags → AreFlags n (fold (opened levels) flags headers)
+all_opened : (n : ℕ) (levels : List ℕ) (flags : List Flags) (headers : List ℕ) → AreFlags n flags → AreFlags n (fold (header_opened levels) flags headers)
 all_opened n levels flags [] f = f
-all_opened n levels flags (header ∷ headers) f = all_opened n levels (opened levels flags header) headers (opened_flags n levels flags header f)
+all_opened n levels flags (header ∷ headers) f = all_opened n levels (header_opened levels flags header) headers (opened_flags n levels flags header f)
 
 pub revealed_flags : (n : ℕ) (levels : List ℕ) (line : ℕ) (flags : List Flags) → AreFlags n flags → AreFlags n (revealed levels line flags)
 revealed_flags n levels line flags f =
-    cond_both (is_visible flags line) flags (lines_shown line (line + 1) (fold (opened levels) flags (reverse (fold_parents levels line)))) (λ g. AreFlags n g)
+    cond_both (is_visible flags line) flags (lines_shown line (line + 1) (fold (header_opened levels) flags (reverse (fold_parents levels line)))) (λ g. AreFlags n g)
     (λ _. f)
-    (λ _. lines_shown_flags n line (line + 1) (fold (opened levels) flags (reverse (fold_parents levels line))) (all_opened n levels flags (reverse (fold_parents levels line)) f))
+    (λ _. lines_shown_flags n line (line + 1) (fold (header_opened levels) flags (reverse (fold_parents levels line))) (all_opened n levels flags (reverse (fold_parents levels line)) f))
 
 with_flags : (d : Document) (v : View) (flags : List Flags) → StandsOn d v
     → ((f : AreFlags (lines_in d) v.lines) → AreFlags (lines_in d) flags) → StandsOn d (record v { lines = flags })

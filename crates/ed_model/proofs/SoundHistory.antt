@@ -8,7 +8,7 @@ use Rattle.ed_model.specs.Steps.{Step, Insert, Delete, edited, inverse_of}
 use Rattle.ed_model.specs.History
 use Rattle.ed_model.specs.History.{Change, TextStep, ContainerStep, Transaction, History, appended, with_change, joins, seal_first, with_last_sealed, sealed_outside_groups, group_begun, group_ended, with_container_step, inverse_change, first_changes, undo_changes, redo_changes, undone_to, undone, redone_from, redone, emptied, not_collecting, collecting_set, saved, fresh_history, latest_text_step}
 use Rattle.ed_model.specs.LineEnds.{after_steps}
-use Rattle.ed_model.specs.DocumentPlans.{text_steps}
+use Rattle.ed_model.specs.UndoPlans.{text_steps}
 use Rattle.ed_model.specs.Performing.{place_behind}
 use Rattle.ed_model.specs.Session.{text_of, limit_of}
 use Rattle.ed_model.specs.InverseLaws.{FitInTurn}

@@ -25,12 +25,22 @@ use Rattle.ed_model.specs.Matches.{match_in}
 use Rattle.ed_model.specs.Characters.{cut_after}
 use Rattle.ed_model.specs.Folding.{fold_header, fold_parent, is_header, is_parent_of, is_expanded}
 use Rattle.ed_model.specs.Session.{Document, View, document_at, references, limit_of}
-use Rattle.ed_model.specs.Requests.{Request, answer, answer_number, text, size, lines, selection_start, selection_end, target_least, target_greatest}
+use Rattle.ed_model.specs.Requests.{Request, answer, answer_number, text, size, line_total, selection_start, selection_end, target_least, target_greatest}
 use Rattle.ed_model.specs.Edits.{edit_plan, steps_of, source_bytes, replace_plan, replace_and_go, stays_within, has_steps}
-use Rattle.ed_model.specs.TextPlans
-use Rattle.ed_model.specs.TextPlans.{insertion_place, selected, line_start, line_past, line_end, caret_line, hand_out, place_left, place_right, place_home, place_line_end, select}
-use Rattle.ed_model.specs.DocumentPlans
-use Rattle.ed_model.specs.DocumentPlans.{act_on_history, text_steps, has_handles, numbers_in, unstyled, found_target, replacement_length, past_line, fold_by, fold_at, levels, document_named, has_document_ids, with_reference, release_of, is_zero, document_options, int_within, search_flags, fill_indicator}
+use Rattle.ed_model.specs.KeyPlans
+use Rattle.ed_model.specs.LinePlans
+use Rattle.ed_model.specs.SelectionPlans
+use Rattle.ed_model.specs.SessionPlans
+use Rattle.ed_model.specs.TargetPlans
+use Rattle.ed_model.specs.TextPlans.{insertion_place, line_start, line_past, line_end, caret_line, hand_out}
+use Rattle.ed_model.specs.SelectionPlans.{selected, select}
+use Rattle.ed_model.specs.KeyPlans.{place_left, place_right, place_home, place_line_end}
+use Rattle.ed_model.specs.UndoPlans.{act_on_history, text_steps}
+use Rattle.ed_model.specs.LinePlans.{has_handles, numbers_in, int_within}
+use Rattle.ed_model.specs.StylePlans.{unstyled, fill_indicator}
+use Rattle.ed_model.specs.TargetPlans.{found_target, replacement_length, search_flags}
+use Rattle.ed_model.specs.FoldingPlans.{past_line, fold_by, fold_at, levels}
+use Rattle.ed_model.specs.SessionPlans.{document_named, has_document_ids, with_reference, release_of, is_zero, document_options}
 use Rattle.ed_model.specs.SoundLaws.{IsSoundDocument, IsSoundView, StandsOn}
 use Rattle.ed_model.specs.PlansFit.{IsSoundRequest, IsFitSource, IsFitEdit, IsFitFollow, IsFitPlan, IsFitPlanned, IsRoomFor, IsFitSessionChange, PlansFit}
 use Rattle.ed_model.proofs.SoundSteps.{length_replacement}
@@ -106,7 +116,7 @@ place_right_bound r = size_of_text r (place_right r) (cut_after_bound (text r) r
 place_left_bound : (r : Request) → r.view.caret ≤ size r → place_left r ≤ size r
 place_left_bound r c = let a = cut_before_bound (text r) r.view.caret in omega arith
 
-clear_fits : (r : Request) → IsSoundRequest r → IsFitPlanned r (TextPlans.clear r)
+clear_fits : (r : Request) → IsSoundRequest r → IsFitPlanned r (SelectionPlans.clear r)
 clear_fits r h =
     let on = request_stands r h in
     let a : r.view.anchor ≤ size r = on.anchor in
@@ -116,7 +126,7 @@ clear_fits r h =
     (λ _. replace_fits r r.view.caret (cut_after (text r) r.view.caret - r.view.caret) source.Nothing (omega arith) tt)
     (λ _. replace_fits r (selection_start r) (selected r) source.Nothing (omega arith) tt)
 
-delete_back_fits : (r : Request) → IsSoundRequest r → IsFitPlanned r (TextPlans.delete_back r)
+delete_back_fits : (r : Request) → IsSoundRequest r → IsFitPlanned r (KeyPlans.delete_back r)
 delete_back_fits r h =
     let on = request_stands r h in
     let a : r.view.anchor ≤ size r = on.anchor in
@@ -142,7 +152,7 @@ found_fits : (r : Request) (count : ℕ) (o : Option ℕ) → ((place : ℕ) →
 found_fits r count None h = tt
 found_fits r count (Some place) h = let a = h place refl in (omega arith, a)
 
-search_fits : (r : Request) → IsSoundRequest r → IsFitPlanned r (DocumentPlans.search_in_target r)
+search_fits : (r : Request) → IsSoundRequest r → IsFitPlanned r (TargetPlans.search_in_target r)
 search_fits r h =
     let on = request_stands r h in
     text_length_fits r (λ count. found_target count (match_in r.view.search_flags (text r) (take count r.message.text) r.view.target_start r.view.target_end))
@@ -163,7 +173,7 @@ replacement_bound n (negsuc m) count e = go (m == 0) e
     go true e = let same : n ≡ count = cc in omega arith
     go false e = absurd (cc)
 
-replace_target_fits : (r : Request) → IsSoundRequest r → IsFitPlanned r (DocumentPlans.replace_target r)
+replace_target_fits : (r : Request) → IsSoundRequest r → IsFitPlanned r (TargetPlans.replace_target r)
 replace_target_fits r h =
     let on = request_stands r h in
     let a : r.view.target_start ≤ size r = on.target_start in
@@ -192,9 +202,9 @@ history_fits r can changes act h =
 
 -- Lines.
 
-past_line_bound : (lines : ℕ) (x : ℤ) → past_line lines x ≤ lines
-past_line_bound lines (pos n) = omega arith
-past_line_bound lines (negsuc n) = omega arith
+past_line_bound : (line_total : ℕ) (x : ℤ) → past_line line_total x ≤ line_total
+past_line_bound line_total (pos n) = omega arith
+past_line_bound line_total (negsuc n) = omega arith
 
 header_bound : (levels : List ℕ) (line header : ℕ) → fold_header levels line ≡ Some header → header ≤ line
 header_bound levels line header e = go (is_header levels line) e
@@ -206,7 +216,7 @@ header_bound levels line header e = go (is_header levels line) e
         (all_reverse (λ k. (0 ≤ k) × (k < 0 + line)) (range_with_len 0 line) (all_range 0 line)) e).0 in
         let l : header < 0 + line = a.1 in omega arith
 
-fold_by_fits : (r : Request) (action : ℕ) (o : Option ℕ) → ((header : ℕ) → o ≡ Some header → header < lines r) → IsFitPlanned r (fold_by r action o)
+fold_by_fits : (r : Request) (action : ℕ) (o : Option ℕ) → ((header : ℕ) → o ≡ Some header → header < line_total r) → IsFitPlanned r (fold_by r action o)
 fold_by_fits r action None h = tt
 fold_by_fits r action (Some header) h =
     if_fits r (action == 0 || (action == 2 && is_expanded r.view.lines header)) _ _ (λ _. h header refl) (λ _. h header refl)
@@ -240,7 +250,7 @@ release_fits r (pos id) = go (document_at r.session.documents id) refl
         if_fits r (nat_lt 0 d.held) _ _
         (λ t. (d, ap (document_at r.session.documents) (document_id r.session.documents id d e) ∙ e, ltb-true 0 d.held t)) (λ _. tt)
 
-set_doc_pointer_fits : (r : Request) → IsFitPlanned r (DocumentPlans.set_doc_pointer r)
+set_doc_pointer_fits : (r : Request) → IsFitPlanned r (SessionPlans.set_doc_pointer r)
 set_doc_pointer_fits r =
     if_fits r (is_zero r.message.l) _ (with_reference r (document_named r.session r.message.l) session_change.Attach)
     (λ _. if_fits r (has_document_ids r.session) _ _ (λ t. leb-true r.session.next_document r.session.limits.ids t) (λ _. tt))
@@ -262,8 +272,8 @@ plan_fits Undo r h = history_fits r (can_undo r.document.history) (undo_changes 
 plan_fits SetUndoCollection r h = if_fits r (is_on r.message.w && r.document.history.collecting) _ _ (λ _. tt) (λ _. tt)
 plan_fits SelectAll r h = (omega arith, omega arith)
 plan_fits GetStyledText r h = text_range_fits r _ (λ start past a b. omega arith)
-plan_fits MarkerDeleteHandle r h = if_fits r (is_some (DocumentPlans.line_of_handle r)) _ _ (λ _. tt) (λ _. tt)
-plan_fits GotoLine r h = let a = line_start_bound r (clamped (lines r - 1) r.message.w) in (a, a)
+plan_fits MarkerDeleteHandle r h = if_fits r (is_some (LinePlans.line_of_handle r)) _ _ (λ _. tt) (λ _. tt)
+plan_fits GotoLine r h = let a = line_start_bound r (clamped (line_total r - 1) r.message.w) in (a, a)
 plan_fits GotoPos r h = let a = clamped_bound (size r) r.message.w in (a, a)
 plan_fits SetEmptySelection r h = let a = clamped_bound (size r) r.message.w in (a, a)
 plan_fits SetAnchor r h = (clamped_bound (size r) r.message.w, (request_stands r h).caret)
@@ -303,7 +313,7 @@ plan_fits NewLine r h = go_fits r (selection_start r) (selected r) source.LineEn
 plan_fits SetText r h = replace_fits r 0 (size r) (source.MessageText (length r.message.text)) (omega arith) (omega arith)
 plan_fits AppendText r h = text_length_fits r _ (λ count le. replace_fits r (size r) 0 (source.MessageText count) (omega arith) le)
 plan_fits DeleteRange r h = counted_range_fits r _ (λ start count le. replace_fits r start count source.Nothing le tt)
-plan_fits ConvertEols r h = argument_fits r 0 2 r.message.w _ (λ mode a b. edit_fits r (edit.ConvertLineEnds (TextPlans.line_end_kind mode)) (pos 0) follow.Nothing tt tt)
+plan_fits ConvertEols r h = argument_fits r 0 2 r.message.w _ (λ mode a b. edit_fits r (edit.ConvertLineEnds (LinePlans.line_end_kind mode)) (pos 0) follow.Nothing tt tt)
 plan_fits SetEolMode r h = argument_fits r 0 2 r.message.w _ (λ mode a b. tt)
 plan_fits CopyRange r h = text_range_fits r _ (λ start past a b. omega arith)
 plan_fits CopyText r h = text_length_fits r _ (λ count le. le)
@@ -331,10 +341,10 @@ plan_fits MarkerAddSet r h =
     if_fits r (has_handles r (length (numbers_in mask))) _ _ (λ t. (l, omega arith, leb-true (r.document.next_handle + length (numbers_in mask)) (r.session.limits.handles + 1) t)) (λ _. tt)))
 plan_fits MarkerDelete r h = with_argument_fits r (some_or_all 31 r.message.l) _ (λ number e. line_fits r (answer (pos 0)) _ tt (λ line l. l))
 plan_fits MarkerDeleteAll r h = with_argument_fits r (some_or_all 31 r.message.w) _ (λ number e. tt)
-plan_fits MarkerGet r h = line_fits r (answer (pos 0)) (λ line. answer_number (DocumentPlans.line_mask r line)) tt (λ line l. tt)
+plan_fits MarkerGet r h = line_fits r (answer (pos 0)) (λ line. answer_number (LinePlans.line_mask r line)) tt (λ line l. tt)
 plan_fits SetLineState r h =
     with_argument_fits r (int_within (negsuc (2 ^ 31 - 1)) (pos (2 ^ 31 - 1)) r.message.l) _ (λ state e. line_fits r (answer (pos 0)) _ tt (λ line l. l))
-plan_fits GetLineState r h = line_fits r (answer (pos 0)) (λ line. answer (DocumentPlans.row_at r line).state) tt (λ line l. tt)
+plan_fits GetLineState r h = line_fits r (answer (pos 0)) (λ line. answer (LinePlans.row_at r line).state) tt (λ line l. tt)
 plan_fits StartStyling r h = argument_fits r 0 (size r) r.message.w _ (λ place a b. b)
 plan_fits SetStyling r h =
     let s : r.document.end_styled ≤ size r = (request_document r h).styled in
@@ -363,8 +373,8 @@ plan_fits GetFoldLevel r h = line_fits r (answer_number base_level) _ tt (λ lin
 plan_fits GetLastChild r h = with_argument_fits r (some_or_all (2 ^ 31 - 1) r.message.l) _ (λ level e. line_fits r (answer (negsuc 0)) _ tt (λ line l. tt))
 plan_fits GetFoldParent r h = line_fits r (answer (negsuc 0)) _ tt (λ line l. tt)
 plan_fits VisibleFromDocLine r h = line_fits r (answer (negsuc 0)) _ tt (λ line l. tt)
-plan_fits ShowLines r h = (clamped_bound (lines r) r.message.w, past_line_bound (lines r) r.message.l)
-plan_fits HideLines r h = (clamped_bound (lines r) r.message.w, past_line_bound (lines r) r.message.l)
+plan_fits ShowLines r h = (clamped_bound (line_total r) r.message.w, past_line_bound (line_total r) r.message.l)
+plan_fits HideLines r h = (clamped_bound (line_total r) r.message.w, past_line_bound (line_total r) r.message.l)
 plan_fits GetLineVisible r h = line_fits r (answer (pos 0)) _ tt (λ line l. tt)
 plan_fits SetFoldExpanded r h = line_fits r (answer (pos 0)) _ tt (λ line l. l)
 plan_fits GetFoldExpanded r h = line_fits r (answer (pos 0)) _ tt (λ line l. tt)
@@ -377,6 +387,6 @@ plan_fits CreateDocument r h =
     if_fits r (has_document_ids r.session) _ _ (λ t. leb-true r.session.next_document r.session.limits.ids t) (λ _. tt)))
 plan_fits AddRefDocument r h = reference_fits r r.message.l session_change.AddReference (λ d e l. (d, e, l))
 plan_fits ReleaseDocument r h = release_fits r r.message.l
-plan_fits SetLineEndTypesAllowed r h = argument_fits r 0 1 r.message.w _ (λ types a b. if_fits r (types == DocumentPlans.types_number r.document.line_end_types) _ _ (λ _. tt) (λ _. tt))
+plan_fits SetLineEndTypesAllowed r h = argument_fits r 0 1 r.message.w _ (λ types a b. if_fits r (types == SessionPlans.types_number r.document.line_end_types) _ _ (λ _. tt) (λ _. tt))
 plan_fits SetModEventMask r h = argument_fits r 0 0x7FFFFF r.message.w _ (λ mask a b. tt)
 plan_fits _ r h = tt

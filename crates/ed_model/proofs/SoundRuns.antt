@@ -27,7 +27,8 @@ use Rattle.ed_model.specs.Session.{Session, Document, View, document_at, view_at
 use Rattle.ed_model.specs.Notes as notes
 use Rattle.ed_model.specs.Requests.{Request, Planned, text}
 use Rattle.ed_model.specs.Edits.{steps_of, source_bytes}
-use Rattle.ed_model.specs.DocumentPlans.{text_steps, levels}
+use Rattle.ed_model.specs.UndoPlans.{text_steps}
+use Rattle.ed_model.specs.FoldingPlans.{levels}
 use Rattle.ed_model.specs.Performing.{Scene, scene_of, session_of, edit_made, edit_performed, followed, with_caret, with_target, transaction_performed, changes_performed, with_history, history_performed, caret_behind, place_behind}
 use Rattle.ed_model.specs.Changes.{changed_document, changed_lines, document_change_performed, changed_view, view_change_performed, session_changed}
 use Rattle.ed_model.specs.Table.{plan_of, answered, request, table_from_document, table_if_known, table_from_kind, table_from_view}

@@ -11,7 +11,7 @@ use Rattle.ed_model.specs.Steps.{Step, edited}
 use Rattle.ed_model.specs.LineEnds.{after_steps}
 use Rattle.ed_model.specs.History.{History, Change, TextStep, ContainerStep, appended, sealed_outside_groups, fresh_history}
 use Rattle.ed_model.specs.Edits.{size_after, stays_within}
-use Rattle.ed_model.specs.DocumentPlans.{text_steps}
+use Rattle.ed_model.specs.UndoPlans.{text_steps}
 use Rattle.ed_model.specs.Session.{Session, Document, View, document_at, with_document, text_of, limit_of}
 use Rattle.ed_model.specs.Performing.{Scene, document_after, moved_view, view_after, with_history, step_made, steps_made, sealed_scene, edit_made, change_performed, changes_performed, session_of, changes_lines, is_last}
 use Rattle.ed_model.specs.SoundLaws.{IsStepOf, AreStepsOf, FitsText, IsSound, IsSoundDocument, StandsOn}

@@ -4,7 +4,7 @@ use Rattle.std.proofs.lemmas.List.{append-nil, map-append, reverse-append, rever
 use Rattle.ed_model.specs.Steps.{Step, Insert, Delete, inverse_of}
 use Rattle.ed_model.specs.LineEnds.{after_steps}
 use Rattle.ed_model.specs.History.{History, Transaction, Change, TextStep, ContainerStep, inverse_change, first_changes, undo_changes, redo_changes, undone, undone_to, redone, redone_from}
-use Rattle.ed_model.specs.DocumentPlans.{text_steps}
+use Rattle.ed_model.specs.UndoPlans.{text_steps}
 use Rattle.ed_model.specs.Session.{text_of}
 use Rattle.ed_model.specs.Notes.{performed_undo, performed_redo, multi_step, bit_if}
 use Rattle.ed_model.specs.Performing.{Scene, changes_performed, change_performed, changes_lines, is_last}

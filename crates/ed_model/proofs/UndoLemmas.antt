@@ -3,7 +3,7 @@ use Rattle.std.proofs.Common.{◌≡◌, ℕ, zero, suc, ◌<◌, Bool, true, �
 use Rattle.ed_model.specs.Steps.{Step, edited}
 use Rattle.ed_model.specs.LineEnds.{after_steps}
 use Rattle.ed_model.specs.History.{History, Transaction, Change, TextStep, ContainerStep, inverse_change, first_changes, seal_first, joins, joins_last, with_change, appended, undo_changes, redo_changes, undone, undone_to, redone, redone_from}
-use Rattle.ed_model.specs.DocumentPlans.{text_steps}
+use Rattle.ed_model.specs.UndoPlans.{text_steps}
 use Rattle.ed_model.specs.Performing.{Scene}
 use Rattle.ed_model.specs.InverseLaws.{Fits, FitInTurn, text_of_scene, history_of, after_undo, after_redo}
 use Rattle.ed_model.specs.HistoryLaws.{SameButForSeals}

@@ -9,7 +9,7 @@ use Rattle.ed_model.specs.Session.{Session, Document, document_at, with_document
 use Rattle.ed_model.specs.Notes as notes
 use Rattle.ed_model.specs.Requests.{Request, Planned, size}
 use Rattle.ed_model.specs.Edits.{stays_within}
-use Rattle.ed_model.specs.DocumentPlans.{text_steps, act_on_history}
+use Rattle.ed_model.specs.UndoPlans.{text_steps, act_on_history}
 use Rattle.ed_model.specs.Performing.{Scene, scene_of}
 use Rattle.ed_model.specs.Table.{answered, request}
 use Rattle.ed_model.specs.InverseLaws.{after_undo, after_redo}

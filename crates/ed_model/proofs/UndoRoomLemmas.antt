@@ -13,7 +13,7 @@ use Rattle.ed_model.specs.History.{can_undo, can_redo, undo_changes, redo_change
 use Rattle.ed_model.specs.Session.{Session, View, Document, view_at, document_at, limit_of}
 use Rattle.ed_model.specs.Requests.{Request, size, text, answer}
 use Rattle.ed_model.specs.Edits.{size_after, stays_within}
-use Rattle.ed_model.specs.DocumentPlans.{text_steps}
+use Rattle.ed_model.specs.UndoPlans.{text_steps}
 use Rattle.ed_model.specs.Table.{answered, request}
 use Rattle.ed_model.specs.TableLaws.{Answered}
 use Rattle.ed_model.specs.SoundLaws.{IsSound, AreStepsWithin}

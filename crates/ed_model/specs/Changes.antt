@@ -18,7 +18,8 @@ use Rattle.ed_model.specs.Folding.{lines_shown, lines_hidden, with_expanded, con
 use Rattle.ed_model.specs.Session.{Session, View, Document, text_of, with_view, with_document, watching, keeps_no_styles, attached_to, new_document, living, left_by, document_at}
 use Rattle.ed_model.specs.Notes as notes
 use Rattle.ed_model.specs.Requests.{Request, text}
-use Rattle.ed_model.specs.DocumentPlans.{numbers_in, levels}
+use Rattle.ed_model.specs.LinePlans.{numbers_in}
+use Rattle.ed_model.specs.FoldingPlans.{levels}
 use Rattle.ed_model.specs.Performing.{leaving}
 
 -- Markers.
@@ -138,8 +139,8 @@ is_same a b = int_le a b && int_le b a
 abbrev pub state_note : ℕ → ℤ → ℤ → List View → List Notice
 state_note line old new views = if is_same old new then [] else notes.heard views (line_note notes.change_line_state line)
 
-abbrev pub row_of : Document → ℕ → Row
-row_of d line = slice_index_or d.rows line fresh_row
+abbrev pub document_row : Document → ℕ → Row
+document_row d line = slice_index_or d.rows line fresh_row
 
 -- what is told of a change from one document to the other, to these views of it; `sender` is the sending view
 abbrev pub change_told : View → List View → Document → Document → DocumentChange → List Notice
@@ -157,8 +158,8 @@ change_told sender views old new (change.AddMarkers line mask) = marker_note lin
 change_told sender views old new (change.DeleteMarker line number) = marker_note line old new views
 change_told sender views old new (change.DeleteMarkers number) = all_markers_note old new views
 change_told sender views old new (change.DeleteHandle handle) = marker_note (line_with_handle handle 0 old.rows) old new views
-change_told sender views old new (change.SetLevel line level) = fold_note line (row_of old line).level level views
-change_told sender views old new (change.SetState line state) = state_note line (row_of old line).state state views
+change_told sender views old new (change.SetLevel line level) = fold_note line (document_row old line).level level views
+change_told sender views old new (change.SetState line state) = state_note line (document_row old line).state state views
 change_told sender views old new (change.SetEndStyled place) = []
 change_told sender views old new (change.StyleRun count style) = range_notes notes.change_style (changed_range (styles_of old.cells) (styles_of new.cells)) views
 change_told sender views old new (change.StyleBytes count) = range_notes notes.change_style (changed_range (styles_of old.cells) (styles_of new.cells)) views

@@ -1,10 +1,10 @@
 -- Worked examples, written by tools/example_theorems.py from examples/.
 use Rattle.std.specs.Prelude.{[], ◌∷◌, codes}
-use Rattle.ed_model.specs.Prints.{Prints, lines}
+use Rattle.ed_model.specs.Prints.{Prints, joined_lines}
 
 abbrev pub DocumentReferences : Type 0
 DocumentReferences = Prints ([])
-    (lines (
+    (joined_lines (
     codes "sci 1" ∷
     codes "open" ∷
     codes "open" ∷
@@ -16,7 +16,7 @@ DocumentReferences = Prints ([])
     codes "send 1 2376 0 3 \"\"" ∷
     codes "send 1 2375 0 0 \"\"" ∷
     []))
-    (lines (
+    (joined_lines (
     codes "= 1 \"\"" ∷
     codes "= 2 \"\"" ∷
     codes "= 3 \"\"" ∷
@@ -30,7 +30,7 @@ DocumentReferences = Prints ([])
 
 abbrev pub OrderOfAttaching : Type 0
 OrderOfAttaching = Prints ([])
-    (lines (
+    (joined_lines (
     codes "sci 1" ∷
     codes "open" ∷
     codes "open" ∷
@@ -38,7 +38,7 @@ OrderOfAttaching = Prints ([])
     codes "send 1 2358 0 1 \"\"" ∷
     codes "send 2 2003 0 0 \"x\"" ∷
     []))
-    (lines (
+    (joined_lines (
     codes "= 1 \"\"" ∷
     codes "= 2 \"\"" ∷
     codes "= 0 \"\"" ∷
@@ -54,7 +54,7 @@ OrderOfAttaching = Prints ([])
 
 abbrev pub ReadOnlyTellsEachView : Type 0
 ReadOnlyTellsEachView = Prints ([])
-    (lines (
+    (joined_lines (
     codes "sci 1" ∷
     codes "open" ∷
     codes "open" ∷
@@ -64,7 +64,7 @@ ReadOnlyTellsEachView = Prints ([])
     codes "send 1 2003 0 0 \"\"" ∷
     codes "send 1 2006 0 0 \"\"" ∷
     []))
-    (lines (
+    (joined_lines (
     codes "= 1 \"\"" ∷
     codes "= 2 \"\"" ∷
     codes "= 0 \"\"" ∷
@@ -78,7 +78,7 @@ ReadOnlyTellsEachView = Prints ([])
 
 abbrev pub ReadOnlyUndo : Type 0
 ReadOnlyUndo = Prints ([])
-    (lines (
+    (joined_lines (
     codes "sci 1" ∷
     codes "open" ∷
     codes "open" ∷
@@ -88,7 +88,7 @@ ReadOnlyUndo = Prints ([])
     codes "send 1 2176 0 0 \"\"" ∷
     codes "send 1 2006 0 0 \"\"" ∷
     []))
-    (lines (
+    (joined_lines (
     codes "= 1 \"\"" ∷
     codes "= 2 \"\"" ∷
     codes "= 0 \"\"" ∷
@@ -108,7 +108,7 @@ ReadOnlyUndo = Prints ([])
 
 abbrev pub TwoViewsMoveAndHear : Type 0
 TwoViewsMoveAndHear = Prints ([])
-    (lines (
+    (joined_lines (
     codes "sci 1" ∷
     codes "open" ∷
     codes "open" ∷
@@ -121,7 +121,7 @@ TwoViewsMoveAndHear = Prints ([])
     codes "send 1 2003 1 0 \"y\"" ∷
     codes "send 2 2008 0 0 \"\"" ∷
     []))
-    (lines (
+    (joined_lines (
     codes "= 1 \"\"" ∷
     codes "= 2 \"\"" ∷
     codes "= 0 \"\"" ∷
@@ -145,7 +145,7 @@ TwoViewsMoveAndHear = Prints ([])
 
 abbrev pub UndoOfAGroupToTwoViews : Type 0
 UndoOfAGroupToTwoViews = Prints ([])
-    (lines (
+    (joined_lines (
     codes "sci 1" ∷
     codes "open" ∷
     codes "send 1 2078 0 0 \"\"" ∷
@@ -158,7 +158,7 @@ UndoOfAGroupToTwoViews = Prints ([])
     codes "send 1 2176 0 0 \"\"" ∷
     codes "send 1 2182 0 0 \"\"" ∷
     []))
-    (lines (
+    (joined_lines (
     codes "= 1 \"\"" ∷
     codes "= 0 \"\"" ∷
     codes "= 0 \"\"" ∷
@@ -194,7 +194,7 @@ UndoOfAGroupToTwoViews = Prints ([])
 
 abbrev pub DocumentOptions : Type 0
 DocumentOptions = Prints ([])
-    (lines (
+    (joined_lines (
     codes "sci 1" ∷
     codes "open" ∷
     codes "send 1 2375 0 1 \"\"" ∷
@@ -206,7 +206,7 @@ DocumentOptions = Prints ([])
     codes "send 1 2379 0 0 \"\"" ∷
     codes "send 1 2375 0 2 \"\"" ∷
     []))
-    (lines (
+    (joined_lines (
     codes "= 1 \"\"" ∷
     codes "= 2 \"\"" ∷
     codes "= 0 \"\"" ∷
@@ -223,7 +223,7 @@ DocumentOptions = Prints ([])
 
 abbrev pub UnicodeLineEnds : Type 0
 UnicodeLineEnds = Prints ([])
-    (lines (
+    (joined_lines (
     codes "sci 1" ∷
     codes "open" ∷
     codes "send 1 2003 0 0 \"a\\xc2\\x85b\\xe2\\x80\\xa8c\"" ∷
@@ -251,7 +251,7 @@ UnicodeLineEnds = Prints ([])
     codes "send 1 2645 2 1 \"\"" ∷
     codes "send 1 2154 0 0 \"\"" ∷
     []))
-    (lines (
+    (joined_lines (
     codes "= 1 \"\"" ∷
     codes "= 0 \"\"" ∷
     codes "@ 1 2008 1040 0 8 0 0 0 0 0 0 0 0 \"a\\xc2\\x85b\\xe2\\x80\\xa8c\"" ∷
@@ -289,7 +289,7 @@ UnicodeLineEnds = Prints ([])
 
 abbrev pub Masks : Type 0
 Masks = Prints ([])
-    (lines (
+    (joined_lines (
     codes "sci 1" ∷
     codes "open" ∷
     codes "open" ∷
@@ -306,7 +306,7 @@ Masks = Prints ([])
     codes "send 2 2171 1 0 \"\"" ∷
     codes "send 1 2003 0 0 \"z\"" ∷
     []))
-    (lines (
+    (joined_lines (
     codes "= 1 \"\"" ∷
     codes "= 2 \"\"" ∷
     codes "= 0 \"\"" ∷
@@ -341,7 +341,7 @@ Masks = Prints ([])
 
 abbrev pub OptionsAndLineEndTypes : Type 0
 OptionsAndLineEndTypes = Prints ([])
-    (lines (
+    (joined_lines (
     codes "sci 1" ∷
     codes "open" ∷
     codes "send 1 2379 0 0 \"\"" ∷
@@ -380,7 +380,7 @@ OptionsAndLineEndTypes = Prints ([])
     codes "send 1 2176 0 0 \"\"" ∷
     codes "send 1 2154 0 0 \"\"" ∷
     []))
-    (lines (
+    (joined_lines (
     codes "= 1 \"\"" ∷
     codes "= 0 \"\"" ∷
     codes "= 0 \"\"" ∷
@@ -434,7 +434,7 @@ OptionsAndLineEndTypes = Prints ([])
 
 abbrev pub OwnDocumentAgain : Type 0
 OwnDocumentAgain = Prints ([])
-    (lines (
+    (joined_lines (
     codes "sci 1" ∷
     codes "open" ∷
     codes "open" ∷
@@ -458,7 +458,7 @@ OwnDocumentAgain = Prints ([])
     codes "send 2 2357 0 0 \"\"" ∷
     codes "send 2 2006 0 0 \"\"" ∷
     []))
-    (lines (
+    (joined_lines (
     codes "= 1 \"\"" ∷
     codes "= 2 \"\"" ∷
     codes "= 2 \"\"" ∷

@@ -4,7 +4,7 @@ use Rattle.std.specs.Prelude.{◌≡◌, ℕ, ◌+◌, ◌-◌, ◌==◌, ◌<�
 use Rattle.ed_model.specs.declared.plan.DocumentChange.{DocumentChange}
 use Rattle.ed_model.specs.Steps.{Step}
 use Rattle.ed_model.specs.History.{redo_changes}
-use Rattle.ed_model.specs.DocumentPlans.{text_steps}
+use Rattle.ed_model.specs.UndoPlans.{text_steps}
 use Rattle.ed_model.specs.Session.{Document, text_of}
 use Rattle.ed_model.specs.Performing.{Scene, edit_made}
 use Rattle.ed_model.specs.Changes.{changed_document}

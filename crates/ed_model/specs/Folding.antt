@@ -99,8 +99,8 @@ expanded levels header flags =
     with_visible (is_child levels header) (is_open_between levels flags header) (with_expanded header true flags)
 
 -- a header made visible, and expanded if it is contracted
-abbrev pub opened : List ℕ → List Flags → ℕ → List Flags
-opened levels flags header =
+abbrev pub header_opened : List ℕ → List Flags → ℕ → List Flags
+header_opened levels flags header =
     let shown = lines_shown header (header + 1) flags in
     if is_expanded flags header then shown else expanded levels header shown
 
@@ -108,4 +108,4 @@ opened levels flags header =
 abbrev pub revealed : List ℕ → ℕ → List Flags → List Flags
 revealed levels line flags =
     if is_visible flags line then flags
-    else lines_shown line (line + 1) (fold (opened levels) flags (reverse (fold_parents levels line)))
+    else lines_shown line (line + 1) (fold (header_opened levels) flags (reverse (fold_parents levels line)))

@@ -1,10 +1,10 @@
 -- Worked examples, written by tools/example_theorems.py from examples/.
 use Rattle.std.specs.Prelude.{[], ◌∷◌, codes}
-use Rattle.ed_model.specs.Prints.{Prints, lines}
+use Rattle.ed_model.specs.Prints.{Prints, joined_lines}
 
 abbrev pub Folding : Type 0
 Folding = Prints ([])
-    (lines (
+    (joined_lines (
     codes "sci 1" ∷
     codes "open" ∷
     codes "send 1 2003 0 0 \"a\\x0ab\\x0ac\\x0ad\"" ∷
@@ -27,7 +27,7 @@ Folding = Prints ([])
     codes "send 1 2228 2 0 \"\"" ∷
     codes "send 1 2228 3 0 \"\"" ∷
     []))
-    (lines (
+    (joined_lines (
     codes "= 1 \"\"" ∷
     codes "= 0 \"\"" ∷
     codes "@ 1 2008 1040 0 7 0 0 0 0 0 0 0 0 \"a\\x0ab\\x0ac\\x0ad\"" ∷
@@ -59,7 +59,7 @@ Folding = Prints ([])
 
 abbrev pub HiddenLines : Type 0
 HiddenLines = Prints ([])
-    (lines (
+    (joined_lines (
     codes "sci 1" ∷
     codes "open" ∷
     codes "send 1 2003 0 0 \"a\\x0ab\\x0ac\\x0ad\"" ∷
@@ -74,7 +74,7 @@ HiddenLines = Prints ([])
     codes "send 1 2226 1 2 \"\"" ∷
     codes "send 1 2221 2 0 \"\"" ∷
     []))
-    (lines (
+    (joined_lines (
     codes "= 1 \"\"" ∷
     codes "= 0 \"\"" ∷
     codes "@ 1 2008 1040 0 7 0 0 0 0 0 0 0 0 \"a\\x0ab\\x0ac\\x0ad\"" ∷
@@ -94,7 +94,7 @@ HiddenLines = Prints ([])
 
 abbrev pub HiddenLinesInRange : Type 0
 HiddenLinesInRange = Prints ([])
-    (lines (
+    (joined_lines (
     codes "sci 1" ∷
     codes "open" ∷
     codes "send 1 2003 0 0 \"a\\x0ab\\x0ac\\x0ad\"" ∷
@@ -109,7 +109,7 @@ HiddenLinesInRange = Prints ([])
     codes "send 1 2226 1 2 \"\"" ∷
     codes "send 1 2221 2 0 \"\"" ∷
     []))
-    (lines (
+    (joined_lines (
     codes "= 1 \"\"" ∷
     codes "= 0 \"\"" ∷
     codes "@ 1 2008 1040 0 7 0 0 0 0 0 0 0 0 \"a\\x0ab\\x0ac\\x0ad\"" ∷
@@ -129,7 +129,7 @@ HiddenLinesInRange = Prints ([])
 
 abbrev pub FoldStructure : Type 0
 FoldStructure = Prints ([])
-    (lines (
+    (joined_lines (
     codes "sci 1" ∷
     codes "open" ∷
     codes "send 1 2003 0 0 \"a\\x0ab\\x0ac\\x0ad\\x0ae\\x0af\"" ∷
@@ -168,7 +168,7 @@ FoldStructure = Prints ([])
     codes "send 1 2232 2 0 \"\"" ∷
     codes "send 1 2236 0 0 \"\"" ∷
     []))
-    (lines (
+    (joined_lines (
     codes "= 1 \"\"" ∷
     codes "= 0 \"\"" ∷
     codes "@ 1 2008 1040 0 11 0 0 0 0 0 0 0 0 \"a\\x0ab\\x0ac\\x0ad\\x0ae\\x0af\"" ∷
@@ -217,7 +217,7 @@ FoldStructure = Prints ([])
 
 abbrev pub FoldingOfTwoViews : Type 0
 FoldingOfTwoViews = Prints ([])
-    (lines (
+    (joined_lines (
     codes "sci 1" ∷
     codes "open" ∷
     codes "open" ∷
@@ -245,7 +245,7 @@ FoldingOfTwoViews = Prints ([])
     codes "send 2 2228 1 0 \"\"" ∷
     codes "send 2 2230 0 0 \"\"" ∷
     []))
-    (lines (
+    (joined_lines (
     codes "= 1 \"\"" ∷
     codes "= 2 \"\"" ∷
     codes "= 0 \"\"" ∷

@@ -3,7 +3,7 @@ use Rattle.std.specs.Prelude.{ℕ, ◌+◌, ◌-◌, ◌==◌, nat_le, nat_lt, n
 use Rattle.ed_model.specs.Numbers.{is_number}
 use Rattle.ed_model.specs.Steps.{Step, Insert, Delete, inverse_of}
 
--- A change is a step of the text, or a container's own step, known by its token; that one may be of the kind that joins.
+-- A change is a step of the text, or a container's own step, known by its token; that one may be of the kind that coalesces.
 pub data Change : Type 0 where
   TextStep : (step : Step) → Change
   ContainerStep : (token : ℤ) (coalesce : Bool) → Change

@@ -4,7 +4,7 @@ use Rattle.ed_model.specs.Text.{Cell, bytes_of}
 use Rattle.ed_model.specs.Steps.{Step, Insert, Delete, edited, edited_cells, inverse_of}
 use Rattle.ed_model.specs.LineEnds.{after_steps}
 use Rattle.ed_model.specs.History.{History, undo_changes, redo_changes, undone, redone}
-use Rattle.ed_model.specs.DocumentPlans.{text_steps}
+use Rattle.ed_model.specs.UndoPlans.{text_steps}
 use Rattle.ed_model.specs.Session.{text_of}
 use Rattle.ed_model.specs.Notes.{performed_undo, performed_redo}
 use Rattle.ed_model.specs.Performing.{Scene, transaction_performed}

@@ -17,7 +17,14 @@ pub mod Notes
 pub mod Requests
 pub mod Edits
 pub mod TextPlans
-pub mod DocumentPlans
+pub mod SelectionPlans
+pub mod KeyPlans
+pub mod UndoPlans
+pub mod LinePlans
+pub mod StylePlans
+pub mod TargetPlans
+pub mod FoldingPlans
+pub mod SessionPlans
 pub mod Performing
 pub mod Changes
 pub mod Table

@@ -1,10 +1,10 @@
 -- Worked examples, written by tools/example_theorems.py from examples/.
 use Rattle.std.specs.Prelude.{[], ◌∷◌, codes}
-use Rattle.ed_model.specs.Prints.{Prints, lines}
+use Rattle.ed_model.specs.Prints.{Prints, joined_lines}
 
 abbrev pub DeletionJoinsCrlf : Type 0
 DeletionJoinsCrlf = Prints ([])
-    (lines (
+    (joined_lines (
     codes "sci 1" ∷
     codes "open" ∷
     codes "send 1 2003 0 0 \"x\\x0d\\x0aa\"" ∷
@@ -16,7 +16,7 @@ DeletionJoinsCrlf = Prints ([])
     codes "send 1 2046 0 0 \"\"" ∷
     codes "send 1 2046 1 0 \"\"" ∷
     []))
-    (lines (
+    (joined_lines (
     codes "= 1 \"\"" ∷
     codes "= 0 \"\"" ∷
     codes "@ 1 2008 1040 0 4 0 0 0 0 0 0 0 0 \"x\\x0d\\x0aa\"" ∷
@@ -39,7 +39,7 @@ DeletionJoinsCrlf = Prints ([])
 
 abbrev pub DeletionJoinsMarkers : Type 0
 DeletionJoinsMarkers = Prints ([])
-    (lines (
+    (joined_lines (
     codes "sci 1" ∷
     codes "open" ∷
     codes "send 1 2003 0 0 \"x\\x0d\\x0aa\"" ∷
@@ -52,7 +52,7 @@ DeletionJoinsMarkers = Prints ([])
     codes "send 1 2046 0 0 \"\"" ∷
     codes "send 1 2046 1 0 \"\"" ∷
     []))
-    (lines (
+    (joined_lines (
     codes "= 1 \"\"" ∷
     codes "= 0 \"\"" ∷
     codes "@ 1 2008 1040 0 4 0 0 0 0 0 0 0 0 \"x\\x0d\\x0aa\"" ∷
@@ -77,7 +77,7 @@ DeletionJoinsMarkers = Prints ([])
 
 abbrev pub InsertionSplitsCrlf : Type 0
 InsertionSplitsCrlf = Prints ([])
-    (lines (
+    (joined_lines (
     codes "sci 1" ∷
     codes "open" ∷
     codes "send 1 2003 0 0 \"x\\x0d\\x0aa\"" ∷
@@ -89,7 +89,7 @@ InsertionSplitsCrlf = Prints ([])
     codes "send 1 2046 1 0 \"\"" ∷
     codes "send 1 2046 2 0 \"\"" ∷
     []))
-    (lines (
+    (joined_lines (
     codes "= 1 \"\"" ∷
     codes "= 0 \"\"" ∷
     codes "@ 1 2008 1040 0 4 0 0 0 0 0 0 0 0 \"x\\x0d\\x0aa\"" ∷
@@ -110,7 +110,7 @@ InsertionSplitsCrlf = Prints ([])
 
 abbrev pub MarkerAndLevelQueries : Type 0
 MarkerAndLevelQueries = Prints ([])
-    (lines (
+    (joined_lines (
     codes "sci 1" ∷
     codes "open" ∷
     codes "send 1 2003 0 0 \"x\\x0d\\x0aa\"" ∷
@@ -127,7 +127,7 @@ MarkerAndLevelQueries = Prints ([])
     codes "send 1 2222 0 9216 \"\"" ∷
     codes "send 1 2223 9 0 \"\"" ∷
     []))
-    (lines (
+    (joined_lines (
     codes "= 1 \"\"" ∷
     codes "= 0 \"\"" ∷
     codes "@ 1 2008 1040 0 4 0 0 0 0 0 0 0 0 \"x\\x0d\\x0aa\"" ∷
@@ -155,7 +155,7 @@ MarkerAndLevelQueries = Prints ([])
 
 abbrev pub UndoBringsNoMarkerBack : Type 0
 UndoBringsNoMarkerBack = Prints ([])
-    (lines (
+    (joined_lines (
     codes "sci 1" ∷
     codes "open" ∷
     codes "send 1 2003 0 0 \"ab\\x0acd\"" ∷
@@ -166,7 +166,7 @@ UndoBringsNoMarkerBack = Prints ([])
     codes "send 1 2046 1 0 \"\"" ∷
     codes "send 1 2017 1 0 \"\"" ∷
     []))
-    (lines (
+    (joined_lines (
     codes "= 1 \"\"" ∷
     codes "= 0 \"\"" ∷
     codes "@ 1 2008 1040 0 5 0 0 0 0 0 0 0 0 \"ab\\x0acd\"" ∷
@@ -187,7 +187,7 @@ UndoBringsNoMarkerBack = Prints ([])
 
 abbrev pub ConvertLineEndsKeepsMarkers : Type 0
 ConvertLineEndsKeepsMarkers = Prints ([])
-    (lines (
+    (joined_lines (
     codes "sci 1" ∷
     codes "open" ∷
     codes "send 1 2003 0 0 \"\\x0a\\x0a\"" ∷
@@ -202,7 +202,7 @@ ConvertLineEndsKeepsMarkers = Prints ([])
     codes "send 1 2046 0 0 \"\"" ∷
     codes "send 1 2046 1 0 \"\"" ∷
     []))
-    (lines (
+    (joined_lines (
     codes "= 1 \"\"" ∷
     codes "= 0 \"\"" ∷
     codes "@ 1 2008 1040 0 2 0 0 0 0 0 0 0 0 \"\\x0a\\x0a\"" ∷
@@ -232,7 +232,7 @@ ConvertLineEndsKeepsMarkers = Prints ([])
 
 abbrev pub LineStates : Type 0
 LineStates = Prints ([])
-    (lines (
+    (joined_lines (
     codes "sci 1" ∷
     codes "open" ∷
     codes "send 1 2003 0 0 \"a\\x0ab\\x0ac\"" ∷
@@ -254,7 +254,7 @@ LineStates = Prints ([])
     codes "send 1 2176 0 0 \"\"" ∷
     codes "send 1 2093 2 0 \"\"" ∷
     []))
-    (lines (
+    (joined_lines (
     codes "= 1 \"\"" ∷
     codes "= 0 \"\"" ∷
     codes "@ 1 2008 1040 0 5 0 0 0 0 0 0 0 0 \"a\\x0ab\\x0ac\"" ∷
@@ -289,7 +289,7 @@ LineStates = Prints ([])
 
 abbrev pub MarkersMeetAndPart : Type 0
 MarkersMeetAndPart = Prints ([])
-    (lines (
+    (joined_lines (
     codes "sci 1" ∷
     codes "open" ∷
     codes "send 1 2003 0 0 \"a\\x0ab\\x0ac\\x0ad\"" ∷
@@ -322,7 +322,7 @@ MarkersMeetAndPart = Prints ([])
     codes "send 1 2045 32 0 \"\"" ∷
     codes "send 1 2046 0 0 \"\"" ∷
     []))
-    (lines (
+    (joined_lines (
     codes "= 1 \"\"" ∷
     codes "= 0 \"\"" ∷
     codes "@ 1 2008 1040 0 7 0 0 0 0 0 0 0 0 \"a\\x0ab\\x0ac\\x0ad\"" ∷
@@ -371,7 +371,7 @@ MarkersMeetAndPart = Prints ([])
 
 abbrev pub MarkersOnALineStart : Type 0
 MarkersOnALineStart = Prints ([])
-    (lines (
+    (joined_lines (
     codes "sci 1" ∷
     codes "open" ∷
     codes "send 1 2003 0 0 \"x\\x0aY\"" ∷
@@ -387,7 +387,7 @@ MarkersOnALineStart = Prints ([])
     codes "send 1 2046 0 0 \"\"" ∷
     codes "send 1 2223 0 0 \"\"" ∷
     []))
-    (lines (
+    (joined_lines (
     codes "= 1 \"\"" ∷
     codes "= 0 \"\"" ∷
     codes "@ 1 2008 1040 0 3 0 0 0 0 0 0 0 0 \"x\\x0aY\"" ∷

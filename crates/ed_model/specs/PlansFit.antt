@@ -19,9 +19,10 @@ use Rattle.ed_model.specs.Steps.{Step}
 use Rattle.ed_model.specs.LineEnds.{after_steps}
 use Rattle.ed_model.specs.History.{undo_changes, redo_changes, can_undo, can_redo}
 use Rattle.ed_model.specs.Session.{Document, view_at, document_at, references, limit_of}
-use Rattle.ed_model.specs.Requests.{Request, Planned, text, size, lines}
+use Rattle.ed_model.specs.Requests.{Request, Planned, text, size, line_total}
 use Rattle.ed_model.specs.Edits.{steps_of, stays_within}
-use Rattle.ed_model.specs.DocumentPlans.{text_steps, numbers_in}
+use Rattle.ed_model.specs.UndoPlans.{text_steps}
+use Rattle.ed_model.specs.LinePlans.{numbers_in}
 use Rattle.ed_model.specs.Table.{plan_of, performed}
 use Rattle.ed_model.specs.SoundLaws.{IsSound, AreStepsOf}
 
@@ -48,11 +49,11 @@ IsFitFollow r after (follow.Clipboard start count) = start + count ≤ size r
 
 abbrev pub IsFitDocumentChange : Request → DocumentChange → Type 0
 IsFitDocumentChange r document_change.BeginGroup = r.document.history.depth < r.session.limits.depth
-IsFitDocumentChange r (document_change.AddMarker line number) = (line < lines r) × (number ≤ 31) × (r.document.next_handle + 1 ≤ r.session.limits.handles + 1)
-IsFitDocumentChange r (document_change.AddMarkers line mask) = (line < lines r) × (mask < 2 ^ 32) × (r.document.next_handle + length (numbers_in mask) ≤ r.session.limits.handles + 1)
-IsFitDocumentChange r (document_change.DeleteMarker line number) = line < lines r
-IsFitDocumentChange r (document_change.SetLevel line level) = (line < lines r) × (level < 2 ^ 31)
-IsFitDocumentChange r (document_change.SetState line state) = line < lines r
+IsFitDocumentChange r (document_change.AddMarker line number) = (line < line_total r) × (number ≤ 31) × (r.document.next_handle + 1 ≤ r.session.limits.handles + 1)
+IsFitDocumentChange r (document_change.AddMarkers line mask) = (line < line_total r) × (mask < 2 ^ 32) × (r.document.next_handle + length (numbers_in mask) ≤ r.session.limits.handles + 1)
+IsFitDocumentChange r (document_change.DeleteMarker line number) = line < line_total r
+IsFitDocumentChange r (document_change.SetLevel line level) = (line < line_total r) × (level < 2 ^ 31)
+IsFitDocumentChange r (document_change.SetState line state) = line < line_total r
 IsFitDocumentChange r (document_change.SetEndStyled place) = place ≤ size r
 IsFitDocumentChange r (document_change.StyleRun count style) = (r.document.end_styled + count ≤ size r) × (style ≤ 255)
 IsFitDocumentChange r (document_change.StyleBytes count) = (r.document.end_styled + count ≤ size r) × (count ≤ length r.message.text)
@@ -64,12 +65,12 @@ abbrev pub IsFitViewChange : Request → ViewChange → Type 0
 IsFitViewChange r (view_change.Select anchor caret) = (anchor ≤ size r) × (caret ≤ size r)
 IsFitViewChange r (view_change.SetTarget start past) = (start ≤ size r) × (past ≤ size r)
 IsFitViewChange r (view_change.SetIndicator indicator) = indicator < 32
-IsFitViewChange r (view_change.ShowLines first past) = (first ≤ lines r) × (past ≤ lines r)
-IsFitViewChange r (view_change.HideLines first past) = (first ≤ lines r) × (past ≤ lines r)
-IsFitViewChange r (view_change.SetExpanded line on) = line < lines r
-IsFitViewChange r (view_change.Contract line) = line < lines r
-IsFitViewChange r (view_change.Expand line) = line < lines r
-IsFitViewChange r (view_change.EnsureVisible line) = line < lines r
+IsFitViewChange r (view_change.ShowLines first past) = (first ≤ line_total r) × (past ≤ line_total r)
+IsFitViewChange r (view_change.HideLines first past) = (first ≤ line_total r) × (past ≤ line_total r)
+IsFitViewChange r (view_change.SetExpanded line on) = line < line_total r
+IsFitViewChange r (view_change.Contract line) = line < line_total r
+IsFitViewChange r (view_change.Expand line) = line < line_total r
+IsFitViewChange r (view_change.EnsureVisible line) = line < line_total r
 IsFitViewChange r other = Unit {0}
 
 abbrev pub IsFitSessionChange : Request → SessionChange → Type 0

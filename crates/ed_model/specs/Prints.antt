@@ -8,13 +8,13 @@ use Rattle.ed_model.specs.Reading.{reading}
 use Rattle.ed_model.specs.Printed.{printed}
 
 -- a text of lines, each ended by an LF
-abbrev pub lines : List (List ℕ) → List ℕ
-lines texts = flat_map (λ (text : List ℕ). text ++ 10 ∷ []) texts
+abbrev pub joined_lines : List (List ℕ) → List ℕ
+joined_lines texts = flat_map (λ (text : List ℕ). text ++ 10 ∷ []) texts
 
-abbrev pub printed_run : List (List ℕ) → Result (List Command) ScriptFault → List ℕ
-printed_run files (Ok commands) = printed (outcomes (λ kind. true) files commands (starting (new_session greatest_limits)))
-printed_run files (Err fault) = []
+abbrev pub printed_script : List (List ℕ) → Result (List Command) ScriptFault → List ℕ
+printed_script files (Ok commands) = printed (outcomes (λ kind. true) files commands (starting (new_session greatest_limits)))
+printed_script files (Err fault) = []
 
 -- the script, given these files, prints the output
 abbrev pub Prints : List (List ℕ) → List ℕ → List ℕ → Type 0
-Prints files script output = printed_run files (reading script) ≡ output
+Prints files script output = printed_script files (reading script) ≡ output

@@ -1,10 +1,10 @@
 -- Worked examples, written by tools/example_theorems.py from examples/.
 use Rattle.std.specs.Prelude.{[], ◌∷◌, codes}
-use Rattle.ed_model.specs.Prints.{Prints, lines}
+use Rattle.ed_model.specs.Prints.{Prints, joined_lines}
 
 abbrev pub ALongWalk : Type 0
 ALongWalk = Prints ([])
-    (lines (
+    (joined_lines (
     codes "sci 1" ∷
     codes "open" ∷
     codes "send 1 2282 2 0 \"abc\"" ∷
@@ -42,7 +42,7 @@ ALongWalk = Prints ([])
     codes "send 1 2230 0 0 \"\"" ∷
     codes "send 1 2228 1 0 \"\"" ∷
     []))
-    (lines (
+    (joined_lines (
     codes "= 1 \"\"" ∷
     codes "= 0 \"\"" ∷
     codes "@ 1 2008 1040 0 2 0 0 0 0 0 0 0 0 \"ab\"" ∷
@@ -110,7 +110,7 @@ ALongWalk = Prints ([])
 
 abbrev pub ALongWalkWithGotopos : Type 0
 ALongWalkWithGotopos = Prints ([])
-    (lines (
+    (joined_lines (
     codes "sci 1" ∷
     codes "open" ∷
     codes "send 1 2282 2 0 \"abc\"" ∷
@@ -126,7 +126,7 @@ ALongWalkWithGotopos = Prints ([])
     codes "send 1 2179 0 0 \"\"" ∷
     codes "send 1 2182 0 0 \"\"" ∷
     []))
-    (lines (
+    (joined_lines (
     codes "= 1 \"\"" ∷
     codes "= 0 \"\"" ∷
     codes "@ 1 2008 1040 0 2 0 0 0 0 0 0 0 0 \"ab\"" ∷
@@ -163,7 +163,7 @@ ALongWalkWithGotopos = Prints ([])
 
 abbrev pub MacroRecording : Type 0
 MacroRecording = Prints ([])
-    (lines (
+    (joined_lines (
     codes "sci 1" ∷
     codes "open" ∷
     codes "send 1 3001 0 0 \"\"" ∷
@@ -180,7 +180,7 @@ MacroRecording = Prints ([])
     codes "send 1 2182 0 0 \"\"" ∷
     codes "send 1 2174 0 0 \"\"" ∷
     []))
-    (lines (
+    (joined_lines (
     codes "= 1 \"\"" ∷
     codes "= 0 \"\"" ∷
     codes "= 0 \"\"" ∷
@@ -212,7 +212,7 @@ MacroRecording = Prints ([])
 
 abbrev pub RecordingWhenReadOnly : Type 0
 RecordingWhenReadOnly = Prints ([])
-    (lines (
+    (joined_lines (
     codes "sci 1" ∷
     codes "open" ∷
     codes "send 1 2171 1 0 \"\"" ∷
@@ -220,7 +220,7 @@ RecordingWhenReadOnly = Prints ([])
     codes "send 1 2001 1 0 \"x\"" ∷
     codes "send 1 2001 2 0 \"x\"" ∷
     []))
-    (lines (
+    (joined_lines (
     codes "= 1 \"\"" ∷
     codes "= 0 \"\"" ∷
     codes "= 0 \"\"" ∷
@@ -232,7 +232,7 @@ RecordingWhenReadOnly = Prints ([])
 
 abbrev pub RecordingKeys : Type 0
 RecordingKeys = Prints ([])
-    (lines (
+    (joined_lines (
     codes "sci 1" ∷
     codes "open" ∷
     codes "open" ∷
@@ -251,7 +251,7 @@ RecordingKeys = Prints ([])
     codes "send 1 2318 0 0 \"\"" ∷
     codes "send 1 2182 0 0 \"\"" ∷
     []))
-    (lines (
+    (joined_lines (
     codes "= 1 \"\"" ∷
     codes "= 2 \"\"" ∷
     codes "= 0 \"\"" ∷

@@ -4,7 +4,10 @@ use Rattle.ed_types.specs.declared.message.Message.{Message}
 use Rattle.ed_types.specs.declared.refusal.Refusal.{Refusal}
 use Rattle.ed_types.specs.declared.refusal.Refusal.TheVariants.{BadArgument}
 use Rattle.ed_model.specs.declared.plan.Plan.{Plan}
-use Rattle.ed_model.specs.declared.plan.Plan.TheVariants.{Answer}
+use Rattle.ed_model.specs.declared.plan.Plan.TheVariants as plan
+use Rattle.ed_model.specs.declared.plan.DocumentChange.{DocumentChange}
+use Rattle.ed_model.specs.declared.plan.ViewChange.{ViewChange}
+use Rattle.ed_model.specs.declared.plan.SessionChange.{SessionChange}
 use Rattle.ed_model.specs.Numbers.{within, line_among, is_minus_one}
 use Rattle.ed_model.specs.Lines.{line_starts, line_of}
 use Rattle.ed_model.specs.Session.{Session, View, Document, text_of, lines_in}
@@ -20,10 +23,20 @@ abbrev pub Planned : Type 0
 Planned = Result Plan Refusal
 
 abbrev pub answer : ℤ → Planned
-answer value = Ok (Answer value)
+answer value = Ok (plan.Answer value)
 
 abbrev pub answer_number : ℕ → Planned
 answer_number n = answer (pos n)
+
+-- a change of the document, of the view or of the session, which answers 0
+abbrev pub change_document : DocumentChange → Planned
+change_document change = Ok (plan.ChangeDocument change (pos 0))
+
+abbrev pub change_view : ViewChange → Planned
+change_view change = Ok (plan.ChangeView change (pos 0))
+
+abbrev pub change_session : SessionChange → Planned
+change_session change = Ok (plan.ChangeSession change (pos 0))
 
 -- What requests speak of.
 
@@ -33,8 +46,8 @@ text r = text_of r.document
 abbrev pub size : Request → ℕ
 size r = length r.document.cells
 
-abbrev pub lines : Request → ℕ
-lines r = lines_in r.document
+abbrev pub line_total : Request → ℕ
+line_total r = lines_in r.document
 
 abbrev pub starts : Request → List ℕ
 starts r = line_starts r.document.line_end_types (text r)
@@ -89,4 +102,4 @@ with_line None bad plan = bad
 with_line (Some line) bad plan = plan line
 
 abbrev pub line_argument : Request → Planned → (ℕ → Planned) → Planned
-line_argument r bad plan = with_line (line_among (lines r) r.message.w) bad plan
+line_argument r bad plan = with_line (line_among (line_total r) r.message.w) bad plan

@@ -1,10 +1,10 @@
 -- Worked examples, written by tools/example_theorems.py from examples/.
 use Rattle.std.specs.Prelude.{[], ◌∷◌, codes}
-use Rattle.ed_model.specs.Prints.{Prints, lines}
+use Rattle.ed_model.specs.Prints.{Prints, joined_lines}
 
 abbrev pub CharacterCuts : Type 0
 CharacterCuts = Prints ([])
-    (lines (
+    (joined_lines (
     codes "sci 1" ∷
     codes "open" ∷
     codes "send 1 2003 0 0 \"a\\xc3\\xa9\\x0d\\x0a\\x80\"" ∷
@@ -14,7 +14,7 @@ CharacterCuts = Prints ([])
     codes "send 1 2417 3 0 \"\"" ∷
     codes "send 1 2417 2 0 \"\"" ∷
     []))
-    (lines (
+    (joined_lines (
     codes "= 1 \"\"" ∷
     codes "= 0 \"\"" ∷
     codes "@ 1 2008 1040 0 6 0 0 0 0 0 0 0 0 \"a\\xc3\\xa9\\x0d\\x0a\\x80\"" ∷
@@ -29,7 +29,7 @@ CharacterCuts = Prints ([])
 
 abbrev pub ClearOverCrlf : Type 0
 ClearOverCrlf = Prints ([])
-    (lines (
+    (joined_lines (
     codes "sci 1" ∷
     codes "open" ∷
     codes "send 1 2003 0 0 \"a\\x0d\\x0ab\"" ∷
@@ -37,7 +37,7 @@ ClearOverCrlf = Prints ([])
     codes "send 1 2180 0 0 \"\"" ∷
     codes "send 1 2182 0 0 \"\"" ∷
     []))
-    (lines (
+    (joined_lines (
     codes "= 1 \"\"" ∷
     codes "= 0 \"\"" ∷
     codes "@ 1 2008 1040 0 4 0 0 0 0 0 0 0 0 \"a\\x0d\\x0ab\"" ∷
@@ -52,7 +52,7 @@ ClearOverCrlf = Prints ([])
 
 abbrev pub Clipboard : Type 0
 Clipboard = Prints ([])
-    (lines (
+    (joined_lines (
     codes "sci 1" ∷
     codes "open" ∷
     codes "send 1 2003 0 0 \"abcd\"" ∷
@@ -71,7 +71,7 @@ Clipboard = Prints ([])
     codes "send 1 2009 0 0 \"\"" ∷
     codes "send 1 2008 0 0 \"\"" ∷
     []))
-    (lines (
+    (joined_lines (
     codes "= 1 \"\"" ∷
     codes "= 0 \"\"" ∷
     codes "@ 1 2008 1040 0 4 0 0 0 0 0 0 0 0 \"abcd\"" ∷
@@ -99,7 +99,7 @@ Clipboard = Prints ([])
 
 abbrev pub CutOfNothing : Type 0
 CutOfNothing = Prints ([])
-    (lines (
+    (joined_lines (
     codes "sci 1" ∷
     codes "open" ∷
     codes "send 1 2003 0 0 \"abcd\"" ∷
@@ -110,7 +110,7 @@ CutOfNothing = Prints ([])
     codes "send 1 2179 0 0 \"\"" ∷
     codes "send 1 2182 0 0 \"\"" ∷
     []))
-    (lines (
+    (joined_lines (
     codes "= 1 \"\"" ∷
     codes "= 0 \"\"" ∷
     codes "@ 1 2008 1040 0 4 0 0 0 0 0 0 0 0 \"abcd\"" ∷
@@ -130,7 +130,7 @@ CutOfNothing = Prints ([])
 
 abbrev pub NewlineAndDeleteBack : Type 0
 NewlineAndDeleteBack = Prints ([])
-    (lines (
+    (joined_lines (
     codes "sci 1" ∷
     codes "open" ∷
     codes "send 1 2031 0 0 \"\"" ∷
@@ -140,7 +140,7 @@ NewlineAndDeleteBack = Prints ([])
     codes "send 1 2326 0 0 \"\"" ∷
     codes "send 1 2182 0 0 \"\"" ∷
     []))
-    (lines (
+    (joined_lines (
     codes "= 1 \"\"" ∷
     codes "= 0 \"\"" ∷
     codes "= 0 \"\"" ∷
@@ -157,7 +157,7 @@ NewlineAndDeleteBack = Prints ([])
 
 abbrev pub PasteAsItIs : Type 0
 PasteAsItIs = Prints ([])
-    (lines (
+    (joined_lines (
     codes "sci 1" ∷
     codes "open" ∷
     codes "send 1 2467 0 0 \"\"" ∷
@@ -166,7 +166,7 @@ PasteAsItIs = Prints ([])
     codes "send 1 2182 0 0 \"\"" ∷
     codes "send 1 2008 0 0 \"\"" ∷
     []))
-    (lines (
+    (joined_lines (
     codes "= 1 \"\"" ∷
     codes "= 0 \"\"" ∷
     codes "= 0 \"\"" ∷
@@ -180,7 +180,7 @@ PasteAsItIs = Prints ([])
 
 abbrev pub PasteConvertsLineEnds : Type 0
 PasteConvertsLineEnds = Prints ([])
-    (lines (
+    (joined_lines (
     codes "sci 1" ∷
     codes "open" ∷
     codes "send 1 2420 4 0 \"x\\x0d\\x0ay\"" ∷
@@ -188,7 +188,7 @@ PasteConvertsLineEnds = Prints ([])
     codes "send 1 2182 0 0 \"\"" ∷
     codes "send 1 2008 0 0 \"\"" ∷
     []))
-    (lines (
+    (joined_lines (
     codes "= 1 \"\"" ∷
     codes "= 0 \"\"" ∷
     codes "= 0 \"\"" ∷
@@ -201,7 +201,7 @@ PasteConvertsLineEnds = Prints ([])
 
 abbrev pub SearchBackwardsEmptyMissing : Type 0
 SearchBackwardsEmptyMissing = Prints ([])
-    (lines (
+    (joined_lines (
     codes "sci 1" ∷
     codes "open" ∷
     codes "send 1 2003 0 0 \"abab\"" ∷
@@ -220,7 +220,7 @@ SearchBackwardsEmptyMissing = Prints ([])
     codes "send 1 2191 0 0 \"\"" ∷
     codes "send 1 2193 0 0 \"\"" ∷
     []))
-    (lines (
+    (joined_lines (
     codes "= 1 \"\"" ∷
     codes "= 0 \"\"" ∷
     codes "@ 1 2008 1040 0 4 0 0 0 0 0 0 0 0 \"abab\"" ∷
@@ -244,7 +244,7 @@ SearchBackwardsEmptyMissing = Prints ([])
 
 abbrev pub SearchCaseAndReplace : Type 0
 SearchCaseAndReplace = Prints ([])
-    (lines (
+    (joined_lines (
     codes "sci 1" ∷
     codes "open" ∷
     codes "send 1 2003 0 0 \"ab AB\"" ∷
@@ -259,7 +259,7 @@ SearchCaseAndReplace = Prints ([])
     codes "send 1 2191 0 0 \"\"" ∷
     codes "send 1 2193 0 0 \"\"" ∷
     []))
-    (lines (
+    (joined_lines (
     codes "= 1 \"\"" ∷
     codes "= 0 \"\"" ∷
     codes "@ 1 2008 1040 0 5 0 0 0 0 0 0 0 0 \"ab AB\"" ∷
@@ -283,7 +283,7 @@ SearchCaseAndReplace = Prints ([])
 
 abbrev pub SearchWholeWord : Type 0
 SearchWholeWord = Prints ([])
-    (lines (
+    (joined_lines (
     codes "sci 1" ∷
     codes "open" ∷
     codes "send 1 2003 0 0 \"ab_ab ab\"" ∷
@@ -294,7 +294,7 @@ SearchWholeWord = Prints ([])
     codes "send 1 2191 0 0 \"\"" ∷
     codes "send 1 2193 0 0 \"\"" ∷
     []))
-    (lines (
+    (joined_lines (
     codes "= 1 \"\"" ∷
     codes "= 0 \"\"" ∷
     codes "@ 1 2008 1040 0 8 0 0 0 0 0 0 0 0 \"ab_ab ab\"" ∷
@@ -310,7 +310,7 @@ SearchWholeWord = Prints ([])
 
 abbrev pub CaretKeys : Type 0
 CaretKeys = Prints ([])
-    (lines (
+    (joined_lines (
     codes "sci 1" ∷
     codes "open" ∷
     codes "send 1 2003 0 0 \"a\\xc3\\xa9\\x0d\\x0ab\\xf0\\x9f\\x98\\x80\"" ∷
@@ -371,7 +371,7 @@ CaretKeys = Prints ([])
     codes "send 1 2329 0 0 \"\"" ∷
     codes "send 1 2182 0 0 \"\"" ∷
     []))
-    (lines (
+    (joined_lines (
     codes "= 1 \"\"" ∷
     codes "= 0 \"\"" ∷
     codes "@ 1 2008 1040 0 10 0 0 0 0 0 0 0 0 \"a\\xc3\\xa9\\x0d\\x0ab\\xf0\\x9f\\x98\\x80\"" ∷
@@ -443,7 +443,7 @@ CaretKeys = Prints ([])
 
 abbrev pub LineEndMode : Type 0
 LineEndMode = Prints ([])
-    (lines (
+    (joined_lines (
     codes "sci 1" ∷
     codes "open" ∷
     codes "send 1 2030 0 0 \"\"" ∷
@@ -474,7 +474,7 @@ LineEndMode = Prints ([])
     codes "send 1 2179 0 0 \"\"" ∷
     codes "send 1 2182 0 0 \"\"" ∷
     []))
-    (lines (
+    (joined_lines (
     codes "= 1 \"\"" ∷
     codes "= 2 \"\"" ∷
     codes "= 0 \"\"" ∷
@@ -534,7 +534,7 @@ LineEndMode = Prints ([])
 
 abbrev pub SearchWithoutCase : Type 0
 SearchWithoutCase = Prints ([])
-    (lines (
+    (joined_lines (
     codes "sci 1" ∷
     codes "open" ∷
     codes "send 1 2003 0 0 \"Ab_[{ aB \\xc3\\xa9ab AB@`\"" ∷
@@ -564,7 +564,7 @@ SearchWithoutCase = Prints ([])
     codes "send 1 2191 0 0 \"\"" ∷
     codes "send 1 2193 0 0 \"\"" ∷
     []))
-    (lines (
+    (joined_lines (
     codes "= 1 \"\"" ∷
     codes "= 0 \"\"" ∷
     codes "@ 1 2008 1040 0 18 0 0 0 0 0 0 0 0 \"Ab_[{ aB \\xc3\\xa9ab AB@`\"" ∷
@@ -599,7 +599,7 @@ SearchWithoutCase = Prints ([])
 
 abbrev pub SelectionQueries : Type 0
 SelectionQueries = Prints ([])
-    (lines (
+    (joined_lines (
     codes "sci 1" ∷
     codes "open" ∷
     codes "send 1 2003 0 0 \"hello\\x0aworld\"" ∷
@@ -643,7 +643,7 @@ SelectionQueries = Prints ([])
     codes "send 1 2025 99 0 \"\"" ∷
     codes "send 1 2008 0 0 \"\"" ∷
     []))
-    (lines (
+    (joined_lines (
     codes "= 1 \"\"" ∷
     codes "= 0 \"\"" ∷
     codes "@ 1 2008 1040 0 11 0 0 0 0 0 0 0 0 \"hello\\x0aworld\"" ∷
@@ -692,7 +692,7 @@ SelectionQueries = Prints ([])
 
 abbrev pub TargetQueries : Type 0
 TargetQueries = Prints ([])
-    (lines (
+    (joined_lines (
     codes "sci 1" ∷
     codes "open" ∷
     codes "send 1 2003 0 0 \"one two one\"" ∷
@@ -739,7 +739,7 @@ TargetQueries = Prints ([])
     codes "send 1 2194 4 0 \"abc\"" ∷
     codes "send 1 2182 0 0 \"\"" ∷
     []))
-    (lines (
+    (joined_lines (
     codes "= 1 \"\"" ∷
     codes "= 0 \"\"" ∷
     codes "@ 1 2008 1040 0 11 0 0 0 0 0 0 0 0 \"one two one\"" ∷

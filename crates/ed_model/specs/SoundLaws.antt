@@ -14,7 +14,7 @@ use Rattle.ed_model.specs.Rows.{Row, Marker}
 use Rattle.ed_model.specs.History.{History, Transaction}
 use Rattle.ed_model.specs.Folding.{is_visible}
 use Rattle.ed_model.specs.Session.{Session, View, Document, new_session, document_at, view_at, text_of, lines_in, references, limit_of}
-use Rattle.ed_model.specs.DocumentPlans.{text_steps}
+use Rattle.ed_model.specs.UndoPlans.{text_steps}
 use Rattle.ed_model.specs.Performing.{Scene}
 use Rattle.ed_model.specs.HistoryLaws.{SameButForSeals}
 use Rattle.ed_model.specs.UndoLaws.{CanBeUndone, undos, redos}

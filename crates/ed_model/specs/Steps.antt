@@ -30,7 +30,7 @@ abbrev pub inverse_of : Step → Step
 inverse_of (Insert p bytes) = Delete p bytes
 inverse_of (Delete p bytes) = Insert p bytes
 
--- the steps that replace `count` bytes from `start` on: a deletion, then an insertion, empty ones left out
+-- a deletion of these bytes from p on, and an insertion of them at p; of no bytes there is none
 abbrev pub deletion : ℕ → List ℕ → List Step
 deletion p [] = []
 deletion p (b ∷ bs) = Delete p (b ∷ bs) ∷ []
@@ -39,6 +39,7 @@ abbrev pub insertion : ℕ → List ℕ → List Step
 insertion p [] = []
 insertion p (b ∷ bs) = Insert p (b ∷ bs) ∷ []
 
+-- the steps that replace `count` bytes from `start` on: a deletion, then an insertion, empty ones left out
 abbrev pub replacement : ℕ → ℕ → List ℕ → List ℕ → List Step
 replacement start count bytes text = deletion start (slice_range text start (start + count)) ++ insertion start bytes
 

@@ -1,10 +1,10 @@
 -- Worked examples, written by tools/example_theorems.py from examples/.
 use Rattle.std.specs.Prelude.{[], ◌∷◌, codes}
-use Rattle.ed_model.specs.Prints.{Prints, lines}
+use Rattle.ed_model.specs.Prints.{Prints, joined_lines}
 
 abbrev pub EndStyled : Type 0
 EndStyled = Prints ([])
-    (lines (
+    (joined_lines (
     codes "sci 1" ∷
     codes "open" ∷
     codes "send 1 2003 0 0 \"abcd\"" ∷
@@ -19,7 +19,7 @@ EndStyled = Prints ([])
     codes "send 1 2028 0 0 \"\"" ∷
     codes "send 1 2033 6 1 \"\"" ∷
     []))
-    (lines (
+    (joined_lines (
     codes "= 1 \"\"" ∷
     codes "= 0 \"\"" ∷
     codes "@ 1 2008 1040 0 4 0 0 0 0 0 0 0 0 \"abcd\"" ∷
@@ -43,7 +43,7 @@ EndStyled = Prints ([])
 
 abbrev pub IndicatorGrowsAt0 : Type 0
 IndicatorGrowsAt0 = Prints ([])
-    (lines (
+    (joined_lines (
     codes "sci 1" ∷
     codes "open" ∷
     codes "send 1 2003 0 0 \"abcd\"" ∷
@@ -52,7 +52,7 @@ IndicatorGrowsAt0 = Prints ([])
     codes "send 1 2003 0 0 \"X\"" ∷
     codes "send 1 2507 8 0 \"\"" ∷
     []))
-    (lines (
+    (joined_lines (
     codes "= 1 \"\"" ∷
     codes "= 0 \"\"" ∷
     codes "@ 1 2008 1040 0 4 0 0 0 0 0 0 0 0 \"abcd\"" ∷
@@ -69,7 +69,7 @@ IndicatorGrowsAt0 = Prints ([])
 
 abbrev pub IndicatorGrowsAt1 : Type 0
 IndicatorGrowsAt1 = Prints ([])
-    (lines (
+    (joined_lines (
     codes "sci 1" ∷
     codes "open" ∷
     codes "send 1 2003 0 0 \"abcd\"" ∷
@@ -78,7 +78,7 @@ IndicatorGrowsAt1 = Prints ([])
     codes "send 1 2003 1 0 \"X\"" ∷
     codes "send 1 2507 8 1 \"\"" ∷
     []))
-    (lines (
+    (joined_lines (
     codes "= 1 \"\"" ∷
     codes "= 0 \"\"" ∷
     codes "@ 1 2008 1040 0 4 0 0 0 0 0 0 0 0 \"abcd\"" ∷
@@ -95,7 +95,7 @@ IndicatorGrowsAt1 = Prints ([])
 
 abbrev pub IndicatorGrowsAt2 : Type 0
 IndicatorGrowsAt2 = Prints ([])
-    (lines (
+    (joined_lines (
     codes "sci 1" ∷
     codes "open" ∷
     codes "send 1 2003 0 0 \"abcd\"" ∷
@@ -104,7 +104,7 @@ IndicatorGrowsAt2 = Prints ([])
     codes "send 1 2003 2 0 \"X\"" ∷
     codes "send 1 2507 8 2 \"\"" ∷
     []))
-    (lines (
+    (joined_lines (
     codes "= 1 \"\"" ∷
     codes "= 0 \"\"" ∷
     codes "@ 1 2008 1040 0 4 0 0 0 0 0 0 0 0 \"abcd\"" ∷
@@ -121,7 +121,7 @@ IndicatorGrowsAt2 = Prints ([])
 
 abbrev pub IndicatorGrowsAt3 : Type 0
 IndicatorGrowsAt3 = Prints ([])
-    (lines (
+    (joined_lines (
     codes "sci 1" ∷
     codes "open" ∷
     codes "send 1 2003 0 0 \"abcd\"" ∷
@@ -130,7 +130,7 @@ IndicatorGrowsAt3 = Prints ([])
     codes "send 1 2003 3 0 \"X\"" ∷
     codes "send 1 2507 8 3 \"\"" ∷
     []))
-    (lines (
+    (joined_lines (
     codes "= 1 \"\"" ∷
     codes "= 0 \"\"" ∷
     codes "@ 1 2008 1040 0 4 0 0 0 0 0 0 0 0 \"abcd\"" ∷
@@ -147,7 +147,7 @@ IndicatorGrowsAt3 = Prints ([])
 
 abbrev pub IndicatorGrowsAt4 : Type 0
 IndicatorGrowsAt4 = Prints ([])
-    (lines (
+    (joined_lines (
     codes "sci 1" ∷
     codes "open" ∷
     codes "send 1 2003 0 0 \"abcd\"" ∷
@@ -156,7 +156,7 @@ IndicatorGrowsAt4 = Prints ([])
     codes "send 1 2003 4 0 \"X\"" ∷
     codes "send 1 2507 8 4 \"\"" ∷
     []))
-    (lines (
+    (joined_lines (
     codes "= 1 \"\"" ∷
     codes "= 0 \"\"" ∷
     codes "@ 1 2008 1040 0 4 0 0 0 0 0 0 0 0 \"abcd\"" ∷
@@ -173,7 +173,7 @@ IndicatorGrowsAt4 = Prints ([])
 
 abbrev pub StylesAndIndicators : Type 0
 StylesAndIndicators = Prints ([])
-    (lines (
+    (joined_lines (
     codes "sci 1" ∷
     codes "open" ∷
     codes "send 1 2003 0 0 \"abcd\"" ∷
@@ -188,7 +188,7 @@ StylesAndIndicators = Prints ([])
     codes "send 1 2506 1 0 \"\"" ∷
     codes "send 1 2504 1 2 \"\"" ∷
     []))
-    (lines (
+    (joined_lines (
     codes "= 1 \"\"" ∷
     codes "= 0 \"\"" ∷
     codes "@ 1 2008 1040 0 4 0 0 0 0 0 0 0 0 \"abcd\"" ∷
@@ -210,7 +210,7 @@ StylesAndIndicators = Prints ([])
 
 abbrev pub IndicatorCurrentAndValue : Type 0
 IndicatorCurrentAndValue = Prints ([])
-    (lines (
+    (joined_lines (
     codes "sci 1" ∷
     codes "open" ∷
     codes "open" ∷
@@ -242,7 +242,7 @@ IndicatorCurrentAndValue = Prints ([])
     codes "send 1 2506 9 0 \"\"" ∷
     codes "send 1 2507 31 -1 \"\"" ∷
     []))
-    (lines (
+    (joined_lines (
     codes "= 1 \"\"" ∷
     codes "= 2 \"\"" ∷
     codes "= 0 \"\"" ∷
@@ -288,7 +288,7 @@ IndicatorCurrentAndValue = Prints ([])
 
 abbrev pub StyledText : Type 0
 StyledText = Prints ([])
-    (lines (
+    (joined_lines (
     codes "sci 1" ∷
     codes "open" ∷
     codes "send 1 2003 0 0 \"ab\\x0acd\"" ∷
@@ -310,7 +310,7 @@ StyledText = Prints ([])
     codes "send 1 2028 0 0 \"\"" ∷
     codes "send 1 2015 0 -1 \"\"" ∷
     []))
-    (lines (
+    (joined_lines (
     codes "= 1 \"\"" ∷
     codes "= 0 \"\"" ∷
     codes "@ 1 2008 1040 0 5 0 0 0 0 0 0 0 0 \"ab\\x0acd\"" ∷

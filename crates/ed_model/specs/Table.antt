@@ -1,7 +1,11 @@
 -- The message table: which plan each message has, or which refusal; and what a message to a session comes to.
+--
+-- The way of a message: `table` finds the view, the message's kind and the view's document (`Session`, `Messages`), which make a `Request` (`Requests`); `plan_of` gives its
+-- plan or the first refusal that holds, by the family of the message (`TextPlans` to `SessionPlans`, with `Edits` for what edits the text); `performed` does the plan: steps with their
+-- notes, undo and redo in `Performing` (over `Steps`, `Carry`, `Rows`, `Indicators`, `History`, `Notes`), all other changes in `Changes` (with `Folding`). A run of messages is in `Run`.
 use Rattle.std.specs.Prelude.{ℕ, ◌+◌, nat_lt, nat_le, ◌==◌, not, ◌||◌, ◌&&◌, if◌then◌else◌, Bool, true, false, pos, [], ◌∷◌, ◌++◌, length, map, filter, slice_range, Result, Ok, Err, Option, Some, None}
 use Rattle.ed_types.specs.declared.kind.Kind.{Kind}
-use Rattle.ed_types.specs.declared.kind.Kind.TheVariants.{AddText, InsertText, ClearAll, GetLength, GetCharAt, GetCurrentPos, GetAnchor, GetStyleAt, Redo, SetUndoCollection, SelectAll, SetSavePoint, GetStyledText, CanRedo, MarkerLineFromHandle, MarkerDeleteHandle, GetUndoCollection, GotoLine, GotoPos, SetAnchor, GetCurLine, GetEndStyled, ConvertEols, GetEolMode, SetEolMode, StartStyling, SetStyling, MarkerAdd, MarkerDelete, MarkerDeleteAll, MarkerGet, MarkerNext, MarkerPrevious, SetStylingEx, BeginUndoAction, EndUndoAction, SetLineState, GetLineState, GetLineEndPosition, GetReadOnly, SetCurrentPos, SetSelectionStart, GetSelectionStart, SetSelectionEnd, GetSelectionEnd, GetLine, GetLineCount, GetModify, SetSel, GetSelText, GetTextRange, LineFromPosition, PositionFromLine, ReplaceSel, SetReadOnly, CanPaste, CanUndo, EmptyUndoBuffer, Undo, Cut, Copy, Paste, Clear, SetText, GetText, GetTextLength, SetTargetStart, GetTargetStart, SetTargetEnd, GetTargetEnd, ReplaceTarget, SearchInTarget, SetSearchFlags, GetSearchFlags, VisibleFromDocLine, DocLineFromVisible, SetFoldLevel, GetFoldLevel, GetLastChild, GetFoldParent, ShowLines, HideLines, GetLineVisible, SetFoldExpanded, GetFoldExpanded, ToggleFold, EnsureVisible, GetAllLinesVisible, FoldLine, AppendText, TargetFromSelection, CharLeft, CharLeftExtend, CharRight, CharRightExtend, Home, HomeExtend, LineEnd, LineEndExtend, DocumentStart, DocumentStartExtend, DocumentEnd, DocumentEndExtend, DeleteBack, NewLine, LineLength, GetDocPointer, SetDocPointer, SetModEventMask, CreateDocument, AddRefDocument, ReleaseDocument, GetModEventMask, GetDocumentOptions, PositionBefore, PositionAfter, CopyRange, CopyText, MarkerAddSet, SetPasteConvertEndings, GetPasteConvertEndings, SetIndicatorCurrent, GetIndicatorCurrent, SetIndicatorValue, GetIndicatorValue, IndicatorFillRange, IndicatorClearRange, IndicatorAllOnFor, IndicatorValueAt, IndicatorStart, IndicatorEnd, SetEmptySelection, AddUndoAction, DeleteRange, GetSelectionEmpty, SetLineEndTypesAllowed, GetLineEndTypesAllowed, GetLineEndTypesActive, SetTargetRange, GetTargetText, TargetWholeDocument, StartRecord, StopRecord, Colourise}
+use Rattle.ed_types.specs.declared.kind.Kind.TheVariants as kinds
 use Rattle.ed_types.specs.declared.message.Message.{Message}
 use Rattle.ed_types.specs.declared.limits.Limits.{Limits}
 use Rattle.ed_types.specs.declared.refusal.Refusal.{Refusal}
@@ -14,157 +18,164 @@ use Rattle.ed_model.specs.History.{undo_changes, redo_changes, undone, redone}
 use Rattle.ed_model.specs.Session.{Session, Document, View, view_at, document_at, watching, new_document, new_view, new_session, is_allowed, left_by, living}
 use Rattle.ed_model.specs.Notes as notes
 use Rattle.ed_model.specs.Requests.{Request, Planned, size, text}
-use Rattle.ed_model.specs.TextPlans.{add_text, append_text, can_paste, char_left, char_right, clear, clear_all, convert_eols, copy, copy_range, copy_text, cut, delete_back, delete_range, extend_to, get_anchor, get_char_at, get_cur_line, get_current_pos, get_eol_mode, get_length, get_line, get_line_count, get_line_end_position, get_paste_convert_endings, get_sel_text, get_selection_empty, get_selection_end, get_selection_start, get_text, get_text_range, go_to, go_to_line, go_to_pos, insert_text, line_from_position, line_length, new_line, paste, place_home, place_left, place_line_end, place_right, position_after, position_before, position_from_line, replace_sel, select_all, set_anchor, set_current_pos, set_eol_mode, set_paste_convert_endings, set_sel, set_selection_end, set_selection_start, set_text}
-use Rattle.ed_model.specs.DocumentPlans.{add_ref_document, add_undo_action, begin_undo_action, colourise, create_document, doc_line_from_visible, empty_undo_buffer, end_undo_action, ensure_visible, fold_line, get_all_lines_visible, get_can_redo, get_can_undo, get_doc_pointer, get_document_options, get_end_styled, get_fold_expanded, get_fold_level, get_fold_parent, get_indicator_current, get_indicator_value, get_last_child, get_line_end_types, get_line_state, get_line_visible, get_mod_event_mask, get_modify, get_read_only, get_search_flags, get_style_at, get_styled_text, get_target_end, get_target_start, get_target_text, get_undo_collection, hide_lines, indicator_all_on_for, indicator_clear_range, indicator_end, indicator_fill_range, indicator_start, indicator_value_at, marker_add, marker_add_set, marker_delete, marker_delete_all, marker_delete_handle, marker_get, marker_line_from_handle, marker_next, marker_previous, redo, release_document, replace_target, search_in_target, set_doc_pointer, set_fold_expanded, set_fold_level, set_indicator_current, set_indicator_value, set_line_end_types_allowed, set_line_state, set_mod_event_mask, set_read_only, set_save_point, set_search_flags, set_styling, set_styling_ex, set_target_end, set_target_range, set_target_start, set_undo_collection, show_lines, start_record, start_styling, stop_record, target_from_selection, target_whole_document, toggle_fold, undo, visible_from_doc_line}
+use Rattle.ed_model.specs.TextPlans as text_plans
+use Rattle.ed_model.specs.SelectionPlans as selection_plans
+use Rattle.ed_model.specs.KeyPlans as key_plans
+use Rattle.ed_model.specs.LinePlans as line_plans
+use Rattle.ed_model.specs.UndoPlans as undo_plans
+use Rattle.ed_model.specs.StylePlans as style_plans
+use Rattle.ed_model.specs.TargetPlans as target_plans
+use Rattle.ed_model.specs.FoldingPlans as folding_plans
+use Rattle.ed_model.specs.SessionPlans as session_plans
 use Rattle.ed_model.specs.Performing.{quiet, response, edit_performed, history_performed, styled_text}
 use Rattle.ed_model.specs.Changes.{document_change_performed, view_change_performed, session_changed, with_new_document}
 
 -- the plan of each message, or the first refusal that holds of it
 abbrev pub plan_of : Kind → Request → Planned
-plan_of AddText r = add_text r
-plan_of InsertText r = insert_text r
-plan_of ClearAll r = clear_all r
-plan_of GetLength r = get_length r
-plan_of GetCharAt r = get_char_at r
-plan_of GetCurrentPos r = get_current_pos r
-plan_of GetAnchor r = get_anchor r
-plan_of GetStyleAt r = get_style_at r
-plan_of Redo r = redo r
-plan_of SetUndoCollection r = set_undo_collection r
-plan_of SelectAll r = select_all r
-plan_of SetSavePoint r = set_save_point r
-plan_of GetStyledText r = get_styled_text r
-plan_of CanRedo r = get_can_redo r
-plan_of MarkerLineFromHandle r = marker_line_from_handle r
-plan_of MarkerDeleteHandle r = marker_delete_handle r
-plan_of GetUndoCollection r = get_undo_collection r
-plan_of GotoLine r = go_to_line r
-plan_of GotoPos r = go_to_pos r
-plan_of SetAnchor r = set_anchor r
-plan_of GetCurLine r = get_cur_line r
-plan_of GetEndStyled r = get_end_styled r
-plan_of ConvertEols r = convert_eols r
-plan_of GetEolMode r = get_eol_mode r
-plan_of SetEolMode r = set_eol_mode r
-plan_of StartStyling r = start_styling r
-plan_of SetStyling r = set_styling r
-plan_of MarkerAdd r = marker_add r
-plan_of MarkerDelete r = marker_delete r
-plan_of MarkerDeleteAll r = marker_delete_all r
-plan_of MarkerGet r = marker_get r
-plan_of MarkerNext r = marker_next r
-plan_of MarkerPrevious r = marker_previous r
-plan_of SetStylingEx r = set_styling_ex r
-plan_of BeginUndoAction r = begin_undo_action r
-plan_of EndUndoAction r = end_undo_action r
-plan_of SetLineState r = set_line_state r
-plan_of GetLineState r = get_line_state r
-plan_of GetLineEndPosition r = get_line_end_position r
-plan_of GetReadOnly r = get_read_only r
-plan_of SetCurrentPos r = set_current_pos r
-plan_of SetSelectionStart r = set_selection_start r
-plan_of GetSelectionStart r = get_selection_start r
-plan_of SetSelectionEnd r = set_selection_end r
-plan_of GetSelectionEnd r = get_selection_end r
-plan_of GetLine r = get_line r
-plan_of GetLineCount r = get_line_count r
-plan_of GetModify r = get_modify r
-plan_of SetSel r = set_sel r
-plan_of GetSelText r = get_sel_text r
-plan_of GetTextRange r = get_text_range r
-plan_of LineFromPosition r = line_from_position r
-plan_of PositionFromLine r = position_from_line r
-plan_of ReplaceSel r = replace_sel r
-plan_of SetReadOnly r = set_read_only r
-plan_of CanPaste r = can_paste r
-plan_of CanUndo r = get_can_undo r
-plan_of EmptyUndoBuffer r = empty_undo_buffer r
-plan_of Undo r = undo r
-plan_of Cut r = cut r
-plan_of Copy r = copy r
-plan_of Paste r = paste r
-plan_of Clear r = clear r
-plan_of SetText r = set_text r
-plan_of GetText r = get_text r
-plan_of GetTextLength r = get_length r
-plan_of SetTargetStart r = set_target_start r
-plan_of GetTargetStart r = get_target_start r
-plan_of SetTargetEnd r = set_target_end r
-plan_of GetTargetEnd r = get_target_end r
-plan_of ReplaceTarget r = replace_target r
-plan_of SearchInTarget r = search_in_target r
-plan_of SetSearchFlags r = set_search_flags r
-plan_of GetSearchFlags r = get_search_flags r
-plan_of VisibleFromDocLine r = visible_from_doc_line r
-plan_of DocLineFromVisible r = doc_line_from_visible r
-plan_of SetFoldLevel r = set_fold_level r
-plan_of GetFoldLevel r = get_fold_level r
-plan_of GetLastChild r = get_last_child r
-plan_of GetFoldParent r = get_fold_parent r
-plan_of ShowLines r = show_lines r
-plan_of HideLines r = hide_lines r
-plan_of GetLineVisible r = get_line_visible r
-plan_of SetFoldExpanded r = set_fold_expanded r
-plan_of GetFoldExpanded r = get_fold_expanded r
-plan_of ToggleFold r = toggle_fold r
-plan_of EnsureVisible r = ensure_visible r
-plan_of GetAllLinesVisible r = get_all_lines_visible r
-plan_of FoldLine r = fold_line r
-plan_of AppendText r = append_text r
-plan_of TargetFromSelection r = target_from_selection r
-plan_of CharLeft r = char_left r
-plan_of CharLeftExtend r = extend_to r (place_left r)
-plan_of CharRight r = char_right r
-plan_of CharRightExtend r = extend_to r (place_right r)
-plan_of Home r = go_to (place_home r)
-plan_of HomeExtend r = extend_to r (place_home r)
-plan_of LineEnd r = go_to (place_line_end r)
-plan_of LineEndExtend r = extend_to r (place_line_end r)
-plan_of DocumentStart r = go_to 0
-plan_of DocumentStartExtend r = extend_to r 0
-plan_of DocumentEnd r = go_to (size r)
-plan_of DocumentEndExtend r = extend_to r (size r)
-plan_of DeleteBack r = delete_back r
-plan_of NewLine r = new_line r
-plan_of LineLength r = line_length r
-plan_of GetDocPointer r = get_doc_pointer r
-plan_of SetDocPointer r = set_doc_pointer r
-plan_of SetModEventMask r = set_mod_event_mask r
-plan_of CreateDocument r = create_document r
-plan_of AddRefDocument r = add_ref_document r
-plan_of ReleaseDocument r = release_document r
-plan_of GetModEventMask r = get_mod_event_mask r
-plan_of GetDocumentOptions r = get_document_options r
-plan_of PositionBefore r = position_before r
-plan_of PositionAfter r = position_after r
-plan_of CopyRange r = copy_range r
-plan_of CopyText r = copy_text r
-plan_of MarkerAddSet r = marker_add_set r
-plan_of SetPasteConvertEndings r = set_paste_convert_endings r
-plan_of GetPasteConvertEndings r = get_paste_convert_endings r
-plan_of SetIndicatorCurrent r = set_indicator_current r
-plan_of GetIndicatorCurrent r = get_indicator_current r
-plan_of SetIndicatorValue r = set_indicator_value r
-plan_of GetIndicatorValue r = get_indicator_value r
-plan_of IndicatorFillRange r = indicator_fill_range r
-plan_of IndicatorClearRange r = indicator_clear_range r
-plan_of IndicatorAllOnFor r = indicator_all_on_for r
-plan_of IndicatorValueAt r = indicator_value_at r
-plan_of IndicatorStart r = indicator_start r
-plan_of IndicatorEnd r = indicator_end r
-plan_of SetEmptySelection r = go_to_pos r
-plan_of AddUndoAction r = add_undo_action r
-plan_of DeleteRange r = delete_range r
-plan_of GetSelectionEmpty r = get_selection_empty r
-plan_of SetLineEndTypesAllowed r = set_line_end_types_allowed r
-plan_of GetLineEndTypesAllowed r = get_line_end_types r
-plan_of GetLineEndTypesActive r = get_line_end_types r
-plan_of SetTargetRange r = set_target_range r
-plan_of GetTargetText r = get_target_text r
-plan_of TargetWholeDocument r = target_whole_document r
-plan_of StartRecord r = start_record r
-plan_of StopRecord r = stop_record r
-plan_of Colourise r = colourise r
+plan_of kinds.AddText r = text_plans.add_text r
+plan_of kinds.InsertText r = text_plans.insert_text r
+plan_of kinds.ClearAll r = text_plans.clear_all r
+plan_of kinds.GetLength r = text_plans.get_length r
+plan_of kinds.GetCharAt r = text_plans.get_char_at r
+plan_of kinds.GetCurrentPos r = selection_plans.get_current_pos r
+plan_of kinds.GetAnchor r = selection_plans.get_anchor r
+plan_of kinds.GetStyleAt r = style_plans.get_style_at r
+plan_of kinds.Redo r = undo_plans.redo r
+plan_of kinds.SetUndoCollection r = undo_plans.set_undo_collection r
+plan_of kinds.SelectAll r = selection_plans.select_all r
+plan_of kinds.SetSavePoint r = undo_plans.set_save_point r
+plan_of kinds.GetStyledText r = style_plans.get_styled_text r
+plan_of kinds.CanRedo r = undo_plans.get_can_redo r
+plan_of kinds.MarkerLineFromHandle r = line_plans.marker_line_from_handle r
+plan_of kinds.MarkerDeleteHandle r = line_plans.marker_delete_handle r
+plan_of kinds.GetUndoCollection r = undo_plans.get_undo_collection r
+plan_of kinds.GotoLine r = selection_plans.go_to_line r
+plan_of kinds.GotoPos r = selection_plans.go_to_pos r
+plan_of kinds.SetAnchor r = selection_plans.set_anchor r
+plan_of kinds.GetCurLine r = text_plans.get_cur_line r
+plan_of kinds.GetEndStyled r = style_plans.get_end_styled r
+plan_of kinds.ConvertEols r = line_plans.convert_eols r
+plan_of kinds.GetEolMode r = line_plans.get_eol_mode r
+plan_of kinds.SetEolMode r = line_plans.set_eol_mode r
+plan_of kinds.StartStyling r = style_plans.start_styling r
+plan_of kinds.SetStyling r = style_plans.set_styling r
+plan_of kinds.MarkerAdd r = line_plans.marker_add r
+plan_of kinds.MarkerDelete r = line_plans.marker_delete r
+plan_of kinds.MarkerDeleteAll r = line_plans.marker_delete_all r
+plan_of kinds.MarkerGet r = line_plans.marker_get r
+plan_of kinds.MarkerNext r = line_plans.marker_next r
+plan_of kinds.MarkerPrevious r = line_plans.marker_previous r
+plan_of kinds.SetStylingEx r = style_plans.set_styling_ex r
+plan_of kinds.BeginUndoAction r = undo_plans.begin_undo_action r
+plan_of kinds.EndUndoAction r = undo_plans.end_undo_action r
+plan_of kinds.SetLineState r = line_plans.set_line_state r
+plan_of kinds.GetLineState r = line_plans.get_line_state r
+plan_of kinds.GetLineEndPosition r = text_plans.get_line_end_position r
+plan_of kinds.GetReadOnly r = undo_plans.get_read_only r
+plan_of kinds.SetCurrentPos r = selection_plans.set_current_pos r
+plan_of kinds.SetSelectionStart r = selection_plans.set_selection_start r
+plan_of kinds.GetSelectionStart r = selection_plans.get_selection_start r
+plan_of kinds.SetSelectionEnd r = selection_plans.set_selection_end r
+plan_of kinds.GetSelectionEnd r = selection_plans.get_selection_end r
+plan_of kinds.GetLine r = text_plans.get_line r
+plan_of kinds.GetLineCount r = text_plans.get_line_count r
+plan_of kinds.GetModify r = undo_plans.get_modify r
+plan_of kinds.SetSel r = selection_plans.set_sel r
+plan_of kinds.GetSelText r = selection_plans.get_sel_text r
+plan_of kinds.GetTextRange r = text_plans.get_text_range r
+plan_of kinds.LineFromPosition r = text_plans.line_from_position r
+plan_of kinds.PositionFromLine r = text_plans.position_from_line r
+plan_of kinds.ReplaceSel r = selection_plans.replace_sel r
+plan_of kinds.SetReadOnly r = undo_plans.set_read_only r
+plan_of kinds.CanPaste r = selection_plans.can_paste r
+plan_of kinds.CanUndo r = undo_plans.get_can_undo r
+plan_of kinds.EmptyUndoBuffer r = undo_plans.empty_undo_buffer r
+plan_of kinds.Undo r = undo_plans.undo r
+plan_of kinds.Cut r = selection_plans.cut r
+plan_of kinds.Copy r = selection_plans.copy r
+plan_of kinds.Paste r = selection_plans.paste r
+plan_of kinds.Clear r = selection_plans.clear r
+plan_of kinds.SetText r = text_plans.set_text r
+plan_of kinds.GetText r = text_plans.get_text r
+plan_of kinds.GetTextLength r = text_plans.get_length r
+plan_of kinds.SetTargetStart r = target_plans.set_target_start r
+plan_of kinds.GetTargetStart r = target_plans.get_target_start r
+plan_of kinds.SetTargetEnd r = target_plans.set_target_end r
+plan_of kinds.GetTargetEnd r = target_plans.get_target_end r
+plan_of kinds.ReplaceTarget r = target_plans.replace_target r
+plan_of kinds.SearchInTarget r = target_plans.search_in_target r
+plan_of kinds.SetSearchFlags r = target_plans.set_search_flags r
+plan_of kinds.GetSearchFlags r = target_plans.get_search_flags r
+plan_of kinds.VisibleFromDocLine r = folding_plans.visible_from_doc_line r
+plan_of kinds.DocLineFromVisible r = folding_plans.doc_line_from_visible r
+plan_of kinds.SetFoldLevel r = folding_plans.set_fold_level r
+plan_of kinds.GetFoldLevel r = folding_plans.get_fold_level r
+plan_of kinds.GetLastChild r = folding_plans.get_last_child r
+plan_of kinds.GetFoldParent r = folding_plans.get_fold_parent r
+plan_of kinds.ShowLines r = folding_plans.show_lines r
+plan_of kinds.HideLines r = folding_plans.hide_lines r
+plan_of kinds.GetLineVisible r = folding_plans.get_line_visible r
+plan_of kinds.SetFoldExpanded r = folding_plans.set_fold_expanded r
+plan_of kinds.GetFoldExpanded r = folding_plans.get_fold_expanded r
+plan_of kinds.ToggleFold r = folding_plans.toggle_fold r
+plan_of kinds.EnsureVisible r = folding_plans.ensure_visible r
+plan_of kinds.GetAllLinesVisible r = folding_plans.get_all_lines_visible r
+plan_of kinds.FoldLine r = folding_plans.fold_line r
+plan_of kinds.AppendText r = text_plans.append_text r
+plan_of kinds.TargetFromSelection r = target_plans.target_from_selection r
+plan_of kinds.CharLeft r = key_plans.char_left r
+plan_of kinds.CharLeftExtend r = key_plans.extend_to r (key_plans.place_left r)
+plan_of kinds.CharRight r = key_plans.char_right r
+plan_of kinds.CharRightExtend r = key_plans.extend_to r (key_plans.place_right r)
+plan_of kinds.Home r = selection_plans.go_to (key_plans.place_home r)
+plan_of kinds.HomeExtend r = key_plans.extend_to r (key_plans.place_home r)
+plan_of kinds.LineEnd r = selection_plans.go_to (key_plans.place_line_end r)
+plan_of kinds.LineEndExtend r = key_plans.extend_to r (key_plans.place_line_end r)
+plan_of kinds.DocumentStart r = selection_plans.go_to 0
+plan_of kinds.DocumentStartExtend r = key_plans.extend_to r 0
+plan_of kinds.DocumentEnd r = selection_plans.go_to (size r)
+plan_of kinds.DocumentEndExtend r = key_plans.extend_to r (size r)
+plan_of kinds.DeleteBack r = key_plans.delete_back r
+plan_of kinds.NewLine r = key_plans.new_line r
+plan_of kinds.LineLength r = text_plans.line_length r
+plan_of kinds.GetDocPointer r = session_plans.get_doc_pointer r
+plan_of kinds.SetDocPointer r = session_plans.set_doc_pointer r
+plan_of kinds.SetModEventMask r = session_plans.set_mod_event_mask r
+plan_of kinds.CreateDocument r = session_plans.create_document r
+plan_of kinds.AddRefDocument r = session_plans.add_ref_document r
+plan_of kinds.ReleaseDocument r = session_plans.release_document r
+plan_of kinds.GetModEventMask r = session_plans.get_mod_event_mask r
+plan_of kinds.GetDocumentOptions r = session_plans.get_document_options r
+plan_of kinds.PositionBefore r = text_plans.position_before r
+plan_of kinds.PositionAfter r = text_plans.position_after r
+plan_of kinds.CopyRange r = selection_plans.copy_range r
+plan_of kinds.CopyText r = selection_plans.copy_text r
+plan_of kinds.MarkerAddSet r = line_plans.marker_add_set r
+plan_of kinds.SetPasteConvertEndings r = selection_plans.set_paste_convert_endings r
+plan_of kinds.GetPasteConvertEndings r = selection_plans.get_paste_convert_endings r
+plan_of kinds.SetIndicatorCurrent r = style_plans.set_indicator_current r
+plan_of kinds.GetIndicatorCurrent r = style_plans.get_indicator_current r
+plan_of kinds.SetIndicatorValue r = style_plans.set_indicator_value r
+plan_of kinds.GetIndicatorValue r = style_plans.get_indicator_value r
+plan_of kinds.IndicatorFillRange r = style_plans.indicator_fill_range r
+plan_of kinds.IndicatorClearRange r = style_plans.indicator_clear_range r
+plan_of kinds.IndicatorAllOnFor r = style_plans.indicator_all_on_for r
+plan_of kinds.IndicatorValueAt r = style_plans.indicator_value_at r
+plan_of kinds.IndicatorStart r = style_plans.indicator_start r
+plan_of kinds.IndicatorEnd r = style_plans.indicator_end r
+plan_of kinds.SetEmptySelection r = selection_plans.go_to_pos r
+plan_of kinds.AddUndoAction r = undo_plans.add_undo_action r
+plan_of kinds.DeleteRange r = text_plans.delete_range r
+plan_of kinds.GetSelectionEmpty r = selection_plans.get_selection_empty r
+plan_of kinds.SetLineEndTypesAllowed r = session_plans.set_line_end_types_allowed r
+plan_of kinds.GetLineEndTypesAllowed r = session_plans.get_line_end_types r
+plan_of kinds.GetLineEndTypesActive r = session_plans.get_line_end_types r
+plan_of kinds.SetTargetRange r = target_plans.set_target_range r
+plan_of kinds.GetTargetText r = target_plans.get_target_text r
+plan_of kinds.TargetWholeDocument r = target_plans.target_whole_document r
+plan_of kinds.StartRecord r = session_plans.start_record r
+plan_of kinds.StopRecord r = session_plans.stop_record r
+plan_of kinds.Colourise r = style_plans.colourise r
 
 -- what the plan does: the session afterwards, and the reply
 abbrev pub performed : Request → Plan → Session × Response
@@ -189,13 +200,13 @@ record_note r =
     record n { view = r.view.id; message = r.message.number; w = r.message.w; l = r.message.l; text = r.message.text }
 
 -- a view that records hears of a message that can be recorded, before all else
-abbrev pub recorded : Kind → Request → Response → Response
-recorded kind r reply =
+abbrev pub with_recording : Kind → Request → Response → Response
+with_recording kind r reply =
     if r.view.records && (marks_of kind).r then record reply { notes = record_note r ∷ reply.notes } else reply
 
 abbrev pub answered : Kind → Request → Planned → Result (Session × Response) Refusal
 answered kind r (Err refusal) = Err refusal
-answered kind r (Ok what) = let done = performed r what in Ok (done.0, recorded kind r done.1)
+answered kind r (Ok what) = let done = performed r what in Ok (done.0, with_recording kind r done.1)
 
 -- The table. `known` says which messages there are.
 

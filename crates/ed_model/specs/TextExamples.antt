@@ -1,10 +1,10 @@
 -- Worked examples, written by tools/example_theorems.py from examples/.
 use Rattle.std.specs.Prelude.{[], ◌∷◌, codes}
-use Rattle.ed_model.specs.Prints.{Prints, lines}
+use Rattle.ed_model.specs.Prints.{Prints, joined_lines}
 
 abbrev pub Expects : Type 0
 Expects = Prints ([])
-    (lines (
+    (joined_lines (
     codes "sci 2" ∷
     codes "open" ∷
     codes "expect 1" ∷
@@ -14,7 +14,7 @@ Expects = Prints ([])
     codes "send 9 2006 0 0 \"\"" ∷
     codes "expect 0" ∷
     []))
-    (lines (
+    (joined_lines (
     codes "= 1 \"\"" ∷
     codes "+ 1" ∷
     codes "+ 1" ∷
@@ -26,14 +26,14 @@ Expects = Prints ([])
 
 abbrev pub Hello : Type 0
 Hello = Prints ([])
-    (lines (
+    (joined_lines (
     codes "sci 1" ∷
     codes "open" ∷
     codes "send 1 2003 0 0 \"hello\"" ∷
     codes "send 1 2006 0 0 \"\"" ∷
     codes "send 1 2182 0 0 \"\"" ∷
     []))
-    (lines (
+    (joined_lines (
     codes "= 1 \"\"" ∷
     codes "= 0 \"\"" ∷
     codes "@ 1 2008 1040 0 5 0 0 0 0 0 0 0 0 \"hello\"" ∷
@@ -45,7 +45,7 @@ Hello = Prints ([])
 
 abbrev pub Refusals : Type 0
 Refusals = Prints ([])
-    (lines (
+    (joined_lines (
     codes "sci 1" ∷
     codes "open" ∷
     codes "send 1 2003 0 0 \"abcd\"" ∷
@@ -55,7 +55,7 @@ Refusals = Prints ([])
     codes "send 1 9999 0 0 \"\"" ∷
     codes "send 2 2006 0 0 \"\"" ∷
     []))
-    (lines (
+    (joined_lines (
     codes "= 1 \"\"" ∷
     codes "= 0 \"\"" ∷
     codes "@ 1 2008 1040 0 4 0 0 0 0 0 0 0 0 \"abcd\"" ∷
@@ -72,7 +72,7 @@ Refusals = Prints ([])
 
 abbrev pub LineQueries : Type 0
 LineQueries = Prints ([])
-    (lines (
+    (joined_lines (
     codes "sci 1" ∷
     codes "open" ∷
     codes "send 1 2003 0 0 \"a\\x0d\\x0ab\\x0dc\\x0ad\"" ∷
@@ -89,7 +89,7 @@ LineQueries = Prints ([])
     codes "send 1 2162 5 4 \"\"" ∷
     codes "send 1 2167 -1 0 \"\"" ∷
     []))
-    (lines (
+    (joined_lines (
     codes "= 1 \"\"" ∷
     codes "= 0 \"\"" ∷
     codes "@ 1 2008 1040 0 8 0 0 0 0 0 0 0 0 \"a\\x0d\\x0ab\\x0dc\\x0ad\"" ∷
@@ -111,7 +111,7 @@ LineQueries = Prints ([])
 
 abbrev pub MixedLineEnds : Type 0
 MixedLineEnds = Prints ([])
-    (lines (
+    (joined_lines (
     codes "sci 1" ∷
     codes "open" ∷
     codes "send 1 2003 0 0 \"a\\x0d\\x0ab\\x0dc\\x0ad\"" ∷
@@ -123,7 +123,7 @@ MixedLineEnds = Prints ([])
     codes "send 1 2167 4 0 \"\"" ∷
     codes "send 1 2167 5 0 \"\"" ∷
     []))
-    (lines (
+    (joined_lines (
     codes "= 1 \"\"" ∷
     codes "= 0 \"\"" ∷
     codes "@ 1 2008 1040 0 8 0 0 0 0 0 0 0 0 \"a\\x0d\\x0ab\\x0dc\\x0ad\"" ∷
@@ -140,7 +140,7 @@ MixedLineEnds = Prints ([])
 
 abbrev pub NewView : Type 0
 NewView = Prints ([])
-    (lines (
+    (joined_lines (
     codes "sci 1" ∷
     codes "open" ∷
     codes "send 1 2006 0 0 \"\"" ∷
@@ -149,7 +149,7 @@ NewView = Prints ([])
     codes "send 1 2167 1 0 \"\"" ∷
     codes "send 1 2167 2 0 \"\"" ∷
     []))
-    (lines (
+    (joined_lines (
     codes "= 1 \"\"" ∷
     codes "= 0 \"\"" ∷
     codes "= 1 \"\"" ∷
@@ -160,7 +160,7 @@ NewView = Prints ([])
 
 abbrev pub LoadFiles : Type 0
 LoadFiles = Prints ((codes "hi") ∷ [])
-    (lines (
+    (joined_lines (
     codes "sci 1" ∷
     codes "open" ∷
     codes "load 1 1" ∷
@@ -168,7 +168,7 @@ LoadFiles = Prints ((codes "hi") ∷ [])
     codes "load 1 2" ∷
     codes "send 1 2182 0 0 \"\"" ∷
     []))
-    (lines (
+    (joined_lines (
     codes "= 1 \"\"" ∷
     codes "= 0 \"\"" ∷
     codes "@ 1 2008 1040 0 2 0 0 0 0 0 0 0 0 \"hi\"" ∷
@@ -181,13 +181,13 @@ LoadFiles = Prints ((codes "hi") ∷ [])
 
 abbrev pub ScriptSpelling : Type 0
 ScriptSpelling = Prints ([])
-    (lines (
+    (joined_lines (
     codes "sci 1" ∷
     codes "open" ∷
     codes "send 1 2282 4 -9223372036854775808 \"\\\"\\\\\\x00\\x80\"" ∷
     codes "send 1 2182 0 0 \"\"" ∷
     []))
-    (lines (
+    (joined_lines (
     codes "= 1 \"\"" ∷
     codes "= 0 \"\"" ∷
     codes "@ 1 2008 1040 0 4 0 0 0 0 0 0 0 0 \"\\\"\\\\\\x00\\x80\"" ∷
@@ -198,7 +198,7 @@ ScriptSpelling = Prints ([])
 
 abbrev pub ExpectAtTheStart : Type 0
 ExpectAtTheStart = Prints ([])
-    (lines (
+    (joined_lines (
     codes "sci 2" ∷
     codes "expect 0" ∷
     codes "open" ∷
@@ -208,7 +208,7 @@ ExpectAtTheStart = Prints ([])
     codes "close 1" ∷
     codes "expect 0" ∷
     []))
-    (lines (
+    (joined_lines (
     codes "- 0" ∷
     codes "= 1 \"\"" ∷
     codes "+ 1" ∷
@@ -220,7 +220,7 @@ ExpectAtTheStart = Prints ([])
 
 abbrev pub TextLengthAndAppending : Type 0
 TextLengthAndAppending = Prints ([])
-    (lines (
+    (joined_lines (
     codes "sci 1" ∷
     codes "open" ∷
     codes "send 1 2181 0 0 \"one\\x0atwo\"" ∷
@@ -237,7 +237,7 @@ TextLengthAndAppending = Prints ([])
     codes "send 1 2182 0 0 \"\"" ∷
     codes "send 1 2004 0 0 \"\"" ∷
     []))
-    (lines (
+    (joined_lines (
     codes "= 1 \"\"" ∷
     codes "= 0 \"\"" ∷
     codes "@ 1 2008 1040 0 7 0 0 0 0 0 0 0 0 \"one\\x0atwo\"" ∷

@@ -1,10 +1,10 @@
 -- Worked examples, written by tools/example_theorems.py from examples/.
 use Rattle.std.specs.Prelude.{[], ◌∷◌, codes}
-use Rattle.ed_model.specs.Prints.{Prints, lines}
+use Rattle.ed_model.specs.Prints.{Prints, joined_lines}
 
 abbrev pub AllNotesOfAnInsertion : Type 0
 AllNotesOfAnInsertion = Prints ([])
-    (lines (
+    (joined_lines (
     codes "sci 1" ∷
     codes "open" ∷
     codes "send 1 2003 0 0 \"ab\\x0a\"" ∷
@@ -12,7 +12,7 @@ AllNotesOfAnInsertion = Prints ([])
     codes "send 1 2003 9 0 \"z\"" ∷
     codes "send 1 2007 -1 0 \"\"" ∷
     []))
-    (lines (
+    (joined_lines (
     codes "= 1 \"\"" ∷
     codes "= 0 \"\"" ∷
     codes "@ 1 2008 1040 0 3 0 0 0 0 0 0 0 0 \"ab\\x0a\"" ∷
@@ -25,7 +25,7 @@ AllNotesOfAnInsertion = Prints ([])
 
 abbrev pub ContainerSteps : Type 0
 ContainerSteps = Prints ([])
-    (lines (
+    (joined_lines (
     codes "sci 1" ∷
     codes "open" ∷
     codes "send 1 2560 7 0 \"\"" ∷
@@ -33,7 +33,7 @@ ContainerSteps = Prints ([])
     codes "send 1 2176 0 0 \"\"" ∷
     codes "send 1 2560 7 2 \"\"" ∷
     []))
-    (lines (
+    (joined_lines (
     codes "= 1 \"\"" ∷
     codes "= 0 \"\"" ∷
     codes "@ 1 2003 0 0 0 0 0 0 0 0 0 0 0 \"\"" ∷
@@ -46,7 +46,7 @@ ContainerSteps = Prints ([])
 
 abbrev pub ReadOnlyNotes : Type 0
 ReadOnlyNotes = Prints ([])
-    (lines (
+    (joined_lines (
     codes "sci 1" ∷
     codes "open" ∷
     codes "send 1 2171 1 0 \"\"" ∷
@@ -54,7 +54,7 @@ ReadOnlyNotes = Prints ([])
     codes "send 1 2006 0 0 \"\"" ∷
     codes "send 1 2004 0 0 \"\"" ∷
     []))
-    (lines (
+    (joined_lines (
     codes "= 1 \"\"" ∷
     codes "= 0 \"\"" ∷
     codes "= 0 \"\"" ∷
@@ -65,7 +65,7 @@ ReadOnlyNotes = Prints ([])
 
 abbrev pub SavePointAmidTyping : Type 0
 SavePointAmidTyping = Prints ([])
-    (lines (
+    (joined_lines (
     codes "sci 1" ∷
     codes "open" ∷
     codes "send 1 2003 0 0 \"a\"" ∷
@@ -78,7 +78,7 @@ SavePointAmidTyping = Prints ([])
     codes "send 1 2176 0 0 \"\"" ∷
     codes "send 1 2182 0 0 \"\"" ∷
     []))
-    (lines (
+    (joined_lines (
     codes "= 1 \"\"" ∷
     codes "= 0 \"\"" ∷
     codes "@ 1 2008 1040 0 1 0 0 0 0 0 0 0 0 \"a\"" ∷
@@ -110,7 +110,7 @@ SavePointAmidTyping = Prints ([])
 
 abbrev pub SavePointInAGroup : Type 0
 SavePointInAGroup = Prints ([])
-    (lines (
+    (joined_lines (
     codes "sci 1" ∷
     codes "open" ∷
     codes "send 1 2078 0 0 \"\"" ∷
@@ -125,7 +125,7 @@ SavePointInAGroup = Prints ([])
     codes "send 1 2176 0 0 \"\"" ∷
     codes "send 1 2182 0 0 \"\"" ∷
     []))
-    (lines (
+    (joined_lines (
     codes "= 1 \"\"" ∷
     codes "= 0 \"\"" ∷
     codes "= 0 \"\"" ∷
@@ -155,7 +155,7 @@ SavePointInAGroup = Prints ([])
 
 abbrev pub SavePointOnADroppedBranch : Type 0
 SavePointOnADroppedBranch = Prints ([])
-    (lines (
+    (joined_lines (
     codes "sci 1" ∷
     codes "open" ∷
     codes "send 1 2003 0 0 \"a\"" ∷
@@ -166,7 +166,7 @@ SavePointOnADroppedBranch = Prints ([])
     codes "send 1 2176 0 0 \"\"" ∷
     codes "send 1 2159 0 0 \"\"" ∷
     []))
-    (lines (
+    (joined_lines (
     codes "= 1 \"\"" ∷
     codes "= 0 \"\"" ∷
     codes "@ 1 2008 1040 0 1 0 0 0 0 0 0 0 0 \"a\"" ∷
@@ -190,7 +190,7 @@ SavePointOnADroppedBranch = Prints ([])
 
 abbrev pub UndoCollection : Type 0
 UndoCollection = Prints ([])
-    (lines (
+    (joined_lines (
     codes "sci 1" ∷
     codes "open" ∷
     codes "send 1 2003 0 0 \"a\"" ∷
@@ -201,7 +201,7 @@ UndoCollection = Prints ([])
     codes "send 1 2175 0 0 \"\"" ∷
     codes "send 1 2159 0 0 \"\"" ∷
     []))
-    (lines (
+    (joined_lines (
     codes "= 1 \"\"" ∷
     codes "= 0 \"\"" ∷
     codes "@ 1 2008 1040 0 1 0 0 0 0 0 0 0 0 \"a\"" ∷
@@ -217,7 +217,7 @@ UndoCollection = Prints ([])
 
 abbrev pub WhichDeletionsJoin : Type 0
 WhichDeletionsJoin = Prints ([])
-    (lines (
+    (joined_lines (
     codes "sci 1" ∷
     codes "open" ∷
     codes "send 1 2181 0 0 \"abcdefghij\"" ∷
@@ -232,7 +232,7 @@ WhichDeletionsJoin = Prints ([])
     codes "send 1 2176 0 0 \"\"" ∷
     codes "send 1 2182 0 0 \"\"" ∷
     []))
-    (lines (
+    (joined_lines (
     codes "= 1 \"\"" ∷
     codes "= 0 \"\"" ∷
     codes "@ 1 2008 1040 0 10 0 0 0 0 0 0 0 0 \"abcdefghij\"" ∷
@@ -272,7 +272,7 @@ WhichDeletionsJoin = Prints ([])
 
 abbrev pub ContainerStepFirst : Type 0
 ContainerStepFirst = Prints ([])
-    (lines (
+    (joined_lines (
     codes "sci 1" ∷
     codes "open" ∷
     codes "send 1 2560 7 1 \"\"" ∷
@@ -282,7 +282,7 @@ ContainerStepFirst = Prints ([])
     codes "send 1 2008 0 0 \"\"" ∷
     codes "send 1 2009 0 0 \"\"" ∷
     []))
-    (lines (
+    (joined_lines (
     codes "= 1 \"\"" ∷
     codes "= 0 \"\"" ∷
     codes "@ 1 2003 0 0 0 0 0 0 0 0 0 0 0 \"\"" ∷
@@ -305,7 +305,7 @@ ContainerStepFirst = Prints ([])
 
 abbrev pub ContainerStepsAlone : Type 0
 ContainerStepsAlone = Prints ([])
-    (lines (
+    (joined_lines (
     codes "sci 1" ∷
     codes "open" ∷
     codes "send 1 2560 1 1 \"\"" ∷
@@ -318,7 +318,7 @@ ContainerStepsAlone = Prints ([])
     codes "send 1 2011 0 0 \"\"" ∷
     codes "send 1 2011 0 0 \"\"" ∷
     []))
-    (lines (
+    (joined_lines (
     codes "= 1 \"\"" ∷
     codes "= 0 \"\"" ∷
     codes "@ 1 2003 0 0 0 0 0 0 0 0 0 0 0 \"\"" ∷
@@ -344,7 +344,7 @@ ContainerStepsAlone = Prints ([])
 
 abbrev pub ContainerStepsJoin : Type 0
 ContainerStepsJoin = Prints ([])
-    (lines (
+    (joined_lines (
     codes "sci 1" ∷
     codes "open" ∷
     codes "send 1 2003 0 0 \"a\"" ∷
@@ -361,7 +361,7 @@ ContainerStepsJoin = Prints ([])
     codes "send 1 2176 0 0 \"\"" ∷
     codes "send 1 2182 0 0 \"\"" ∷
     []))
-    (lines (
+    (joined_lines (
     codes "= 1 \"\"" ∷
     codes "= 0 \"\"" ∷
     codes "@ 1 2008 1040 0 1 0 0 0 0 0 0 0 0 \"a\"" ∷
@@ -402,7 +402,7 @@ ContainerStepsJoin = Prints ([])
 
 abbrev pub GroupsAndSeals : Type 0
 GroupsAndSeals = Prints ([])
-    (lines (
+    (joined_lines (
     codes "sci 1" ∷
     codes "open" ∷
     codes "send 1 2003 0 0 \"a\"" ∷
@@ -421,7 +421,7 @@ GroupsAndSeals = Prints ([])
     codes "send 1 2176 0 0 \"\"" ∷
     codes "send 1 2182 0 0 \"\"" ∷
     []))
-    (lines (
+    (joined_lines (
     codes "= 1 \"\"" ∷
     codes "= 0 \"\"" ∷
     codes "@ 1 2008 1040 0 1 0 0 0 0 0 0 0 0 \"a\"" ∷
@@ -460,7 +460,7 @@ GroupsAndSeals = Prints ([])
 
 abbrev pub UndoQueries : Type 0
 UndoQueries = Prints ([])
-    (lines (
+    (joined_lines (
     codes "sci 1" ∷
     codes "open" ∷
     codes "send 1 2174 0 0 \"\"" ∷
@@ -501,7 +501,7 @@ UndoQueries = Prints ([])
     codes "send 1 2014 0 0 \"\"" ∷
     codes "send 1 2159 0 0 \"\"" ∷
     []))
-    (lines (
+    (joined_lines (
     codes "= 1 \"\"" ∷
     codes "= 0 \"\"" ∷
     codes "= 0 \"\"" ∷

@@ -3,7 +3,7 @@ use Rattle.std.specs.Prelude.{◌≡◌, ℕ, zero, suc, ◌<◌, Bool, true, Li
 use Rattle.ed_model.specs.Steps.{Step, edited}
 use Rattle.ed_model.specs.LineEnds.{after_steps}
 use Rattle.ed_model.specs.History.{History, Transaction, TextStep, ContainerStep, inverse_change, joins, appended, begins_transaction, undo_changes, redo_changes, undone, redone}
-use Rattle.ed_model.specs.DocumentPlans.{text_steps}
+use Rattle.ed_model.specs.UndoPlans.{text_steps}
 use Rattle.ed_model.specs.Performing.{Scene}
 use Rattle.ed_model.specs.InverseLaws.{Fits, FitInTurn, text_of_scene, history_of, after_undo, after_redo}
 use Rattle.ed_model.specs.HistoryLaws.{SameButForSeals}

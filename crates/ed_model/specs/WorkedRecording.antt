@@ -6,7 +6,7 @@ use Rattle.ed_types.specs.declared.script.ScriptFault.{ScriptFault}
 use Rattle.ed_model.specs.Session.{new_session, greatest_limits}
 use Rattle.ed_model.specs.Run.{outcomes, starting}
 use Rattle.ed_model.specs.Reading.{reading}
-use Rattle.ed_model.specs.Prints.{lines}
+use Rattle.ed_model.specs.Prints.{joined_lines}
 use Rattle.ed_model.specs.Recording.{recorded_messages, replies_in}
 
 -- what view 1 records while the script runs
@@ -17,7 +17,7 @@ recorded_in (Err fault) = []
 -- STARTRECORD, ADDTEXT, GETLENGTH, CHARLEFT, DELETEBACK, STOPRECORD and ADDTEXT again: the first text, the key and the deletion are recorded
 abbrev pub RecordsWhatCanBeReplayed : Type 0
 RecordsWhatCanBeReplayed =
-    recorded_in (reading (lines (
+    recorded_in (reading (joined_lines (
     codes "sci 2" ∷
     codes "open" ∷
     codes "send 1 3001 0 0 \"\"" ∷

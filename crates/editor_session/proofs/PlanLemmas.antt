@@ -12,7 +12,7 @@ use Rattle.ed_model.specs.declared.plan.Plan.TheVariants as plan
 use Rattle.ed_model.specs.Text.{Cell}
 use Rattle.ed_model.specs.Steps.{deletion, insertion, replacement}
 use Rattle.ed_model.specs.Numbers.{within, line_among}
-use Rattle.ed_model.specs.Requests.{Request, line_at, selection_start, Planned, with_argument, argument, with_line, answer, end_or_size, lines, text, size}
+use Rattle.ed_model.specs.Requests.{Request, line_at, selection_start, Planned, with_argument, argument, with_line, answer, end_or_size, line_total, text, size}
 use Rattle.std.proofs.Math.Bool.{and-true}
 use Rattle.ed_types.specs.declared.refusal.Refusal.TheVariants.{TooLong}
 use Rattle.ed_model.specs.declared.plan.Plan.{Plan}
@@ -154,9 +154,9 @@ plan_is_early kind limit v h m there =
     tt tt tt tt
     (argument_is_early m (within 0 n m.w) _ (λ start. argument_is_early m (within start n (end_or_size n m.l)) _ (λ past. tt)))
     tt
-    (line_is_early m (line_among (lines (plain_request v h m)) m.w) _ (λ line. tt))
+    (line_is_early m (line_among (line_total (plain_request v h m)) m.w) _ (λ line. tt))
     tt
-    (line_is_early m (line_among (lines (plain_request v h m)) m.w) _ (λ line. tt))
+    (line_is_early m (line_among (line_total (plain_request v h m)) m.w) _ (λ line. tt))
     tt tt tt kind there
 
 -- and a message that takes no memory is only answered
@@ -168,7 +168,7 @@ pub plan_is_answer : (kind : Kind) (limit : ℕ) (v : OpenView) (h : Held) (m : 
 plan_is_answer kind limit v h m there =
     each_kind (λ k. takes_no_memory (Some k) ≡ true → IfOk (early_plan k limit v h m) (λ p. is_answer p ≡ true))
     (λ e. absurd (cc)) (λ e. absurd (cc)) (λ e. refl) (λ e. refl) (λ e. refl) (λ e. absurd (cc)) (λ e. absurd (cc)) (λ e. refl) (λ e. absurd (cc)) (λ e. absurd (cc))
-    (λ e. line_is_answer (line_among (lines (plain_request v h m)) m.w) _ (λ line. refl)) (λ e. refl) (λ e. refl) (λ e. refl) kind there
+    (λ e. line_is_answer (line_among (line_total (plain_request v h m)) m.w) _ (λ line. refl)) (λ e. refl) (λ e. refl) (λ e. refl) kind there
 
 -- As a session sees it.
 

@@ -3,7 +3,7 @@ use Rattle.std.specs.Prelude.{◌≡◌, ℕ, ℤ, pos, ◌≤◌, ◌-◌, ◌+
 use Rattle.std.specs.List.{range_with_len, list_any}
 use Rattle.ed_model.specs.Numbers.{meets}
 use Rattle.ed_model.specs.Rows.{Marker, Row, fresh_row, base_level}
-use Rattle.ed_model.specs.DocumentPlans.{mask_of}
+use Rattle.ed_model.specs.LinePlans.{mask_of}
 
 -- For how many fresh lines there is room; of how many lines, from the first on, a level can be set, and of how many a state; and for
 -- how many markers.

@@ -1,7 +1,7 @@
 //! `LineRows` and its calls.
 ghost use Rattle.std.specs.Prelude.{◌≡◌, ◌≢◌, ◌↔◌, IsTrue, ◌≤◌, ◌<◌, ◌+◌, ◌-◌, ◌^◌, ◌==◌, ◌∷◌, ◌++◌, [], length, max, slice_set, pos, IfOk, OnOk, OnErr, IsOk};
 ghost use Rattle.ed_model.specs.Changes.{with_markers, new_markers, without_marker, without_markers, is_of_number, marker_count};
-ghost use Rattle.ed_model.specs.DocumentPlans.{mask_of};
+ghost use Rattle.ed_model.specs.LinePlans.{mask_of};
 ghost use Rattle.ed_model.specs.Rows.{Marker, fresh_row, rows_together};
 ghost use Rattle.line_index.specs.Edits.{after_edit, after_edits, FitsLines, FitLines, fresh_by, fresh_lines};
 ghost use Rattle.line_rows.specs.Kept.{kept_rows, row_room, row_at, levels_of, is_marked, has_handle, first_from, last_up_to};

@@ -5,7 +5,7 @@ use Rattle.std.proofs.Math.Seq.{drop-append-add}
 use Rattle.std.proofs.lemmas.List.{take-append-drop, take_more, take_all, drop-drop, length-take-le, length-drop}
 use Rattle.std.proofs.lemmas.List.Elements.{filter-append}
 use Rattle.ed_model.specs.Rows.{Marker}
-use Rattle.ed_model.specs.DocumentPlans.{mask_of}
+use Rattle.ed_model.specs.LinePlans.{mask_of}
 use Rattle.marker_store.specs.declared.drops.Drops.{Drops}
 use Rattle.marker_store.specs.Dropping.{is_dropped, kept}
 use Rattle.marker_store.specs.Entries.{Entry, no_entry, AllBefore, AllFrom, NoneIs, row}

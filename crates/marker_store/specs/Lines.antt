@@ -4,7 +4,7 @@ use Rattle.std.specs.List.{range_with_len, flat_map, list_any}
 use Rattle.std.specs.Coded.{Coded, code_by, coded×, coded_list, coded_ℕ}
 use Rattle.ed_model.specs.Rows.{Marker}
 use Rattle.ed_model.specs.Numbers.{meets}
-use Rattle.ed_model.specs.DocumentPlans.{mask_of}
+use Rattle.ed_model.specs.LinePlans.{mask_of}
 
 -- the markers of each line in their order, the handle that the next marker gets, and how many more markers fit in
 -- without more memory

@@ -1,6 +1,6 @@
 //! The markers of all lines in one list, each with its line.
 ghost use Rattle.std.specs.Prelude.{◌≡◌, ◌≢◌, ◌≤◌, ◌<◌, ◌+◌, ◌-◌, ◌∷◌, ◌++◌, ◌^◌, [], length, max, take, drop, filter, not, slice_index_or, MatchOption, IfOk, OnOk, OnErr, IsOk};
-ghost use Rattle.ed_model.specs.DocumentPlans.{mask_of};
+ghost use Rattle.ed_model.specs.LinePlans.{mask_of};
 ghost use Rattle.marker_store.specs.Dropping.{kept};
 ghost use Rattle.marker_store.specs.Lines.{has_handle, first_from};
 ghost use Rattle.marker_store.specs.Entries.{entry, no_entry, placed, rows_of, row, AllBefore, AllFrom, IsCut, IsRaised, IsLowered, IsPut, IsCleared, NoneIs, IsFirst, IsFirstGone, IsMarkedFrom, IsMarkedBefore};

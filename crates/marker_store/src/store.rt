@@ -1,7 +1,7 @@
 //! `MarkerStore` and its calls. A clause sees it as the list of markers of each line, the next handle and its room.
 ghost use Rattle.std.specs.Prelude.{◌≡◌, ◌≢◌, ◌≤◌, ◌<◌, ◌+◌, ◌-◌, ◌^◌, ◌==◌, ◌↔◌, [], ◌∷◌, ◌++◌, length, max, slice_set, option_map, is_some, IsTrue, IsSome, IfOk, OnOk, OnErr, IsOk};
 ghost use Rattle.ed_model.specs.Changes.{new_markers, without_marker, is_of_number};
-ghost use Rattle.ed_model.specs.DocumentPlans.{mask_of};
+ghost use Rattle.ed_model.specs.LinePlans.{mask_of};
 ghost use Rattle.marker_store.specs.Lines.{marked_lines, markers_of, marker_total, with_fresh, with_joined, without, is_met, has_handle, first_from, last_up_to};
 
 use crate::drops::Drops;

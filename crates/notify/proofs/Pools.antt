@@ -3,7 +3,7 @@ use Rattle.std.proofs.Common.{◌≡◌, ℕ, ◌-◌, ◌≤◌, drop, List, []
 use Rattle.std.proofs.lemmas.Bool.{cases_lt}
 use Rattle.std.proofs.lemmas.List.{append_assoc, length-drop, drop-append-le, take-append-le, take_rest, map-append, drop_at}
 use Rattle.ed_types.specs.declared.reply.Note.{Note}
-use Rattle.ed_types.specs.Heard.{with_text, heard, heard_in}
+use Rattle.ed_types.specs.Heard.{with_text, noticed, heard_in}
 use Rattle.notify.specs.Ranges.{EndWithin}
 
 -- a range stays where it was
@@ -28,8 +28,8 @@ pub one_more_ends : (end : ℕ) (notes : List Note) (n : Note) → EndWithin end
 one_more_ends end [] n h l = (l, tt)
 one_more_ends end (m ∷ ms) n h l = (h.0, one_more_ends end ms n h.1 l)
 
-pub one_more_heard : (pool : List ℕ) (notes : List Note) (n : Note) → heard_in pool (notes ++ n ∷ []) ≡ heard_in pool notes ++ heard pool n ∷ []
-one_more_heard pool notes n = map-append (heard pool) notes (n ∷ [])
+pub one_more_heard : (pool : List ℕ) (notes : List Note) (n : Note) → heard_in pool (notes ++ n ∷ []) ≡ heard_in pool notes ++ noticed pool n ∷ []
+one_more_heard pool notes n = map-append (noticed pool) notes (n ∷ [])
 
 -- what stands at the end of a pool
 pub end_of_pool : (pool : List ℕ) (from : ℕ) → slice_range pool from (length pool) ≡ drop from pool

@@ -27,7 +27,7 @@ use Rattle.ed_model.specs.History.{Change, TextStep, ContainerStep, History, und
 use Rattle.ed_model.specs.Session.{Session, Document, View, document_at, view_at, with_view, new_document, new_view, attached_to}
 use Rattle.ed_model.specs.Requests.{Request, Planned}
 use Rattle.ed_model.specs.Edits.{steps_of}
-use Rattle.ed_model.specs.DocumentPlans.{levels}
+use Rattle.ed_model.specs.FoldingPlans.{levels}
 use Rattle.ed_model.specs.Notes as notes
 use Rattle.ed_model.specs.Performing.{Scene, scene_of, session_of, step_made, steps_made, sealed_scene, edit_made, followed, with_caret, with_target, caret_behind, moved_view, view_after, transaction_performed, changes_performed, change_performed, changes_lines, is_last, history_performed}
 use Rattle.ed_model.specs.Changes.{changed_lines, changed_view, session_changed, with_attached, attached, with_new_document}

@@ -34,10 +34,10 @@ use Rattle.ed_model.specs.Notes as notes
 use Rattle.ed_model.specs.Requests.{Request, Planned, text}
 use Rattle.ed_model.specs.LineEnds.{conversion_steps}
 use Rattle.ed_model.specs.Edits.{steps_of, source_bytes, converted_if}
-use Rattle.ed_model.specs.DocumentPlans.{levels}
+use Rattle.ed_model.specs.FoldingPlans.{levels}
 use Rattle.ed_model.specs.Performing.{Scene, scene_of, session_of, document_after, moved_view, view_after, step_heard, step_made, steps_made, sealed_scene, edit_made, followed, with_caret, with_target, caret_behind, leaving, change_performed, changes_performed, changes_lines, is_last, transaction_performed, save_point_change, history_performed, place_behind, container_note, last_bits, response}
 use Rattle.ed_model.specs.Changes.{changed_document, changed_lines, changed_view, change_told}
-use Rattle.ed_model.specs.Table.{table, answered, recorded, plan_of, performed, request, table_from_view, table_from_kind, table_if_known, table_from_document}
+use Rattle.ed_model.specs.Table.{table, answered, with_recording, plan_of, performed, request, table_from_view, table_from_kind, table_if_known, table_from_document}
 use Rattle.ed_model.specs.TableLaws.{Answered}
 use Rattle.ed_model.specs.SoundLaws.{IsSound, IsViewOn, ListsItsViews, CommandKeepsSound}
 use Rattle.ed_model.specs.PlansFit.{IsSoundRequest}
@@ -388,7 +388,7 @@ answered_same : (id : ℕ) (kind : Kind) (r : Request) (t : Session) (p : Planne
 answered_same id kind r t (Err refusal) l barred shaped own h = refl
 answered_same id kind r t (Ok p) l barred shaped own h =
     let done = performed_done id r t p l barred shaped own h in
-    record { reply = ap (recorded kind r) done.reply; sessions = done.sessions }
+    record { reply = ap (with_recording kind r) done.reply; sessions = done.sessions }
 
 other_session : (s t : Session) → t.clipboard ≡ s.clipboard → t.limits ≡ s.limits → t ≡ record s { documents = t.documents; views = t.views; next_document = t.next_document; next_view = t.next_view }
 other_session s t e f =

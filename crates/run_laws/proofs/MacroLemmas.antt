@@ -35,10 +35,10 @@ use Rattle.ed_model.specs.Notes as notes
 use Rattle.ed_model.specs.Requests.{Request, Planned, text}
 use Rattle.ed_model.specs.LineEnds.{conversion_steps}
 use Rattle.ed_model.specs.Edits.{steps_of, source_bytes}
-use Rattle.ed_model.specs.DocumentPlans.{levels}
+use Rattle.ed_model.specs.FoldingPlans.{levels}
 use Rattle.ed_model.specs.Performing.{Scene, scene_of, session_of, document_after, moved_view, view_after, step_heard, step_made, steps_made, sealed_scene, edit_made, followed, with_caret, with_target, caret_behind, leaving, change_performed, changes_performed, changes_lines, is_last, transaction_performed, save_point_change, history_performed, place_behind}
 use Rattle.ed_model.specs.Changes.{changed_document, changed_lines, changed_view, change_told}
-use Rattle.ed_model.specs.Table.{table, answered, recorded, plan_of, performed, request, table_from_view, table_from_kind, table_if_known, table_from_document}
+use Rattle.ed_model.specs.Table.{table, answered, with_recording, plan_of, performed, request, table_from_view, table_from_kind, table_if_known, table_from_document}
 use Rattle.ed_model.specs.TableLaws.{Answered}
 use Rattle.ed_model.specs.SoundLaws.{IsSound, IsViewOn, ListsItsViews, CommandKeepsSound}
 use Rattle.ed_model.specs.PlansFit.{IsSoundRequest}
@@ -232,7 +232,7 @@ if_recorded true m ms = m ∷ ms
 if_recorded false m ms = ms
 
 recorded_first : (view : ℕ) (kind : Kind) (r : Request) (reply : Response) (replies : List Response) → NoRecords reply.notes
-    → recorded_messages view (recorded kind r reply ∷ replies) ≡ if_recorded ((r.view.records && (marks_of kind).r) && (r.view.id == view)) r.message (recorded_messages view replies)
+    → recorded_messages view (with_recording kind r reply ∷ replies) ≡ if_recorded ((r.view.records && (marks_of kind).r) && (r.view.id == view)) r.message (recorded_messages view replies)
 recorded_first view kind r reply replies none = go (r.view.records && (marks_of kind).r)
   where
     rest : List Notice
@@ -308,7 +308,7 @@ messages_replayed leave known view (m ∷ ms) s t all records h =
     next = (after_command known [] (sent m) s).0
 
     after : List Message → Running → Session
-    after recorded u = (run_to known [] (map (sent_to view) recorded) u).session
+    after with_recording u = (run_to known [] (map (sent_to view) with_recording) u).session
 
     rest : List Message
     rest = recorded_messages view (replies_in (outcomes known [] (map sent ms) next))
@@ -316,10 +316,10 @@ messages_replayed leave known view (m ∷ ms) s t all records h =
     go : Stepped view s.session m (table known s.session m.0 m.1) → ((u : Running) → Records view next.session.views → Same view next.session u.session → Same view (run_to known [] (map sent ms) next).session (after rest u))
         → Same view (run_to known [] (map sent ms) next).session (after (recorded_messages view (replies_in ((after_command known [] (sent m) s).1 ∷ outcomes known [] (map sent ms) next))) t)
     go (inl left) on =
-        subst (λ recorded. Same view (run_to known [] (map sent ms) next).session (after recorded t)) (sym (left.0 (outcomes known [] (map sent ms) next)))
+        subst (λ with_recording. Same view (run_to known [] (map sent ms) next).session (after with_recording t)) (sym (left.0 (outcomes known [] (map sent ms) next)))
         (on t (subst (λ (x : Session). Records view x.views) (sym left.1) records) (subst (λ (x : Session). Same view x t.session) (sym left.1) h))
     go (inr kept) on =
-        subst (λ recorded. Same view (run_to known [] (map sent ms) next).session (after recorded t)) (sym (kept.0 (outcomes known [] (map sent ms) next)))
+        subst (λ with_recording. Same view (run_to known [] (map sent ms) next).session (after with_recording t)) (sym (kept.0 (outcomes known [] (map sent ms) next)))
         (on (after_command known [] (sent_to view m.1) t).0 kept.2
         (subst (λ n. Same view (after_message s.session (table known s.session n m.1)).0.session (after_message t.session (table known t.session view m.1)).0.session) (sym kept.1)
         (table_after_both view known s.session t.session m.1 h)))

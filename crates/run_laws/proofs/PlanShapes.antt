@@ -15,7 +15,10 @@ use Rattle.ed_model.specs.declared.plan.Plan.{Plan}
 use Rattle.ed_model.specs.declared.plan.Plan.TheVariants as plan
 use Rattle.ed_model.specs.Session.{Session, View, Document, references}
 use Rattle.ed_model.specs.Requests.{Request, Planned, with_argument, with_line}
-use Rattle.ed_model.specs.DocumentPlans.{found_target, with_reference, release_of, fold_by, change_session}
+use Rattle.ed_model.specs.Requests.{change_session}
+use Rattle.ed_model.specs.TargetPlans.{found_target}
+use Rattle.ed_model.specs.FoldingPlans.{fold_by}
+use Rattle.ed_model.specs.SessionPlans.{with_reference, release_of}
 use Rattle.ed_types.specs.Messages.{marks_of}
 use Rattle.ed_model.specs.LineEnds.{converted}
 use Rattle.ed_model.specs.Edits.{converted_if}

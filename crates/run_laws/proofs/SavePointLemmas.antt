@@ -23,7 +23,7 @@ use Rattle.ed_model.specs.StepLaws.{CellsFollowBytes}
 use Rattle.ed_model.specs.LineEnds.{after_steps}
 use Rattle.ed_model.specs.History.{History, Change, Transaction, TextStep, ContainerStep, at_save_point, joins, appended, begins_transaction, reachable, seal_first, sealed_outside_groups, with_container_step, undo_changes, redo_changes, undone, undone_to, redone, redone_from, can_undo, can_redo, collecting_set, first_changes}
 use Rattle.ed_model.specs.HistoryLaws.{SameButForSeals, SealsChangeNoChange, GroupBegunChangesNoChange, GroupEndedChangesNoChange, AppendKeepsAllButThePast, AppendJoins, NothingJoinsNone, AppendCounts, NotCollectingAppendsNothing}
-use Rattle.ed_model.specs.DocumentPlans.{text_steps}
+use Rattle.ed_model.specs.UndoPlans.{text_steps}
 use Rattle.ed_model.specs.Session.{Session, Document, View, document_at, view_at, text_of, keeps_no_styles}
 use Rattle.ed_model.specs.Requests.{Request, text}
 use Rattle.ed_model.specs.Edits.{steps_of}
@@ -31,7 +31,7 @@ use Rattle.ed_model.specs.Performing.{Scene, scene_of, document_after, step_made
 use Rattle.ed_model.specs.Changes.{changed_document, restyled, styled}
 use Rattle.ed_model.specs.InverseLaws.{Fits, FitInTurn, after_undo, after_redo, UndoMakesItsSteps, RedoMakesItsSteps, UndoThenRedoGivesBackTheText}
 use Rattle.ed_model.specs.UndoLaws.{undone_text, redone_text, BegunStepIsOneTransactionMore, JoinedStepKeepsEarlierTexts, BegunContainerStepIsOneTransactionMore, JoinedContainerStepKeepsEarlierTexts, UndoKeepsEarlierTexts, RedoIsOneTransactionMore, SealsKeepEarlierTexts}
-use Rattle.ed_model.specs.Table.{table, table_from_view, table_from_kind, table_if_known, request, answered, recorded, record_note, plan_of, opened, closed_view}
+use Rattle.ed_model.specs.Table.{table, table_from_view, table_from_kind, table_if_known, request, answered, with_recording, record_note, plan_of, opened, closed_view}
 use Rattle.ed_model.specs.TableLaws.{Answered}
 use Rattle.ed_model.specs.SoundLaws.{IsSound, IsSoundDocument, FitsText, AreStepsOf, CommandKeepsSound}
 use Rattle.ed_model.specs.PlansFit.{IsSoundRequest, IsFitPlan, PlansFit, EditStepsFit, UndoStepsFit, RedoStepsFit}
@@ -515,8 +515,8 @@ get_modify_tells known s view m v d done is sees finds e zero_is = go (known Get
     go : (b : Bool) → known GetModify ≡ b → at_save_point d.history ≡ true
     go true knows =
         let r = request s v d m in
-        let here : table known s view m ≡ Ok (r.session, recorded GetModify r (quiet (flag (not (at_save_point d.history))))) = table_at known s view m v GetModify d sees is knows finds in
-        zero_only_if (at_save_point d.history) (v.records && (marks_of GetModify).r) r done (let both : done ≡ (r.session, recorded GetModify r (quiet (flag (not (at_save_point d.history))))) = cc in both) zero_is
+        let here : table known s view m ≡ Ok (r.session, with_recording GetModify r (quiet (flag (not (at_save_point d.history))))) = table_at known s view m v GetModify d sees is knows finds in
+        zero_only_if (at_save_point d.history) (v.records && (marks_of GetModify).r) r done (let both : done ≡ (r.session, with_recording GetModify r (quiet (flag (not (at_save_point d.history))))) = cc in both) zero_is
     go false unknown =
         let no : table known s view m ≡ Err UnknownMessage = ap (table_from_view known s m) sees ∙ ap (table_from_kind known s v m) is ∙ ap (λ b. table_if_known b s v GetModify m) unknown in
         absurd (cc)

@@ -17,7 +17,7 @@ use Rattle.ed_model.specs.declared.plan.Plan.TheVariants as plan
 use Rattle.ed_model.specs.Session.{Session, View, Document, view_at, document_at, text_of, new_session, limit_of}
 use Rattle.ed_model.specs.Requests.{Request, Planned, size}
 use Rattle.ed_model.specs.Edits.{stays_within}
-use Rattle.ed_model.specs.DocumentPlans.{act_on_history, text_steps}
+use Rattle.ed_model.specs.UndoPlans.{act_on_history, text_steps}
 use Rattle.ed_model.specs.Table.{table, answered, plan_of, request, opened, closed}
 use Rattle.ed_model.specs.TableLaws.{Answered, LeavesSession, QueriesLeaveTheSession}
 use Rattle.ed_model.specs.SoundLaws.{IsSound, CommandKeepsSound, IsSoundInEveryState}

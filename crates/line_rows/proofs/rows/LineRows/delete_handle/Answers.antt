@@ -3,7 +3,7 @@ use Rattle.line_rows.proofs.RowReads.{went, rows_count, rows_dropped, found_from
 use Rattle.ed_model.specs.Rows.{Marker}
 use Rattle.std.specs.List.{list_any}
 use Rattle.ed_model.specs.Numbers.{meets}
-use Rattle.ed_model.specs.DocumentPlans.{mask_of}
+use Rattle.ed_model.specs.LinePlans.{mask_of}
 use Rattle.ed_model.specs.Changes.{marker_count}
 use Rattle.std.proofs.lemmas.List.{length-set, length-map}
 use Rattle.marker_store.specs.Lines.{marker_total}

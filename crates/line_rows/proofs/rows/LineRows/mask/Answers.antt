@@ -1,6 +1,6 @@
 use Rattle.std.proofs.Common.{◌≡◌, ◌+◌, ◌-◌, ◌<◌, ◌≤◌, ◌==◌, ◌∷◌, ◌++◌, ℕ, ℤ, pos, Bool, List, length, set, drop, Option, sym, ap, ◌∙◌, subst, arith}
 use Rattle.line_rows.proofs.RowReads.{parts_length, parts_markers}
-use Rattle.ed_model.specs.DocumentPlans.{mask_of}
+use Rattle.ed_model.specs.LinePlans.{mask_of}
 use Rattle.line_rows.specs.Kept.{row_room, KeptRows, levels_of, row_at}
 use Rattle.line_rows.proofs.rows.LineRows.mask.Goals as goal
 

@@ -3,7 +3,7 @@ use Rattle.line_rows.proofs.RowReads.{found_from}
 use Rattle.ed_model.specs.Rows.{Marker}
 use Rattle.std.specs.List.{list_any}
 use Rattle.ed_model.specs.Numbers.{meets}
-use Rattle.ed_model.specs.DocumentPlans.{mask_of}
+use Rattle.ed_model.specs.LinePlans.{mask_of}
 use Rattle.line_rows.specs.Kept.{row_room, KeptRows, levels_of, row_at}
 use Rattle.line_rows.proofs.rows.LineRows.next.Goals as goal
 

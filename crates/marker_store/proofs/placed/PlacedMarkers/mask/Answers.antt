@@ -1,6 +1,6 @@
 use Rattle.std.proofs.Common.{◌≡◌, ◌+◌, ◌<◌, length, take, arith, sym, ap, ◌∙◌}
 use Rattle.std.specs.Prelude.{bit_or, ◌^◌}
-use Rattle.ed_model.specs.DocumentPlans.{mask_of}
+use Rattle.ed_model.specs.LinePlans.{mask_of}
 use Rattle.marker_store.specs.Entries.{Entry, entry, row}
 use Rattle.marker_store.proofs.Rows.{row_before}
 use Rattle.marker_store.proofs.Indexes.{before_at, from_at, cut_le}

@@ -1,5 +1,5 @@
 use Rattle.std.proofs.Common.{◌≡◌, take}
-use Rattle.ed_model.specs.DocumentPlans.{mask_of}
+use Rattle.ed_model.specs.LinePlans.{mask_of}
 use Rattle.marker_store.specs.Entries.{row}
 use Rattle.marker_store.proofs.placed.PlacedMarkers.mask.Given as goal
 
