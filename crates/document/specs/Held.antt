@@ -26,7 +26,7 @@ plain_document id cells history views = record {
   line_end_types = Default;
   next_handle = 1;
   views = views;
-  held = 0;
+  held_by_callers = 0;
 }
 
 -- What a `Document` keeps: its cells, its history and the views attached to it; and how many bytes and lines fit in, and how many

@@ -274,7 +274,7 @@ with_reference_is_free r (Some d) change = either_keeps IsFree refusal_is_free (
 
 release_is_free : (d : Option Document) → IsFree (release_of d)
 release_is_free None = tt
-release_is_free (Some d) = either_keeps IsFree refusal_is_free (nat_lt 0 d.held) (change_session (session_change.Release d.id)) (Err NoSuchDocument) tt tt
+release_is_free (Some d) = either_keeps IsFree refusal_is_free (nat_lt 0 d.held_by_callers) (change_session (session_change.Release d.id)) (Err NoSuchDocument) tt tt
 
 ruleset free_arguments = (free_with_argument, free_with_line, free_either, found_target_is_free)
 

@@ -195,10 +195,10 @@ attached_relisted view id d =
     (λ e. record { id = refl; history = refl; cells = refl; read_only = refl }) (λ e. record { id = refl; history = refl; cells = refl; read_only = refl })
 
 held_more_relisted : (id : ℕ) (d : Document) → IsRelisted d (held_more id d)
-held_more_relisted id d = both_hold (IsRelisted d) (d.id == id) (record d { held = d.held + 1 }) d (λ e. record { id = refl; history = refl; cells = refl; read_only = refl }) (λ e. same_listed d)
+held_more_relisted id d = both_hold (IsRelisted d) (d.id == id) (record d { held_by_callers = d.held_by_callers + 1 }) d (λ e. record { id = refl; history = refl; cells = refl; read_only = refl }) (λ e. same_listed d)
 
 held_less_relisted : (id : ℕ) (d : Document) → IsRelisted d (held_less id d)
-held_less_relisted id d = both_hold (IsRelisted d) (d.id == id) (record d { held = d.held - 1 }) d (λ e. record { id = refl; history = refl; cells = refl; read_only = refl }) (λ e. same_listed d)
+held_less_relisted id d = both_hold (IsRelisted d) (d.id == id) (record d { held_by_callers = d.held_by_callers - 1 }) d (λ e. record { id = refl; history = refl; cells = refl; read_only = refl }) (λ e. same_listed d)
 
 -- What a plan does.
 
@@ -220,7 +220,7 @@ session_change_goes_on Own r session_change.AttachNew h =
     (lists_go_on_pushed Own s.documents (new_document s.next_document 0) refl)
 session_change_goes_on Own r (session_change.Create options) h =
     let d = new_document r.session.next_document options in
-    lists_go_on_pushed Own r.session.documents (record d { held = 1 }) refl
+    lists_go_on_pushed Own r.session.documents (record d { held_by_callers = 1 }) refl
 session_change_goes_on Own r (session_change.AddReference id) h =
     lists_go_on_mapped Own r.session.documents r.session.documents (held_more id) (held_more_relisted id) (lists_go_on_same Own r.session.documents)
 session_change_goes_on Own r (session_change.Release id) h =

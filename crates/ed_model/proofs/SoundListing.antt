@@ -139,7 +139,7 @@ lists_attached views d v ds there all =
 pub lists_more : (views : List View) (id : ℕ) (ds : List Document) → AllByRecursion (ListsItsViews views) ds → AllByRecursion (ListsItsViews views) (map (held_more id) ds)
 lists_more views id ds all = all_map (ListsItsViews views) (ListsItsViews views) (held_more id) (λ d l. go d (d.id == id) l) ds all
   where
-    go : (d : Document) (b : Bool) → ListsItsViews views d → ListsItsViews views (cond b (record d { held = d.held + 1 }) d)
+    go : (d : Document) (b : Bool) → ListsItsViews views d → ListsItsViews views (cond b (record d { held_by_callers = d.held_by_callers + 1 }) d)
     go d true l = l
     go d false l = l
 
@@ -148,6 +148,6 @@ lists_less views id ds all =
     all_filter (ListsItsViews views) (λ (d : Document). nat_lt 0 (references d)) (map (held_less id) ds)
     (all_map (ListsItsViews views) (ListsItsViews views) (held_less id) (λ d l. go d (d.id == id) l) ds all)
   where
-    go : (d : Document) (b : Bool) → ListsItsViews views d → ListsItsViews views (cond b (record d { held = d.held - 1 }) d)
+    go : (d : Document) (b : Bool) → ListsItsViews views d → ListsItsViews views (cond b (record d { held_by_callers = d.held_by_callers - 1 }) d)
     go d true l = l
     go d false l = l

@@ -247,8 +247,8 @@ release_fits r (pos id) = go (document_at r.session.documents id) refl
     go : (o : Option Document) → document_at r.session.documents id ≡ o → IsFitPlanned r (release_of o)
     go None e = tt
     go (Some d) e =
-        if_fits r (nat_lt 0 d.held) _ _
-        (λ t. (d, ap (document_at r.session.documents) (document_id r.session.documents id d e) ∙ e, ltb-true 0 d.held t)) (λ _. tt)
+        if_fits r (nat_lt 0 d.held_by_callers) _ _
+        (λ t. (d, ap (document_at r.session.documents) (document_id r.session.documents id d e) ∙ e, ltb-true 0 d.held_by_callers t)) (λ _. tt)
 
 set_doc_pointer_fits : (r : Request) → IsFitPlanned r (SessionPlans.set_doc_pointer r)
 set_doc_pointer_fits r =

@@ -22,11 +22,11 @@ use Rattle.ed_model.proofs.SoundFinding.{all_map, all_weaker, all_append, docume
 -- A document with other references.
 
 abbrev pub with_references : List ℕ → ℕ → Document → Document
-with_references views held d = record d { views = views; held = held }
+with_references views held_by_callers d = record d { views = views; held_by_callers = held_by_callers }
 
-pub relisted_sound : (limits : Limits) (d : Document) (views views' : List ℕ) (held held' : ℕ) → IsSoundDocument limits (with_references views held d)
+pub relisted_sound : (limits : Limits) (d : Document) (views views' : List ℕ) (held_by_callers held' : ℕ) → IsSoundDocument limits (with_references views held_by_callers d)
     → 0 < length views' + held' → IsSoundDocument limits (with_references views' held' d)
-relisted_sound limits d views views' held held' was some = record {
+relisted_sound limits d views views' held_by_callers held' was some = record {
   line_starts = was.line_starts;
   rows = was.rows;
   indicator_count = was.indicator_count;
@@ -39,8 +39,8 @@ relisted_sound limits d views views' held held' was some = record {
   history = was.history;
 }
 
-pub relisted_stands : (d : Document) (v : View) (views : List ℕ) (held : ℕ) → StandsOn d v → occurrences v.id views ≡ 1 → StandsOn (with_references views held d) v
-relisted_stands d v views held on listed = record {
+pub relisted_stands : (d : Document) (v : View) (views : List ℕ) (held_by_callers : ℕ) → StandsOn d v → occurrences v.id views ≡ 1 → StandsOn (with_references views held_by_callers d) v
+relisted_stands d v views held_by_callers on listed = record {
   anchor = on.anchor;
   caret = on.caret;
   target_start = on.target_start;
@@ -54,22 +54,22 @@ relisted_stands d v views held on listed = record {
 -- a change of references alone
 pub record Relists (g : Document → Document) : Type 0 where
   pub views : Document → List ℕ
-  pub held : Document → ℕ
-  pub is : (d : Document) → g d ≡ with_references (views d) (held d) d
+  pub held_by_callers : Document → ℕ
+  pub is : (d : Document) → g d ≡ with_references (views d) (held_by_callers d) d
 
 -- a document that is sound, or would be if it were held
 abbrev pub IsSoundIfHeld : Limits → Document → Type 0
-IsSoundIfHeld limits d = IsSoundDocument limits (with_references d.views (d.held + 1) d)
+IsSoundIfHeld limits d = IsSoundDocument limits (with_references d.views (d.held_by_callers + 1) d)
 
 pub sound_if_held : (limits : Limits) (d : Document) → IsSoundDocument limits d → IsSoundIfHeld limits d
-sound_if_held limits d was = relisted_sound limits d d.views d.views d.held (d.held + 1) was (omega arith)
+sound_if_held limits d was = relisted_sound limits d d.views d.views d.held_by_callers (d.held_by_callers + 1) was (omega arith)
 
 -- The living among changed documents.
 
 living_sound_one : (limits : Limits) (g : Document → Document) → Relists g → (d : Document) → IsSoundIfHeld limits d → nat_lt 0 (references (g d)) ≡ true → IsSoundDocument limits (g d)
 living_sound_one limits g r d was t =
-    let some : 0 < length (r.views d) + r.held d = subst (λ e. 0 < references e) (r.is d) (ltb-true 0 (references (g d)) t) in
-    subst (λ e. IsSoundDocument limits e) (sym (r.is d)) (relisted_sound limits d d.views (r.views d) (d.held + 1) (r.held d) was some)
+    let some : 0 < length (r.views d) + r.held_by_callers d = subst (λ e. 0 < references e) (r.is d) (ltb-true 0 (references (g d)) t) in
+    subst (λ e. IsSoundDocument limits e) (sym (r.is d)) (relisted_sound limits d d.views (r.views d) (d.held_by_callers + 1) (r.held_by_callers d) was some)
 
 pub living_sound : (limits : Limits) (g : Document → Document) → Relists g → (ds : List Document) → AllByRecursion (IsSoundIfHeld limits) ds
     → AllByRecursion (IsSoundDocument limits) (living (map g ds))
@@ -134,13 +134,13 @@ pub living_view : (g : Document → Document) → Relists g → (ds : List Docum
 living_view g r ds v h listed =
     let d = h.document in
     let once : occurrences v.id (g d).views ≡ 1 = listed d h.found in
-    let is : g d ≡ with_references (r.views d) (r.held d) d = r.is d in
+    let is : g d ≡ with_references (r.views d) (r.held_by_callers d) d = r.is d in
     let once' : occurrences v.id (r.views d) ≡ 1 = subst (λ e. occurrences v.id e.views ≡ 1) is once in
     let some : 0 < references (g d) = (let n = listed_some v.id (g d).views once in omega arith) in
     record {
       document = g d;
       found = living_found (map g ds) v.document (g d) (mapped_found g r ds v.document d h.found) some;
-      stands = subst (λ e. StandsOn e v) (sym is) (relisted_stands d v (r.views d) (r.held d) h.stands once');
+      stands = subst (λ e. StandsOn e v) (sym is) (relisted_stands d v (r.views d) (r.held_by_callers d) h.stands once');
     }
 
 -- A view that leaves.
@@ -166,13 +166,13 @@ without_itself id (x ∷ xs) = go (x == id) refl (without_itself id xs)
     go false t rest = rw t rest
 
 left_relists : (id : ℕ) → Relists (left_by id)
-left_relists id = record { views = λ d. without id d.views; held = λ d. d.held; is = λ d. refl }
+left_relists id = record { views = λ d. without id d.views; held_by_callers = λ d. d.held_by_callers; is = λ d. refl }
 
 attached_relists : (view id : ℕ) → Relists (attached_last view id)
-attached_relists view id = record { views = λ d. cond (d.id == id) (without view d.views ++ view ∷ []) (without view d.views); held = λ d. d.held; is = λ d. by_test d (d.id == id) }
+attached_relists view id = record { views = λ d. cond (d.id == id) (without view d.views ++ view ∷ []) (without view d.views); held_by_callers = λ d. d.held_by_callers; is = λ d. by_test d (d.id == id) }
   where
     by_test : (d : Document) (b : Bool) → cond b (record d { views = without view d.views ++ view ∷ [] }) (left_by view d)
-        ≡ with_references (cond b (without view d.views ++ view ∷ []) (without view d.views)) d.held d
+        ≡ with_references (cond b (without view d.views ++ view ∷ []) (without view d.views)) d.held_by_callers d
     by_test d true = refl
     by_test d false = refl
 
@@ -265,7 +265,7 @@ attached_sound s id d v h there indicator found = record {
           found = living_found (map (attached_last v.id d.id) s.documents) d.id (attached_last v.id d.id d)
               (mapped_found (attached_last v.id d.id) (attached_relists v.id d.id) s.documents d.id d at) some;
           stands = subst (λ (e : Document). StandsOn e (attached_to d v)) (sym ((attached_relists v.id d.id).is d))
-              (fresh_stands (with_references ((attached_relists v.id d.id).views d) d.held d) (attached_to d v)
+              (fresh_stands (with_references ((attached_relists v.id d.id).views d) d.held_by_callers d) (attached_to d v)
               (ap (λ (e : Document). occurrences v.id e.views) (sym ((attached_relists v.id d.id).is d)) ∙ once) refl refl refl refl refl indicator);
         }
     go w k false t =
@@ -311,8 +311,8 @@ pub view_before : (ds es : List Document) (v : View) → IsSoundView ds v → Is
 view_before ds es v h = record { document = h.document; found = found_before ds es v.document h.document h.found; stands = h.stands }
 
 -- a new document is sound once something refers to it
-pub new_document_sound : (limits : Limits) (id options : ℕ) (views : List ℕ) (held : ℕ) → 0 < length views + held → IsSoundDocument limits (with_references views held (new_document id options))
-new_document_sound limits id options views held some = record {
+pub new_document_sound : (limits : Limits) (id options : ℕ) (views : List ℕ) (held_by_callers : ℕ) → 0 < length views + held_by_callers → IsSoundDocument limits (with_references views held_by_callers (new_document id options))
+new_document_sound limits id options views held_by_callers some = record {
   line_starts = are_line_starts Default [];
   rows = refl;
   indicator_count = refl;
@@ -368,16 +368,16 @@ attached_any_sound s id v h there indicator = go (document_at s.documents id) re
 -- References that callers hold.
 
 more_relists : (id : ℕ) → Relists (held_more id)
-more_relists id = record { views = λ d. d.views; held = λ d. cond (d.id == id) (d.held + 1) d.held; is = λ d. by_test d (d.id == id) }
+more_relists id = record { views = λ d. d.views; held_by_callers = λ d. cond (d.id == id) (d.held_by_callers + 1) d.held_by_callers; is = λ d. by_test d (d.id == id) }
   where
-    by_test : (d : Document) (b : Bool) → cond b (record d { held = d.held + 1 }) d ≡ with_references d.views (cond b (d.held + 1) d.held) d
+    by_test : (d : Document) (b : Bool) → cond b (record d { held_by_callers = d.held_by_callers + 1 }) d ≡ with_references d.views (cond b (d.held_by_callers + 1) d.held_by_callers) d
     by_test d true = refl
     by_test d false = refl
 
 less_relists : (id : ℕ) → Relists (held_less id)
-less_relists id = record { views = λ d. d.views; held = λ d. cond (d.id == id) (d.held - 1) d.held; is = λ d. by_test d (d.id == id) }
+less_relists id = record { views = λ d. d.views; held_by_callers = λ d. cond (d.id == id) (d.held_by_callers - 1) d.held_by_callers; is = λ d. by_test d (d.id == id) }
   where
-    by_test : (d : Document) (b : Bool) → cond b (record d { held = d.held - 1 }) d ≡ with_references d.views (cond b (d.held - 1) d.held) d
+    by_test : (d : Document) (b : Bool) → cond b (record d { held_by_callers = d.held_by_callers - 1 }) d ≡ with_references d.views (cond b (d.held_by_callers - 1) d.held_by_callers) d
     by_test d true = refl
     by_test d false = refl
 
@@ -398,12 +398,12 @@ held_more_sound s id h = record {
     ids [] = refl
     ids (d ∷ ds) = let a = relisted_id (held_more id) (more_relists id) d in let b = ids ds in cc
 
-    one : (d : Document) → IsSoundDocument s.limits d → (b : Bool) → IsSoundDocument s.limits (cond b (record d { held = d.held + 1 }) d)
-    one d was true = relisted_sound s.limits d d.views d.views d.held (d.held + 1) was (omega arith)
+    one : (d : Document) → IsSoundDocument s.limits d → (b : Bool) → IsSoundDocument s.limits (cond b (record d { held_by_callers = d.held_by_callers + 1 }) d)
+    one d was true = relisted_sound s.limits d d.views d.views d.held_by_callers (d.held_by_callers + 1) was (omega arith)
     one d was false = was
 
-    on : (d : Document) (v : View) (b : Bool) → StandsOn d v → StandsOn (cond b (record d { held = d.held + 1 }) d) v
-    on d v true k = relisted_stands d v d.views (d.held + 1) k k.listed
+    on : (d : Document) (v : View) (b : Bool) → StandsOn d v → StandsOn (cond b (record d { held_by_callers = d.held_by_callers + 1 }) d) v
+    on d v true k = relisted_stands d v d.views (d.held_by_callers + 1) k k.listed
     on d v false k = k
 
 pub released_sound : (s : Session) (id : ℕ) → IsSound s → IsSound (record s { documents = living (map (held_less id) s.documents) })

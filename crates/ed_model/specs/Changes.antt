@@ -212,10 +212,10 @@ abbrev pub with_new_document : Document → Session → Session
 with_new_document d s = record s { documents = s.documents ++ d ∷ []; next_document = s.next_document + 1 }
 
 abbrev pub held_more : ℕ → Document → Document
-held_more id d = if d.id == id then record d { held = d.held + 1 } else d
+held_more id d = if d.id == id then record d { held_by_callers = d.held_by_callers + 1 } else d
 
 abbrev pub held_less : ℕ → Document → Document
-held_less id d = if d.id == id then record d { held = d.held - 1 } else d
+held_less id d = if d.id == id then record d { held_by_callers = d.held_by_callers - 1 } else d
 
 abbrev pub session_changed : Request → SessionChange → Session
 session_changed r (session_change.Copy start count) = let s = r.session in record s { clipboard = slice_range (text r) start (start + count) }
@@ -224,6 +224,6 @@ session_changed r (session_change.Attach document) = attached document r.view r.
 session_changed r session_change.AttachNew =
     let s = r.session in attached s.next_document r.view (with_new_document (new_document s.next_document 0) s)
 session_changed r (session_change.Create options) =
-    let s = r.session in let d = new_document s.next_document options in with_new_document (record d { held = 1 }) s
+    let s = r.session in let d = new_document s.next_document options in with_new_document (record d { held_by_callers = 1 }) s
 session_changed r (session_change.AddReference document) = let s = r.session in record s { documents = map (held_more document) s.documents }
 session_changed r (session_change.Release document) = let s = r.session in record s { documents = living (map (held_less document) s.documents) }

@@ -80,7 +80,7 @@ IsFitSessionChange r (session_change.Attach id) = (d : Document) × (document_at
 IsFitSessionChange r session_change.AttachNew = r.session.next_document ≤ r.session.limits.ids
 IsFitSessionChange r (session_change.Create options) = r.session.next_document ≤ r.session.limits.ids
 IsFitSessionChange r (session_change.AddReference id) = (d : Document) × (document_at r.session.documents id ≡ Some d) × (references d < r.session.limits.refs)
-IsFitSessionChange r (session_change.Release id) = (d : Document) × (document_at r.session.documents id ≡ Some d) × (0 < d.held)
+IsFitSessionChange r (session_change.Release id) = (d : Document) × (document_at r.session.documents id ≡ Some d) × (0 < d.held_by_callers)
 
 -- no step takes the text past its limit
 abbrev pub IsRoomFor : Request → List Step → Type 0

@@ -27,7 +27,7 @@ pub record Document : Type 0 where
   pub line_end_types : LineEndTypes
   pub next_handle : ℕ
   pub views : List ℕ
-  pub held : ℕ
+  pub held_by_callers : ℕ
 
 -- A view: its document; anchor, caret and target; what it searches with; which kinds of change it hears; its indicator and the
 -- value that it fills in; whether it turns the line ends of what it pastes, and records; and the flags of each line.
@@ -89,7 +89,7 @@ new_document id options = record {
   line_end_types = Default;
   next_handle = 1;
   views = [];
-  held = 0;
+  held_by_callers = 0;
 }
 
 -- all kinds of change are heard
@@ -150,7 +150,7 @@ watching views d = filter_map (view_at views) d.views
 -- References: the views attached, and those that callers hold. A document lives as long as it has one.
 
 abbrev pub references : Document → ℕ
-references d = length d.views + d.held
+references d = length d.views + d.held_by_callers
 
 abbrev pub living : List Document → List Document
 living documents = filter (λ (d : Document). nat_lt 0 (references d)) documents

@@ -58,7 +58,7 @@ add_ref_document r = with_reference r (document_named r.session r.message.l) ses
 -- only a reference that a caller holds can be released
 abbrev pub release_of : Option Document → Planned
 release_of None = Err NoSuchDocument
-release_of (Some d) = if nat_lt 0 d.held then change_session (session_change.Release d.id) else Err NoSuchDocument
+release_of (Some d) = if nat_lt 0 d.held_by_callers then change_session (session_change.Release d.id) else Err NoSuchDocument
 
 abbrev pub release_document : Request → Planned
 release_document r = release_of (document_named r.session r.message.l)

@@ -80,7 +80,7 @@ opened_so old new views all next limits sound few view_id_left document_id_left 
 -- Closing.
 
 leaves : (view : ℕ) → Relists (left_by view)
-leaves view = record { views = λ d. without view d.views; held = λ d. d.held; is = λ d. refl }
+leaves view = record { views = λ d. without view d.views; held_by_callers = λ d. d.held_by_callers; is = λ d. refl }
 
 some_listed : (id : ℕ) (ids : List ℕ) → occurrences id ids ≡ 1 → 0 < length ids
 some_listed id [] e = absurd (omega arith)

@@ -100,10 +100,10 @@ own_id r (plan.ChangeSession change value) = refl
 
 -- a document that was made new, with whichever views and references
 abbrev pub IsMadeNew : Document → Type 0
-IsMadeNew e = (options : ℕ) × (e ≡ record (new_document e.id options) { views = e.views; held = e.held })
+IsMadeNew e = (options : ℕ) × (e ≡ record (new_document e.id options) { views = e.views; held_by_callers = e.held_by_callers })
 
 module _ (Goes : Document → Document → Type 0) (same : (d : Document) → Goes d d)
-    (relisted : (d e : Document) (views : List ℕ) (held : ℕ) → Goes d e → Goes d (record e { views = views; held = held })) where
+    (relisted : (d e : Document) (views : List ℕ) (held_by_callers : ℕ) → Goes d e → Goes d (record e { views = views; held_by_callers = held_by_callers })) where
   -- a document goes on from what it was, or it was made new, with an id from the next one on
   abbrev pub From : ℕ → Option Document → Document → Type 0
   From next None e = (next ≤ e.id) × IsMadeNew e
@@ -130,29 +130,29 @@ module _ (Goes : Document → Document → Type 0) (same : (d : Document) → Go
           let other : id ≡ new.id → ⊥ = λ at. let yes = eq-eqb id new.id at in absurd (cc) in
           all_same next ds id e (sym (replaced_other ds new id other) ∙ f)
 
-  from_relisted : (next : ℕ) (o : Option Document) (e : Document) (views : List ℕ) (held : ℕ) → From next o e → From next o (record e { views = views; held = held })
-  from_relisted next None e views held h = (h.0, (h.1.0, ap (λ (x : Document). record x { views = views; held = held }) h.1.1))
-  from_relisted next (Some d) e views held h = relisted d e views held h
+  from_relisted : (next : ℕ) (o : Option Document) (e : Document) (views : List ℕ) (held_by_callers : ℕ) → From next o e → From next o (record e { views = views; held_by_callers = held_by_callers })
+  from_relisted next None e views held_by_callers h = (h.0, (h.1.0, ap (λ (x : Document). record x { views = views; held_by_callers = held_by_callers }) h.1.1))
+  from_relisted next (Some d) e views held_by_callers h = relisted d e views held_by_callers h
 
   -- documents whose views and references change
-  pub all_mapped : (next : ℕ) (ds es : List Document) (views : Document → List ℕ) (held : Document → ℕ) → AllFrom next ds es
-      → AllFrom next ds (map (λ (d : Document). record d { views = views d; held = held d }) es)
-  all_mapped next ds es views held h id e f = go (document_at es id) refl (sym (mapped_at (λ (d : Document). record d { views = views d; held = held d }) (λ d. refl) es id) ∙ f)
+  pub all_mapped : (next : ℕ) (ds es : List Document) (views : Document → List ℕ) (held_by_callers : Document → ℕ) → AllFrom next ds es
+      → AllFrom next ds (map (λ (d : Document). record d { views = views d; held_by_callers = held_by_callers d }) es)
+  all_mapped next ds es views held_by_callers h id e f = go (document_at es id) refl (sym (mapped_at (λ (d : Document). record d { views = views d; held_by_callers = held_by_callers d }) (λ d. refl) es id) ∙ f)
     where
-      go : (o : Option Document) → document_at es id ≡ o → option_map (λ (d : Document). record d { views = views d; held = held d }) o ≡ Some e → From next (document_at ds id) e
+      go : (o : Option Document) → document_at es id ≡ o → option_map (λ (d : Document). record d { views = views d; held_by_callers = held_by_callers d }) o ≡ Some e → From next (document_at ds id) e
       go None found g = absurd (cc)
       go (Some x) found g =
-          let is : record x { views = views x; held = held x } ≡ e = cc in
-          subst (From next (document_at ds id)) is (from_relisted next (document_at ds id) x (views x) (held x) (h id x found))
+          let is : record x { views = views x; held_by_callers = held_by_callers x } ≡ e = cc in
+          subst (From next (document_at ds id)) is (from_relisted next (document_at ds id) x (views x) (held_by_callers x) (h id x found))
 
   pub all_living : (next : ℕ) (ds es : List Document) (low high : ℕ) → Rise low high (map (λ (x : Document). x.id) es) → AllFrom next ds es → AllFrom next ds (living es)
   all_living next ds es low high rise h id e f = h id e (living_from low high es id e rise f)
 
-  pub all_relisted : (next : ℕ) (ds es : List Document) (views : Document → List ℕ) (held : Document → ℕ) (high : ℕ) → Rise 0 high (map (λ (x : Document). x.id) es) → AllFrom next ds es
-      → AllFrom next ds (living (map (λ (d : Document). record d { views = views d; held = held d }) es))
-  all_relisted next ds es views held high rise h =
-      let g : Document → Document = λ (d : Document). record d { views = views d; held = held d } in
-      all_living next ds (map g es) 0 high (subst (Rise 0 high) (sym (mapped_ids g (λ d. refl) es)) rise) (all_mapped next ds es views held h)
+  pub all_relisted : (next : ℕ) (ds es : List Document) (views : Document → List ℕ) (held_by_callers : Document → ℕ) (high : ℕ) → Rise 0 high (map (λ (x : Document). x.id) es) → AllFrom next ds es
+      → AllFrom next ds (living (map (λ (d : Document). record d { views = views d; held_by_callers = held_by_callers d }) es))
+  all_relisted next ds es views held_by_callers high rise h =
+      let g : Document → Document = λ (d : Document). record d { views = views d; held_by_callers = held_by_callers d } in
+      all_living next ds (map g es) 0 high (subst (Rise 0 high) (sym (mapped_ids g (λ d. refl) es)) rise) (all_mapped next ds es views held_by_callers h)
 
   -- a new document comes last
   pub all_pushed : (next : ℕ) (ds : List Document) (new : Document) → next ≤ new.id → IsMadeNew new → AllFrom next ds (ds ++ new ∷ [])
@@ -171,23 +171,23 @@ module _ (Goes : Document → Document → Type 0) (same : (d : Document) → Go
   abbrev attached_views : ℕ → ℕ → Document → List ℕ
   attached_views view id d = (attached_last view id d).views
 
-  attached_is : (view id : ℕ) (d : Document) → attached_last view id d ≡ record d { views = attached_views view id d; held = d.held }
+  attached_is : (view id : ℕ) (d : Document) → attached_last view id d ≡ record d { views = attached_views view id d; held_by_callers = d.held_by_callers }
   attached_is view id d = go (d.id == id)
     where
       go : (b : Bool) → (let left = left_by view d in cond b (record left { views = left.views ++ view ∷ [] }) left)
-          ≡ record d { views = (let left = left_by view d in cond b (record left { views = left.views ++ view ∷ [] }) left).views; held = d.held }
+          ≡ record d { views = (let left = left_by view d in cond b (record left { views = left.views ++ view ∷ [] }) left).views; held_by_callers = d.held_by_callers }
       go true = refl
       go false = refl
 
-  held_more_is : (id : ℕ) (d : Document) → held_more id d ≡ record d { views = d.views; held = (held_more id d).held }
+  held_more_is : (id : ℕ) (d : Document) → held_more id d ≡ record d { views = d.views; held_by_callers = (held_more id d).held_by_callers }
   held_more_is id d = go (d.id == id)
     where
-      go : (b : Bool) → cond b (record d { held = d.held + 1 }) d ≡ record d { views = d.views; held = (cond b (record d { held = d.held + 1 }) d).held }
+      go : (b : Bool) → cond b (record d { held_by_callers = d.held_by_callers + 1 }) d ≡ record d { views = d.views; held_by_callers = (cond b (record d { held_by_callers = d.held_by_callers + 1 }) d).held_by_callers }
       go true = refl
       go false = refl
 
-  held_less_is : (id : ℕ) (d : Document) → held_less id d ≡ record d { views = d.views; held = (held_less id d).held }
-  held_less_is id d = either (λ (e : Document). e ≡ record d { views = d.views; held = e.held }) (d.id == id) _ d refl refl
+  held_less_is : (id : ℕ) (d : Document) → held_less id d ≡ record d { views = d.views; held_by_callers = (held_less id d).held_by_callers }
+  held_less_is id d = either (λ (e : Document). e ≡ record d { views = d.views; held_by_callers = e.held_by_callers }) (d.id == id) _ d refl refl
 
   mapped_as : (g h : Document → Document) → ((d : Document) → g d ≡ h d) → (ds : List Document) → map g ds ≡ map h ds
   mapped_as g h same [] = refl
@@ -198,7 +198,7 @@ module _ (Goes : Document → Document → Type 0) (same : (d : Document) → Go
   with_attached_from next ds s None v high rise h = h
   with_attached_from next ds s (Some d) v high rise h =
       subst (λ (es : List Document). AllFrom next ds (living es)) (sym (mapped_as (attached_last v.id d.id) _ (attached_is v.id d.id) s.documents))
-      (all_relisted next ds s.documents (attached_views v.id d.id) (λ (x : Document). x.held) high rise h)
+      (all_relisted next ds s.documents (attached_views v.id d.id) (λ (x : Document). x.held_by_callers) high rise h)
 
   session_change_from : (r : Request) (what : SessionChange) → IsSound r.session → AllFrom r.session.next_document r.session.documents (session_changed r what).documents
   session_change_from r (session_change.Copy start count) h = all_same r.session.next_document r.session.documents
@@ -215,15 +215,15 @@ module _ (Goes : Document → Document → Type 0) (same : (d : Document) → Go
   session_change_from r (session_change.Create options) h =
       let s = r.session in
       let d = new_document s.next_document options in
-      all_pushed s.next_document s.documents (record d { held = 1 }) (omega arith) (options, refl)
+      all_pushed s.next_document s.documents (record d { held_by_callers = 1 }) (omega arith) (options, refl)
   session_change_from r (session_change.AddReference id) h =
       let s = r.session in
       subst (λ (es : List Document). AllFrom s.next_document s.documents es) (sym (mapped_as (held_more id) _ (held_more_is id) s.documents))
-      (all_mapped s.next_document s.documents s.documents (λ (d : Document). d.views) (λ (d : Document). (held_more id d).held) (all_same s.next_document s.documents))
+      (all_mapped s.next_document s.documents s.documents (λ (d : Document). d.views) (λ (d : Document). (held_more id d).held_by_callers) (all_same s.next_document s.documents))
   session_change_from r (session_change.Release id) h =
       let s = r.session in
       subst (λ (es : List Document). AllFrom s.next_document s.documents (living es)) (sym (mapped_as (held_less id) _ (held_less_is id) s.documents))
-      (all_relisted s.next_document s.documents s.documents (λ (d : Document). d.views) (λ (d : Document). (held_less id d).held) s.next_document h.document_ids (all_same s.next_document s.documents))
+      (all_relisted s.next_document s.documents s.documents (λ (d : Document). d.views) (λ (d : Document). (held_less id d).held_by_callers) s.next_document h.document_ids (all_same s.next_document s.documents))
 
   -- What a plan does.
 
@@ -298,4 +298,4 @@ module _ (Goes : Document → Document → Type 0) (same : (d : Document) → Go
   pub closing_from : (s : Session) (o : Option View) → IsSound s → ClosedFrom s (closed_view s o)
   closing_from s None h = tt
   closing_from s (Some v) h =
-      all_relisted s.next_document s.documents s.documents (λ (d : Document). (left_by v.id d).views) (λ (d : Document). d.held) s.next_document h.document_ids (all_same s.next_document s.documents)
+      all_relisted s.next_document s.documents s.documents (λ (d : Document). (left_by v.id d).views) (λ (d : Document). d.held_by_callers) s.next_document h.document_ids (all_same s.next_document s.documents)

@@ -36,7 +36,7 @@ changed_gone changes next id handle bytes change d h own =
 pub handles_never_come_back : PlansFit → CommandKeepsSound → StepsGiveNoHandle → ChangesGiveNoOldHandle → NextHandlesNeverFall → HandlesNeverComeBack
 handles_never_come_back fits keeps steps changes next known files commands s id handle d e sound found gone still =
     let below = found_below 0 s.session.next_document s.session.documents id d sound.document_ids found in
-    run_holds (GoneFrom id handle) (id + 1) (λ x le made own. absurd (let above : id + 1 ≤ x.id = le in omega arith)) (λ x views held h own. h own)
+    run_holds (GoneFrom id handle) (id + 1) (λ x le made own. absurd (let above : id + 1 ≤ x.id = le in omega arith)) (λ x views held_by_callers h own. h own)
     (stepped_gone steps id handle) (λ h x was. was) (changed_gone changes next id handle)
     fits keeps known files commands s sound (omega arith)
     (λ k x f own.

@@ -47,36 +47,36 @@ abbrev Any : Document → Document → Type 0
 Any d e = Unit {0}
 
 abbrev GoOn : Session → Session → Type 0
-GoOn s t = AllFrom Any (λ d. tt) (λ d e views held h. tt) s.next_document s.documents t.documents
+GoOn s t = AllFrom Any (λ d. tt) (λ d e views held_by_callers h. tt) s.next_document s.documents t.documents
 
 go_on_same : (s : Session) → GoOn s s
-go_on_same s = all_same Any (λ d. tt) (λ d e views held h. tt) s.next_document s.documents
+go_on_same s = all_same Any (λ d. tt) (λ d e views held_by_callers h. tt) s.next_document s.documents
 
-message_goes_on : PlansFit → (known : Kind → Bool) (s : Session) (view : ℕ) (m : Message) → IsSound s → AnsweredFrom Any (λ d. tt) (λ d e views held h. tt) s (table known s view m)
-message_goes_on fits known s view m sound = table_from Any (λ d. tt) (λ d e views held h. tt) fits known s view m sound (λ kind r p sent. tt)
+message_goes_on : PlansFit → (known : Kind → Bool) (s : Session) (view : ℕ) (m : Message) → IsSound s → AnsweredFrom Any (λ d. tt) (λ d e views held_by_callers h. tt) s (table known s view m)
+message_goes_on fits known s view m sound = table_from Any (λ d. tt) (λ d e views held_by_callers h. tt) fits known s view m sound (λ kind r p sent. tt)
 
-after_message_goes_on : (s : Session) (o : Answered) → AnsweredFrom Any (λ d. tt) (λ d e views held h. tt) s o → GoOn s (after_message s o).0.session
+after_message_goes_on : (s : Session) (o : Answered) → AnsweredFrom Any (λ d. tt) (λ d e views held_by_callers h. tt) s o → GoOn s (after_message s o).0.session
 after_message_goes_on s (Ok done) h = h
 after_message_goes_on s (Err refusal) h = go_on_same s
 
-after_opening_goes_on : (s : Session) (o : Result (Session × ℕ) Refusal) → OpenedFrom Any (λ d. tt) (λ d e views held h. tt) s o → GoOn s (after_opening s o).0.session
+after_opening_goes_on : (s : Session) (o : Result (Session × ℕ) Refusal) → OpenedFrom Any (λ d. tt) (λ d e views held_by_callers h. tt) s o → GoOn s (after_opening s o).0.session
 after_opening_goes_on s (Ok done) h = h
 after_opening_goes_on s (Err refusal) h = go_on_same s
 
-after_closing_goes_on : (s : Session) (o : Result Session Refusal) → ClosedFrom Any (λ d. tt) (λ d e views held h. tt) s o → GoOn s (after_closing s o).0.session
+after_closing_goes_on : (s : Session) (o : Result Session Refusal) → ClosedFrom Any (λ d. tt) (λ d e views held_by_callers h. tt) s o → GoOn s (after_closing s o).0.session
 after_closing_goes_on s (Ok t) h = h
 after_closing_goes_on s (Err refusal) h = go_on_same s
 
 loaded_goes_on : PlansFit → (known : Kind → Bool) (s : Session) (view : ℕ) (v : Option View) (file : Option (List ℕ)) → IsSound s
-    → AnsweredFrom Any (λ d. tt) (λ d e views held h. tt) s (loaded known s view v file)
+    → AnsweredFrom Any (λ d. tt) (λ d e views held_by_callers h. tt) s (loaded known s view v file)
 loaded_goes_on fits known s view None file h = tt
 loaded_goes_on fits known s view (Some v) None h = tt
 loaded_goes_on fits known s view (Some v) (Some bytes) h = message_goes_on fits known s view (set_text_message bytes) h
 
 pub command_goes_on : PlansFit → (known : Kind → Bool) (files : List (List ℕ)) (c : Command) (s : Running) → IsSound s.session → GoOn s.session (after_command known files c s).0.session
-command_goes_on fits known files OpenView s h = after_opening_goes_on s.session (opened s.session) (opening_from Any (λ d. tt) (λ d e views held h. tt) s.session)
+command_goes_on fits known files OpenView s h = after_opening_goes_on s.session (opened s.session) (opening_from Any (λ d. tt) (λ d e views held_by_callers h. tt) s.session)
 command_goes_on fits known files (CloseView view) s h =
-    after_closing_goes_on s.session (closed_view s.session (view_at s.session.views view)) (closing_from Any (λ d. tt) (λ d e views held h. tt) s.session (view_at s.session.views view) h)
+    after_closing_goes_on s.session (closed_view s.session (view_at s.session.views view)) (closing_from Any (λ d. tt) (λ d e views held_by_callers h. tt) s.session (view_at s.session.views view) h)
 command_goes_on fits known files (LoadFile view file) s h =
     after_message_goes_on s.session _ (loaded_goes_on fits known s.session view (view_at s.session.views view) (file_at files file) h)
 command_goes_on fits known files (SendMessage view message) s h = after_message_goes_on s.session _ (message_goes_on fits known s.session view message h)
@@ -88,7 +88,7 @@ none_again s t id on below none = go (document_at t.documents id) refl
     go : (o : Option Document) → document_at t.documents id ≡ o → o ≡ None
     go None e = refl
     go (Some e) found =
-        let new : From Any (λ d. tt) (λ d e views held h. tt) s.next_document None e = subst (λ (o : Option Document). From Any (λ d. tt) (λ d e views held h. tt) s.next_document o e) none (on id e found) in
+        let new : From Any (λ d. tt) (λ d e views held_by_callers h. tt) s.next_document None e = subst (λ (o : Option Document). From Any (λ d. tt) (λ d e views held_by_callers h. tt) s.next_document o e) none (on id e found) in
         let above : s.next_document ≤ e.id = new.0 in
         let same : e.id ≡ id = document_id t.documents id e found in
         absurd (omega arith)

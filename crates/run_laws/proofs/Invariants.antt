@@ -29,7 +29,7 @@ use Rattle.run_laws.proofs.IdLemmas.{next_document_rises}
 -- It holds of a document made new, whose id is at least `low`; steps, histories and other changes keep it, and it says nothing of which
 -- views there are and how many references are held.
 module _ (Holds : Document → Type 0) (low : ℕ) (new : (e : Document) → low ≤ e.id → IsMadeNew e → Holds e)
-    (relisted : (e : Document) (views : List ℕ) (held : ℕ) → Holds e → Holds (record e { views = views; held = held }))
+    (relisted : (e : Document) (views : List ℕ) (held_by_callers : ℕ) → Holds e → Holds (record e { views = views; held_by_callers = held_by_callers }))
     (stepped : (step : Step) (d : Document) → Holds d → Holds (document_after step d))
     (recalled : (h : History) (d : Document) → Holds d → Holds (record d { history = h }))
     (changed : (bytes : List ℕ) (change : DocumentChange) (d : Document) → Holds d → Holds (changed_document bytes change d)) where
@@ -76,8 +76,8 @@ module _ (Holds : Document → Type 0) (low : ℕ) (new : (e : Document) → low
   abbrev stays_same : (d : Document) → Stays d d
   stays_same d h = h
 
-  abbrev stays_relisted : (d e : Document) (views : List ℕ) (held : ℕ) → Stays d e → Stays d (record e { views = views; held = held })
-  stays_relisted d e views held s h = relisted e views held (s h)
+  abbrev stays_relisted : (d e : Document) (views : List ℕ) (held_by_callers : ℕ) → Stays d e → Stays d (record e { views = views; held_by_callers = held_by_callers })
+  stays_relisted d e views held_by_callers s h = relisted e views held_by_callers (s h)
 
   abbrev pub OfAll : Session → Type 0
   OfAll s = (id : ℕ) (d : Document) → document_at s.documents id ≡ Some d → Holds d

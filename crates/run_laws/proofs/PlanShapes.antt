@@ -87,7 +87,7 @@ add_shaped l r (Some d) e = shaped_either l (nat_lt (references d) r.session.lim
 
 release_shaped : (l : Leave) (d : Option Document) → l.documents ≡ true → IsShaped l (release_of d)
 release_shaped l None e = tt
-release_shaped l (Some d) e = shaped_either l (nat_lt 0 d.held) (change_session (session_change.Release d.id)) (Err NoSuchDocument) e tt
+release_shaped l (Some d) e = shaped_either l (nat_lt 0 d.held_by_callers) (change_session (session_change.Release d.id)) (Err NoSuchDocument) e tt
 
 ruleset shapes = (shaped_with_argument, shaped_with_line, shaped_either, shaped_target, shaped_fold, attach_shaped, add_shaped, release_shaped)
 

@@ -417,8 +417,8 @@ module _ (c : Cited) (saved : List ℕ) where
   abbrev keeps_same : (id : ℕ) (d : Document) → Keeps id d d
   keeps_same id d own may s = s
 
-  abbrev keeps_relisted : (id : ℕ) (d e : Document) (views : List ℕ) (held : ℕ) → Keeps id d e → Keeps id d (record e { views = views; held = held })
-  keeps_relisted id d e views held k own may s = k own may s
+  abbrev keeps_relisted : (id : ℕ) (d e : Document) (views : List ℕ) (held_by_callers : ℕ) → Keeps id d e → Keeps id d (record e { views = views; held_by_callers = held_by_callers })
+  keeps_relisted id d e views held_by_callers k own may s = k own may s
 
   abbrev Go : ℕ → Session → Session → Type 0
   Go id s t = AllFrom (Keeps id) (keeps_same id) (keeps_relisted id) s.next_document s.documents t.documents

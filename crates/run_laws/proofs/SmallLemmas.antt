@@ -51,13 +51,13 @@ pub closing_never_wants_memory : ClosingNeverWantsMemory
 closing_never_wants_memory s view = not_memory (closed_view s (view_at s.views view)) (closed_is_other s (view_at s.views view))
 
 -- a document that lists no view is held, since something refers to it
-held_alone : (ids : List ℕ) (held : ℕ) (document : ℕ) → AllByRecursion (IsViewOn [] document) ids → 0 < length ids + held → 0 < held
-held_alone [] held document all some = omega arith
-held_alone (id ∷ ids) held document all some = absurd (let e = all.0.1 in cc)
+held_alone : (ids : List ℕ) (held_by_callers : ℕ) (document : ℕ) → AllByRecursion (IsViewOn [] document) ids → 0 < length ids + held_by_callers → 0 < held_by_callers
+held_alone [] held_by_callers document all some = omega arith
+held_alone (id ∷ ids) held_by_callers document all some = absurd (let e = all.0.1 in cc)
 
-all_held : (s : Session) (ds : List Document) → AllByRecursion (IsSoundDocument s.limits) ds → AllByRecursion (ListsItsViews []) ds → AllByRecursion (λ (d : Document). 0 < d.held) ds
+all_held : (s : Session) (ds : List Document) → AllByRecursion (IsSoundDocument s.limits) ds → AllByRecursion (ListsItsViews []) ds → AllByRecursion (λ (d : Document). 0 < d.held_by_callers) ds
 all_held s [] sound lists = tt
-all_held s (d ∷ ds) sound lists = (held_alone d.views d.held d.id lists.0 sound.0.referenced, all_held s ds sound.1 lists.1)
+all_held s (d ∷ ds) sound lists = (held_alone d.views d.held_by_callers d.id lists.0 sound.0.referenced, all_held s ds sound.1 lists.1)
 
 pub without_views_all_are_held : (s : Session) → IsSound s → WithoutViewsAllAreHeld s
 without_views_all_are_held s h none = all_held s s.documents h.documents (subst (λ (vs : List View). AllByRecursion (ListsItsViews vs) s.documents) none h.lists)
