@@ -38,6 +38,18 @@ fn set<P: Place>(
     Ok(indicators.fill(indicator, place, count, value))
 }
 
+// The run about a place of the text.
+fn run_about<P: Place>(
+    rt: &impl Abort,
+    indicators: &Decorations<P>,
+    indicator: usize,
+    place: usize,
+) -> (usize, usize) {
+    let length = indicators.length();
+    assert!(rt; indicator < 32 && place < length);
+    indicators.run(indicator, place)
+}
+
 // Empty, with room for one insertion: one of as many bytes as asked for, and the last place has 0 in each list.
 fn one_insertion<P: Place>(rt: &impl Abort, alloc: Global, count: usize) -> Result<(), AllocError> {
     assert!(rt; 0 < count && count <= P::GREATEST);
@@ -70,7 +82,9 @@ fn filled_and_edited<P: Place>(rt: &impl Abort, alloc: Global) -> Result<(), All
     // 0 0 7 7 7 0 0 0 0 0, and 31 on the last three
     assert!(rt; set(rt, &mut indicators, 4, 2, 3, 7)? == Some((2, 3)));
     assert!(rt; set(rt, &mut indicators, 31, 7, 3, 1)? == Some((7, 3)));
-    assert!(rt; indicators.run(4, 3) == (2, 5) && indicators.run(4, 9) == (5, 10));
+    assert!(rt;
+        run_about(rt, &indicators, 4, 3) == (2, 5) && run_about(rt, &indicators, 4, 9) == (5, 10)
+    );
     assert!(rt; indicators.mask_at(4) == 1 << 4 && indicators.mask_at(9) == 1 << 31);
     assert!(rt; indicators.mask_at(10) == 0 && indicators.value(4, 10) == 0);
     // what has the value already is no change
@@ -78,15 +92,15 @@ fn filled_and_edited<P: Place>(rt: &impl Abort, alloc: Global) -> Result<(), All
     assert!(rt; set(rt, &mut indicators, 4, 1, 4, 7)? == None);
     // at its start it does not grow, inside it does, and at the text's end nothing does
     put(rt, &mut indicators, 1, 1)?;
-    assert!(rt; indicators.value(4, 1) == 0 && indicators.run(4, 2) == (2, 6));
+    assert!(rt; indicators.value(4, 1) == 0 && run_about(rt, &indicators, 4, 2) == (2, 6));
     put(rt, &mut indicators, 3, 2)?;
-    assert!(rt; indicators.run(4, 2) == (2, 8));
+    assert!(rt; run_about(rt, &indicators, 4, 2) == (2, 8));
     put(rt, &mut indicators, 13, 1)?;
-    assert!(rt; indicators.value(31, 13) == 0 && indicators.run(31, 12) == (10, 13));
+    assert!(rt; indicators.value(31, 13) == 0 && run_about(rt, &indicators, 31, 12) == (10, 13));
     // gone with its bytes
     take(rt, &mut indicators, 2, 6);
     assert!(rt; !indicators.is_used(4) && indicators.is_used(31));
-    assert!(rt; indicators.run(4, 0) == (0, 8));
+    assert!(rt; run_about(rt, &indicators, 4, 0) == (0, 8));
     // and by a fill with 0
     assert!(rt; set(rt, &mut indicators, 31, 0, 8, 0)? == Some((4, 3)));
     assert!(rt; !indicators.is_used(31));
@@ -117,7 +131,9 @@ fn two_indicators(rt: HostRuntime) -> Result<(), Fail> {
     assert!(&rt; set(&rt, &mut indicators, 1, 3, 2, 2_147_483_647)? == Some((3, 2)));
     put(&rt, &mut indicators, 2, 3)?;
     put(&rt, &mut indicators, 7, 3)?;
-    assert!(&rt; indicators.run(0, 1) == (1, 6) && indicators.run(1, 6) == (6, 11));
+    assert!(&rt;
+        run_about(&rt, &indicators, 0, 1) == (1, 6) && run_about(&rt, &indicators, 1, 6) == (6, 11)
+    );
     assert!(&rt; indicators.value(1, 8) == 2_147_483_647);
     Ok(())
 }

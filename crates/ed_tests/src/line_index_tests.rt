@@ -12,7 +12,7 @@ use std::alloc::{AllocError, Global};
 use std::process::Abort;
 use std::test::Fail;
 
-fn insert<P: Place>(
+pub(crate) fn insert<P: Place>(
     rt: &impl Abort,
     alloc: Global,
     index: &mut LineIndex<P>,

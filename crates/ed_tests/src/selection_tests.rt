@@ -2,8 +2,9 @@
 ghost use Rattle.std.specs.Prelude.{◌≡◌, ◌++◌, IfOk};
 ghost use Rattle.line_index.specs.Index.{IsIndexOf};
 
+use crate::line_index_tests::insert;
 use ed_model::LineEndTypes;
-use line_index::{LineIndex, lines_in, room_for_steps};
+use line_index::LineIndex;
 use partitioning::Place;
 use selection::{Motion, Movement, Selection};
 use std::alloc::{AllocError, Global};
@@ -21,10 +22,8 @@ fn index_of<P: Place>(
     ensures { IfOk result (λ t. IsIndexOf text.now t) }
 {
     let mut index = LineIndex::new(alloc, LineEndTypes::Default)?;
-    room_for_steps();
-    index.reserve(lines_in(LineEndTypes::Default, text) + 5)?;
-    assert!(rt; text.len() <= P::GREATEST);
-    let _ = index.inserted(0, text.len(), text, &[]);
+    let (made, _) = insert(rt, alloc, &mut index, b"", 0, text, 0)?;
+    assert!(rt; made.as_slice() == text);
     Ok(index)
 }
 
