@@ -41,7 +41,7 @@ use Rattle.ed_model.specs.Lines.{start_of_line}
 use Rattle.ed_model.specs.Text.{styles_of}
 use Rattle.ed_model.specs.Indicators.{changed_range}
 use Rattle.ed_model.specs.Performing.{last_bits, container_note, response}
-use Rattle.ed_model.specs.Changes.{line_note, marker_note, all_markers_note, fold_note, range_notes, state_note, line_with_handle, row_of, marker_count, is_same}
+use Rattle.ed_model.specs.Changes.{line_note, marker_note, all_markers_note, fold_note, range_notes, state_note, line_with_handle, document_row, marker_count, is_same}
 use Rattle.run_laws.proofs.Finding.{either}
 
 abbrev pub IsNoRecord : Notice → Type 0
@@ -151,11 +151,11 @@ none_change sender views old new (document_change.DeleteMarkers number) =
 none_change sender views old new (document_change.DeleteHandle handle) = none_marker (line_with_handle handle 0 old.rows) old new views
 none_change sender views old new (document_change.SetLevel line level) =
     let n = line_note notes.change_fold line in
-    let told : Notice = record n { now = pos level; prev = pos (row_of old line).level } in
-    none_if ((row_of old line).level == level) (notes.heard views told) (none_heard views told refl)
+    let told : Notice = record n { now = pos level; prev = pos (document_row old line).level } in
+    none_if ((document_row old line).level == level) (notes.heard views told) (none_heard views told refl)
 none_change sender views old new (document_change.SetState line state) =
     let told = line_note notes.change_line_state line in
-    none_if (is_same (row_of old line).state state) (notes.heard views told) (none_heard views told refl)
+    none_if (is_same (document_row old line).state state) (notes.heard views told) (none_heard views told refl)
 none_change sender views old new (document_change.SetEndStyled place) = tt
 none_change sender views old new (document_change.StyleRun count style) = none_range notes.change_style (changed_range (styles_of old.cells) (styles_of new.cells)) views
 none_change sender views old new (document_change.StyleBytes count) = none_range notes.change_style (changed_range (styles_of old.cells) (styles_of new.cells)) views
