@@ -54,8 +54,12 @@ done_within 'a hundred thousand insertions' 40000000 "$program" run "$work/many.
 kept 'a thousand views' 4000000 "$program" run "$work/views.sci"
 done_within 'a thousand views' 1000000 "$program" run "$work/views.sci"
 
+# Each test of each crate by itself.
 for tests in "$top"/crates/*/out/*_tests; do
-    [ -x "$tests" ] && kept "$(basename "$tests")" 2000000000 "$tests"
+    [ -x "$tests" ] || continue
+    for name in $("$tests" --list | sed -n 's/: test$//p'); do
+        kept "$name" 2000000000 "$tests" "$name"
+    done
 done
 echo "heap: $passed passed, $failed failed"
 [ "$failed" = 0 ]
