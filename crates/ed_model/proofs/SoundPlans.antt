@@ -4,7 +4,7 @@ use Rattle.std.specs.Prelude.{ℤ, pos, negsuc, ◌==◌, ◌&&◌, ◌||◌, no
 use Rattle.std.specs.List.{range_with_len}
 use Rattle.std.proofs.lemmas.List.{length-take}
 use Rattle.std.proofs.lemmas.Bool.{leb-true, ltb-true, not-false}
-use Rattle.ed_types.specs.declared.kind.Kind.TheVariants.{AddText, InsertText, ClearAll, Redo, SetUndoCollection, SelectAll, GetStyledText, MarkerDeleteHandle, GotoLine, GotoPos, SetAnchor, GetCurLine, ConvertEols, SetEolMode, StartStyling, SetStyling, MarkerAdd, MarkerDelete, MarkerDeleteAll, MarkerGet, SetStylingEx, BeginUndoAction, SetLineState, GetLineState, SetCurrentPos, SetSelectionStart, SetSelectionEnd, GetLine, SetSel, GetSelText, GetTextRange, ReplaceSel, Undo, Cut, Copy, Paste, Clear, SetText, GetText, SetTargetStart, SetTargetEnd, ReplaceTarget, SearchInTarget, SetSearchFlags, VisibleFromDocLine, SetFoldLevel, GetFoldLevel, GetLastChild, GetFoldParent, ShowLines, HideLines, GetLineVisible, SetFoldExpanded, GetFoldExpanded, ToggleFold, EnsureVisible, FoldLine, AppendText, TargetFromSelection, CharLeft, CharLeftExtend, CharRight, CharRightExtend, Home, HomeExtend, LineEnd, LineEndExtend, DocumentStart, DocumentStartExtend, DocumentEnd, DocumentEndExtend, DeleteBack, NewLine, LineLength, SetDocPointer, SetModEventMask, CreateDocument, AddRefDocument, ReleaseDocument, CopyRange, CopyText, MarkerAddSet, SetIndicatorCurrent, SetIndicatorValue, IndicatorFillRange, IndicatorClearRange, IndicatorValueAt, IndicatorStart, IndicatorEnd, SetEmptySelection, AddUndoAction, DeleteRange, SetLineEndTypesAllowed, SetTargetRange, GetTargetText, TargetWholeDocument, Colourise}
+use Rattle.ed_types.specs.declared.kind.Kind.TheVariants as kinds
 use Rattle.ed_types.specs.declared.refusal.Refusal.TheVariants.{TooLong}
 use Rattle.ed_model.specs.declared.plan.Source.{Source}
 use Rattle.ed_model.specs.declared.plan.Source.TheVariants as source
@@ -259,134 +259,134 @@ set_doc_pointer_fits r =
 -- Each message.
 
 pub plan_fits : PlansFit
-plan_fits AddText r h =
+plan_fits kinds.AddText r h =
     let c : r.view.caret ≤ size r = (request_stands r h).caret in
     text_length_fits r _ (λ count le. go_fits r r.view.caret 0 (source.MessageText count) (omega arith) le)
-plan_fits InsertText r h =
+plan_fits kinds.InsertText r h =
     let c : r.view.caret ≤ size r = (request_stands r h).caret in
     with_argument_fits r (insertion_place r r.message.w) _
     (λ place e. let p = insertion_bound r r.message.w place c e in replace_fits r place 0 (source.MessageText (length r.message.text)) (omega arith) (omega arith))
-plan_fits ClearAll r h = replace_fits r 0 (size r) source.Nothing (omega arith) tt
-plan_fits Redo r h = history_fits r (can_redo r.document.history) (redo_changes r.document.history) plan.Redo (λ c room. (c, room))
-plan_fits Undo r h = history_fits r (can_undo r.document.history) (undo_changes r.document.history) plan.Undo (λ c room. (c, room))
-plan_fits SetUndoCollection r h = if_fits r (is_on r.message.w && r.document.history.collecting) _ _ (λ _. tt) (λ _. tt)
-plan_fits SelectAll r h = (omega arith, omega arith)
-plan_fits GetStyledText r h = text_range_fits r _ (λ start past a b. omega arith)
-plan_fits MarkerDeleteHandle r h = if_fits r (is_some (LinePlans.line_of_handle r)) _ _ (λ _. tt) (λ _. tt)
-plan_fits GotoLine r h = let a = line_start_bound r (clamped (line_total r - 1) r.message.w) in (a, a)
-plan_fits GotoPos r h = let a = clamped_bound (size r) r.message.w in (a, a)
-plan_fits SetEmptySelection r h = let a = clamped_bound (size r) r.message.w in (a, a)
-plan_fits SetAnchor r h = (clamped_bound (size r) r.message.w, (request_stands r h).caret)
-plan_fits SetCurrentPos r h = ((request_stands r h).anchor, clamped_bound (size r) r.message.w)
-plan_fits SetSelectionStart r h =
+plan_fits kinds.ClearAll r h = replace_fits r 0 (size r) source.Nothing (omega arith) tt
+plan_fits kinds.Redo r h = history_fits r (can_redo r.document.history) (redo_changes r.document.history) plan.Redo (λ c room. (c, room))
+plan_fits kinds.Undo r h = history_fits r (can_undo r.document.history) (undo_changes r.document.history) plan.Undo (λ c room. (c, room))
+plan_fits kinds.SetUndoCollection r h = if_fits r (is_on r.message.w && r.document.history.collecting) _ _ (λ _. tt) (λ _. tt)
+plan_fits kinds.SelectAll r h = (omega arith, omega arith)
+plan_fits kinds.GetStyledText r h = text_range_fits r _ (λ start past a b. omega arith)
+plan_fits kinds.MarkerDeleteHandle r h = if_fits r (is_some (LinePlans.line_of_handle r)) _ _ (λ _. tt) (λ _. tt)
+plan_fits kinds.GotoLine r h = let a = line_start_bound r (clamped (line_total r - 1) r.message.w) in (a, a)
+plan_fits kinds.GotoPos r h = let a = clamped_bound (size r) r.message.w in (a, a)
+plan_fits kinds.SetEmptySelection r h = let a = clamped_bound (size r) r.message.w in (a, a)
+plan_fits kinds.SetAnchor r h = (clamped_bound (size r) r.message.w, (request_stands r h).caret)
+plan_fits kinds.SetCurrentPos r h = ((request_stands r h).anchor, clamped_bound (size r) r.message.w)
+plan_fits kinds.SetSelectionStart r h =
     let a = clamped_bound (size r) r.message.w in let c : r.view.caret ≤ size r = (request_stands r h).caret in (a, (let m : max (clamped (size r) r.message.w) r.view.caret ≤ size r = omega arith in m))
-plan_fits SetSelectionEnd r h =
+plan_fits kinds.SetSelectionEnd r h =
     let a = clamped_bound (size r) r.message.w in let c : r.view.anchor ≤ size r = (request_stands r h).anchor in ((let m : min (clamped (size r) r.message.w) r.view.anchor ≤ size r = omega arith in m), a)
-plan_fits SetSel r h =
+plan_fits kinds.SetSel r h =
     let caret = pick (is_negative r.message.l) (size r) (clamped (size r) r.message.l) (size r) (omega arith) (clamped_bound (size r) r.message.l) in
     (pick (is_negative r.message.w) (if is_negative r.message.l then size r else clamped (size r) r.message.l) (clamped (size r) r.message.w) (size r) caret (clamped_bound (size r) r.message.w), caret)
-plan_fits GetCurLine r h =
+plan_fits kinds.GetCurLine r h =
     let a = line_start_bound r (caret_line r) in let b = line_past_bound r (caret_line r) in omega arith
-plan_fits GetLine r h =
+plan_fits kinds.GetLine r h =
     line_fits r (answer (pos 0)) (λ line. hand_out (line_start r line) (line_past r line)) tt (λ line l. hand_out_fits r (line_start r line) (line_past r line) (line_start_bound r line) (line_past_bound r line))
-plan_fits LineLength r h = line_fits r (answer (pos 0)) (λ line. answer_number (line_past r line - line_start r line)) tt (λ line l. tt)
-plan_fits GetTextRange r h = text_range_fits r hand_out (λ start past a b. hand_out_fits r start past (omega arith) b)
-plan_fits GetSelText r h = let s = selection_bound r h in hand_out_fits r (selection_start r) (selection_end r) s.1 s.2
-plan_fits GetText r h = hand_out_fits r 0 (size r) (omega arith) (omega arith)
-plan_fits GetTargetText r h =
+plan_fits kinds.LineLength r h = line_fits r (answer (pos 0)) (λ line. answer_number (line_past r line - line_start r line)) tt (λ line l. tt)
+plan_fits kinds.GetTextRange r h = text_range_fits r hand_out (λ start past a b. hand_out_fits r start past (omega arith) b)
+plan_fits kinds.GetSelText r h = let s = selection_bound r h in hand_out_fits r (selection_start r) (selection_end r) s.1 s.2
+plan_fits kinds.GetText r h = hand_out_fits r 0 (size r) (omega arith) (omega arith)
+plan_fits kinds.GetTargetText r h =
     let on = request_stands r h in
     let a : r.view.target_start ≤ size r = on.target_start in
     let b : r.view.target_end ≤ size r = on.target_end in
     hand_out_fits r (target_least r) (target_greatest r) (omega arith) (omega arith)
-plan_fits ReplaceSel r h = go_fits r (selection_start r) (selected r) (source.MessageText (length r.message.text)) (selection_bound r h).0 (omega arith)
-plan_fits Cut r h =
+plan_fits kinds.ReplaceSel r h = go_fits r (selection_start r) (selected r) (source.MessageText (length r.message.text)) (selection_bound r h).0 (omega arith)
+plan_fits kinds.Cut r h =
     let s = (selection_bound r h).0 in
     if_fits r (selected r == 0) (answer (pos 0)) (edit_plan r (edit.Replace (selection_start r) (selected r) source.Nothing) (pos 0) (follow.Clipboard (selection_start r) (selected r)))
     (λ _. tt) (λ _. edit_fits r (edit.Replace (selection_start r) (selected r) source.Nothing) (pos 0) (follow.Clipboard (selection_start r) (selected r)) (s, tt) s)
-plan_fits Copy r h = if_fits r (selected r == 0) _ _ (λ _. tt) (λ _. (selection_bound r h).0)
-plan_fits Paste r h =
+plan_fits kinds.Copy r h = if_fits r (selected r == 0) _ _ (λ _. tt) (λ _. (selection_bound r h).0)
+plan_fits kinds.Paste r h =
     if_fits r (length r.session.clipboard == 0) _ (replace_and_go r (selection_start r) (selected r) (source.Clipboard r.view.converts_pastes))
     (λ _. tt) (λ _. go_fits r (selection_start r) (selected r) (source.Clipboard r.view.converts_pastes) (selection_bound r h).0 tt)
-plan_fits Clear r h = clear_fits r h
-plan_fits DeleteBack r h = delete_back_fits r h
-plan_fits NewLine r h = go_fits r (selection_start r) (selected r) source.LineEnd (selection_bound r h).0 tt
-plan_fits SetText r h = replace_fits r 0 (size r) (source.MessageText (length r.message.text)) (omega arith) (omega arith)
-plan_fits AppendText r h = text_length_fits r _ (λ count le. replace_fits r (size r) 0 (source.MessageText count) (omega arith) le)
-plan_fits DeleteRange r h = counted_range_fits r _ (λ start count le. replace_fits r start count source.Nothing le tt)
-plan_fits ConvertEols r h = argument_fits r 0 2 r.message.w _ (λ mode a b. edit_fits r (edit.ConvertLineEnds (LinePlans.line_end_kind mode)) (pos 0) follow.Nothing tt tt)
-plan_fits SetEolMode r h = argument_fits r 0 2 r.message.w _ (λ mode a b. tt)
-plan_fits CopyRange r h = text_range_fits r _ (λ start past a b. omega arith)
-plan_fits CopyText r h = text_length_fits r _ (λ count le. le)
-plan_fits CharLeft r h =
+plan_fits kinds.Clear r h = clear_fits r h
+plan_fits kinds.DeleteBack r h = delete_back_fits r h
+plan_fits kinds.NewLine r h = go_fits r (selection_start r) (selected r) source.LineEnd (selection_bound r h).0 tt
+plan_fits kinds.SetText r h = replace_fits r 0 (size r) (source.MessageText (length r.message.text)) (omega arith) (omega arith)
+plan_fits kinds.AppendText r h = text_length_fits r _ (λ count le. replace_fits r (size r) 0 (source.MessageText count) (omega arith) le)
+plan_fits kinds.DeleteRange r h = counted_range_fits r _ (λ start count le. replace_fits r start count source.Nothing le tt)
+plan_fits kinds.ConvertEols r h = argument_fits r 0 2 r.message.w _ (λ mode a b. edit_fits r (edit.ConvertLineEnds (LinePlans.line_end_kind mode)) (pos 0) follow.Nothing tt tt)
+plan_fits kinds.SetEolMode r h = argument_fits r 0 2 r.message.w _ (λ mode a b. tt)
+plan_fits kinds.CopyRange r h = text_range_fits r _ (λ start past a b. omega arith)
+plan_fits kinds.CopyText r h = text_length_fits r _ (λ count le. le)
+plan_fits kinds.CharLeft r h =
     let a = pick (selected r == 0) (place_left r) (selection_start r) (size r) (place_left_bound r (request_stands r h).caret) (selection_bound r h).1 in (a, a)
-plan_fits CharLeftExtend r h = ((request_stands r h).anchor, place_left_bound r (request_stands r h).caret)
-plan_fits CharRight r h = let a = pick (selected r == 0) (place_right r) (selection_end r) (size r) (place_right_bound r) (selection_bound r h).2 in (a, a)
-plan_fits CharRightExtend r h = ((request_stands r h).anchor, place_right_bound r)
-plan_fits Home r h = let a = line_start_bound r (caret_line r) in (a, a)
-plan_fits HomeExtend r h = ((request_stands r h).anchor, line_start_bound r (caret_line r))
-plan_fits LineEnd r h = let a = line_end_bound r (caret_line r) in (a, a)
-plan_fits LineEndExtend r h = ((request_stands r h).anchor, line_end_bound r (caret_line r))
-plan_fits DocumentStart r h = (omega arith, omega arith)
-plan_fits DocumentStartExtend r h = ((request_stands r h).anchor, omega arith)
-plan_fits DocumentEnd r h = (omega arith, omega arith)
-plan_fits DocumentEndExtend r h = ((request_stands r h).anchor, omega arith)
-plan_fits BeginUndoAction r h =
+plan_fits kinds.CharLeftExtend r h = ((request_stands r h).anchor, place_left_bound r (request_stands r h).caret)
+plan_fits kinds.CharRight r h = let a = pick (selected r == 0) (place_right r) (selection_end r) (size r) (place_right_bound r) (selection_bound r h).2 in (a, a)
+plan_fits kinds.CharRightExtend r h = ((request_stands r h).anchor, place_right_bound r)
+plan_fits kinds.Home r h = let a = line_start_bound r (caret_line r) in (a, a)
+plan_fits kinds.HomeExtend r h = ((request_stands r h).anchor, line_start_bound r (caret_line r))
+plan_fits kinds.LineEnd r h = let a = line_end_bound r (caret_line r) in (a, a)
+plan_fits kinds.LineEndExtend r h = ((request_stands r h).anchor, line_end_bound r (caret_line r))
+plan_fits kinds.DocumentStart r h = (omega arith, omega arith)
+plan_fits kinds.DocumentStartExtend r h = ((request_stands r h).anchor, omega arith)
+plan_fits kinds.DocumentEnd r h = (omega arith, omega arith)
+plan_fits kinds.DocumentEndExtend r h = ((request_stands r h).anchor, omega arith)
+plan_fits kinds.BeginUndoAction r h =
     if_fits r (nat_lt r.document.history.depth r.session.limits.depth) _ _ (λ t. ltb-true r.document.history.depth r.session.limits.depth t) (λ _. tt)
-plan_fits AddUndoAction r h = argument_fits r 0 1 r.message.l _ (λ flags a b. tt)
-plan_fits MarkerAdd r h =
+plan_fits kinds.AddUndoAction r h = argument_fits r 0 1 r.message.l _ (λ flags a b. tt)
+plan_fits kinds.MarkerAdd r h =
     argument_fits r 0 31 r.message.l _ (λ number a b. line_fits r (answer (negsuc 0)) _ tt (λ line l.
     if_fits r (has_handles r 1) _ _ (λ t. (l, b, leb-true (r.document.next_handle + 1) (r.session.limits.handles + 1) t)) (λ _. tt)))
-plan_fits MarkerAddSet r h =
+plan_fits kinds.MarkerAddSet r h =
     argument_fits r 0 (2 ^ 32 - 1) r.message.l _ (λ mask a b. line_fits r (answer (pos 0)) _ tt (λ line l.
     if_fits r (has_handles r (length (numbers_in mask))) _ _ (λ t. (l, omega arith, leb-true (r.document.next_handle + length (numbers_in mask)) (r.session.limits.handles + 1) t)) (λ _. tt)))
-plan_fits MarkerDelete r h = with_argument_fits r (some_or_all 31 r.message.l) _ (λ number e. line_fits r (answer (pos 0)) _ tt (λ line l. l))
-plan_fits MarkerDeleteAll r h = with_argument_fits r (some_or_all 31 r.message.w) _ (λ number e. tt)
-plan_fits MarkerGet r h = line_fits r (answer (pos 0)) (λ line. answer_number (LinePlans.line_mask r line)) tt (λ line l. tt)
-plan_fits SetLineState r h =
+plan_fits kinds.MarkerDelete r h = with_argument_fits r (some_or_all 31 r.message.l) _ (λ number e. line_fits r (answer (pos 0)) _ tt (λ line l. l))
+plan_fits kinds.MarkerDeleteAll r h = with_argument_fits r (some_or_all 31 r.message.w) _ (λ number e. tt)
+plan_fits kinds.MarkerGet r h = line_fits r (answer (pos 0)) (λ line. answer_number (LinePlans.line_mask r line)) tt (λ line l. tt)
+plan_fits kinds.SetLineState r h =
     with_argument_fits r (int_within (negsuc (2 ^ 31 - 1)) (pos (2 ^ 31 - 1)) r.message.l) _ (λ state e. line_fits r (answer (pos 0)) _ tt (λ line l. l))
-plan_fits GetLineState r h = line_fits r (answer (pos 0)) (λ line. answer (LinePlans.row_at r line).state) tt (λ line l. tt)
-plan_fits StartStyling r h = argument_fits r 0 (size r) r.message.w _ (λ place a b. b)
-plan_fits SetStyling r h =
+plan_fits kinds.GetLineState r h = line_fits r (answer (pos 0)) (λ line. answer (LinePlans.row_at r line).state) tt (λ line l. tt)
+plan_fits kinds.StartStyling r h = argument_fits r 0 (size r) r.message.w _ (λ place a b. b)
+plan_fits kinds.SetStyling r h =
     let s : r.document.end_styled ≤ size r = (request_document r h).styled in
     argument_fits r 0 255 r.message.l _ (λ style a b. argument_fits r 0 (unstyled r) r.message.w _ (λ count c d. (omega arith, b)))
-plan_fits SetStylingEx r h =
+plan_fits kinds.SetStylingEx r h =
     let s : r.document.end_styled ≤ size r = (request_document r h).styled in
     text_length_fits r _ (λ count le. if_fits r (nat_le count (unstyled r)) _ _ (λ t. let d = leb-true count (unstyled r) t in (omega arith, le)) (λ _. tt))
-plan_fits Colourise r h = text_range_fits r _ (λ start past a b. (a, b))
-plan_fits SetIndicatorCurrent r h = argument_fits r 0 31 r.message.w _ (λ indicator a b. omega arith)
-plan_fits SetIndicatorValue r h = argument_fits r 0 (2 ^ 31 - 1) r.message.w _ (λ value a b. tt)
-plan_fits IndicatorFillRange r h = counted_range_fits r _ (λ start count le. ((request_stands r h).indicator, le))
-plan_fits IndicatorClearRange r h = counted_range_fits r _ (λ start count le. ((request_stands r h).indicator, le))
-plan_fits IndicatorValueAt r h = argument_fits r 0 31 r.message.w _ (λ indicator a b. tt)
-plan_fits IndicatorStart r h = argument_fits r 0 31 r.message.w _ (λ indicator a b. tt)
-plan_fits IndicatorEnd r h = argument_fits r 0 31 r.message.w _ (λ indicator a b. tt)
-plan_fits SetTargetStart r h = (clamped_bound (size r) r.message.w, (request_stands r h).target_end)
-plan_fits SetTargetEnd r h = ((request_stands r h).target_start, clamped_bound (size r) r.message.w)
-plan_fits SetTargetRange r h = (clamped_bound (size r) r.message.w, clamped_bound (size r) r.message.l)
-plan_fits TargetFromSelection r h = let s = selection_bound r h in (s.1, s.2)
-plan_fits TargetWholeDocument r h = (omega arith, omega arith)
-plan_fits ReplaceTarget r h = replace_target_fits r h
-plan_fits SearchInTarget r h = search_fits r h
-plan_fits SetSearchFlags r h = with_argument_fits r (search_flags r.message.w) _ (λ flags e. tt)
-plan_fits SetFoldLevel r h = argument_fits r 0 (2 ^ 31 - 1) r.message.l _ (λ level a b. line_fits r (answer (pos 0)) _ tt (λ line l. (l, omega arith)))
-plan_fits GetFoldLevel r h = line_fits r (answer_number base_level) _ tt (λ line l. tt)
-plan_fits GetLastChild r h = with_argument_fits r (some_or_all (2 ^ 31 - 1) r.message.l) _ (λ level e. line_fits r (answer (negsuc 0)) _ tt (λ line l. tt))
-plan_fits GetFoldParent r h = line_fits r (answer (negsuc 0)) _ tt (λ line l. tt)
-plan_fits VisibleFromDocLine r h = line_fits r (answer (negsuc 0)) _ tt (λ line l. tt)
-plan_fits ShowLines r h = (clamped_bound (line_total r) r.message.w, past_line_bound (line_total r) r.message.l)
-plan_fits HideLines r h = (clamped_bound (line_total r) r.message.w, past_line_bound (line_total r) r.message.l)
-plan_fits GetLineVisible r h = line_fits r (answer (pos 0)) _ tt (λ line l. tt)
-plan_fits SetFoldExpanded r h = line_fits r (answer (pos 0)) _ tt (λ line l. l)
-plan_fits GetFoldExpanded r h = line_fits r (answer (pos 0)) _ tt (λ line l. tt)
-plan_fits FoldLine r h = argument_fits r 0 2 r.message.l _ (λ action a b. fold_at_fits r action)
-plan_fits ToggleFold r h = fold_at_fits r 2
-plan_fits EnsureVisible r h = line_fits r (answer (pos 0)) _ tt (λ line l. l)
-plan_fits SetDocPointer r h = set_doc_pointer_fits r
-plan_fits CreateDocument r h =
+plan_fits kinds.Colourise r h = text_range_fits r _ (λ start past a b. (a, b))
+plan_fits kinds.SetIndicatorCurrent r h = argument_fits r 0 31 r.message.w _ (λ indicator a b. omega arith)
+plan_fits kinds.SetIndicatorValue r h = argument_fits r 0 (2 ^ 31 - 1) r.message.w _ (λ value a b. tt)
+plan_fits kinds.IndicatorFillRange r h = counted_range_fits r _ (λ start count le. ((request_stands r h).indicator, le))
+plan_fits kinds.IndicatorClearRange r h = counted_range_fits r _ (λ start count le. ((request_stands r h).indicator, le))
+plan_fits kinds.IndicatorValueAt r h = argument_fits r 0 31 r.message.w _ (λ indicator a b. tt)
+plan_fits kinds.IndicatorStart r h = argument_fits r 0 31 r.message.w _ (λ indicator a b. tt)
+plan_fits kinds.IndicatorEnd r h = argument_fits r 0 31 r.message.w _ (λ indicator a b. tt)
+plan_fits kinds.SetTargetStart r h = (clamped_bound (size r) r.message.w, (request_stands r h).target_end)
+plan_fits kinds.SetTargetEnd r h = ((request_stands r h).target_start, clamped_bound (size r) r.message.w)
+plan_fits kinds.SetTargetRange r h = (clamped_bound (size r) r.message.w, clamped_bound (size r) r.message.l)
+plan_fits kinds.TargetFromSelection r h = let s = selection_bound r h in (s.1, s.2)
+plan_fits kinds.TargetWholeDocument r h = (omega arith, omega arith)
+plan_fits kinds.ReplaceTarget r h = replace_target_fits r h
+plan_fits kinds.SearchInTarget r h = search_fits r h
+plan_fits kinds.SetSearchFlags r h = with_argument_fits r (search_flags r.message.w) _ (λ flags e. tt)
+plan_fits kinds.SetFoldLevel r h = argument_fits r 0 (2 ^ 31 - 1) r.message.l _ (λ level a b. line_fits r (answer (pos 0)) _ tt (λ line l. (l, omega arith)))
+plan_fits kinds.GetFoldLevel r h = line_fits r (answer_number base_level) _ tt (λ line l. tt)
+plan_fits kinds.GetLastChild r h = with_argument_fits r (some_or_all (2 ^ 31 - 1) r.message.l) _ (λ level e. line_fits r (answer (negsuc 0)) _ tt (λ line l. tt))
+plan_fits kinds.GetFoldParent r h = line_fits r (answer (negsuc 0)) _ tt (λ line l. tt)
+plan_fits kinds.VisibleFromDocLine r h = line_fits r (answer (negsuc 0)) _ tt (λ line l. tt)
+plan_fits kinds.ShowLines r h = (clamped_bound (line_total r) r.message.w, past_line_bound (line_total r) r.message.l)
+plan_fits kinds.HideLines r h = (clamped_bound (line_total r) r.message.w, past_line_bound (line_total r) r.message.l)
+plan_fits kinds.GetLineVisible r h = line_fits r (answer (pos 0)) _ tt (λ line l. tt)
+plan_fits kinds.SetFoldExpanded r h = line_fits r (answer (pos 0)) _ tt (λ line l. l)
+plan_fits kinds.GetFoldExpanded r h = line_fits r (answer (pos 0)) _ tt (λ line l. tt)
+plan_fits kinds.FoldLine r h = argument_fits r 0 2 r.message.l _ (λ action a b. fold_at_fits r action)
+plan_fits kinds.ToggleFold r h = fold_at_fits r 2
+plan_fits kinds.EnsureVisible r h = line_fits r (answer (pos 0)) _ tt (λ line l. l)
+plan_fits kinds.SetDocPointer r h = set_doc_pointer_fits r
+plan_fits kinds.CreateDocument r h =
     argument_fits r 0 (2 ^ 63 - 1) r.message.w _ (λ unused a b. with_argument_fits r (document_options r.message.l) _ (λ options e.
     if_fits r (has_document_ids r.session) _ _ (λ t. leb-true r.session.next_document r.session.limits.ids t) (λ _. tt)))
-plan_fits AddRefDocument r h = reference_fits r r.message.l session_change.AddReference (λ d e l. (d, e, l))
-plan_fits ReleaseDocument r h = release_fits r r.message.l
-plan_fits SetLineEndTypesAllowed r h = argument_fits r 0 1 r.message.w _ (λ types a b. if_fits r (types == SessionPlans.types_number r.document.line_end_types) _ _ (λ _. tt) (λ _. tt))
-plan_fits SetModEventMask r h = argument_fits r 0 0x7FFFFF r.message.w _ (λ mask a b. tt)
+plan_fits kinds.AddRefDocument r h = reference_fits r r.message.l session_change.AddReference (λ d e l. (d, e, l))
+plan_fits kinds.ReleaseDocument r h = release_fits r r.message.l
+plan_fits kinds.SetLineEndTypesAllowed r h = argument_fits r 0 1 r.message.w _ (λ types a b. if_fits r (types == SessionPlans.types_number r.document.line_end_types) _ _ (λ _. tt) (λ _. tt))
+plan_fits kinds.SetModEventMask r h = argument_fits r 0 0x7FFFFF r.message.w _ (λ mask a b. tt)
 plan_fits _ r h = tt
