@@ -1,6 +1,6 @@
 //! Marks of messages, from the message table.
 
-use ed_types::{Columns, columns_of};
+use ed_types::{Columns, Kind, columns_of};
 
 /// The marks of a message, by their letters.
 fn marks(q: bool, n: bool, e: bool, r: bool) -> Option<Columns> {
@@ -9,7 +9,13 @@ fn marks(q: bool, n: bool, e: bool, r: bool) -> Option<Columns> {
 
 #[test]
 fn marks_of_some_messages(rt: HostRuntime) {
-    assert_eq!(rt; columns_of(2182), marks(true, false, false, false));
-    assert_eq!(rt; columns_of(2001), marks(false, false, true, true));
+    assert_eq!(rt;
+        columns_of(Kind::GetText.number()),
+        marks(true, false, false, false)
+    );
+    assert_eq!(rt;
+        columns_of(Kind::AddText.number()),
+        marks(false, false, true, true)
+    );
     assert_eq!(rt; columns_of(2005), None);
 }

@@ -1,6 +1,6 @@
 //! Tests of what no clause says: that memory suffices, and values from outside.
 
-use ed_types::{Bytes, Message, Note, Outcome, Refusal, Reply};
+use ed_types::{Bytes, Kind, Message, Note, Outcome, Refusal, Reply};
 use macro_script::printing::{append_integer, append_number, append_outcome, append_text};
 use macro_script::{Cause, Command, Script, ScriptFault, assemble, list};
 use std::alloc::{AllocError, Global};
@@ -30,7 +30,7 @@ fn lists_what_it_assembles(rt: HostRuntime) -> Result<(), Fail> {
 fn pushes_what_it_assembles(rt: HostRuntime) -> Result<(), Fail> {
     let text = Vec::from_slice(rt.alloc(), b"\"\\\x00\x80 ~")?;
     let message = Message {
-        number: 2282,
+        number: Kind::AppendText.number(),
         w: 4,
         l: i64::MIN,
         text: Bytes::new(text),
@@ -115,7 +115,7 @@ fn takes_the_longest_script(rt: HostRuntime) -> Result<(), Fail> {
 /// A message with a text of so many bytes.
 fn long_message(alloc: Global, len: usize) -> Result<Command, AllocError> {
     let message = Message {
-        number: 2003,
+        number: Kind::InsertText.number(),
         w: 0,
         l: 0,
         text: Bytes::new(repeated(alloc, len)?),
