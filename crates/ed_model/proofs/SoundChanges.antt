@@ -278,14 +278,14 @@ stands_kept d d' v n l vs on = record {
 }
 
 regrouped_stands : (d : Document) (to : LineEndTypes) (rows : List Row) (v : View) → StandsOn d v
-    → StandsOn (record d { line_end_types = to; rows = rows }) (record v { lines = regrouped flags_together d.line_end_types to (text_of d) v.lines })
+    → StandsOn (record d { line_end_types = to; rows = rows }) (record v { flags = regrouped flags_together d.line_end_types to (text_of d) v.flags })
 regrouped_stands d to rows v on = record {
   anchor = on.anchor;
   caret = on.caret;
   target_start = on.target_start;
   target_end = on.target_end;
-  lines = length-carried flags_together (λ start. start) (line_starts d.line_end_types (text_of d)) (line_starts to (text_of d)) v.lines;
-  first_line = first_regrouped d.line_end_types to (text_of d) v.lines on.first_line;
+  lines = length-carried flags_together (λ start. start) (line_starts d.line_end_types (text_of d)) (line_starts to (text_of d)) v.flags;
+  first_line = first_regrouped d.line_end_types to (text_of d) v.flags on.first_line;
   indicator = on.indicator;
   listed = on.listed;
 }
@@ -311,11 +311,11 @@ changed_stands bytes (change.StyleRun count style) d v e on = styled_stands (rep
 changed_stands bytes (change.StyleBytes count) d v e on = styled_stands (take count bytes) d v on
 changed_stands bytes _ d v e on = stands_kept d _ v refl refl refl on
 
-by_test_id : (d : Document) (to : LineEndTypes) (v : View) (b : Bool) → (cond b (record v { lines = regrouped flags_together d.line_end_types to (text_of d) v.lines }) v).id ≡ v.id
+by_test_id : (d : Document) (to : LineEndTypes) (v : View) (b : Bool) → (cond b (record v { flags = regrouped flags_together d.line_end_types to (text_of d) v.flags }) v).id ≡ v.id
 by_test_id d to v true = refl
 by_test_id d to v false = refl
 
-by_test_document : (d : Document) (to : LineEndTypes) (v : View) (b : Bool) → (cond b (record v { lines = regrouped flags_together d.line_end_types to (text_of d) v.lines }) v).document ≡ v.document
+by_test_document : (d : Document) (to : LineEndTypes) (v : View) (b : Bool) → (cond b (record v { flags = regrouped flags_together d.line_end_types to (text_of d) v.flags }) v).document ≡ v.document
 by_test_document d to v true = refl
 by_test_document d to v false = refl
 

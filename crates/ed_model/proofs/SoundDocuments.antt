@@ -78,8 +78,8 @@ view_made d step h v stands = record {
   caret = place v.caret stands.caret;
   target_start = place v.target_start stands.target_start;
   target_end = place v.target_end stands.target_end;
-  lines = length-carried_by flags_together d.line_end_types step (text_of d) v.lines ∙ ap (line_count d.line_end_types) (sym (text_after d step));
-  first_line = first_carried_by d.line_end_types step (text_of d) v.lines stands.first_line;
+  lines = length-carried_by flags_together d.line_end_types step (text_of d) v.flags ∙ ap (line_count d.line_end_types) (sym (text_after d step));
+  first_line = first_carried_by d.line_end_types step (text_of d) v.flags stands.first_line;
   indicator = stands.indicator;
   listed = stands.listed;
 }

@@ -219,7 +219,7 @@ header_bound levels line header e = go (is_header levels line) e
 fold_by_fits : (r : Request) (action : ℕ) (o : Option ℕ) → ((header : ℕ) → o ≡ Some header → header < line_total r) → IsFitPlanned r (fold_by r action o)
 fold_by_fits r action None h = tt
 fold_by_fits r action (Some header) h =
-    if_fits r (action == 0 || (action == 2 && is_expanded r.view.lines header)) _ _ (λ _. h header refl) (λ _. h header refl)
+    if_fits r (action == 0 || (action == 2 && is_expanded r.view.flags header)) _ _ (λ _. h header refl) (λ _. h header refl)
 
 fold_at_fits : (r : Request) (action : ℕ) → IsFitPlanned r (fold_at r action)
 fold_at_fits r action =

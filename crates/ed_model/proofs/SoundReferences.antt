@@ -203,7 +203,7 @@ pub fresh_visible : (n : ℕ) → is_visible (replicate n fresh_flags) 0 ≡ tru
 fresh_visible zero = refl
 fresh_visible (suc n) = refl
 
-pub fresh_stands : (d : Document) (v : View) → occurrences v.id d.views ≡ 1 → v.anchor ≡ 0 → v.caret ≡ 0 → v.target_start ≡ 0 → v.target_end ≡ 0 → v.lines ≡ replicate (lines_in d) fresh_flags
+pub fresh_stands : (d : Document) (v : View) → occurrences v.id d.views ≡ 1 → v.anchor ≡ 0 → v.caret ≡ 0 → v.target_start ≡ 0 → v.target_end ≡ 0 → v.flags ≡ replicate (lines_in d) fresh_flags
     → v.indicator < 32 → StandsOn d v
 fresh_stands d v listed a b c e l i = record {
   anchor = omega arith;

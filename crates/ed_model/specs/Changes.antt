@@ -101,7 +101,7 @@ changed_document bytes (change.FillIndicator indicator start count value) d =
 -- The views of the document after a change: only a change of line ends regroups their flags.
 abbrev pub changed_lines : DocumentChange → Document → View → View
 changed_lines (change.SetLineEndTypes to) d v =
-    if v.document == d.id then record v { lines = regrouped flags_together d.line_end_types to (text_of d) v.lines } else v
+    if v.document == d.id then record v { flags = regrouped flags_together d.line_end_types to (text_of d) v.flags } else v
 changed_lines other d v = v
 
 -- What is told.
@@ -184,12 +184,12 @@ changed_view levels (view_change.SetIndicator indicator) v = record v { indicato
 changed_view levels (view_change.SetIndicatorValue value) v = record v { indicator_value = value }
 changed_view levels (view_change.SetPasteConversion on) v = record v { converts_pastes = on }
 changed_view levels (view_change.SetRecording on) v = record v { records = on }
-changed_view levels (view_change.ShowLines first past) v = record v { lines = lines_shown first past v.lines }
-changed_view levels (view_change.HideLines first past) v = record v { lines = lines_hidden first past v.lines }
-changed_view levels (view_change.SetExpanded line on) v = record v { lines = with_expanded line on v.lines }
-changed_view levels (view_change.Contract line) v = record v { lines = contracted levels line v.lines }
-changed_view levels (view_change.Expand line) v = record v { lines = expanded levels line v.lines }
-changed_view levels (view_change.EnsureVisible line) v = record v { lines = revealed levels line v.lines }
+changed_view levels (view_change.ShowLines first past) v = record v { flags = lines_shown first past v.flags }
+changed_view levels (view_change.HideLines first past) v = record v { flags = lines_hidden first past v.flags }
+changed_view levels (view_change.SetExpanded line on) v = record v { flags = with_expanded line on v.flags }
+changed_view levels (view_change.Contract line) v = record v { flags = contracted levels line v.flags }
+changed_view levels (view_change.Expand line) v = record v { flags = expanded levels line v.flags }
+changed_view levels (view_change.EnsureVisible line) v = record v { flags = revealed levels line v.flags }
 
 abbrev pub view_change_performed : Request → ViewChange → Session
 view_change_performed r what = record r.session { views = with_view (changed_view (levels r) what r.view) r.session.views }

@@ -30,11 +30,11 @@ abbrev pub get_fold_parent : Request → Planned
 get_fold_parent r = line_argument r (answer (negsuc 0)) (λ line. answer (line_or_none (fold_parent (levels r) line)))
 
 abbrev pub visible_from_doc_line : Request → Planned
-visible_from_doc_line r = line_argument r (answer (negsuc 0)) (λ line. answer_number (display_line r.view.lines line))
+visible_from_doc_line r = line_argument r (answer (negsuc 0)) (λ line. answer_number (display_line r.view.flags line))
 
 -- 0 for a display line that is not above 0
 abbrev pub line_shown_at : Request → ℤ → ℕ
-line_shown_at r (pos n) = if n == 0 then 0 else line_shown r.view.lines n
+line_shown_at r (pos n) = if n == 0 then 0 else line_shown r.view.flags n
 line_shown_at r (negsuc n) = 0
 
 abbrev pub doc_line_from_visible : Request → Planned
@@ -52,22 +52,22 @@ abbrev pub hide_lines : Request → Planned
 hide_lines r = change_view (view_change.HideLines (clamped (line_total r) r.message.w) (past_line (line_total r) r.message.l))
 
 abbrev pub get_line_visible : Request → Planned
-get_line_visible r = line_argument r (answer (pos 0)) (λ line. answer (flag (is_visible r.view.lines line)))
+get_line_visible r = line_argument r (answer (pos 0)) (λ line. answer (flag (is_visible r.view.flags line)))
 
 abbrev pub get_all_lines_visible : Request → Planned
-get_all_lines_visible r = answer (flag (all_visible r.view.lines))
+get_all_lines_visible r = answer (flag (all_visible r.view.flags))
 
 abbrev pub set_fold_expanded : Request → Planned
 set_fold_expanded r = line_argument r (answer (pos 0)) (λ line. change_view (view_change.SetExpanded line (is_on r.message.l)))
 
 abbrev pub get_fold_expanded : Request → Planned
-get_fold_expanded r = line_argument r (answer (pos 0)) (λ line. answer (flag (is_expanded r.view.lines line)))
+get_fold_expanded r = line_argument r (answer (pos 0)) (λ line. answer (flag (is_expanded r.view.flags line)))
 
 -- contracts, expands or toggles a header
 abbrev pub fold_by : Request → ℕ → Option ℕ → Planned
 fold_by r action None = answer (pos 0)
 fold_by r action (Some header) =
-    if action == 0 || (action == 2 && is_expanded r.view.lines header) then change_view (view_change.Contract header)
+    if action == 0 || (action == 2 && is_expanded r.view.flags header) then change_view (view_change.Contract header)
     else change_view (view_change.Expand header)
 
 -- the line itself if it is a header, else its fold parent

@@ -41,7 +41,7 @@ moved_view step d v = record v {
   caret = moved_position step v.caret;
   target_start = moved_position step v.target_start;
   target_end = moved_position step v.target_end;
-  lines = carried_by flags_together d.line_end_types step (text_of d) v.lines;
+  flags = carried_by flags_together d.line_end_types step (text_of d) v.flags;
 }
 
 abbrev pub view_after : Step → Document → View → View

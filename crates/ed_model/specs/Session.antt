@@ -44,7 +44,7 @@ pub record View : Type 0 where
   pub indicator_value : ℕ
   pub converts_pastes : Bool
   pub records : Bool
-  pub lines : List Flags
+  pub flags : List Flags
 
 -- A session: documents and views in the order of their ids, the clipboard, the next ids, and its limits.
 pub record Session : Type 0 where
@@ -104,7 +104,7 @@ lines_in d = line_count d.line_end_types (text_of d)
 
 -- at the start of the document, with all lines visible and expanded
 abbrev pub attached_to : Document → View → View
-attached_to d v = record v { document = d.id; anchor = 0; caret = 0; target_start = 0; target_end = 0; lines = replicate (lines_in d) fresh_flags }
+attached_to d v = record v { document = d.id; anchor = 0; caret = 0; target_start = 0; target_end = 0; flags = replicate (lines_in d) fresh_flags }
 
 abbrev pub new_view : ℕ → Document → View
 new_view id d = record {
@@ -120,7 +120,7 @@ new_view id d = record {
   indicator_value = 1;
   converts_pastes = true;
   records = false;
-  lines = replicate (lines_in d) fresh_flags;
+  flags = replicate (lines_in d) fresh_flags;
 }
 
 -- Finding and replacing by id.

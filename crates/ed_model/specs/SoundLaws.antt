@@ -102,8 +102,8 @@ pub record StandsOn (d : Document) (v : View) : Type 0 where
   pub caret : v.caret ≤ length d.cells
   pub target_start : v.target_start ≤ length d.cells
   pub target_end : v.target_end ≤ length d.cells
-  pub lines : length v.lines ≡ lines_in d
-  pub first_line : is_visible v.lines 0 ≡ true
+  pub lines : length v.flags ≡ lines_in d
+  pub first_line : is_visible v.flags 0 ≡ true
   pub indicator : v.indicator < 32
   pub listed : occurrences v.id d.views ≡ 1
 

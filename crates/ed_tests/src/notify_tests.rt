@@ -53,7 +53,7 @@ fn a_text_is_held_before_its_notes(rt: HostRuntime) -> Result<(), AllocError> {
     let mut notes = NoteList::new(rt.alloc());
     notes.reserve(1, 2)?;
     notes.reserve(2, 1)?;
-    notes.hold(b"x", b"y");
+    notes.share(b"x", b"y");
     notes.put_bare(note_to(1));
     notes.put_again(note_to(2));
     let reply = notes.finish(0, Bytes::empty(rt.alloc()));

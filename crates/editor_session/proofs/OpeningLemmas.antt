@@ -19,7 +19,7 @@ abbrev pub Seen : List Document → List Document → OpenView → Type 0
 Seen old new v = fresh_lines new v.document ≡ fresh_lines old v.document
 
 same_view : (old new : List Document) (v : OpenView) → Seen old new v → plain_view new v ≡ plain_view old v
-same_view old new v seen = let plain = plain_view old v in ap (λ ls. record plain { lines = ls }) seen
+same_view old new v seen = let plain = plain_view old v in ap (λ ls. record plain { flags = ls }) seen
 
 same_views : (old new : List Document) (vs : List OpenView) → AllByRecursion (Seen old new) vs → map (plain_view new) vs ≡ map (plain_view old) vs
 same_views old new [] seen = refl
@@ -55,7 +55,7 @@ views_opened old views next limits sound =
     let others = same_views ds new views (seen_in_front ds (watched next old.next) views sound.views) in
     let found = found_last 0 old.next ds (watched next old.next) refl sound.document_ids in
     let plain = new_view next (new_document old.next 0) in
-    let mine : plain_view new (first_view next old.next) ≡ new_view next (new_document old.next 0) = ap (λ o. record plain { lines = fresh_lines_of o }) found in
+    let mine : plain_view new (first_view next old.next) ≡ new_view next (new_document old.next 0) = ap (λ o. record plain { flags = fresh_lines_of o }) found in
     map-append (plain_view new) views (first_view next old.next ∷ []) ∙ ap (λ vs. vs ++ plain_view new (first_view next old.next) ∷ []) others ∙ ap (λ v. map (plain_view ds) views ++ v ∷ []) mine
 
 none_of : (a b c : Bool) → a ≡ false → b ≡ false → c ≡ false → (a || b || c) ≡ false

@@ -100,14 +100,14 @@ view_after_or_not later step d ds v found true h =
     ap (carried_by flags_together d.line_end_types step (text_of d)) old ∙ lines_after later step d ∙ sym new in
     let moved = moved_view step d (plain_view ds v) in
     let moved_plain = plain_view (with_document (step_on later step d) ds) v in
-    ap (λ ls. record moved { lines = ls }) lines ∙ ap (λ z. record { id = v.id; document = v.document; anchor = moved_position step v.anchor; caret = moved_position step v.caret; target_start = z; target_end = z; search_flags = 0; mask = moved.mask; indicator = 0; indicator_value = 1; converts_pastes = true; records = false; lines = fresh_lines (with_document (step_on later step d) ds) v.document }) zero
+    ap (λ ls. record moved { flags = ls }) lines ∙ ap (λ z. record { id = v.id; document = v.document; anchor = moved_position step v.anchor; caret = moved_position step v.caret; target_start = z; target_end = z; search_flags = 0; mask = moved.mask; indicator = 0; indicator_value = 1; converts_pastes = true; records = false; flags = fresh_lines (with_document (step_on later step d) ds) v.document }) zero
     ∙ ap (λ a. record moved_plain { anchor = a; caret = moved_position step v.caret }) anchor ∙ ap (λ c. record moved_plain { anchor = moved_by (movement_of step) v.anchor; caret = c }) caret
 view_after_or_not later step d ds v found false h =
     let elsewhere = document_at_put (step_on later step d) ds v.document in
     let same : fresh_lines (with_document (step_on later step d) ds) v.document ≡ fresh_lines ds v.document =
     ap fresh_lines_of elsewhere ∙ same_lines_elsewhere (step_on later step d) (document_at ds v.document) v.document h (id_of_found ds v.document) in
     let plain = plain_view ds v in
-    ap (λ ls. record plain { lines = ls }) (sym same)
+    ap (λ ls. record plain { flags = ls }) (sym same)
 
 pub views_after_step : (later : Bool) (step : Step) (d : Document) (ds : List Document) → document_at ds d.id ≡ Some d → (vs : List OpenView) →
     map (view_after step d) (map (plain_view ds) vs) ≡ map (plain_view (with_document (step_on later step d) ds)) (map (moved_view_by (movement_of step) d.id) vs)

@@ -32,7 +32,7 @@ plain_view documents v = record {
   indicator_value = 1;
   converts_pastes = true;
   records = false;
-  lines = fresh_lines documents v.document;
+  flags = fresh_lines documents v.document;
 }
 
 -- the view with an id, if it is open

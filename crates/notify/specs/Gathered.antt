@@ -2,12 +2,12 @@
 use Rattle.std.specs.Prelude.{ℕ, List}
 use Rattle.ed_types.specs.Notices.{Notice}
 
--- the notes with their texts, the text that is held, and how many more notes and bytes of texts are sure to fit
+-- the notes with their texts, the text that is shared, and how many more notes and bytes of texts are sure to fit
 pub record Gathered : Type 0 where
   pub notes : List Notice
-  pub held : List ℕ
+  pub shared : List ℕ
   pub note_room : ℕ
   pub text_room : ℕ
 
 abbrev pub gathered : List Notice → List ℕ → ℕ → ℕ → Gathered
-gathered notes held note_room text_room = record { notes = notes; held = held; note_room = note_room; text_room = text_room }
+gathered notes shared note_room text_room = record { notes = notes; shared = shared; note_room = note_room; text_room = text_room }

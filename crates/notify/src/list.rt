@@ -14,8 +14,8 @@ use std::marker::Model;
 pub struct NoteList {
     notes: Vec<Note>,
     pool: Vec<u8>,
-    // Where the held text begins in the pool; it ends with it.
-    held_from: usize,
+    // Where the shared text begins in the pool; it ends with it.
+    shared_from: usize,
     // How many more notes, and bytes of texts, were asked for and are there.
     note_room: usize,
     text_room: usize,
@@ -30,25 +30,25 @@ impl Model for NoteList {
     ghost use Rattle.ed_types.specs.Heard.{heard_in};
     ghost use Rattle.notify.specs.Ranges.{EndWithin};
 
-    ghost view = { λ l. gathered (heard_in l.pool.items l.notes.items) (drop l.held_from l.pool.items) l.note_room l.text_room };
+    ghost view = { λ l. gathered (heard_in l.pool.items l.notes.items) (drop l.shared_from l.pool.items) l.note_room l.text_room };
 
     ghost invariant = { λ l. record {
       texts : EndWithin (length l.pool.items) l.notes.items;
-      held : l.held_from ≤ length l.pool.items;
+      shared : l.shared_from ≤ length l.pool.items;
       notes : vec_len l.notes + l.note_room ≤ vec_capacity l.notes;
       pool : vec_len l.pool + l.text_room ≤ vec_capacity l.pool;
     } };
 }
 
 impl NoteList {
-    /// Returns a list of no notes, which holds no text. Takes no memory.
+    /// Returns a list of no notes, which share no text. Takes no memory.
     pub fn new(alloc: Global) -> Self
         ensures { result ≡ gathered [] [] 0 0 }
     {
         NoteList {
             notes: Vec::new(alloc),
             pool: Vec::new(alloc),
-            held_from: 0,
+            shared_from: 0,
             note_room: 0,
             text_room: 0,
         }
@@ -79,29 +79,29 @@ impl NoteList {
         Ok(())
     }
 
-    /// Holds a text for notes to come, in place of the one that was held. It comes in two halves, as a gap buffer lends it.
-    pub fn hold(&mut self, first: &[u8], second: &[u8])
+    /// Shares a text among the notes to come, in place of the one that was shared. It comes in two halves, as a gap buffer lends it.
+    pub fn share(&mut self, first: &[u8], second: &[u8])
         requires { length first.now + length second.now ≤ self.old.text_room }
-        ensures { self.new ≡ record self.old { held = first.now ++ second.now; text_room = self.old.text_room - (length first.now + length second.now) } }
+        ensures { self.new ≡ record self.old { shared = first.now ++ second.now; text_room = self.old.text_room - (length first.now + length second.now) } }
     {
         let from = self.pool.len();
         append(&mut self.pool, first);
         append(&mut self.pool, second);
-        self.held_from = from;
+        self.shared_from = from;
         self.text_room -= first.len() + second.len();
     }
 
-    /// Puts a note in at the end, with the text that is held. The note's own range is not looked at.
+    /// Puts a note in at the end, with the text that is shared. The note's own range is not looked at.
     pub fn put_again(&mut self, mut note: Note)
         requires { 0 < self.old.note_room }
-        ensures { self.new ≡ record self.old { notes = self.old.notes ++ with_text note self.old.held ∷ []; note_room = self.old.note_room - 1 } }
+        ensures { self.new ≡ record self.old { notes = self.old.notes ++ with_text note self.old.shared ∷ []; note_room = self.old.note_room - 1 } }
     {
-        note.text = self.held_from..self.pool.len();
+        note.text = self.shared_from..self.pool.len();
         self.notes.push_reserved(note);
         self.note_room -= 1;
     }
 
-    /// Puts a note in at the end that has no text. The text that is held stays.
+    /// Puts a note in at the end that has no text. The text that is shared stays.
     pub fn put_bare(&mut self, mut note: Note)
         requires { 0 < self.old.note_room }
         ensures { self.new ≡ record self.old { notes = self.old.notes ++ with_text note [] ∷ []; note_room = self.old.note_room - 1 } }
@@ -111,7 +111,7 @@ impl NoteList {
         self.note_room -= 1;
     }
 
-    /// Puts a note in at the end, with a text of its own that is held from then on.
+    /// Puts a note in at the end, with a text of its own, which is shared from then on.
     pub fn put(&mut self, note: Note, text: &[u8])
         requires notes { 0 < self.old.note_room }
         requires text { length text.now ≤ self.old.text_room }
@@ -126,7 +126,7 @@ impl NoteList {
         requires text { length first.now + length second.now ≤ self.old.text_room }
         ensures { self.new ≡ gathered (self.old.notes ++ with_text note (first.now ++ second.now) ∷ []) (first.now ++ second.now) (self.old.note_room - 1) (self.old.text_room - (length first.now + length second.now)) }
     {
-        self.hold(first, second);
+        self.share(first, second);
         self.put_again(note);
     }
 

@@ -111,8 +111,8 @@ module _ (view : ℕ) where
   lines_quiet : (change : DocumentChange) (d : Document) (v : View) → quiet (changed_lines change d v) ≡ changed_lines change d (quiet v)
   lines_quiet (document_change.SetLineEndTypes to) d v = go (v.document == d.id)
     where
-      go : (b : Bool) → quiet (cond b (record v { lines = regrouped flags_together d.line_end_types to (text_of d) v.lines }) v)
-          ≡ cond b (let w = quiet v in record w { lines = regrouped flags_together d.line_end_types to (text_of d) v.lines }) (quiet v)
+      go : (b : Bool) → quiet (cond b (record v { flags = regrouped flags_together d.line_end_types to (text_of d) v.flags }) v)
+          ≡ cond b (let w = quiet v in record w { flags = regrouped flags_together d.line_end_types to (text_of d) v.flags }) (quiet v)
       go true = refl
       go false = refl
   lines_quiet (document_change.SetReadOnly on) d v = refl

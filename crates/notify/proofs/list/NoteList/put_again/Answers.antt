@@ -6,7 +6,7 @@ use Rattle.notify.proofs.list.NoteList.put_again.Goals as goal
 pub invariant_of-self : goal.invariant_of-self
 invariant_of-self c = record {
   texts = rw c.push_reserved.ensures.items (one_more_ends (length c.self.inside.pool.items) c.self.inside.notes.items _ c.self.invariant.texts (omega arith));
-  held = c.self.invariant.held;
+  shared = c.self.invariant.shared;
   notes = omega arith;
   pool = c.self.invariant.pool;
 }
@@ -14,5 +14,5 @@ invariant_of-self c = record {
 pub returns : goal.returns
 returns c =
     rw (← c.self.view_is, c.push_reserved.ensures.items)
-    (ap (λ notes. gathered notes (drop c.self.inside.held_from c.self.inside.pool.items) (c.self.inside.note_room - 1) c.self.inside.text_room)
-    (heard_with_rest c.self.inside.pool.items c.self.inside.notes.items _ c.self.inside.held_from refl (omega arith)))
+    (ap (λ notes. gathered notes (drop c.self.inside.shared_from c.self.inside.pool.items) (c.self.inside.note_room - 1) c.self.inside.text_room)
+    (heard_with_rest c.self.inside.pool.items c.self.inside.notes.items _ c.self.inside.shared_from refl (omega arith)))

@@ -2,7 +2,7 @@ use Rattle.std.proofs.Common.{◌≡◌, ◌+◌, ◌++◌, drop, length, refl, 
 use Rattle.std.proofs.lemmas.List.{length-append}
 use Rattle.ed_types.specs.Heard.{heard_in}
 use Rattle.notify.proofs.Pools.{ends_stay, heard_stay_twice, two_behind}
-use Rattle.notify.proofs.list.NoteList.hold.Goals as goal
+use Rattle.notify.proofs.list.NoteList.share.Goals as goal
 
 pub invariant_of-self : goal.invariant_of-self
 invariant_of-self c =
@@ -10,7 +10,7 @@ invariant_of-self c =
     rw (c.append-2.ensures.bytes, c.append.ensures.bytes) (simp length-append) in
     record {
       texts = ends_stay (length c.self.inside.pool.items) (length c.append-2.new.pool.items) c.self.inside.notes.items (omega arith) c.self.invariant.texts;
-      held = omega arith;
+      shared = omega arith;
       notes = c.self.invariant.notes;
       pool = omega (arith, c.append.ensures.capacity, c.append-2.ensures.capacity);
     }
@@ -21,5 +21,5 @@ returns c =
     let all : c.append-2.new.pool.items ≡ pool ++ c.args.first.now ++ c.args.second.now = rw (c.append-2.ensures.bytes, c.append.ensures.bytes) refl in
     let from : c.len-from.result ≡ length pool = omega arith in
     let texts : heard_in c.append-2.new.pool.items c.self.inside.notes.items ≡ heard_in pool c.self.inside.notes.items = rw all (heard_stay_twice pool c.args.first.now c.args.second.now c.self.inside.notes.items c.self.invariant.texts) in
-    let held : drop c.len-from.result c.append-2.new.pool.items ≡ c.args.first.now ++ c.args.second.now = rw (all, from) (two_behind pool c.args.first.now c.args.second.now) in
-    rw (← c.self.view_is, texts, held) refl
+    let shared : drop c.len-from.result c.append-2.new.pool.items ≡ c.args.first.now ++ c.args.second.now = rw (all, from) (two_behind pool c.args.first.now c.args.second.now) in
+    rw (← c.self.view_is, texts, shared) refl
