@@ -6,14 +6,24 @@
 //!     ed_bench script BYTES
 //!     ed_bench lines BYTES TYPED
 //!     ed_bench search BYTES
+//!     ed_bench rows LINES
+//!     ed_bench styling BYTES RANGES
+//!     ed_bench folding LINES COUNT
+//!     ed_bench characters BYTES
+//!     ed_bench history STEPS
 //!     ed_bench all                                  (each part, tiny)
 #![tactic(auto)]
 
+mod characters;
+mod folding;
+mod histories;
 mod lines;
 mod partitions;
+mod rows;
 mod scripts;
 mod search;
 mod split;
+mod styling;
 
 use std::time::Instant;
 use std::{env, io};
@@ -52,13 +62,25 @@ fn main(rt: HostRuntime) -> io::Result<()> {
             partitions::run(&rt, 100, 100, 10)?;
             scripts::run(&rt, 1000)?;
             lines::run(&rt, 400, 100)?;
-            search::run(&rt, 400)
+            search::run(&rt, 400)?;
+            rows::run(&rt, 1000)?;
+            styling::run(&rt, 1600, 20)?;
+            folding::run(&rt, 80, 10)?;
+            characters::run(&rt, 140)?;
+            histories::run(&rt, 10)
         }
         "split" => split::run(&rt, first, second, third),
         "script" => scripts::run(&rt, first),
         "lines" => lines::run(&rt, first, second),
         "search" => search::run(&rt, first),
+        "rows" => rows::run(&rt, first),
+        "styling" => styling::run(&rt, first, second),
+        "folding" => folding::run(&rt, first, second),
+        "characters" => characters::run(&rt, first),
+        "history" => histories::run(&rt, first),
         "partitions" => partitions::run(&rt, first, second, third),
-        _ => eprintln!(&rt; "ed_bench split|partitions|script|lines|search|all SIZES.."),
+        _ => eprintln!(&rt;
+            "ed_bench split|partitions|script|lines|search|rows|styling|folding|characters|history|all SIZES.."
+        ),
     }
 }

@@ -1,0 +1,91 @@
+//! Styles by short runs, and ranges of an indicator with insertions among them.
+
+use crate::tell;
+use cell_buffer::Cells;
+use decorations::Decorations;
+use std::alloc::AllocError;
+use std::io;
+use std::time::Instant;
+
+/// Styles a run of a text that keeps styles, and answers how many bytes changed.
+fn style_run(cells: &mut Cells, place: usize, count: usize, style: u8) -> usize {
+    if !cells.keeps_styles() || place > cells.len() || count > cells.len() - place {
+        return 0;
+    }
+    match cells.set_style_run(place, count, style) {
+        Some((_, changed)) => changed,
+        None => 0,
+    }
+}
+
+/// Styles the text by runs of 8, one after the other, and answers how many bytes changed.
+fn style_all(cells: &mut Cells) -> usize {
+    let mut changed = 0usize;
+    for run in 0..cells.len() / 8 {
+        changed = changed.saturating_add(style_run(cells, run * 8, 8, (run % 7) as u8 + 1));
+    }
+    changed
+}
+
+/// Puts bytes in among the indicators.
+fn put(indicators: &mut Decorations<u32>, place: usize, count: usize) -> Result<(), AllocError> {
+    indicators.reserve(1)?;
+    let length = indicators.length();
+    let greatest = u32::MAX as usize;
+    if place <= length && length <= greatest && count <= greatest - length {
+        indicators.insert(place, count);
+    }
+    Ok(())
+}
+
+/// Fills a range of indicator 8.
+fn fill(indicators: &mut Decorations<u32>, place: usize, count: usize) -> Result<(), AllocError> {
+    indicators.reserve_fill(8)?;
+    let length = indicators.length();
+    if place <= length && count <= length - place {
+        indicators.fill(8, place, count, 1);
+    }
+    Ok(())
+}
+
+/// Puts single bytes in, at far apart places.
+fn put_far(indicators: &mut Decorations<u32>, count: usize) -> Result<(), AllocError> {
+    let mut seed = 1u64;
+    for _ in 0..count {
+        seed = seed
+            .wrapping_mul(6364136223846793005)
+            .wrapping_add(1442695040888963407);
+        let place = (seed >> 33) as usize % (indicators.length() + 1);
+        put(indicators, place, 1)?;
+    }
+    Ok(())
+}
+
+/// A text of so many bytes, styled, and `ranges` ranges of an indicator in one as long.
+pub fn run(rt: &HostRuntime, bytes: usize, ranges: usize) -> io::Result<()> {
+    let mut text: Vec<u8> = Vec::new(rt.alloc());
+    text.resize(bytes, b'x')?;
+    let mut cells = Cells::new(rt.alloc());
+    cells.reserve(bytes)?;
+    cells.insert_reserved(0, text.as_slice());
+    let start = Instant::now(rt)?;
+    cells.keep_styles()?;
+    tell(rt, "styles kept from now on", start, bytes)?;
+    let start = Instant::now(rt)?;
+    let changed = style_all(&mut cells);
+    tell(rt, "runs of 8 styled", start, bytes / 8)?;
+    let mut indicators: Decorations<u32> = Decorations::new(rt.alloc());
+    put(&mut indicators, 0, bytes)?;
+    let start = Instant::now(rt)?;
+    put_far(&mut indicators, ranges)?;
+    tell(rt, "bytes put in without indicators", start, ranges)?;
+    let start = Instant::now(rt)?;
+    for range in 0..ranges {
+        fill(&mut indicators, range.saturating_mul(16), 5)?;
+    }
+    tell(rt, "ranges filled", start, ranges)?;
+    let start = Instant::now(rt)?;
+    put_far(&mut indicators, ranges)?;
+    tell(rt, "bytes put in among ranges", start, ranges)?;
+    println!(rt; "styled {changed} {}", indicators.length())
+}
