@@ -1,15 +1,15 @@
 -- The lines about a step, as numbers: what its edits make of a list with an item for each line, and how many lines they bring.
-use Rattle.std.proofs.Common.{◌≡◌, ℕ, zero, suc, ◌+◌, ◌-◌, ◌<◌, ◌≤◌, Bool, cond, List, [], ◌∷◌, ◌++◌, length, map, take, drop, get_or, replicate, fold, eqb, leb, ltb, refl, sym, ap, ap₂, ◌∙◌, inl, inr, arith, subst, append_assoc, length-append, zero-add, add-zero, length-take, length-drop}
+use Rattle.std.proofs.Common.{◌≡◌, ℕ, zero, suc, ◌+◌, ◌-◌, ◌<◌, ◌≤◌, cond, List, [], ◌∷◌, ◌++◌, length, map, take, drop, get_or, replicate, fold, eqb, leb, ltb, refl, sym, ap, ap₂, ◌∙◌, inl, inr, arith, subst, append_assoc, length-append, zero-add, length-take, length-drop}
 use Rattle.std.specs.List.{range_with_len}
 use Rattle.std.proofs.lemmas.Bool.{cases_lt, cases_eq, eq-eqb, ne_eqb, lt-ltb, le-ltb, le-leb, lt-leb}
-use Rattle.std.proofs.lemmas.List.{map-append, take_all, take_more, length-take-le, take-append-drop, nil_from_length, length-replicate}
+use Rattle.std.proofs.lemmas.List.{map-append, take_all, take_more, length-take-le, take-append-drop, length-replicate}
 use Rattle.std.proofs.lemmas.List.Sums.{fold-append}
 use Rattle.ed_model.specs.MergeLaws.{JoinsRows}
 use Rattle.ed_model.proofs.RisingLemmas.{range-append}
 use Rattle.line_index.specs.declared.change.LineChange.{LineChange}
 use Rattle.line_index.specs.declared.edit.LineEdit.{LineEdit}
 use Rattle.line_index.specs.Change.{line_after}
-use Rattle.line_index.specs.Edits.{after_edits, FitLines, lines_after_edit, fresh_by, fresh_lines}
+use Rattle.line_index.specs.Edits.{after_edits, FitLines, lines_after_edit, fresh_lines}
 use Rattle.line_index.specs.StepEdits.{joined, came, settled, settling, last_at, last_one_behind}
 use Rattle.line_index.proofs.Settling.{edits_in_turn, settled_is, joined_to_last, none_joined}
 use Rattle.line_index.proofs.Keyed.{Carries, by_keys, carries_both, carries_none, carries_on, carries_same, carries_behind, map_range_same, map_range_moved}
@@ -349,7 +349,7 @@ module _ (c : LineChange) (lines news : ℕ) (a : AreAbout c lines news) where
       (omega (arith, d0, d1, d2, length-take come_two behind_one)) (omega (arith, d0, d1, d2, d3)))
 
 -- how many lines there are after several edits
-abbrev lines_left : ℕ → List LineEdit → ℕ
+abbrev pub lines_left : ℕ → List LineEdit → ℕ
 lines_left lines edits = fold lines_after_edit lines edits
 
 fit_both : (lines : ℕ) (xs ys : List LineEdit) → FitLines lines xs → FitLines (lines_left lines xs) ys → FitLines lines (xs ++ ys)
@@ -361,12 +361,12 @@ fresh_both [] ys = omega arith
 fresh_both (x ∷ xs) ys = omega (arith, fresh_both xs ys)
 
 -- the edits that settle lines fit, and leave so many
-record Fits (lines left fresh : ℕ) (edits : List LineEdit) : Type 0 where
-  fit : FitLines lines edits
-  count : lines_left lines edits ≡ left
-  few : fresh_lines edits ≡ fresh
+pub record Fits (lines left fresh : ℕ) (edits : List LineEdit) : Type 0 where
+  pub fit : FitLines lines edits
+  pub count : lines_left lines edits ≡ left
+  pub few : fresh_lines edits ≡ fresh
 
-fits_both : (lines mid left some more fresh : ℕ) (xs ys : List LineEdit) → fresh ≡ some + more → Fits lines mid some xs → Fits mid left more ys → Fits lines left fresh (xs ++ ys)
+pub fits_both : (lines mid left some more fresh : ℕ) (xs ys : List LineEdit) → fresh ≡ some + more → Fits lines mid some xs → Fits mid left more ys → Fits lines left fresh (xs ++ ys)
 fits_both lines mid left some more fresh xs ys e a b =
     record {
       fit = fit_both lines xs ys a.fit (rw a.count b.fit);
@@ -374,11 +374,11 @@ fits_both lines mid left some more fresh xs ys e a b =
       few = omega (arith, fresh_both xs ys, a.few, b.few);
     }
 
-joined_fits : (lines line count : ℕ) → line + count < lines → Fits lines (lines - count) 0 (joined line count)
+pub joined_fits : (lines line count : ℕ) → line + count < lines → Fits lines (lines - count) 0 (joined line count)
 joined_fits lines line zero h = record { fit = tt; count = omega arith; few = refl }
 joined_fits lines line (suc n) h = rw (ne_eqb (suc n) 0 (λ e. omega arith)) (record { fit = (h, tt); count = refl; few = omega arith })
 
-came_fits : (lines line count : ℕ) → line ≤ lines → Fits lines (lines + count) count (came line count)
+pub came_fits : (lines line count : ℕ) → line ≤ lines → Fits lines (lines + count) count (came line count)
 came_fits lines line zero h = record { fit = tt; count = omega arith; few = refl }
 came_fits lines line (suc n) h = rw (ne_eqb (suc n) 0 (λ e. omega arith)) (record { fit = (h, tt); count = refl; few = omega arith })
 

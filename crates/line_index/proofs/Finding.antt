@@ -1,13 +1,19 @@
 -- The last start at a place or before it is that of the place's line.
-use Rattle.std.proofs.Common.{◌≡◌, ℕ, ◌+◌, ◌-◌, ◌^◌, ◌<◌, ◌≤◌, min, Bool, List, [], ◌∷◌, length, get_or, count_by, cond, leb, ltb, refl, sym, ◌∙◌, inl, inr, arith}
+use Rattle.std.proofs.Common.{◌≡◌, ℕ, ◌+◌, ◌-◌, ◌^◌, ◌<◌, ◌≤◌, min, Bool, List, [], ◌∷◌, length, count_by, leb, ltb, refl, sym, ◌∙◌, inl, inr, arith}
 use Rattle.std.proofs.lemmas.Bool.{cases_lt, lt-ltb, le-ltb, le-leb, lt-leb}
 use Rattle.std.specs.Prelude.{slice_index}
 use Rattle.ed_model.specs.Lines.{line_of}
 use Rattle.ed_model.specs.NeighbourLaws.{count_before}
 use Rattle.ed_model.proofs.RisingLemmas.{Climbs, Climbs_from_rises, count-cons, count_is, count_back}
 use Rattle.ed_model.proofs.JoinLemmas.{rises_from_increasing}
+use Rattle.line_index.specs.declared.change.NearLines.{NearLines}
+use Rattle.line_index.specs.Change.{near_lines}
 use Rattle.partitioning.specs.Partitions.{ArePartitions, IsLastAtMost}
 use Rattle.partitioning.proofs.Parts.{rising_or_same}
+
+-- the lines of a place and of the two behind it, as numbers
+abbrev pub near_at : ℕ → ℕ → ℕ → NearLines
+near_at a b c = record { at = a; one_behind = b; two_behind = c }
 
 climbs : (starts : List ℕ) (end : ℕ) → ArePartitions starts end → Climbs 0 starts
 climbs starts end sound = Climbs_from_rises 0 starts (rises_from_increasing 0 starts (λ _. omega arith) sound.rising)
@@ -43,6 +49,37 @@ next_behind starts end place line sound low inside high = record {
   at_most = low;
   last = λ k a b. omega (arith, rising_or_same starts sound.rising (line + 1) k (omega arith) b);
 }
+
+-- where a line holds a place, no line but the next starts at the place behind
+pub none_past_next : (starts : List ℕ) (end place line behind : ℕ) → ArePartitions starts end → IsLastAtMost starts place line → behind ≤ place + 1 → (k : ℕ) → line + 1 < k → k < length starts → behind < slice_index starts k
+none_past_next starts end place line behind sound last near k a b =
+    omega (arith, last.last (line + 1) (omega arith) (omega arith), sound.rising (line + 1) (omega arith), rising_or_same starts sound.rising (line + 1 + 1) k (omega arith) b)
+
+-- .. so it is that line or the next
+pub next_holds : (starts : List ℕ) (place line : ℕ) → line + 1 < length starts → slice_index starts (line + 1) ≤ place → ((k : ℕ) → line + 1 < k → k < length starts → place < slice_index starts k) → IsLastAtMost starts place (line + 1)
+next_holds starts place line within low high = record {
+  within = within;
+  at_most = low;
+  last = λ k a b. high k a b;
+}
+
+-- a line that holds a place and one behind it holds those between
+pub holds_between : (starts : List ℕ) (first place last line : ℕ) → slice_index starts line ≤ first → first ≤ place → place ≤ last → IsLastAtMost starts last line → IsLastAtMost starts place line
+holds_between starts first place last line low a b holds = record {
+  within = holds.within;
+  at_most = omega arith;
+  last = λ k c d. omega (arith, holds.last k c d);
+}
+
+-- the lines of three places
+pub near_lines_are :
+    (starts : List ℕ) (end place one two a b c : ℕ) → ArePartitions starts end → end < 2 ^ 64 → one ≡ min (place + 1) (2 ^ 64 - 1) → two ≡ min (place + 2) (2 ^ 64 - 1)
+    → IsLastAtMost starts place a → IsLastAtMost starts one b → IsLastAtMost starts two c → near_at a b c ≡ near_lines starts place
+near_lines_are starts end place one two a b c sound small e f p q r =
+    three (sym (line_of_last starts end place a sound p)) (sym (line_of_last_capped starts end (place + 1) one b sound small e q)) (sym (line_of_last_capped starts end (place + 2) two c sound small f r))
+  where
+    three : {i j k i' j' k' : ℕ} → i ≡ i' → j ≡ j' → k ≡ k' → near_at i j k ≡ near_at i' j' k'
+    three {i} {j} {k} {i'} {j'} {k'} e f g = rw (e, f, g) refl
 
 count_same : (p q : ℕ → Bool) (xs : List ℕ) → ((x : ℕ) → p x ≡ q x) → count_by p xs ≡ count_by q xs
 count_same p q [] h = refl

@@ -11,10 +11,8 @@ use Rattle.line_index.specs.Index.{IsFree, index, starts_within}
 use Rattle.line_index.proofs.StepLists.{Insertion, range_about, free_about, moved_behind, put_between, fits_about, left_about, longer, found_in}
 
 -- the line behind that of the byte before the place, as it is looked up
-pub first_is : (starts : List ℕ) (p q r : ℕ) → r ≡ line_of starts (q + 0) → q ≡ p - 1 → r + 1 ≡ line_of starts (p - 1) + 1
-first_is starts p q r e f =
-    let same : q + 0 ≡ p - 1 = omega arith in
-    ap (λ n. n + 1) (e ∙ ap (line_of starts) same)
+pub first_is : (starts : List ℕ) (p q r : ℕ) → r ≡ line_of starts q → q ≡ p - 1 → r + 1 ≡ line_of starts (p - 1) + 1
+first_is starts p q r e f = ap (λ n. n + 1) (e ∙ ap (line_of starts) f)
 
 -- .. and the one behind that of the third byte behind a place
 pub last_is : (starts : List ℕ) (e : ℕ) (near : NearLines) → near ≡ near_lines starts e → near.two_behind + 1 ≡ line_of starts (e + 2) + 1

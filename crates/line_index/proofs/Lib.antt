@@ -9,6 +9,8 @@ pub mod MarkedBytes
 pub mod MovedLines
 pub mod NearBytes
 pub mod RoomLemmas
+pub mod SettingEdits
+pub mod SettingLists
 pub mod Settling
 pub mod StartLists
 pub mod StepCarries

@@ -24,7 +24,7 @@ few_pass p a (suc n) = one_passes (p a) a n (filter p (range_with_len (a + 1) n)
     one_passes true a n rest h = omega arith
     one_passes false a n rest h = omega arith
 
-few_starts : (types : LineEndTypes) (text : List ℕ) (from to : ℕ) → length (starts_within types text from to) ≤ to - from
+pub few_starts : (types : LineEndTypes) (text : List ℕ) (from to : ℕ) → length (starts_within types text from to) ≤ to - from
 few_starts types text from to = few_pass (is_line_start types text) from (to - from)
 
 -- the starts within the bytes that came
@@ -143,29 +143,24 @@ few_deleted types place count text h =
 
 -- the lines of bytes, counted one start after another
 
--- none starts up to the next place
-pub counted_on :
-    (types : LineEndTypes) (bytes : List ℕ) (place next lines : ℕ) → place + 1 ≤ next → ((k : ℕ) → place + 1 ≤ k → k < next → is_line_start types (bytes ++ []) k ≡ false)
-    → lines ≡ length (starts_within types bytes 0 (place + 1)) → lines ≡ length (starts_within types (bytes ++ []) 0 next)
-counted_on types bytes place next lines h none e =
-    let same : bytes ++ [] ≡ bytes = append-nil bytes in
-    omega (
-      arith,
-      e,
-      ap (λ t. length (starts_within types t 0 (place + 1))) same,
-      ap length (starts_apart types (bytes ++ []) 0 (place + 1) next (omega arith) h),
-      length-append (starts_within types (bytes ++ []) 0 (place + 1)) (starts_within types (bytes ++ []) (place + 1) next),
-      ap length (no_starts types (bytes ++ []) (place + 1) next none),
-    )
+-- none starts up to the first
+pub counted_none : (types : LineEndTypes) (bytes : List ℕ) (from next : ℕ) → ((k : ℕ) → from ≤ k → k < next → is_line_start types bytes k ≡ false) → 0 ≡ length (starts_within types bytes from next)
+counted_none types bytes from next none = sym (ap length (no_starts types bytes from next none))
 
 pub counted_next :
-    (types : LineEndTypes) (bytes : List ℕ) (place next lines : ℕ) → place < next → is_line_start types bytes place ≡ true
-    → ((k : ℕ) → place + 1 ≤ k → k < next → is_line_start types bytes k ≡ false) → lines ≡ length (starts_within types bytes 0 place)
-    → lines + 1 ≡ length (starts_within types bytes 0 next)
-counted_next types bytes place next lines l here none e =
-    omega (arith, ap length (one_more types bytes 0 place next (omega arith) l here none), length-append (starts_within types bytes 0 place) (place ∷ []))
+    (types : LineEndTypes) (bytes : List ℕ) (from place next lines : ℕ) → from ≤ place → place < next → is_line_start types bytes place ≡ true
+    → ((k : ℕ) → place + 1 ≤ k → k < next → is_line_start types bytes k ≡ false) → lines ≡ length (starts_within types bytes from place)
+    → lines + 1 ≡ length (starts_within types bytes from next)
+counted_next types bytes from place next lines a l here none e =
+    omega (arith, ap length (one_more types bytes from place next a l here none), length-append (starts_within types bytes from place) (place ∷ []))
 
-pub counted_all : (types : LineEndTypes) (bytes : List ℕ) (lines end : ℕ) → end ≡ length bytes + 1 → lines ≡ length (starts_within types (bytes ++ []) 0 end) → lines ≡ line_count types bytes
-counted_all types bytes lines end e h =
+-- the last half of a text may have no bytes
+pub counted_whole : (types : LineEndTypes) (bytes : List ℕ) (lines from place to : ℕ) → place ≡ to → lines ≡ length (starts_within types (bytes ++ []) from place) → lines ≡ length (starts_within types bytes from to)
+counted_whole types bytes lines from place to e h = h ∙ rw (append-nil bytes, e) refl
+
+-- those up to a place and those from there on are all
+pub counted_all : (types : LineEndTypes) (bytes : List ℕ) (lines more mid end : ℕ) → end ≡ length bytes + 1 → mid ≤ end → lines ≡ length (starts_within types bytes 0 mid) → more ≡ length (starts_within types bytes mid end) → lines + more ≡ line_count types bytes
+counted_all types bytes lines more mid end e a h g =
     let same : end - 0 ≡ length bytes + 1 = omega arith in
-    h ∙ rw (append-nil bytes, same) refl
+    let all : length (starts_within types bytes 0 end) ≡ line_count types bytes = rw same refl in
+    omega (arith, all, ap length (starts_apart types bytes 0 mid end (omega arith) a), length-append (starts_within types bytes 0 mid) (starts_within types bytes mid end))

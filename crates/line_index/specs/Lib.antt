@@ -4,3 +4,4 @@ pub mod Edits
 pub mod StepEdits
 pub mod Ends
 pub mod RoomLaws
+pub mod Settings

@@ -23,14 +23,17 @@ mod laws;
 mod marks;
 mod near;
 mod room;
+mod settings;
 mod starts;
 mod steps;
+mod unicode_blocks;
 mod whole;
 
 pub use change::{LineChange, LinesAbout, NearLines};
 pub use edit::LineEdit;
 pub use edits::LineEdits;
 pub use index::LineIndex;
-pub use laws::edits_of_steps;
+pub use laws::{edits_of_settings, edits_of_steps};
 pub use near::near_step;
 pub use room::{lines_for_deletion, lines_for_insertion, lines_in, room_for_steps};
+pub use settings::fresh_lines;

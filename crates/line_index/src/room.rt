@@ -1,17 +1,18 @@
 //! How much room steps need.
 
-ghost use Rattle.std.specs.Prelude.{◌≡◌, ◌≤◌, ◌<◌, ◌+◌, ◌==◌, ◌||◌, ◌&&◌, not, if◌then◌else◌, length};
+ghost use Rattle.std.specs.Prelude.{◌≡◌, ◌≤◌, ◌<◌, ◌+◌, ◌-◌, ◌==◌, ◌||◌, ◌&&◌, not, if◌then◌else◌, length};
 ghost use Rattle.ed_model.specs.Lines.{line_count};
 ghost use Rattle.ed_model.specs.Text.{carriage_return, line_feed};
 ghost use Rattle.line_index.specs.Index.{starts_within};
 ghost use Rattle.line_index.specs.RoomLaws.{DeletionAddsFewLines, InsertionAddsFewLines, lines_for_deletion, lines_for_insertion};
 
 use crate::halves::next_start;
+use crate::unicode_blocks;
 use ed_model::LineEndTypes;
 
 // How many bytes are tested at once: so few that a counter of one byte holds how many lines start behind them, since a
 // vector has many such counters.
-const BLOCK: usize = 192;
+pub(crate) const BLOCK: usize = 192;
 
 // How many blocks a row has: so many that its bytes are three pages, since shorter rows took longer.
 const BLOCKS: usize = 64;
@@ -92,7 +93,22 @@ fn lines_behind_blocks(bytes: &[u8]) -> (usize, usize)
     (lines, place)
 }
 
-// The same for each setting: where line ends of Unicode count, the blocks are none.
+/// How many lines start from one place up to another, one after the other.
+pub(crate) fn count_starts(types: LineEndTypes, bytes: &[u8], from: usize, to: usize) -> usize
+    requires { (from ≤ to) × (to ≤ length bytes.now + 1) }
+    ensures lines { result ≡ length (starts_within types bytes.now from to) }
+    ensures few { result ≤ to - from }
+{
+    let mut lines = 0;
+    let mut place = next_start(types, bytes, &[], from, to);
+    'counting: while place < to {
+        lines += 1;
+        place = next_start(types, bytes, &[], place + 1, to);
+    }
+    lines
+}
+
+// How many lines start at the bytes' beginning and behind those of whole blocks, and how many bytes these have.
 fn lines_seen(types: LineEndTypes, bytes: &[u8]) -> (usize, usize)
     ensures lines { result.0 ≡ length (starts_within types bytes.now 0 (result.1 + 1)) }
     ensures few { result.0 ≤ result.1 + 1 }
@@ -100,7 +116,7 @@ fn lines_seen(types: LineEndTypes, bytes: &[u8]) -> (usize, usize)
 {
     match types {
         LineEndTypes::Default => lines_behind_blocks(bytes),
-        LineEndTypes::Unicode => (1, 0),
+        LineEndTypes::Unicode => unicode_blocks::lines_behind_blocks(bytes),
     }
 }
 
@@ -109,15 +125,8 @@ pub fn lines_in(types: LineEndTypes, bytes: &[u8]) -> usize
     ensures lines { result ≡ line_count types bytes.now }
     ensures within { result ≤ length bytes.now + 1 }
 {
-    let end = bytes.len() + 1;
-    let (seen, behind) = lines_seen(types, bytes);
-    let mut lines = seen;
-    let mut place = next_start(types, bytes, &[], behind + 1, end);
-    'counting: while place < end {
-        lines += 1;
-        place = next_start(types, bytes, &[], place + 1, end);
-    }
-    lines
+    let (lines, behind) = lines_seen(types, bytes);
+    lines + count_starts(types, bytes, behind + 1, bytes.len() + 1)
 }
 
 /// Returns for how many lines there has to be room before the bytes are put in: as many as they have by themselves and

@@ -1,6 +1,6 @@
 //! Line starts among the partitions: finding them, and taking some away and putting others in about a step.
 
-ghost use Rattle.std.specs.Prelude.{ℕ, ◌≡◌, ◌+◌, ◌-◌, ◌^◌, ◌≤◌, ◌<◌, ◌++◌, IsTrue, length, take, drop};
+ghost use Rattle.std.specs.Prelude.{ℕ, ◌≡◌, ◌+◌, ◌-◌, ◌^◌, ◌≤◌, ◌<◌, ◌++◌, IsTrue, false, length, take, drop, slice_index};
 ghost use Rattle.ed_model.specs.Lines.{line_of};
 ghost use Rattle.partitioning.specs.Partitions.{IsFloorLog, IsLastAtMost};
 ghost use Rattle.split_vector.specs.Split.{counted};
@@ -31,16 +31,22 @@ pub(crate) fn line_at<P: Place>(
     starts.partition_of(place, probes)
 }
 
-// Whether this line holds the place: it starts there or before it, and the next one behind it.
+// Whether this line, which starts at the place or before it, holds the place: it is the last, or the next starts behind.
 #[tactic(auto, using(crate::proofs::Finding::last_of_all))]
+fn reaches<P: Place>(starts: &Partitioning<P>, line: usize, place: usize) -> bool
+    requires { (line < length starts.now.starts) × (slice_index starts.now.starts line ≤ place) }
+    ensures yes { IsTrue result → IsLastAtMost starts.now.starts place line }
+    ensures no { result ≡ false → (line + 1 < length starts.now.starts) × (slice_index starts.now.starts (line + 1) ≤ place) }
+{
+    let count = starts.count();
+    line + 1 == count || place < starts.start_of(line + 1)
+}
+
+// Whether this line holds the place.
 fn holds<P: Place>(starts: &Partitioning<P>, line: usize, place: usize) -> bool
     ensures { IsTrue result → IsLastAtMost starts.now.starts place line }
 {
-    let count = starts.count();
-    if line >= count || place < starts.start_of(line) {
-        return false;
-    }
-    line + 1 == count || place < starts.start_of(line + 1)
+    line < starts.count() && starts.start_of(line) <= place && reaches(starts, line, place)
 }
 
 // The line that holds the place. It is looked up only where it is neither the line that is likely nor the next one.
@@ -58,20 +64,29 @@ fn line_from<P: Place>(starts: &Partitioning<P>, place: usize, likely: usize) ->
     starts.partition_of(place, &mut probes)
 }
 
-// The line of the place that lies `behind` bytes behind another, which is likely this line or the next.
-pub(crate) fn line_behind<P: Place>(
-    starts: &Partitioning<P>,
-    place: usize,
-    behind: usize,
-    likely: usize,
-) -> usize
-    ensures line { result ≡ line_of starts.now.starts (place + behind) }
+// The line that holds the place, which is likely this line or the next.
+pub(crate) fn likely_line<P: Place>(starts: &Partitioning<P>, place: usize, likely: usize) -> usize
+    ensures line { result ≡ line_of starts.now.starts place }
     ensures within { result < length starts.now.starts }
     ensures small { length starts.now.starts + starts.now.room < 2 ^ 63 }
 {
     let _ = starts.count();
-    let _ = starts.length();
-    line_from(starts, place.saturating_add(behind), likely)
+    line_from(starts, place, likely)
+}
+
+// The line that holds the place, which is this line or the next.
+fn line_or_next<P: Place>(starts: &Partitioning<P>, line: usize, place: usize) -> usize
+    requires line { line < length starts.now.starts }
+    requires low { slice_index starts.now.starts line ≤ place }
+    requires high { (k : ℕ) → line + 1 < k → k < length starts.now.starts → place < slice_index starts.now.starts k }
+    ensures { IsLastAtMost starts.now.starts place result }
+{
+    let _ = starts.count(); // it says that the number of lines is small
+    if reaches(starts, line, place) {
+        line
+    } else {
+        line + 1
+    }
 }
 
 // How many lines start in front of the place, where this is the line of the byte before it.
@@ -94,9 +109,19 @@ pub(crate) fn lines_near<P: Place>(
     ensures small_lines { SmallLines result }
     ensures small { length starts.now.starts + starts.now.room < 2 ^ 63 }
 {
-    let at = line_behind(starts, place, 0, likely);
-    let one_behind = line_behind(starts, place, 1, at);
-    let two_behind = line_behind(starts, place, 2, one_behind);
+    let _ = starts.count(); // it says that the number of lines is small
+    let _ = starts.length(); // it says that no line starts past the greatest number
+    let at = line_from(starts, place, likely);
+    let last = place.saturating_add(2);
+    if reaches(starts, at, last) {
+        return NearLines {
+            at,
+            one_behind: at,
+            two_behind: at,
+        };
+    }
+    let one_behind = line_or_next(starts, at, place.saturating_add(1));
+    let two_behind = line_or_next(starts, one_behind, last);
     NearLines {
         at,
         one_behind,

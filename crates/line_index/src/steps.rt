@@ -8,7 +8,7 @@ ghost use Rattle.line_index.specs.StepEdits.{SmallLines};
 
 use crate::change::LineChange;
 use crate::index::LineIndex;
-use crate::starts::{add_starts, line_behind, lines_before, lines_near, remove_starts};
+use crate::starts::{add_starts, likely_line, lines_before, lines_near, remove_starts};
 use ed_model::LineEndTypes;
 use partitioning::{Partitioning, Place};
 
@@ -41,7 +41,7 @@ fn put_in<P: Place>(
     ensures small { SmallLines result.old_lines × SmallLines result.new_lines }
 {
     let edited = starts.step_at();
-    let first = line_behind(starts, place.saturating_sub(1), 0, edited) + 1;
+    let first = likely_line(starts, place.saturating_sub(1), edited) + 1;
     let in_front = lines_before(starts, place, first - 1);
     let old_lines = lines_near(starts, place, first - 1);
     remove_starts(starts, first, old_lines.two_behind + 1);
@@ -81,7 +81,7 @@ fn take_out<P: Place>(
 {
     let _ = starts.length(); // it says that the text is not too long
     let edited = starts.step_at();
-    let first = line_behind(starts, place.saturating_sub(1), 0, edited) + 1;
+    let first = likely_line(starts, place.saturating_sub(1), edited) + 1;
     let in_front = lines_before(starts, place, first - 1);
     let old_lines = lines_near(starts, place + count, first - 1);
     remove_starts(starts, first, old_lines.two_behind + 1);

@@ -6,7 +6,7 @@ ghost use Rattle.line_index.specs.StepEdits.{SmallLines};
 
 use crate::change::{LineChange, LinesAbout};
 use crate::index::LineIndex;
-use crate::starts::{line_behind, lines_before, lines_near};
+use crate::starts::{likely_line, lines_before, lines_near};
 use partitioning::Place;
 
 impl<P: Place> LineIndex<P> {
@@ -17,7 +17,7 @@ impl<P: Place> LineIndex<P> {
         ensures small { SmallLines result.old_lines }
     {
         let edited = self.starts.step_at();
-        let line = line_behind(&self.starts, place.saturating_sub(1), 0, edited);
+        let line = likely_line(&self.starts, place.saturating_sub(1), edited);
         LinesAbout {
             before: lines_before(&self.starts, place, line),
             old_lines: lines_near(&self.starts, end, line),

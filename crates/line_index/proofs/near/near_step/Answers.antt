@@ -1,4 +1,4 @@
-use Rattle.std.proofs.Common.{◌≡◌, ◌+◌, ◌-◌, ◌^◌, ◌<◌, min, length, arith}
+use Rattle.std.proofs.Common.{◌≡◌, ◌+◌, ◌^◌, ◌<◌, min, length, arith}
 use Rattle.line_index.proofs.NearBytes.{near_in_halves}
 use Rattle.line_index.proofs.near.near_step.Goals as goal
 

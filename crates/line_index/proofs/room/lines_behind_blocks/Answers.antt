@@ -1,4 +1,5 @@
 use Rattle.std.proofs.Common.{◌+◌, arith}
+use Rattle.ed_model.specs.declared.plan.LineEndTypes.TheVariants.{Default}
 use Rattle.line_index.proofs.Blocks.{block_counted}
 use Rattle.line_index.proofs.room.lines_behind_blocks.Goals as goal
 
@@ -7,7 +8,7 @@ adding-preserved c =
     let inv = c.adding.invariant in
     let block = c.lines_behind_block-lines in
     record {
-      lines = block_counted c.args.bytes.now 0 (c.adding.place + 1) (c.adding.place + 192 + 1) c.adding.lines block.result (omega arith) (omega arith) inv.lines block.ensures.lines;
+      lines = block_counted Default c.args.bytes.now 0 (c.adding.place + 1) (c.adding.place + 192 + 1) c.adding.lines block.result (omega arith) (omega arith) inv.lines block.ensures.lines;
       few = omega (arith, inv.few, block.ensures.few);
       within = omega arith;
     }

@@ -1,4 +1,5 @@
 use Rattle.std.proofs.Common.{◌+◌, arith}
+use Rattle.ed_model.specs.declared.plan.LineEndTypes.TheVariants.{Default}
 use Rattle.line_index.proofs.Blocks.{block_counted}
 use Rattle.line_index.proofs.room.lines_behind_groups.Goals as goal
 
@@ -7,7 +8,7 @@ adding-preserved c =
     let inv = c.adding.invariant in
     let rows = c.lines_behind_rows-lines in
     record {
-      lines = block_counted c.args.bytes.now 0 (c.adding.place + 1) (c.adding.place + 49152 + 1) c.adding.lines rows.result (omega arith) (omega arith) inv.lines rows.ensures.lines;
+      lines = block_counted Default c.args.bytes.now 0 (c.adding.place + 1) (c.adding.place + 49152 + 1) c.adding.lines rows.result (omega arith) (omega arith) inv.lines rows.ensures.lines;
       few = omega (arith, inv.few, rows.ensures.few);
       within = omega arith;
     }

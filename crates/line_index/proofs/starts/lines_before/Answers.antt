@@ -1,5 +1,4 @@
 use Rattle.std.proofs.Common.{arith}
-use Rattle.ed_model.proofs.LineLemmas.{line_of_lt}
 use Rattle.line_index.proofs.Finding.{lines_in_front, none_in_front}
 use Rattle.line_index.proofs.starts.lines_before.Goals as goal
 

@@ -1,0 +1,39 @@
+use Rattle.std.proofs.Common.{◌+◌, [], ◌∷◌, ◌++◌, length, sym, ap, ◌∙◌, arith, length-append}
+use Rattle.ed_model.specs.declared.plan.LineEndTypes.TheVariants.{Unicode}
+use Rattle.line_index.proofs.SettingLists.{none_starts, one_more_inside}
+use Rattle.line_index.proofs.StartLists.{no_starts, one_more}
+use Rattle.line_index.specs.Index.{starts_within}
+use Rattle.line_index.proofs.settings.count_inside.Goals as goal
+
+pub counting-init : goal.counting-init
+counting-init c =
+    let text = c.args.before.now ++ c.args.after.now in
+    let first = c.next_start-place in
+    record {
+      lines = sym (ap length (no_starts Unicode text (c.args.start + 1) first.result first.ensures.none));
+      low = omega (arith, first.ensures.within);
+      high = first.ensures.within.1;
+      few = omega (arith, first.ensures.within);
+      none = λ k a b. none_starts text k (first.ensures.none k (omega arith) b);
+      found = first.ensures.start;
+    }
+
+pub counting-preserved : goal.counting-preserved
+counting-preserved c =
+    let text = c.args.before.now ++ c.args.after.now in
+    let inv = c.counting.invariant in
+    let next = c.next_start-place-in-counting in
+    let place = c.counting.place in
+    record {
+      lines = omega (
+        arith,
+        inv.lines,
+        ap length (one_more Unicode text (c.args.start + 1) place next.result (omega (arith, inv.low)) (omega (arith, next.ensures.within)) (inv.found c.counting-test.true) next.ensures.none),
+        length-append (starts_within Unicode text (c.args.start + 1) place) (place ∷ []),
+      );
+      low = omega (arith, inv.low, next.ensures.within);
+      high = next.ensures.within.1;
+      few = omega (arith, inv.few, next.ensures.within);
+      none = one_more_inside text c.args.start place next.result inv.low (sym c.starts_at.ensures ∙ c.if-starts_at.false) inv.none next.ensures.none;
+      found = next.ensures.start;
+    }

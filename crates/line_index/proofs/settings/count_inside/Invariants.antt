@@ -1,0 +1,19 @@
+use Rattle.std.proofs.Common.{◌≡◌, ℕ, ◌+◌, ◌-◌, ◌<◌, ◌≤◌, ◌++◌, true, false, length}
+use Rattle.ed_model.specs.declared.plan.LineEndTypes.TheVariants.{Default, Unicode}
+use Rattle.ed_model.specs.Lines.{is_line_start}
+use Rattle.line_index.specs.Index.{starts_within}
+use Rattle.line_index.proofs.settings.count_inside.Given as goal
+
+abbrev pub invariant-counting : goal.invariant-counting
+invariant-counting l =
+    record {
+      lines : l.lines ≡ length (starts_within Unicode (l.before ++ l.after) (l.start + 1) l.place);
+      low : l.start < l.place;
+      high : l.place ≤ l.end;
+      few : l.lines + l.start < l.place;
+      none : (k : ℕ) → l.start < k → k < l.place → is_line_start Default (l.before ++ l.after) k ≡ false;
+      found : l.place < l.end → is_line_start Unicode (l.before ++ l.after) l.place ≡ true;
+    }
+
+abbrev pub decreases-counting : goal.decreases-counting
+decreases-counting l = l.end - l.place

@@ -1,0 +1,18 @@
+use Rattle.std.proofs.Common.{◌≡◌, ◌+◌, ◌-◌, ◌<◌, ◌≤◌, ◌++◌, true, length}
+use Rattle.ed_model.specs.declared.plan.LineEndTypes.TheVariants.{Default}
+use Rattle.ed_model.specs.Lines.{is_line_start, line_starts}
+use Rattle.line_index.specs.Index.{starts_within}
+use Rattle.line_index.specs.Settings.{all_inside_edits, lines_inside}
+use Rattle.line_index.proofs.settings.push_all_inside.Given as goal
+
+abbrev pub invariant-adding : goal.invariant-adding
+invariant-adding l =
+    record {
+      rest : l.edits.items ++ all_inside_edits l.types l.line (lines_inside (l.before ++ l.after) (starts_within Default (l.before ++ l.after) l.start (length (l.before ++ l.after) + 1))) ≡ all_inside_edits l.types 0 (lines_inside (l.before ++ l.after) (line_starts Default (l.before ++ l.after)));
+      low : l.line ≤ l.start;
+      high : l.start ≤ l.end;
+      found : l.start < l.end → is_line_start Default (l.before ++ l.after) l.start ≡ true;
+    }
+
+abbrev pub decreases-adding : goal.decreases-adding
+decreases-adding l = l.end - l.start

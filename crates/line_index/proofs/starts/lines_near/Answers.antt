@@ -1,0 +1,28 @@
+use Rattle.std.proofs.Common.{◌+◌, ◌-◌, ◌^◌, min, refl, arith}
+use Rattle.line_index.proofs.Finding.{holds_between, near_lines_are, none_past_next}
+use Rattle.line_index.proofs.starts.lines_near.Goals as goal
+
+pub returns-then-reaches-clause-lines : goal.returns-then-reaches-clause-lines
+returns-then-reaches-clause-lines g c =
+    let starts = c.args.starts.now.starts in
+    let at = c.line_from-at in
+    let last = c.saturating_add-last in
+    let far = c.reaches.ensures.yes c.if-reaches.true in
+    near_lines_are starts c.args.starts.now.length c.args.place (min (c.args.place + 1) (2 ^ 64 - 1)) last.result at.result at.result at.result c.length.ensures.sound (omega (arith, c.length.type_inv, c.length.ensures.length)) refl last.ensures
+    at.ensures (holds_between starts c.args.place (min (c.args.place + 1) (2 ^ 64 - 1)) last.result at.result at.ensures.at_most (omega (arith, c.ranges.place.fits)) (omega (arith, last.ensures)) far) far
+
+pub line_or_next-one_behind-requires-clause-high :
+    goal.line_or_next-one_behind-requires-clause-high
+line_or_next-one_behind-requires-clause-high g c =
+    none_past_next c.args.starts.now.starts c.args.starts.now.length c.args.place c.line_from-at.result c.saturating_add.result c.length.ensures.sound c.line_from-at.ensures (omega (arith, c.saturating_add.ensures))
+
+pub line_or_next-two_behind-requires-clause-high :
+    goal.line_or_next-two_behind-requires-clause-high
+line_or_next-two_behind-requires-clause-high g c =
+    none_past_next c.args.starts.now.starts c.args.starts.now.length c.saturating_add.result c.line_or_next-one_behind.result c.saturating_add-last.result c.length.ensures.sound c.line_or_next-one_behind.ensures
+    (omega (arith, c.saturating_add.ensures, c.saturating_add-last.ensures))
+
+pub returns-clause-lines : goal.returns-clause-lines
+returns-clause-lines g c =
+    near_lines_are c.args.starts.now.starts c.args.starts.now.length c.args.place c.saturating_add.result c.saturating_add-last.result c.line_from-at.result c.line_or_next-one_behind.result c.line_or_next-two_behind.result
+    c.length.ensures.sound (omega (arith, c.length.type_inv, c.length.ensures.length)) c.saturating_add.ensures c.saturating_add-last.ensures c.line_from-at.ensures c.line_or_next-one_behind.ensures c.line_or_next-two_behind.ensures

@@ -1,0 +1,11 @@
+use Rattle.std.proofs.Common.{◌≡◌, ◌+◌, ◌-◌, ◌≤◌, length}
+use Rattle.ed_model.specs.declared.plan.LineEndTypes.TheVariants.{Unicode}
+use Rattle.line_index.specs.Index.{starts_within}
+use Rattle.line_index.proofs.unicode_blocks.lines_behind_block.Given as goal
+
+abbrev pub invariant-loop-place : goal.invariant-loop-place
+invariant-loop-place l =
+    record {
+      lines : l.lines ≡ length (starts_within Unicode l.bytes (l.from + 1) (l.place + 1));
+      few : l.lines ≤ l.place - l.from;
+    }

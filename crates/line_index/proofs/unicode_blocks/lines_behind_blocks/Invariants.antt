@@ -1,0 +1,16 @@
+use Rattle.std.proofs.Common.{◌≡◌, ◌+◌, ◌-◌, ◌≤◌, length, min}
+use Rattle.ed_model.specs.declared.plan.LineEndTypes.TheVariants.{Unicode}
+use Rattle.line_index.specs.Index.{starts_within}
+use Rattle.line_index.proofs.unicode_blocks.lines_behind_blocks.Given as goal
+
+abbrev pub invariant-adding : goal.invariant-adding
+invariant-adding l =
+    record {
+      lines : l.lines ≡ length (starts_within Unicode l.bytes 0 (l.place + 1));
+      few : l.lines ≤ l.place + 1;
+      within : l.place ≤ length l.bytes;
+      behind : min (length l.bytes) 2 ≤ l.place;
+    }
+
+abbrev pub decreases-adding : goal.decreases-adding
+decreases-adding l = length l.bytes - l.place

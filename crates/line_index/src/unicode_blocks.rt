@@ -1,0 +1,55 @@
+//! Counting lines where line ends of Unicode count: many bytes are tested at once.
+
+ghost use Rattle.std.specs.Prelude.{◌≡◌, ◌≤◌, ◌<◌, ◌+◌, ◌==◌, ◌||◌, ◌&&◌, not, if◌then◌else◌, length};
+ghost use Rattle.ed_model.specs.declared.plan.LineEndTypes.TheVariants.{Unicode};
+ghost use Rattle.ed_model.specs.Text.{carriage_return, line_feed};
+ghost use Rattle.line_index.specs.Index.{starts_within};
+
+use crate::room::{BLOCK, count_starts};
+use ed_model::LineEndTypes;
+
+// How many lines end with the byte, which two others stand in front of and one behind: 1 or 0. No branch is taken, so
+// that many bytes are tested at once.
+fn ends_with(third: u8, second: u8, byte: u8, next: u8) -> u8
+    ensures { result ≡ (if byte == line_feed || (byte == carriage_return && not (next == line_feed)) || ((byte == 0x85 && second == 0xC2) || ((byte == 0xA8 || byte == 0xA9) && second == 0x80 && third == 0xE2)) then 1 else 0) }
+{
+    let known = (byte == b'\n') | ((byte == b'\r') & (next != b'\n'));
+    let next_line = (byte == 0x85) & (second == 0xC2);
+    let separator = ((byte == 0xA8) | (byte == 0xA9)) & (second == 0x80) & (third == 0xE2);
+    if known | next_line | separator { 1 } else { 0 }
+}
+
+// How many lines start behind the bytes of the block from `from` on, which two other bytes stand in front of and one
+// behind.
+fn lines_behind_block(bytes: &[u8], from: usize) -> usize
+    requires { (2 ≤ from) × (from + 192 < length bytes.now) }
+    ensures lines { result ≡ length (starts_within Unicode bytes.now (from + 1) (from + 192 + 1)) }
+    ensures few { result ≤ 192 }
+{
+    let mut lines = 0u8;
+    for place in from..from + BLOCK {
+        lines += ends_with(
+            bytes[place - 2],
+            bytes[place - 1],
+            bytes[place],
+            bytes[place + 1],
+        );
+    }
+    lines as usize
+}
+
+/// How many lines start at the bytes' beginning and behind those of whole blocks, and how many bytes these have, with the
+/// two in front of the first block.
+pub(crate) fn lines_behind_blocks(bytes: &[u8]) -> (usize, usize)
+    ensures lines { result.0 ≡ length (starts_within Unicode bytes.now 0 (result.1 + 1)) }
+    ensures few { result.0 ≤ result.1 + 1 }
+    ensures within { result.1 ≤ length bytes.now }
+{
+    let mut place = bytes.len().min(2);
+    let mut lines = count_starts(LineEndTypes::Unicode, bytes, 0, place + 1);
+    'adding: while bytes.len() - place > BLOCK {
+        lines += lines_behind_block(bytes, place);
+        place += BLOCK;
+    }
+    (lines, place)
+}
