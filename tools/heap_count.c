@@ -1,7 +1,9 @@
 /* Counts the blocks that a program takes of the heap and gives back. Preloaded (LD_PRELOAD), it writes at the end one line into the file that HEAP_REPORT
- * names: how many were taken, how many of them were not given back, and the largest one's size in bytes. Where HEAP_MOST is set, a block of more bytes is refused. */
+ * names: how many were taken, how many of them were not given back, the largest one's size in bytes, and the most bytes that all blocks held together had at
+ * any time. Where HEAP_MOST is set, a block of more bytes is refused; where HEAP_PEAK is set, a block with which all would have more bytes. */
 #include <errno.h>
 #include <fcntl.h>
+#include <malloc.h>
 #include <stdint.h>
 #include <stdio.h>
 #include <stdlib.h>
@@ -13,22 +15,33 @@ void *__libc_realloc(void *block, size_t size);
 void *__libc_memalign(size_t alignment, size_t size);
 void __libc_free(void *block);
 
-static unsigned long taken, given, largest, most = SIZE_MAX;
+static unsigned long taken, given, largest, held, peak, most = SIZE_MAX, peak_limit = SIZE_MAX;
 
-__attribute__((constructor)) static void begin(void) {
-  const char *limit = getenv("HEAP_MOST");
-  if (limit) most = strtoul(limit, NULL, 10);
+static unsigned long limit_of(const char *name) {
+  const char *limit = getenv(name);
+  return limit ? strtoul(limit, NULL, 10) : SIZE_MAX;
 }
 
-static int refused(size_t size) {
-  if (size <= most) return 0;
+__attribute__((constructor)) static void begin(void) {
+  most = limit_of("HEAP_MOST");
+  peak_limit = limit_of("HEAP_PEAK");
+}
+
+/* Whether a block of this size is refused, with which all hold `more` bytes more than now. */
+static int refused_growth(size_t size, size_t more) {
+  if (size <= most && more <= peak_limit && held <= peak_limit - more) return 0;
   errno = ENOMEM;
   return 1;
 }
 
+static int refused(size_t size) { return refused_growth(size, size); }
+
 static void *counted(void *block, size_t size) {
-  if (block) taken++;
-  if (block && size > largest) largest = size;
+  if (!block) return NULL;
+  taken++;
+  held += malloc_usable_size(block);
+  if (size > largest) largest = size;
+  if (held > peak) peak = held;
   return block;
 }
 
@@ -41,9 +54,12 @@ void *calloc(size_t count, size_t size) {
 
 void *realloc(void *block, size_t size) {
   if (!block) return malloc(size);
-  if (refused(size)) return NULL;
+  size_t old = malloc_usable_size(block);
+  if (refused_growth(size, size > old ? size - old : 0)) return NULL;
   void *moved = __libc_realloc(block, size);
-  if (moved) given++;
+  if (!moved) return NULL;
+  given++;
+  held -= old;
   return counted(moved, size);
 }
 
@@ -59,7 +75,10 @@ int posix_memalign(void **block, size_t alignment, size_t size) {
 }
 
 void free(void *block) {
-  if (block) given++;
+  if (block) {
+    given++;
+    held -= malloc_usable_size(block);
+  }
   __libc_free(block);
 }
 
@@ -68,6 +87,6 @@ __attribute__((destructor)) static void end(void) {
   char line[128];
   if (!place) return;
   int file = open(place, O_WRONLY | O_CREAT | O_TRUNC, 0644);
-  int length = snprintf(line, sizeof line, "taken %lu kept %lu largest %lu\n", taken, taken - given, largest);
+  int length = snprintf(line, sizeof line, "taken %lu kept %lu largest %lu peak %lu\n", taken, taken - given, largest, peak);
   if (file >= 0 && write(file, line, (size_t)length) == length) close(file);
 }
