@@ -1,6 +1,7 @@
 #!/bin/sh
-# Checks that what is taken of the heap is given back, by the program and by the tests of all libraries, and that no block is larger than what was asked
-# for justifies. It takes the programs that `rt ci` left (`rt run` in crates/sci_console and `rt test` leave them too). Run it anywhere in the repository.
+# Checks that what is taken of the heap is given back, by the program and by the tests of all libraries, that no block is larger than what was asked
+# for justifies, and that tests of large sizes do with as many bytes as these justify. It takes the programs that `rt ci` left (`rt run` in
+# crates/sci_console and `rt test` leave them too). Run it anywhere in the repository.
 set -u
 top=$(cd "$(dirname "$0")/.." && pwd)
 program=$top/crates/sci_console/out/sci_console
@@ -54,12 +55,50 @@ done_within 'a hundred thousand insertions' 40000000 "$program" run "$work/many.
 kept 'a thousand views' 4000000 "$program" run "$work/views.sci"
 done_within 'a thousand views' 1000000 "$program" run "$work/views.sci"
 
+# The most bytes that a test of a large size may hold at once. The texts of all have 1,048,576 bytes, in 65,536 lines. Where a block grows, the old one of
+# half the size is there beside it. 40,000 bytes are for what the heap rounds up.
+bound() {
+    case "$1" in
+        # the text, its copy, the items one by one in a block that grew, which is gone when 65,536 numbers of 4 bytes come
+        items_at_once_and_one_by_one) echo $((2 * 1048576 + 1048576 + 524288 + 40000)) ;;
+        # the text, bytes, styles, and the copy
+        cells_of_a_large_text) echo $((4 * 1048576 + 40000)) ;;
+        # bytes, and styles in a block that grew
+        cells_of_a_large_text_line_by_line) echo $((1048576 + 1048576 + 524288 + 40000)) ;;
+        # 65,536 starts of 4 bytes, or of 8, in a block that grew
+        many_small_partitions) echo $((262144 + 131072 + 40000)) ;;
+        many_large_partitions) echo $((524288 + 262144 + 40000)) ;;
+        # three texts (what goes in, the old and the new one), and twice 65,543 starts of 4 bytes in a block that grew
+        lines_of_a_large_text) echo $((3 * 1048576 + 3 * 65543 * 4 + 40000)) ;;
+        # the text and its bytes in the history
+        a_step_of_a_large_text) echo $((2 * 1048576 + 40000)) ;;
+        # 65,536 records of 40 bytes in a block that grew, and half of the bytes
+        many_steps) echo $((2621440 + 1310720 + 524288 + 40000)) ;;
+        # room for 131,072 commands of 56 bytes, 100,000 texts of 24 and the listing
+        a_long_script_is_listed_and_read) echo $((7340032 + 2400000 + 3200006 + 40000)) ;;
+        # a text of 700,000 bytes that grew by doubling
+        many_outcomes_are_printed) echo $((1048576 + 40000)) ;;
+        *) echo 0 ;;
+    esac
+}
+
 # Each test of each crate by itself.
+large=0
 for tests in "$top"/crates/*/out/*_tests; do
     [ -x "$tests" ] || continue
     for name in $("$tests" --list | sed -n 's/: test$//p'); do
         kept "$name" 2000000000 "$tests" "$name"
+        case "$name" in
+            large_tests::*)
+                large=$((large + 1))
+                HEAP_PEAK=$(bound "${name#large_tests::}")
+                export HEAP_PEAK
+                done_within "$name, all in $HEAP_PEAK bytes and 4 seconds," 2000000000 timeout 4 "$tests" "$name"
+                unset HEAP_PEAK
+                ;;
+        esac
     done
 done
+[ "$large" -gt 0 ] || { echo "FAILED  the tests of large sizes were not built"; failed=$((failed + 1)); }
 echo "heap: $passed passed, $failed failed"
 [ "$failed" = 0 ]

@@ -1,8 +1,9 @@
 #!/usr/bin/env python3
-"""Runs the scripts of examples/ by the built program, as each compiler made it, and compares what they print.
+"""Runs the worked examples by the built program, as each compiler made it, and compares what they print.
 
-Which messages stand today is read from the dots of docs/MESSAGES.md: a script that sends another one is passed over. Replies carry no notes yet, so lines of
-notes are left out of what is wanted. Run it anywhere in the repository after `rt ci`, or after `rt run` in crates/sci_console.
+The scripts lie in crates/sci_console/data/, where the program's own run in `rt ci` finds them: those of examples/ that send only messages that stand today, which
+is read from the dots of docs/MESSAGES.md. With --write they are brought there; without it each is looked at to be the same as in examples/, and none may be missing.
+Run it anywhere in the repository after `rt ci`, or after `rt run` in crates/sci_console.
 """
 import os
 import re
@@ -10,18 +11,20 @@ import subprocess
 import sys
 
 TOP = os.path.dirname(os.path.dirname(os.path.abspath(__file__)))
-OUT = os.path.join(TOP, "crates", "sci_console", "out")
+EXAMPLES = os.path.join(TOP, "examples")
+CRATE = os.path.join(TOP, "crates", "sci_console")
+DATA = os.path.join(CRATE, "data")
 
 
 def read(*path):
-    with open(os.path.join(TOP, *path), "rb") as file:
+    with open(os.path.join(*path), "rb") as file:
         return file.read()
 
 
 def standing():
-    """The numbers of the messages that stand, and of one that there never is."""
-    rows = re.findall(rb"(?m)^\| (\d{4}) \| SCI_[A-Z]+ ", read("docs", "MESSAGES.md"))
-    dots = re.findall(rb"(?m)^\| (\d{4}) \| SCI_[A-Z]+ \xe2\x80\xa2 ", read("docs", "MESSAGES.md"))
+    """The numbers of the messages that stand, and of all that there are."""
+    rows = re.findall(rb"(?m)^\| (\d{4}) \| SCI_[A-Z]+ ", read(TOP, "docs", "MESSAGES.md"))
+    dots = re.findall(rb"(?m)^\| (\d{4}) \| SCI_[A-Z]+ \xe2\x80\xa2 ", read(TOP, "docs", "MESSAGES.md"))
     return {int(it) for it in dots}, {int(it) for it in rows}
 
 
@@ -31,24 +34,38 @@ def stands(script, known, listed):
     return not (numbers & listed) - known and b"\nload " not in script
 
 
-def without_notes(printed):
-    return b"".join(line for line in printed.splitlines(True) if not line.startswith(b"@"))
+def wanted():
+    known, listed = standing()
+    for file in sorted(os.listdir(EXAMPLES)):
+        if file.endswith(".sci") and stands(read(EXAMPLES, file), known, listed):
+            yield file
+
+
+def write():
+    os.makedirs(DATA, exist_ok=True)
+    for file in os.listdir(DATA):
+        os.remove(os.path.join(DATA, file))
+    for file in wanted():
+        with open(os.path.join(DATA, file), "wb") as out:
+            out.write(read(EXAMPLES, file))
 
 
 def main():
-    programs = [os.path.join(OUT, name) for name in ("sci_console", "sci_console.by-rattle")]
+    if sys.argv[1:] == ["--write"]:
+        return write()
+    programs = [os.path.join(CRATE, "out", name) for name in ("sci_console", "sci_console.by-rattle")]
     programs = [it for it in programs if os.path.exists(it)]
     if not programs:
         sys.exit("sci_console was not built")
-    (known, listed), passed, failed = standing(), 0, 0
-    for file in sorted(os.listdir(os.path.join(TOP, "examples"))):
-        if not file.endswith(".sci") or not stands(read("examples", file), known, listed):
-            continue
-        wanted = without_notes(read("examples", file[:-4] + ".out"))
-        status = 4 if re.search(rb"(?m)^- ", wanted) else 0
+    files, passed, failed = list(wanted()), 0, 0
+    if sorted(os.listdir(DATA)) != files or any(read(DATA, it) != read(EXAMPLES, it) for it in files):
+        sys.exit("crates/sci_console/data is not what stands of examples/: tools/run_examples.py --write brings it there")
+    for file in files:
+        printed = read(EXAMPLES, file[:-4] + ".out")
+        status = 4 if re.search(rb"(?m)^- ", printed) else 0
         for program in programs:
-            ran = subprocess.run([program, "run", os.path.join(TOP, "examples", file)], capture_output=True)
-            if (ran.stdout, ran.returncode) == (wanted, status):
+            ran = subprocess.run([program, "run", file], capture_output=True, cwd=DATA)
+            if (ran.stdout, ran.returncode) == (printed, status):
                 passed += 1
             else:
                 failed += 1

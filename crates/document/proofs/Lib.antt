@@ -1,5 +1,5 @@
 -- Lemmas.
-pub mod PlainLemmas
-pub mod PlainStep
 pub mod LineSteps
 pub mod PieceLemmas
+pub mod CarrySteps
+pub mod SteppedParts

@@ -3,7 +3,6 @@ use Rattle.std.proofs.Common.{◌≡◌, ℕ, zero, suc, ◌+◌, ◌-◌, ◌�
 use Rattle.std.specs.Prelude.{unwrap_or}
 use Rattle.std.proofs.lemmas.List.{length-map, map-append, take-map, drop-map}
 use Rattle.ed_model.specs.declared.plan.LineEndTypes.{LineEndTypes}
-use Rattle.ed_model.specs.declared.plan.LineEndTypes.TheVariants.{Default}
 use Rattle.ed_model.specs.Text.{Cell, bytes_of}
 use Rattle.ed_model.specs.Lines.{line_starts, line_count, line_end_length, start_after_line, end_of_line}
 use Rattle.ed_model.specs.MergeLaws.{end_of, put_in}
@@ -14,7 +13,7 @@ use Rattle.line_index.specs.Index.{Index, IsIndexOf, IsInsertion, IsDeletion, by
 use Rattle.line_index.specs.RoomLaws.{lines_for_insertion, lines_for_deletion, InsertionAddsFewLines, DeletionAddsFewLines}
 use Rattle.line_index.specs.Change.{change_about}
 use Rattle.line_index.specs.StepEdits.{change_of}
-use Rattle.document.specs.Held.{HasLinesOf}
+use Rattle.document.specs.Parts.{HasLinesOf}
 
 -- The end of a line lies in the text.
 
@@ -45,9 +44,9 @@ place_in_bytes : (cells : List Cell) (place : ℕ) → place ≤ length cells �
 place_in_bytes cells place h = omega (arith, length-map cells (λ (c : Cell). c.byte))
 
 -- what the index is told
-pub told_of_insertion : (cells new : List Cell) (lines : Index) (place : ℕ) (bytes near text : List ℕ) → HasLinesOf cells lines → place ≤ length cells → new ≡ edited_cells (Insert place bytes) cells → text ≡ bytes_of new →
-    near ≡ bytes_near place (length bytes) text → line_count Default (bytes_of (edited_cells (Insert place bytes) cells)) ≤ length lines.starts + lines.room → IsInsertion place (length bytes) near (bytes_of cells) bytes lines
-told_of_insertion cells new lines place bytes near text has within is read reads room = record {
+pub told_of_insertion : (types : LineEndTypes) (cells new : List Cell) (lines : Index) (place : ℕ) (bytes near text : List ℕ) → HasLinesOf types cells lines → place ≤ length cells → new ≡ edited_cells (Insert place bytes) cells → text ≡ bytes_of new →
+    near ≡ bytes_near place (length bytes) text → line_count types (bytes_of (edited_cells (Insert place bytes) cells)) ≤ length lines.starts + lines.room → IsInsertion place (length bytes) near (bytes_of cells) bytes lines
+told_of_insertion types cells new lines place bytes near text has within is read reads room = record {
   counted = refl;
   within = place_in_bytes cells place within;
   index = has.index;
@@ -55,16 +54,16 @@ told_of_insertion cells new lines place bytes near text has within is read reads
   room = omega (
     arith,
     room,
-    ap (λ t. line_count t (edited (Insert place bytes) (bytes_of cells))) has.types,
-    ap (line_count Default) (bytes_of_edited_cells (Insert place bytes) cells),
+    ap (λ t. line_count t (edited (Insert place bytes) (bytes_of cells))) has.types_are,
+    ap (line_count types) (bytes_of_edited_cells (Insert place bytes) cells),
   );
 }
 
 -- what it is then
-pub lines_of_inserted : (cells new : List Cell) (old lines : Index) (place : ℕ) (bytes : List ℕ) → HasLinesOf cells old → new ≡ edited_cells (Insert place bytes) cells → lines.types ≡ old.types → IsIndexOf (edited (Insert place bytes) (bytes_of cells)) lines → HasLinesOf new lines
-lines_of_inserted cells new old lines place bytes has is types index =
+pub lines_of_inserted : (types : LineEndTypes) (cells new : List Cell) (old lines : Index) (place : ℕ) (bytes : List ℕ) → HasLinesOf types cells old → new ≡ edited_cells (Insert place bytes) cells → lines.types ≡ old.types → IsIndexOf (edited (Insert place bytes) (bytes_of cells)) lines → HasLinesOf types new lines
+lines_of_inserted types cells new old lines place bytes has is same index =
     let text : edited (Insert place bytes) (bytes_of cells) ≡ bytes_of new = sym (bytes_of_edited_cells (Insert place bytes) cells) ∙ sym (ap bytes_of is) in
-    record { types = types ∙ has.types; index = rw text at index }
+    record { types_are = same ∙ has.types_are; index = rw text at index }
 
 -- A deletion.
 
@@ -75,9 +74,9 @@ bytes_deleted cells new place count text is read =
     sym e ∙ sym (ap bytes_of is) ∙ sym read
 
 -- what the index is told
-pub told_of_deletion : (cells new : List Cell) (lines : Index) (place count : ℕ) (near text : List ℕ) → DeletionAddsFewLines → HasLinesOf cells lines → place + count ≤ length cells → lines_for_deletion ≤ lines.room →
+pub told_of_deletion : (types : LineEndTypes) (cells new : List Cell) (lines : Index) (place count : ℕ) (near text : List ℕ) → DeletionAddsFewLines → HasLinesOf types cells lines → place + count ≤ length cells → lines_for_deletion ≤ lines.room →
     new ≡ take place cells ++ drop (place + count) cells → text ≡ bytes_of new → near ≡ bytes_near place 0 text → IsDeletion place count near (bytes_of cells) lines
-told_of_deletion cells new lines place count near text few has within room is read reads = record {
+told_of_deletion types cells new lines place count near text few has within room is read reads = record {
   within = place_in_bytes cells (place + count) within;
   index = has.index;
   reads = reads ∙ ap (bytes_near place 0) (sym (bytes_deleted cells new place count text is read));
@@ -85,29 +84,22 @@ told_of_deletion cells new lines place count near text few has within room is re
     arith,
     room,
     ap length has.index.starts,
-    ap (λ t. line_count t (bytes_of cells)) has.types,
-    ap (λ t. line_count t (take place (bytes_of cells) ++ drop (place + count) (bytes_of cells))) has.types,
-    few Default place count (bytes_of cells) (place_in_bytes cells (place + count) within),
+    ap (λ t. line_count t (bytes_of cells)) has.types_are,
+    ap (λ t. line_count t (take place (bytes_of cells) ++ drop (place + count) (bytes_of cells))) has.types_are,
+    few types place count (bytes_of cells) (place_in_bytes cells (place + count) within),
   );
 }
 
 -- what it is then
-pub lines_of_deleted : (cells new : List Cell) (old lines : Index) (place count : ℕ) → HasLinesOf cells old → new ≡ take place cells ++ drop (place + count) cells → lines.types ≡ old.types → IsIndexOf (take place (bytes_of cells) ++ drop (place + count) (bytes_of cells)) lines → HasLinesOf new lines
-lines_of_deleted cells new old lines place count has is types index =
+pub lines_of_deleted : (types : LineEndTypes) (cells new : List Cell) (old lines : Index) (place count : ℕ) → HasLinesOf types cells old → new ≡ take place cells ++ drop (place + count) cells → lines.types ≡ old.types → IsIndexOf (take place (bytes_of cells) ++ drop (place + count) (bytes_of cells)) lines → HasLinesOf types new lines
+lines_of_deleted types cells new old lines place count has is same index =
     let text : take place (bytes_of cells) ++ drop (place + count) (bytes_of cells) ≡ bytes_of new = bytes_deleted cells new place count (bytes_of new) is refl in
-    record { types = types ∙ has.types; index = rw text at index }
+    record { types_are = same ∙ has.types_are; index = rw text at index }
 
--- The room that a step takes.
+-- How many lines and bytes there are.
 
-pub lines_of_index : (text : List ℕ) (i : Index) → IsIndexOf text i → i.types ≡ Default → length i.starts ≡ line_count Default text
-lines_of_index text i is types = ap length is.starts ∙ ap (λ t. line_count t text) types
-
-pub deletion_takes : (cells : List Cell) (lines after : Index) (place count : ℕ) → DeletionAddsFewLines → HasLinesOf cells lines → place + count ≤ length cells →
-    IsIndexOf (take place (bytes_of cells) ++ drop (place + count) (bytes_of cells)) after → after.types ≡ lines.types → after.room + length after.starts ≡ lines.room + length lines.starts → lines.room ≤ after.room + lines_for_deletion
-deletion_takes cells lines after place count few has within index types sum =
-    let old = lines_of_index (bytes_of cells) lines has.index has.types in
-    let lines_after = lines_of_index (take place (bytes_of cells) ++ drop (place + count) (bytes_of cells)) after index (types ∙ has.types) in
-    omega (arith, old, lines_after, sum, few Default place count (bytes_of cells) (place_in_bytes cells (place + count) within))
+pub lines_of_index : (types : LineEndTypes) (text : List ℕ) (i : Index) → IsIndexOf text i → i.types ≡ types → length i.starts ≡ line_count types text
+lines_of_index types text i is same = ap length is.starts ∙ ap (λ t. line_count t text) same
 
 pub deleted_count : (cells : List Cell) (place count : ℕ) → place + count ≤ length cells → length (slice_range (bytes_of cells) place (place + count)) ≡ count
 deleted_count cells place count h =
@@ -117,50 +109,47 @@ deleted_count cells place count h =
 -- What a step did to the lines.
 
 pub change_of_step :
-    (step : Step) (cells new : List Cell) (old lines : Index) → HasLinesOf cells old → HasLinesOf new lines → new ≡ edited_cells step cells
-    → change_about (place_of step) (end_of step) (place_of step + length (put_in step)) old.starts lines.starts lines.length ≡ change_of Default step (bytes_of cells)
-change_of_step step cells new old lines has now is =
-    let before : old.starts ≡ line_starts Default (bytes_of cells) = has.index.starts ∙ ap (λ t. line_starts t (bytes_of cells)) has.types in
+    (types : LineEndTypes) (step : Step) (cells new : List Cell) (old lines : Index) → HasLinesOf types cells old → HasLinesOf types new lines → new ≡ edited_cells step cells
+    → change_about (place_of step) (end_of step) (place_of step + length (put_in step)) old.starts lines.starts lines.length ≡ change_of types step (bytes_of cells)
+change_of_step types step cells new old lines has now is =
+    let before : old.starts ≡ line_starts types (bytes_of cells) = has.index.starts ∙ ap (λ t. line_starts t (bytes_of cells)) has.types_are in
     let text : bytes_of new ≡ edited step (bytes_of cells) = ap bytes_of is ∙ bytes_of_edited_cells step cells in
-    let after : lines.starts ≡ line_starts Default (edited step (bytes_of cells)) = now.index.starts ∙ ap (λ t. line_starts t (bytes_of new)) now.types ∙ ap (line_starts Default) text in
+    let after : lines.starts ≡ line_starts types (edited step (bytes_of cells)) = now.index.starts ∙ ap (λ t. line_starts t (bytes_of new)) now.types_are ∙ ap (line_starts types) text in
     let long : lines.length ≡ length (edited step (bytes_of cells)) = now.index.length ∙ ap length text in
     rw (before, after, long) refl
 
 pub change_of_deletion :
-    (cells new : List Cell) (old lines : Index) (place count : ℕ) → place + count ≤ length cells → HasLinesOf cells old → HasLinesOf new lines
+    (types : LineEndTypes) (cells new : List Cell) (old lines : Index) (place count : ℕ) → place + count ≤ length cells → HasLinesOf types cells old → HasLinesOf types new lines
     → new ≡ edited_cells (Delete place (slice_range (bytes_of cells) place (place + count))) cells
-    → change_about place (place + count) place old.starts lines.starts lines.length ≡ change_of Default (Delete place (slice_range (bytes_of cells) place (place + count))) (bytes_of cells)
-change_of_deletion cells new old lines place count h has now is =
+    → change_about place (place + count) place old.starts lines.starts lines.length ≡ change_of types (Delete place (slice_range (bytes_of cells) place (place + count))) (bytes_of cells)
+change_of_deletion types cells new old lines place count h has now is =
     let bytes : List ℕ = slice_range (bytes_of cells) place (place + count) in
     let counted : length bytes ≡ count = deleted_count cells place count h in
     let end : place + count ≡ place + length bytes = omega arith in
     let none : place ≡ place + 0 = omega arith in
     ap (λ e. change_about place e place old.starts lines.starts lines.length) end
     ∙ ap (λ n. change_about place (place + length bytes) n old.starts lines.starts lines.length) none
-    ∙ change_of_step (Delete place bytes) cells new old lines has now is
+    ∙ change_of_step types (Delete place bytes) cells new old lines has now is
 
 -- the lines of an insertion fit in
 pub insertion_fits :
-    (cells : List Cell) (lines : Index) (place : ℕ) (bytes : List ℕ) → InsertionAddsFewLines → HasLinesOf cells lines → place ≤ length cells → lines_for_insertion Default bytes ≤ lines.room
-    → line_count Default (bytes_of (edited_cells (Insert place bytes) cells)) ≤ length lines.starts + lines.room
-insertion_fits cells lines place bytes few has p room =
+    (types : LineEndTypes) (cells : List Cell) (lines : Index) (place : ℕ) (bytes : List ℕ) → InsertionAddsFewLines → HasLinesOf types cells lines → place ≤ length cells → lines_for_insertion types bytes ≤ lines.room
+    → line_count types (bytes_of (edited_cells (Insert place bytes) cells)) ≤ length lines.starts + lines.room
+insertion_fits types cells lines place bytes few has p room =
     omega (
       arith,
-      lines_of_index (bytes_of cells) lines has.index has.types,
-      ap (line_count Default) (bytes_of_edited_cells (Insert place bytes) cells),
-      few Default place bytes (bytes_of cells) (place_in_bytes cells place p),
+      lines_of_index types (bytes_of cells) lines has.index has.types_are,
+      ap (line_count types) (bytes_of_edited_cells (Insert place bytes) cells),
+      few types place bytes (bytes_of cells) (place_in_bytes cells place p),
     )
 
-pub insertion_takes :
-    (cells new : List Cell) (lines after : Index) (place : ℕ) (bytes : List ℕ) → InsertionAddsFewLines → HasLinesOf cells lines → HasLinesOf new after → place ≤ length cells
-    → new ≡ edited_cells (Insert place bytes) cells → after.room + length after.starts ≡ lines.room + length lines.starts → lines.room ≤ after.room + lines_for_insertion Default bytes
-insertion_takes cells new lines after place bytes few has now p is sum =
-    omega (
-      arith,
-      sum,
-      lines_of_index (bytes_of cells) lines has.index has.types,
-      lines_of_index (bytes_of new) after now.index now.types,
-      ap (λ cs. line_count Default (bytes_of cs)) is,
-      ap (line_count Default) (bytes_of_edited_cells (Insert place bytes) cells),
-      few Default place bytes (bytes_of cells) (place_in_bytes cells place p),
-    )
+length-slice : (xs : List ℕ) (start count : ℕ) → start + count ≤ length xs → length (slice_range xs start (start + count)) ≡ count
+length-slice xs start count h = simp (length-take, length-drop) (omega arith)
+
+-- cells of which a range was taken out are those after the deletion of its bytes
+pub deleted_cells : (cells new : List Cell) (place count : ℕ) → place + count ≤ length cells →
+    new ≡ take place cells ++ drop (place + count) cells → new ≡ edited_cells (Delete place (slice_range (bytes_of cells) place (place + count))) cells
+deleted_cells cells new place count inside e =
+    let as_long : length (bytes_of cells) ≡ length cells = length-map cells (λ (c : Cell). c.byte) in
+    let within : place + count ≤ length (bytes_of cells) = omega (arith, as_long) in
+    e ∙ ap (λ n. take place cells ++ drop (place + n) cells) (sym (length-slice (bytes_of cells) place count within))

@@ -4,7 +4,6 @@ use Rattle.std.proofs.lemmas.Bool.{ne_eqb, true≢false, cases_lt}
 use Rattle.std.proofs.lemmas.List.{length-map, length-take-le, map-append}
 use Rattle.std.proofs.lemmas.Option.{slice_get_past}
 use Rattle.ed_model.specs.declared.plan.LineEndTypes.{LineEndTypes}
-use Rattle.ed_model.specs.declared.plan.LineEndTypes.TheVariants.{Default}
 use Rattle.ed_model.specs.Numbers.{is_number}
 use Rattle.ed_model.specs.Text.{Cell, bytes_of, plain_cell, plain_cells, stands}
 use Rattle.ed_model.specs.Lines.{is_line_start, line_count}
@@ -16,7 +15,7 @@ use Rattle.line_index.specs.Index.{Index, starts_within}
 use Rattle.line_index.specs.RoomLaws.{lines_for_insertion, InsertionAddsFewLines}
 use Rattle.line_index.proofs.Added.{front_of, back_of}
 use Rattle.line_index.proofs.StartLists.{starts_apart, one_start, no_starts}
-use Rattle.document.specs.Held.{HasLinesOf}
+use Rattle.document.specs.Parts.{HasLinesOf}
 use Rattle.document.proofs.LineSteps.{lines_of_index}
 
 -- The first bytes of a text have no more lines than all.
@@ -127,35 +126,22 @@ piece_behind cells now place done end bytes p d e is =
 -- The lines that there are with the first bytes.
 
 pub lines_with_first :
-    (cells now : List Cell) (place n : ℕ) (bytes : List ℕ) → InsertionAddsFewLines → place ≤ length cells → n ≤ length bytes → now ≡ edited_cells (Insert place (take n bytes)) cells
-    → line_count Default (bytes_of now) ≤ line_count Default (bytes_of cells) + lines_for_insertion Default bytes
-lines_with_first cells now place n bytes few p l is =
-    let text = ap (λ cs. line_count Default (bytes_of cs)) is ∙ ap (line_count Default) (bytes_of_edited_cells (Insert place (take n bytes)) cells) in
-    omega (arith, text, few Default place (take n bytes) (bytes_of cells) (omega (arith, length-map cells (λ (c : Cell). c.byte))), fewer_at_first Default bytes n l)
+    (types : LineEndTypes) (cells now : List Cell) (place n : ℕ) (bytes : List ℕ) → InsertionAddsFewLines → place ≤ length cells → n ≤ length bytes → now ≡ edited_cells (Insert place (take n bytes)) cells
+    → line_count types (bytes_of now) ≤ line_count types (bytes_of cells) + lines_for_insertion types bytes
+lines_with_first types cells now place n bytes few p l is =
+    let text = ap (λ cs. line_count types (bytes_of cs)) is ∙ ap (line_count types) (bytes_of_edited_cells (Insert place (take n bytes)) cells) in
+    omega (arith, text, few types place (take n bytes) (bytes_of cells) (omega (arith, length-map cells (λ (c : Cell). c.byte))), fewer_at_first types bytes n l)
 
 -- so a piece's lines fit in where those of all bytes do
 pub piece_fits :
-    (cells now : List Cell) (old lines : Index) (place done end : ℕ) (bytes : List ℕ) → InsertionAddsFewLines → HasLinesOf cells old → place ≤ length cells → done ≤ end → end ≤ length bytes
-    → now ≡ edited_cells (Insert place (take done bytes)) cells → lines.room + length lines.starts ≡ old.room + length old.starts → lines_for_insertion Default bytes ≤ old.room
-    → line_count Default (bytes_of (edited_cells (Insert (place + done) (slice_range bytes done end)) now)) ≤ length lines.starts + lines.room
-piece_fits cells now old lines place done end bytes few has p d e is sum room =
+    (types : LineEndTypes) (cells now : List Cell) (old lines : Index) (place done end : ℕ) (bytes : List ℕ) → InsertionAddsFewLines → HasLinesOf types cells old → place ≤ length cells → done ≤ end → end ≤ length bytes
+    → now ≡ edited_cells (Insert place (take done bytes)) cells → lines.room + length lines.starts ≡ old.room + length old.starts → lines_for_insertion types bytes ≤ old.room
+    → line_count types (bytes_of (edited_cells (Insert (place + done) (slice_range bytes done end)) now)) ≤ length lines.starts + lines.room
+piece_fits types cells now old lines place done end bytes few has p d e is sum room =
     omega (
       arith,
       sum,
       room,
-      lines_of_index (bytes_of cells) old has.index has.types,
-      lines_with_first cells (edited_cells (Insert (place + done) (slice_range bytes done end)) now) place end bytes few p e (piece_behind cells now place done end bytes p d e is),
-    )
-
--- and when all are in, no more room was taken than that
-pub pieces_take :
-    (cells now : List Cell) (old lines : Index) (place done : ℕ) (bytes : List ℕ) → InsertionAddsFewLines → HasLinesOf cells old → HasLinesOf now lines → place ≤ length cells → done ≤ length bytes
-    → now ≡ edited_cells (Insert place (take done bytes)) cells → lines.room + length lines.starts ≡ old.room + length old.starts → old.room ≤ lines.room + lines_for_insertion Default bytes
-pieces_take cells now old lines place done bytes few has is_now p l is sum =
-    omega (
-      arith,
-      sum,
-      lines_of_index (bytes_of cells) old has.index has.types,
-      lines_of_index (bytes_of now) lines is_now.index is_now.types,
-      lines_with_first cells now place done bytes few p l is,
+      lines_of_index types (bytes_of cells) old has.index has.types_are,
+      lines_with_first types cells (edited_cells (Insert (place + done) (slice_range bytes done end)) now) place end bytes few p e (piece_behind cells now place done end bytes p d e is),
     )

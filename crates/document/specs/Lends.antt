@@ -2,9 +2,9 @@
 use Rattle.std.specs.Prelude.{◌≡◌, ⊤}
 use Rattle.std.specs.Borrow.{Fml, MutBor, follows_so}
 use mathlib.Core.Option.{none}
-use Rattle.document.specs.Held.{Held}
-use Rattle.document.specs.contracts.held.Document.{the_row}
+use Rattle.document.specs.Kept.{Kept}
+use Rattle.document.specs.contracts.kept.Document.{the_row}
 
 -- all is as it was
-abbrev pub lent_and_back : MutBor Held → Fml
+abbrev pub lent_and_back : MutBor Kept → Fml
 lent_and_back d = follows_so the_row the_row d.ghost_name none (λ _ _. ⊤) (λ n. n ≡ d.now)

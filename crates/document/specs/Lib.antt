@@ -1,3 +1,6 @@
 -- Definitions that the contracts cite.
-pub mod Held
+pub mod Kept
+pub mod TextSteps
+pub mod Places
+pub mod Parts
 pub mod Lends

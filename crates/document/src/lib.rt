@@ -1,13 +1,20 @@
-//! A document under a step: its text and where its lines start, its undo history, and the views attached to it.
+//! A document under a step: all that the model's `Document` has, in one value that a step changes whole.
 //!
-//! Rows of lines, indicators and options are as in a new document as long as no message sets them, so nothing is kept of
-//! them yet: what a contract sees of them is made from the text.
+//! A step of the text carries everything: the cells, where lines start, the rows of lines, the indicators, and how far it is
+//! styled. Appending the step to the history is another call, so that undo and redo make steps too. All memory is taken
+//! before, by `reserve`; what follows cannot fail.
 #![tactic(auto)]
 
-mod held;
-mod lines;
+mod changes;
+mod kept;
+mod line_queries;
 mod pieces;
+mod places;
+mod room;
+mod stepping;
+mod text_step;
 
-pub use held::Document;
-pub use line_index::lines_for_deletion;
-pub use lines::{lines_for_insertion, lines_in};
+pub use kept::Document;
+pub use places::{Indicators, Lines};
+pub use room::DocumentRoom;
+pub use text_step::TextStep;

@@ -1,16 +1,21 @@
 //! Bytes that are put into a text, and their lines into its index, piece after piece.
 
-ghost use Rattle.std.specs.Prelude.{◌≡◌, ◌≤◌, ◌<◌, ◌+◌, ◌^◌, length};
+ghost use Rattle.std.specs.Prelude.{◌≡◌, ℕ, List, slice_range, ◌≤◌, ◌<◌, ◌+◌, length};
 ghost use Rattle.ed_model.specs.Text.{bytes_of};
+ghost use Rattle.ed_model.specs.declared.plan.LineEndTypes.{LineEndTypes};
 ghost use Rattle.ed_model.specs.Lines.{line_count};
-ghost use Rattle.ed_model.specs.Steps.{Insert, edited_cells};
-ghost use Rattle.line_index.specs.RoomLaws.{lines_for_insertion};
+ghost use Rattle.ed_model.specs.Steps.{Step, Insert, Delete, edited_cells};
+ghost use Rattle.line_index.specs.RoomLaws.{lines_for_deletion, lines_for_insertion};
 ghost use Rattle.line_index.specs.StepEdits.{SmallLines, change_of};
-ghost use Rattle.document.specs.Held.{HasLinesOf};
+ghost use Rattle.line_index.specs.Index.{IsIndexOf};
+ghost use Rattle.document.specs.Kept.{bound_of};
+ghost use Rattle.document.specs.Parts.{HasLinesOf, IsChange, WasChanged, AreCarried};
 
+use crate::places::Lines;
 use cell_buffer::Cells;
-use ed_model::LineEndTypes;
-use line_index::{LineChange, LineIndex, near_step, room_for_steps};
+use ed_model::{rows_match_lines, rows_that_meet};
+use line_index::{LineChange, edits_of_steps, near_step, room_for_steps};
+use line_rows::LineRows;
 
 // How many bytes are put in at once: so few that they are still in the processor's cache when their line ends are looked
 // for.
@@ -18,23 +23,20 @@ const PIECE: usize = 1 << 16;
 
 // Puts a piece in, and returns what became of the lines. There must be room for its bytes and for the lines that there are
 // with it.
-fn put_piece(
-    cells: &mut Cells,
-    lines: &mut LineIndex<u32>,
-    place: usize,
-    bytes: &[u8],
-) -> LineChange
+fn put_piece(cells: &mut Cells, lines: &mut Lines, place: usize, bytes: &[u8]) -> LineChange
     requires place { place ≤ length cells.old.cells }
     requires room { length bytes.now ≤ cells.old.room }
-    requires fits { length cells.old.cells + cells.old.room < 2 ^ 32 }
-    requires lines { HasLinesOf cells.old.cells lines.old }
-    requires line_room { line_count LineEndTypes.Default (bytes_of (edited_cells (Insert place bytes.now) cells.old.cells)) ≤ length lines.old.starts + lines.old.room }
+    requires fits { length cells.old.cells + cells.old.room < bound_of lines.old.is_large }
+    requires lines { IsIndexOf (bytes_of cells.old.cells) lines.old.index }
+    requires line_room { line_count lines.old.index.types (bytes_of (edited_cells (Insert place bytes.now) cells.old.cells)) ≤ length lines.old.index.starts + lines.old.index.room }
     ensures cells { cells.new.cells ≡ edited_cells (Insert place bytes.now) cells.old.cells }
+    ensures styles { cells.new.keeps_styles ≡ cells.old.keeps_styles }
     ensures len { length cells.new.cells ≡ length cells.old.cells + length bytes.now }
     ensures room { cells.new.room + length bytes.now ≡ cells.old.room }
-    ensures lines { HasLinesOf cells.new.cells lines.new }
-    ensures line_room { lines.new.room + length lines.new.starts ≡ lines.old.room + length lines.old.starts }
-    ensures change { result ≡ change_of LineEndTypes.Default (Insert place bytes.now) (bytes_of cells.old.cells) }
+    ensures lines { HasLinesOf lines.old.index.types cells.new.cells lines.new.index }
+    ensures width { lines.new.is_large ≡ lines.old.is_large }
+    ensures line_room { lines.new.index.room + length lines.new.index.starts ≡ lines.old.index.room + length lines.old.index.starts }
+    ensures change { result ≡ change_of lines.old.index.types (Insert place bytes.now) (bytes_of cells.old.cells) }
     ensures small { SmallLines result.old_lines × SmallLines result.new_lines }
 {
     cells.insert_reserved(place, bytes);
@@ -45,23 +47,20 @@ fn put_piece(
 
 /// Puts bytes in at a place, and returns what became of the lines by all of them. There must be room for them and for the
 /// lines that they need.
-pub(crate) fn put_in(
-    cells: &mut Cells,
-    lines: &mut LineIndex<u32>,
-    place: usize,
-    bytes: &[u8],
-) -> LineChange
+pub(crate) fn put_in(cells: &mut Cells, lines: &mut Lines, place: usize, bytes: &[u8]) -> LineChange
     requires place { place ≤ length cells.old.cells }
     requires room { length bytes.now ≤ cells.old.room }
-    requires fits { length cells.old.cells + cells.old.room < 2 ^ 32 }
-    requires lines { HasLinesOf cells.old.cells lines.old }
-    requires line_room { lines_for_insertion LineEndTypes.Default bytes.now ≤ lines.old.room }
+    requires fits { length cells.old.cells + cells.old.room < bound_of lines.old.is_large }
+    requires lines { IsIndexOf (bytes_of cells.old.cells) lines.old.index }
+    requires line_room { lines_for_insertion lines.old.index.types bytes.now ≤ lines.old.index.room }
     ensures cells { cells.new.cells ≡ edited_cells (Insert place bytes.now) cells.old.cells }
+    ensures styles { cells.new.keeps_styles ≡ cells.old.keeps_styles }
     ensures len { length cells.new.cells ≡ length cells.old.cells + length bytes.now }
     ensures room { cells.new.room + length bytes.now ≡ cells.old.room }
-    ensures lines { HasLinesOf cells.new.cells lines.new }
-    ensures line_room { lines.old.room ≤ lines.new.room + lines_for_insertion LineEndTypes.Default bytes.now }
-    ensures change { result ≡ change_of LineEndTypes.Default (Insert place bytes.now) (bytes_of cells.old.cells) }
+    ensures lines { HasLinesOf lines.old.index.types cells.new.cells lines.new.index }
+    ensures width { lines.new.is_large ≡ lines.old.is_large }
+    ensures line_room { lines.new.index.room + length lines.new.index.starts ≡ lines.old.index.room + length lines.old.index.starts }
+    ensures change { result ≡ change_of lines.old.index.types (Insert place bytes.now) (bytes_of cells.old.cells) }
     ensures small { SmallLines result.old_lines × SmallLines result.new_lines }
 {
     room_for_steps();
@@ -76,4 +75,45 @@ pub(crate) fn put_in(
         done = end;
     }
     lines.change_since(about, place + bytes.len())
+}
+
+/// Takes `count` bytes out from a place on, and returns what became of the lines. There must be room for the lines that a
+/// deletion needs.
+pub(crate) fn take_out(
+    cells: &mut Cells,
+    lines: &mut Lines,
+    place: usize,
+    count: usize,
+) -> LineChange
+    requires place { place + count ≤ length cells.old.cells }
+    requires fits { length cells.old.cells + cells.old.room < bound_of lines.old.is_large }
+    requires lines { IsIndexOf (bytes_of cells.old.cells) lines.old.index }
+    requires line_room { lines_for_deletion ≤ lines.old.index.room }
+    ensures cells { cells.new.cells ≡ edited_cells (Delete place (slice_range (bytes_of cells.old.cells) place (place + count))) cells.old.cells }
+    ensures styles { cells.new.keeps_styles ≡ cells.old.keeps_styles }
+    ensures len { length cells.new.cells + count ≡ length cells.old.cells }
+    ensures room { cells.new.room ≡ cells.old.room + count }
+    ensures lines { HasLinesOf lines.old.index.types cells.new.cells lines.new.index }
+    ensures width { lines.new.is_large ≡ lines.old.is_large }
+    ensures line_room { lines.new.index.room + length lines.new.index.starts ≡ lines.old.index.room + length lines.old.index.starts }
+    ensures change { result ≡ change_of lines.old.index.types (Delete place (slice_range (bytes_of cells.old.cells) place (place + count))) (bytes_of cells.old.cells) }
+    ensures small { SmallLines result.old_lines × SmallLines result.new_lines }
+{
+    room_for_steps();
+    cells.delete(place, count);
+    let (before, after) = cells.halves();
+    let (near_before, near_after) = near_step(before, after, place, 0);
+    lines.deleted(place, count, near_before, near_after)
+}
+
+/// Carries rows by what a step did to lines. There must be room for the lines that come.
+pub(crate) fn carry_rows(rows: &mut LineRows, change: &LineChange)
+    requires was { WasChanged rows.old change.now }
+    requires small { SmallLines change.now.old_lines × SmallLines change.now.new_lines }
+    ensures carried { (types : LineEndTypes) (step : Step) (text : List ℕ) → IsChange rows.old change.now types step text → AreCarried rows.old rows.new types step text }
+{
+    edits_of_steps();
+    rows_that_meet();
+    rows_match_lines();
+    rows.carry(change.edits().as_slice());
 }

@@ -1,106 +1,129 @@
--- A view leaves the documents of a table, one after the other.
-use Rattle.std.proofs.Common.{◌≡◌, ℕ, zero, suc, ◌<◌, ◌≤◌, Bool, true, false, cond, List, [], ◌∷◌, ◌++◌, map, length, take, drop, Some, None, refl, sym, ap, ◌∙◌, arith, slice_get, add-zero, add-one, nat_lt, get_or, length-set}
-use Rattle.std.specs.Prelude.{slice_set}
-use Rattle.std.specs.List.{remove}
-use Rattle.std.proofs.lemmas.Option.{slice_get_read}
-use Rattle.std.proofs.lemmas.List.{take_all, drop_all, append-nil}
-use Rattle.std.proofs.lemmas.List.Edits.{length-remove}
-use Rattle.slab.specs.Slab.{Slab, get, ContainsKey, Updates, with_value}
-use Rattle.ed_model.specs.Session.{Document, living, left_by, references}
-use Rattle.document.specs.Held.{Held, document_of}
-use Rattle.document_table.specs.declared.table.Entry.{Entry}
-use Rattle.document_table.specs.Documents.{documents_of}
-use Rattle.document_table.specs.Order.{held_by, IsTable, held_left, after_leaving, Stays, Goes}
-use Rattle.document_table.proofs.OrderLemmas.{Holds, Changed, held_place, get_place, length_table, written, written_ordered, removed, removed_ordered}
-use Rattle.document_table.proofs.DocumentLemmas.{changed_by}
+-- The documents of a table after one became another, or went.
+use Rattle.std.proofs.Common.{◌≡◌, ◌≢◌, ℕ, zero, suc, ◌<◌, ◌==◌, Bool, true, false, cond, List, [], ◌∷◌, map, Option, Some, None, refl, sym, ap, ◌∙◌, option_map, eq-eqb}
+use Rattle.std.specs.Prelude.{not, nat_lt, find, filter, IfSome, IsSomeAnd}
+use Rattle.std.proofs.lemmas.Bool.{eqb-true, ne_eqb}
+use Rattle.ed_model.specs.Session.{Document, references}
+use Rattle.document.specs.Kept.{Kept}
+use Rattle.id_table.specs.Entries.{Entry, entry, value_at, with_value_at, without_id}
+use Rattle.document_table.specs.Leaving.{document_in, documents_in, let_go, left_over, left_over_of, SameRoom, KeepsRoom}
 
--- The list of documents.
+abbrev pub document_of : Kept → Document
+document_of k = k.document
 
-left_kept : (view : ℕ) (hs : List Held) (place : ℕ) (h : Held) → slice_get hs place ≡ Some h → nat_lt 0 (length (held_left view h).views) ≡ true → take (suc place) (slice_set hs place (held_left view h)) ++ after_leaving view (drop (suc place) (slice_set hs place (held_left view h))) ≡ take place hs ++ after_leaving view (drop place hs)
-left_kept view [] place h q t = cc
-left_kept view (x ∷ hs) zero h q t =
-    let same : x ≡ h = cc in
-    rw (same, t) refl
-left_kept view (x ∷ hs) (suc place) h q t = ap (λ (ys : List Held). x ∷ ys) (left_kept view hs place h q t)
+-- The documents alone.
 
-left_gone : (view : ℕ) (hs : List Held) (place : ℕ) (h : Held) → slice_get hs place ≡ Some h → nat_lt 0 (length (held_left view h).views) ≡ false → take place (remove hs place) ++ after_leaving view (drop place (remove hs place)) ≡ take place hs ++ after_leaving view (drop place hs)
-left_gone view [] place h q t = cc
-left_gone view (x ∷ hs) zero h q t =
-    let same : x ≡ h = cc in
-    rw (same, t) refl
-left_gone view (x ∷ hs) (suc place) h q t = ap (λ (ys : List Held). x ∷ ys) (left_gone view hs place h q t)
+with_document_in : (id : ℕ) (w : Kept) (es : List (Entry Kept)) → documents_in (with_value_at id w es) ≡ with_value_at id w.document (documents_in es)
+with_document_in id w [] = refl
+with_document_in id w (e ∷ es) = by_test (e.id == id) (with_document_in id w es)
+  where
+    by_test : (b : Bool) → documents_in (with_value_at id w es) ≡ with_value_at id w.document (documents_in es)
+        → document_in (cond b (entry id w) e) ∷ documents_in (with_value_at id w es) ≡ cond b (entry id w.document) (document_in e) ∷ with_value_at id w.document (documents_in es)
+    by_test true more = ap (λ (rest : List (Entry Document)). entry id w.document ∷ rest) more
+    by_test false more = ap (λ (rest : List (Entry Document)). document_in e ∷ rest) more
 
-leaving_step : (view : ℕ) (h : Held) (b : Bool) (xs : List Held) (ds : List Document) → nat_lt 0 (length (held_left view h).views) ≡ b → documents_of xs ≡ ds → documents_of (cond b (held_left view h ∷ xs) xs) ≡ cond b (left_by view (document_of h) ∷ ds) ds
-leaving_step view h true xs ds t e = rw e refl
-leaving_step view h false xs ds t e = e
+without_document_in : (id : ℕ) (es : List (Entry Kept)) → documents_in (without_id id es) ≡ without_id id (documents_in es)
+without_document_in id [] = refl
+without_document_in id (e ∷ es) = by_test (e.id == id) (without_document_in id es)
+  where
+    by_test : (b : Bool) → documents_in (without_id id es) ≡ without_id id (documents_in es)
+        → documents_in (cond (not b) (e ∷ without_id id es) (without_id id es)) ≡ cond (not b) (document_in e ∷ without_id id (documents_in es)) (without_id id (documents_in es))
+    by_test true more = more
+    by_test false more = ap (λ (rest : List (Entry Document)). document_in e ∷ rest) more
 
-documents_leaving : (view : ℕ) (hs : List Held) → documents_of (after_leaving view hs) ≡ living (map (left_by view) (documents_of hs))
-documents_leaving view [] = refl
-documents_leaving view (h ∷ hs) =
-    let count : references (left_by view (document_of h)) ≡ length (held_left view h).views = add-zero (length (held_left view h).views) in
-    rw count (leaving_step view h (nat_lt 0 (length (held_left view h).views)) _ _ refl (documents_leaving view hs))
+document_at_id : (id : ℕ) (es : List (Entry Kept)) → value_at (documents_in es) id ≡ option_map document_of (value_at es id)
+document_at_id id [] = refl
+document_at_id id (e ∷ es) = by_test (e.id == id) (document_at_id id es)
+  where
+    by_test : (b : Bool) → value_at (documents_in es) id ≡ option_map document_of (value_at es id)
+        → option_map (λ (f : Entry Document). f.value) (cond b (Some (document_in e)) (find (λ (f : Entry Document). f.id == id) (documents_in es))) ≡ option_map document_of (option_map (λ (f : Entry Kept). f.value) (cond b (Some e) (find (λ (f : Entry Kept). f.id == id) es)))
+    by_test true more = refl
+    by_test false more = more
 
--- all documents have been looked at
-pub left_all : (view : ℕ) (hs old : List Held) (place : ℕ) → length hs ≤ place → take place hs ++ after_leaving view (drop place hs) ≡ after_leaving view old → documents_of hs ≡ living (map (left_by view) (documents_of old))
-left_all view hs old place le e =
-    let all : take place hs ≡ hs = take_all place hs le in
-    let none : drop place hs ≡ [] = drop_all place hs le in
-    let left : take place hs ++ after_leaving view (drop place hs) ≡ hs = rw (all, none) (append-nil hs) in
-    ap documents_of (sym left ∙ e) ∙ documents_leaving view old
+-- Entries at other ids, and at this one.
 
--- The table.
+without_written : (id : ℕ) (w : Kept) (es : List (Entry Kept)) → without_id id (with_value_at id w es) ≡ without_id id es
+without_written id w [] = refl
+without_written id w (e ∷ es) = by_test (e.id == id) refl (without_written id w es)
+  where
+    by_test : (b : Bool) → (e.id == id) ≡ b → without_id id (with_value_at id w es) ≡ without_id id es
+        → without_id id (cond b (entry id w) e ∷ with_value_at id w es) ≡ cond (not b) (e ∷ without_id id es) (without_id id es)
+    by_test true t more = rw (eq-eqb id id refl) more
+    by_test false t more = rw t (ap (λ (rest : List (Entry Kept)). e ∷ rest) more)
 
--- what is known of an entry that was read
-pub record Read (slab : Slab Held) (es : List Entry) (place : ℕ) (e : Entry) : Type 0 where
-  pub is : slice_get es place ≡ Some e
-  pub held : Holds slab e
-  pub there : ContainsKey slab e.key
-  pub within : place < length es
+pub other_with : (id other : ℕ) (w : Kept) (es : List (Entry Kept)) → other ≢ id → value_at (with_value_at id w es) other ≡ value_at es other
+other_with id other w [] differs = refl
+other_with id other w (e ∷ es) differs = by_test (e.id == id) refl (other_with id other w es differs)
+  where
+    by_test : (b : Bool) → (e.id == id) ≡ b → value_at (with_value_at id w es) other ≡ value_at es other
+        → value_at (cond b (entry id w) e ∷ with_value_at id w es) other ≡ value_at (e ∷ es) other
+    by_test true t more =
+        let here : e.id ≡ id = eqb-true e.id id t in
+        rw (ne_eqb id other (λ k. differs (sym k)), ne_eqb e.id other (λ k. differs (sym k ∙ here))) more
+    by_test false t more = by_other (e.id == other) more
+      where
+        by_other : (b : Bool) → value_at (with_value_at id w es) other ≡ value_at es other
+            → option_map (λ (f : Entry Kept). f.value) (cond b (Some e) (find (λ (f : Entry Kept). f.id == other) (with_value_at id w es))) ≡ option_map (λ (f : Entry Kept). f.value) (cond b (Some e) (find (λ (f : Entry Kept). f.id == other) es))
+        by_other true more = refl
+        by_other false more = more
 
-pub read : (slab : Slab Held) (es : List Entry) (next place : ℕ) (e : Entry) → IsTable slab es next → place < length (held_by slab es) → e ≡ get_or es place e → Read slab es place e
-read slab es next place e t lt q =
-    let count : length (held_by slab es) ≡ length es = length_table slab es next t in
-    let within : place < length es = omega arith in
-    let is : slice_get es place ≡ Some e = slice_get_read es (length es) place e refl within q in
-    let held : Holds slab e = held_place slab 0 next es place e t.ordered is in
-    record { is = is; held = held; there = rw held.is refl; within = within }
+other_without : (id other : ℕ) (es : List (Entry Kept)) → other ≢ id → value_at (without_id id es) other ≡ value_at es other
+other_without id other [] differs = refl
+other_without id other (e ∷ es) differs = by_test (e.id == id) refl (other_without id other es differs)
+  where
+    by_test : (b : Bool) → (e.id == id) ≡ b → value_at (without_id id es) other ≡ value_at es other
+        → value_at (cond (not b) (e ∷ without_id id es) (without_id id es)) other ≡ value_at (e ∷ es) other
+    by_test true t more =
+        let here : e.id ≡ id = eqb-true e.id id t in
+        rw (ne_eqb e.id other (λ k. differs (sym k ∙ here))) more
+    by_test false t more = by_other (e.id == other) more
+      where
+        by_other : (b : Bool) → value_at (without_id id es) other ≡ value_at es other
+            → option_map (λ (f : Entry Kept). f.value) (cond b (Some e) (find (λ (f : Entry Kept). f.id == other) (without_id id es))) ≡ option_map (λ (f : Entry Kept). f.value) (cond b (Some e) (find (λ (f : Entry Kept). f.id == other) es))
+        by_other true more = refl
+        by_other false more = more
 
-left_id : (slab : Slab Held) (e : Entry) (view : ℕ) (before h : Held) → Holds slab e → get slab e.key ≡ Some before → h ≡ held_left view before → h.id ≡ e.id
-left_id slab e view before h held b i =
-    let both : Some held.value ≡ Some before = sym held.is ∙ b in
-    let same : held.value ≡ before = cc in
-    ap (λ (x : Held). x.id) i ∙ sym (ap (λ (x : Held). x.id) same) ∙ held.id
+pub other_gone : (id other : ℕ) (w : Kept) (es : List (Entry Kept)) → other ≢ id → value_at (without_id id (with_value_at id w es)) other ≡ value_at es other
+other_gone id other w es differs = other_without id other (with_value_at id w es) differs ∙ other_with id other w es differs
 
-pub stays_table : (slab : Slab Held) (es : List Entry) (next place view : ℕ) (e : Entry) (before h : Held) → IsTable slab es next → Read slab es place e → get slab e.key ≡ Some before → h ≡ held_left view before → IsTable (with_value slab e.key h) es next
-stays_table slab es next place view e before h t r b i = record { ordered = written_ordered slab (with_value slab e.key h) e h 0 next es place (changed_by slab e r.held h) (left_id slab e view before h r.held b i) r.is t.ordered }
+here_with : (id : ℕ) (w : Kept) (es : List (Entry Kept)) → value_at (with_value_at id w es) id ≡ option_map (λ (k : Kept). w) (value_at es id)
+here_with id w [] = refl
+here_with id w (e ∷ es) = by_test (e.id == id) refl (here_with id w es)
+  where
+    by_test : (b : Bool) → (e.id == id) ≡ b → value_at (with_value_at id w es) id ≡ option_map (λ (k : Kept). w) (value_at es id)
+        → value_at (cond b (entry id w) e ∷ with_value_at id w es) id ≡ option_map (λ (k : Kept). w) (option_map (λ (f : Entry Kept). f.value) (cond b (Some e) (find (λ (f : Entry Kept). f.id == id) es)))
+    by_test true t more = rw (eq-eqb id id refl) refl
+    by_test false t more = rw t more
 
-pub stays : (slab : Slab Held) (es : List Entry) (next place view : ℕ) (e : Entry) (before h : Held) → IsTable slab es next → Read slab es place e → get slab e.key ≡ Some before → h ≡ held_left view before → nat_lt 0 (length h.views) ≡ true → Stays view place (held_by slab es) (held_by (with_value slab e.key h) es)
-stays slab es next place view e before h t r b i more =
-    let is : slice_get (held_by slab es) place ≡ Some before = get_place slab 0 next es place e t.ordered r.is ∙ b in
-    let now : held_by (with_value slab e.key h) es ≡ slice_set (held_by slab es) place (held_left view before) = written slab (with_value slab e.key h) e h 0 next es place (changed_by slab e r.held h) r.is t.ordered ∙ ap (slice_set (held_by slab es) place) i in
-    let more' : nat_lt 0 (length (held_left view before).views) ≡ true = sym (ap (λ (x : Held). nat_lt 0 (length x.views)) i) ∙ more in
-    record {
-      long = ap length now ∙ length-set (held_by slab es) place (held_left view before);
-      same = rw (now, add-one) (left_kept view (held_by slab es) place before is more');
-    }
+none_without : (id : ℕ) (es : List (Entry Kept)) → value_at (without_id id es) id ≡ None
+none_without id [] = refl
+none_without id (e ∷ es) = by_test (e.id == id) refl (none_without id es)
+  where
+    by_test : (b : Bool) → (e.id == id) ≡ b → value_at (without_id id es) id ≡ None
+        → value_at (cond (not b) (e ∷ without_id id es) (without_id id es)) id ≡ None
+    by_test true t more = more
+    by_test false t more = rw t more
 
-gone : (slab new : Slab Held) (e : Entry) (h : Held) → Holds slab e → Updates (with_value slab e.key h) new e.key None → Changed slab new e None
-gone slab new e h held u =
-    let ch = changed_by slab e held h in
-    record { held = held; changed = u.changed; others = λ k ne. u.others k ne ∙ ch.others k ne }
+pub room_with : (id : ℕ) (was left : Kept) (es : List (Entry Kept)) → value_at es id ≡ Some was → SameRoom was left → KeepsRoom id es (with_value_at id left es)
+room_with id was left es found same = rw (here_with id left es, found) same
 
-pub goes_table : (slab new : Slab Held) (es : List Entry) (next place : ℕ) (e : Entry) (h : Held) → IsTable slab es next → Read slab es place e → Updates (with_value slab e.key h) new e.key None → IsTable new (remove es place) next
-goes_table slab new es next place e h t r u = record { ordered = removed_ordered slab new e 0 next es place (gone slab new e h r.held u) r.is t.ordered }
+pub room_without : (id : ℕ) (left : Kept) (es : List (Entry Kept)) → KeepsRoom id es (without_id id (with_value_at id left es))
+room_without id left es = rw (none_without id (with_value_at id left es)) tt
 
-pub goes : (slab new : Slab Held) (es : List Entry) (next place view : ℕ) (e : Entry) (before h : Held) → IsTable slab es next → Read slab es place e → get slab e.key ≡ Some before → h ≡ held_left view before → Updates (with_value slab e.key h) new e.key None → nat_lt 0 (length h.views) ≡ false → Goes view place (held_by slab es) (held_by new (remove es place))
-goes slab new es next place view e before h t r b i u none =
-    let is : slice_get (held_by slab es) place ≡ Some before = get_place slab 0 next es place e t.ordered r.is ∙ b in
-    let now : held_by new (remove es place) ≡ remove (held_by slab es) place = removed slab new e 0 next es place (gone slab new e h r.held u) r.is t.ordered in
-    let none' : nat_lt 0 (length (held_left view before).views) ≡ false = sym (ap (λ (x : Held). nat_lt 0 (length x.views)) i) ∙ none in
-    let count : length (held_by slab es) ≡ length es = length_table slab es next t in
-    let lt : place < length es = r.within in
-    let within : place < length (held_by slab es) = omega arith in
-    record {
-      long = rw now (length-remove (held_by slab es) place within);
-      same = rw now (left_gone view (held_by slab es) place before is none');
-    }
+-- What is left.
+
+pub nothing_there : (id : ℕ) (change : Document → Document) (es : List (Entry Kept)) → value_at es id ≡ None → documents_in es ≡ let_go id change (documents_in es)
+nothing_there id change es none = rw (document_at_id id es, none) refl
+
+pub still_there : (id : ℕ) (change : Document → Document) (es : List (Entry Kept)) (was left : Kept) → value_at es id ≡ Some was → left.document ≡ change was.document → nat_lt 0 (references left.document) ≡ true
+    → documents_in (with_value_at id left es) ≡ let_go id change (documents_in es)
+still_there id change es was left found changed held =
+    rw (document_at_id id es, found, ← changed, held) (with_document_in id left es)
+
+pub gone : (id : ℕ) (change : Document → Document) (es : List (Entry Kept)) (was left : Kept) → value_at es id ≡ Some was → left.document ≡ change was.document → nat_lt 0 (references left.document) ≡ false
+    → documents_in (without_id id (with_value_at id left es)) ≡ let_go id change (documents_in es)
+gone id change es was left found changed held =
+    rw (document_at_id id es, found, ← changed, held) (ap documents_in (without_written id left es) ∙ without_document_in id es)
+
+-- a document that is changed alone
+pub same_room : (was left : Kept) (d : Document) → left ≡ record was { document = d } → SameRoom was left
+same_room was left d e = (ap (λ (k : Kept). k.room) e, rw e refl)

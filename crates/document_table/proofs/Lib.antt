@@ -1,4 +1,2 @@
--- Lemmas that several proofs share.
-pub mod OrderLemmas
-pub mod DocumentLemmas
 pub mod LeavingLemmas
+pub mod LivingLemmas

@@ -1,10 +1,12 @@
--- What a table ends as, once bytes that it lent have come back.
-use Rattle.std.specs.Prelude.{◌≡◌, ⊤}
-use Rattle.std.specs.Borrow.{Fml, MutBor, follows_so}
-use mathlib.Core.Option.{none}
-use Rattle.document_table.specs.Documents.{Documents}
+-- What a table ends as, where one of its documents was lent to be changed.
+use Rattle.std.specs.Prelude.{ℕ, Option}
+use Rattle.std.specs.Borrow.{LendsIf, Fml, MutBor}
+use Rattle.id_table.specs.Entries.{Entries, with_value_at}
+use Rattle.document.specs.Kept.{Kept}
+use Rattle.document.specs.contracts.kept.Document.{the_row as document_row}
 use Rattle.document_table.specs.contracts.table.DocumentTable.{the_row}
 
--- all documents are as they were
-abbrev pub lent_and_back : MutBor Documents → Fml
-lent_and_back t = follows_so the_row the_row t.ghost_name none (λ _ _. ⊤) (λ n. n ≡ t.now)
+-- once the loan r ends, the id has its last document, and at `None` the table is as it was
+abbrev pub lends_document : MutBor (Entries Kept) → ℕ → Option (MutBor Kept) → Fml
+lends_document t id r =
+    LendsIf the_row document_row t r (λ w. record t.now { entries = with_value_at id w t.now.entries }) t.now

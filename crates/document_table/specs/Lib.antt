@@ -1,3 +1,2 @@
-pub mod Documents
+pub mod Leaving
 pub mod Lends
-pub mod Order

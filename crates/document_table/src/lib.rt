@@ -1,9 +1,10 @@
 //! The documents of a session, found by id.
 //!
-//! Documents lie in a slab, so that none moves while others come and go, and a list of ids beside it, in rising order, tells
-//! where each is.
+//! A document stays as long as it has a reference: a view that is attached, or a caller that holds it.
 #![tactic(auto)]
 
+mod laws;
 mod table;
 
+pub use laws::the_living_are_left;
 pub use table::DocumentTable;

@@ -3,23 +3,32 @@
 ghost use Rattle.std.specs.Prelude.{◌≤◌, length};
 
 use crate::tell;
-use document::{Document, lines_for_insertion};
+use document::{Document, TextStep};
 use memchr::memchr_iter;
-use std::alloc::AllocError;
+use std::alloc::{AllocError, Global};
 use std::io;
 use std::time::Instant;
+
+/// Texts of documents that are not large are shorter, in bytes.
+const WIDTH: usize = 1 << 32;
 
 /// The byte at a place of a text of 40-byte lines.
 fn byte_at(place: usize) -> u8 {
     if place % 40 == 39 { b'\n' } else { b'x' }
 }
 
-/// Puts bytes into a document, as a step of its own.
+/// Puts bytes into a document, as a step of its own. One whose text would be too long for its places gets none.
 fn put(document: &mut Document, place: usize, bytes: &[u8]) -> Result<(), AllocError>
-    requires { place ≤ length document.old.cells }
+    requires { place ≤ length document.old.document.cells }
 {
-    document.reserve(bytes.len(), lines_for_insertion(bytes), 1, bytes.len())?;
-    document.insert_reserved(false, place, bytes);
+    let size = document.len();
+    if size >= WIDTH || bytes.len() >= WIDTH - size {
+        return Err(AllocError);
+    }
+    let step = TextStep::Insert { place, bytes };
+    document.reserve(document.step_need(step))?;
+    document.append(false, step);
+    document.step(step);
     Ok(())
 }
 
@@ -32,23 +41,50 @@ fn type_run(document: &mut Document, start: usize, count: usize) -> Result<(), A
     Ok(())
 }
 
-/// A text of `bytes` bytes, put in at once, and `typed` more typed in its midst: prints how many lines there are.
-pub fn run(rt: &HostRuntime, bytes: usize, typed: usize) -> io::Result<()> {
-    let mut text: Vec<u8> = Vec::new(rt.alloc());
+/// A text of so many bytes, in 40-byte lines.
+fn text_of(alloc: Global, bytes: usize) -> Result<Vec<u8>, AllocError> {
+    let mut text = Vec::with_capacity(alloc, bytes)?;
     for place in 0..bytes {
         text.push(byte_at(place))?;
     }
-    let text = text.as_slice();
+    Ok(text)
+}
+
+/// Counts the line ends alone.
+fn count_ends(rt: &HostRuntime, text: &[u8]) -> io::Result<usize> {
     let start = Instant::now(rt)?;
     let ends = memchr_iter(b'\n', text).count();
-    tell(rt, "line ends counted", start, bytes)?;
-    let mut document = Document::new(rt.alloc(), 1)?;
+    tell(rt, "line ends counted", start, text.len())?;
+    Ok(ends)
+}
+
+/// Puts a text into a document at once.
+fn load(rt: &HostRuntime, document: &mut Document, text: &[u8]) -> io::Result<()> {
     let start = Instant::now(rt)?;
-    put(&mut document, 0, text)?;
-    tell(rt, "bytes put in at once", start, bytes)?;
+    put(document, 0, text)?;
+    tell(rt, "bytes put in at once", start, text.len())
+}
+
+/// Types in the midst of the text.
+fn type_in_midst(rt: &HostRuntime, document: &mut Document, typed: usize) -> io::Result<()> {
+    let middle = document.len() / 2;
+    let start = Instant::now(rt)?;
+    type_run(document, middle, typed)?;
+    tell(rt, "bytes typed", start, typed)
+}
+
+/// Puts a text into an empty document at once, and types `typed` bytes in its midst: prints how many lines there are.
+fn measure(rt: &HostRuntime, document: &mut Document, text: &[u8], typed: usize) -> io::Result<()> {
+    let ends = count_ends(rt, text)?;
+    load(rt, document, text)?;
     println!(rt; "lines {} {ends}", document.line_count())?;
-    let start = Instant::now(rt)?;
-    type_run(&mut document, text.len() / 2, typed)?;
-    tell(rt, "bytes typed", start, typed)?;
+    type_in_midst(rt, document, typed)?;
     println!(rt; "typed {} {}", document.line_count(), document.len())
+}
+
+/// A text of `bytes` bytes, put in at once, and `typed` more typed in its midst.
+pub fn run(rt: &HostRuntime, bytes: usize, typed: usize) -> io::Result<()> {
+    let text = text_of(rt.alloc(), bytes)?;
+    let mut document = Document::new(rt.alloc(), 1, 0)?;
+    measure(rt, &mut document, text.as_slice(), typed)
 }

@@ -65,3 +65,4 @@ pub mod EarlierTextLaws
 pub mod RunUndoLaws
 pub mod UndoMessageLaws
 pub mod RepeatedUndoLaws
+pub mod StandingLaws

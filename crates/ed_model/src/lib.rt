@@ -51,6 +51,7 @@ pub use script_examples::{
 pub use script_laws::laws_of_scripts;
 pub use sound_laws::{
     plans_are_fit, session_is_sound, sound_histories_can_be_undone, soundness_is_kept,
+    steps_keep_views_standing,
 };
 pub use table_laws::{
     free_messages_are_silent, queries_leave_the_session, refusals_leave_the_session,

@@ -1,6 +1,7 @@
 //! Laws of sound sessions and fit plans. Each is the contract of a function that does nothing.
 
 ghost use Rattle.ed_model.specs.SoundLaws.{NewSessionIsSound, MessageKeepsSound, OpeningKeepsSound, ClosingKeepsSound, CommandKeepsSound, IsSoundInEveryStateFrom, IsSoundInEveryState, ThePastCanBeUndone, UndoneThenRedoneIsTheSame};
+ghost use Rattle.ed_model.specs.StandingLaws.{StepsKeepViewsStanding};
 ghost use Rattle.ed_model.specs.PlansFit.{PlansFit, EditStepsFit, UndoStepsFit, RedoStepsFit, PlansKeepSound};
 
 /// The session is sound in every state that a run reaches: from a new session, whatever its limits, and from any sound one.
@@ -32,4 +33,9 @@ pub fn plans_are_fit()
 pub fn sound_histories_can_be_undone()
     ensures all_the_past { ThePastCanBeUndone }
     ensures and_redone { UndoneThenRedoneIsTheSame }
+{}
+
+/// A view that stands well on its document stands well on it after a step, which it follows.
+pub fn steps_keep_views_standing()
+    ensures { StepsKeepViewsStanding }
 {}

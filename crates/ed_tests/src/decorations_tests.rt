@@ -137,3 +137,17 @@ fn two_indicators(rt: HostRuntime) -> Result<(), Fail> {
     assert!(&rt; indicators.value(1, 8) == 2_147_483_647);
     Ok(())
 }
+
+// Room for many insertions is made at once.
+#[test]
+fn many_insertions(rt: HostRuntime) -> Result<(), Fail> {
+    let mut indicators: Decorations<u32> = Decorations::new(rt.alloc());
+    indicators.reserve(100_000)?;
+    put(&rt, &mut indicators, 0, 100_000)?;
+    indicators.reserve_fill(31)?;
+    assert!(rt; indicators.length() == 100_000);
+    assert_eq!(rt; indicators.fill(31, 50_000, 10, 7), Some((50_000, 10)));
+    indicators.reserve(100_000)?;
+    assert!(rt; indicators.value(31, 50_009) == 7);
+    Ok(())
+}

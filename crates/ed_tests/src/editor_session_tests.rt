@@ -364,3 +364,63 @@ fn lines_follow_the_text(rt: HostRuntime) -> Result<(), Fail> {
     }
     Ok(())
 }
+
+#[test]
+fn steps_are_told_of(rt: HostRuntime) -> Result<(), Fail> {
+    let alloc = rt.alloc();
+    let mut session = Session::new(alloc);
+    assert_eq!(rt; session.new_view(), Ok(1));
+    // Before the step, that the save point is left, and after it.
+    match session.send_lent(1, Kind::InsertText.number(), 0, 0, b"a\nb") {
+        Ok(reply) => {
+            assert_eq!(rt; reply.note_count(), 3);
+            let (before, text) = reply.note(0);
+            assert_eq!(rt; (before.view, before.code, before.kind), (1, 2008, 0x410));
+            assert!(rt; text == b"a\nb".as_slice());
+            assert_eq!(rt; reply.note(1).0.code, 2003);
+            let (after, text) = reply.note(2);
+            assert_eq!(rt; (after.kind, after.length, after.lines), (0x2011, 3, 1));
+            assert!(rt; text == b"a\nb".as_slice());
+        }
+        Err(_) => assert!(rt; false),
+    }
+    // Before a deletion its text is not told.
+    match session.send_lent(1, Kind::DeleteRange.number(), 1, 1, b"") {
+        Ok(reply) => {
+            assert_eq!(rt; reply.note_count(), 2);
+            assert!(rt; reply.note(0).1.is_empty());
+            let (after, text) = reply.note(1);
+            assert_eq!(rt; (after.kind, after.position, after.lines), (0x2012, 1, -1));
+            assert!(rt; text == b"\n".as_slice());
+        }
+        Err(_) => assert!(rt; false),
+    }
+    match session.send_lent(1, Kind::DeleteRange.number(), 1, 0, b"") {
+        Ok(reply) => assert_eq!(rt; reply.note_count(), 0),
+        Err(_) => assert!(rt; false),
+    }
+    Ok(())
+}
+
+#[test]
+fn ranges_are_lent(rt: HostRuntime) -> Result<(), Fail> {
+    let alloc = rt.alloc();
+    let mut session = Session::new(alloc);
+    assert_eq!(rt; session.new_view(), Ok(1));
+    assert_eq!(rt;
+        sent(
+            &mut session,
+            1,
+            Kind::InsertText.number(),
+            0,
+            0,
+            b"abcd",
+            alloc
+        )?,
+        0
+    );
+    assert!(rt; session.lend_range(1, 1, 2) == Ok(b"bc".as_slice()));
+    assert!(rt; session.lend_range(1, 2, 3) == Err(Refusal::BadArgument));
+    assert!(rt; session.lend_range(2, 0, 0) == Err(Refusal::NoSuchView));
+    Ok(())
+}

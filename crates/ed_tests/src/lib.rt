@@ -10,13 +10,15 @@ mod contraction_tests;
 #[cfg(test)]
 mod decorations_tests;
 #[cfg(test)]
-mod document_table_tests;
-#[cfg(test)]
-mod document_tests;
-#[cfg(test)]
 mod ed_types_tests;
 #[cfg(test)]
+mod ed_view_tests;
+#[cfg(test)]
 mod editor_session_tests;
+#[cfg(test)]
+mod id_table_tests;
+#[cfg(test)]
+mod large_tests;
 #[cfg(test)]
 mod lending;
 #[cfg(test)]

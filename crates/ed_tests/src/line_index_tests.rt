@@ -1,11 +1,11 @@
 //! Small texts, edited step by step. Each helper makes the new text, and hands it in cut in two.
-ghost use Rattle.std.specs.Prelude.{◌≡◌, ◌+◌, ◌≤◌, length, IfOk};
+ghost use Rattle.std.specs.Prelude.{◌≡◌, ◌+◌, ◌≤◌, ◌++◌, length, IfOk};
 ghost use Rattle.line_index.specs.Index.{IsIndexOf};
 
 use ed_model::LineEndTypes;
 use line_index::{
-    LineChange, LineEdit, LineIndex, lines_for_deletion, lines_for_insertion, lines_in, near_step,
-    room_for_steps,
+    LineChange, LineEdit, LineIndex, edits_of_settings, fresh_lines, lines_for_deletion,
+    lines_for_insertion, lines_in, near_step, room_for_steps,
 };
 use partitioning::{Place, Probes};
 use std::alloc::{AllocError, Global};
@@ -312,4 +312,128 @@ fn row_of_pieces<P: Place>(rt: &impl Abort, alloc: Global) -> Result<(), Fail> {
 fn one_change_of_many_pieces(rt: HostRuntime) -> Result<(), Fail> {
     row_of_pieces::<u32>(&rt, rt.alloc())?;
     row_of_pieces::<u64>(&rt, rt.alloc())
+}
+
+// Another setting of line ends, with the lines that come by it or are joined.
+fn set_types<P: Place>(
+    rt: &impl Abort,
+    alloc: Global,
+    index: &mut LineIndex<P>,
+    types: LineEndTypes,
+    before: &[u8],
+    after: &[u8],
+    wanted: &[LineEdit],
+) -> Result<(), AllocError>
+    requires { IsIndexOf (before.now ++ after.now) index.old }
+    ensures { IfOk result (λ _. IsIndexOf (before.now ++ after.now) index.new) }
+{
+    edits_of_settings();
+    let length = index.length();
+    assert!(rt; length < 1 << 63);
+    let edits = index.edits_for_types(alloc, types, before, after)?;
+    assert_eq!(rt; edits.as_slice(), wanted);
+    index.reserve(fresh_lines(edits.as_slice()))?;
+    index.set_types(types, before, after);
+    Ok(())
+}
+
+fn row_of_settings<P: Place>(rt: &impl Abort, alloc: Global) -> Result<(), Fail> {
+    let mut index: LineIndex<P> = LineIndex::new(alloc, LineEndTypes::Default)?;
+    let bytes = b"a\xC2\x85b\xE2\x80\xA8c";
+    let (text, _) = insert(rt, alloc, &mut index, b"", 0, bytes, 5)?;
+    let text = text.as_slice();
+    assert!(rt; text.len() >= 2);
+    let (before, after) = text.split_at(2);
+    assert_starts(rt, &index, &[0], 8);
+    let come = [LineEdit::Come { line: 1, count: 2 }];
+    set_types(
+        rt,
+        alloc,
+        &mut index,
+        LineEndTypes::Unicode,
+        before,
+        after,
+        &come,
+    )?;
+    assert_starts(rt, &index, &[0, 3, 7], 8);
+    let count = index.count();
+    assert_eq!(rt; count, 3);
+    assert_eq!(rt; index.end(0, before, after), 1);
+    assert_eq!(rt; index.end(1, before, after), 4);
+    set_types(
+        rt,
+        alloc,
+        &mut index,
+        LineEndTypes::Unicode,
+        before,
+        after,
+        &[],
+    )?;
+    assert_starts(rt, &index, &[0, 3, 7], 8);
+    let join = [LineEdit::Join { line: 0, count: 2 }];
+    set_types(
+        rt,
+        alloc,
+        &mut index,
+        LineEndTypes::Default,
+        before,
+        after,
+        &join,
+    )?;
+    assert_starts(rt, &index, &[0], 8);
+    Ok(())
+}
+
+#[test]
+fn settings_in_small_places(rt: HostRuntime) -> Result<(), Fail> {
+    row_of_settings::<u32>(&rt, rt.alloc())
+}
+
+#[test]
+fn settings_in_large_places(rt: HostRuntime) -> Result<(), Fail> {
+    row_of_settings::<u64>(&rt, rt.alloc())
+}
+
+// Line ends of both kinds: those of Unicode lie in the first line, the third and the last, at the text's end.
+#[test]
+fn settings_with_line_ends_between(rt: HostRuntime) -> Result<(), Fail> {
+    let alloc = rt.alloc();
+    let mut index: LineIndex<u32> = LineIndex::new(alloc, LineEndTypes::Default)?;
+    let bytes = b"\xC2\x85a\nb\r\n\xE2\x80\xA9\xC2\x85\rc\xC2\x85";
+    let (text, _) = insert(&rt, alloc, &mut index, b"", 0, bytes, 9)?;
+    let text = text.as_slice();
+    assert!(rt; text.len() >= 8);
+    let (before, after) = text.split_at(8);
+    assert_starts(&rt, &index, &[0, 4, 7, 13], 16);
+    let come = [
+        LineEdit::Come { line: 1, count: 1 },
+        LineEdit::Come { line: 4, count: 2 },
+        LineEdit::Come { line: 7, count: 1 },
+    ];
+    set_types(
+        &rt,
+        alloc,
+        &mut index,
+        LineEndTypes::Unicode,
+        before,
+        after,
+        &come,
+    )?;
+    assert_starts(&rt, &index, &[0, 2, 4, 7, 10, 12, 13, 16], 16);
+    let join = [
+        LineEdit::Join { line: 0, count: 1 },
+        LineEdit::Join { line: 2, count: 2 },
+        LineEdit::Join { line: 3, count: 1 },
+    ];
+    set_types(
+        &rt,
+        alloc,
+        &mut index,
+        LineEndTypes::Default,
+        before,
+        after,
+        &join,
+    )?;
+    assert_starts(&rt, &index, &[0, 4, 7, 13], 16);
+    Ok(())
 }

@@ -1,10 +1,13 @@
--- Lemmas.
-pub mod ViewLemmas
-pub mod PlanLemmas
-pub mod WalkLemmas
-pub mod EditLemmas
-pub mod PerformLemmas
-pub mod SendLemmas
+pub mod Finding
+pub mod KnownPlans
+pub mod TableWay
+pub mod Stepping
+pub mod Replacing
+pub mod Performing
+pub mod Width
+pub mod Keeping
 pub mod OpeningLemmas
-pub mod KeptLemmas
+pub mod Needing
+pub mod LendingLemmas
+pub mod WalkLemmas
 pub mod RunLemmas

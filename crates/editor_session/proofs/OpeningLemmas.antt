@@ -1,131 +1,181 @@
 -- Views that are opened and closed.
-use Rattle.std.proofs.Common.{◌≡◌, ◌≢◌, ℕ, ◌+◌, ◌<◌, ◌==◌, ◌||◌, not, nat_le, nat_lt, Bool, true, false, cond, List, [], ◌∷◌, ◌++◌, length, map, filter, refl, ap, sym, ◌∙◌, arith, Option, Some, None, Ok, is_some}
+use Rattle.std.proofs.Common.{◌≡◌, ◌≢◌, ℕ, ◌+◌, ◌<◌, ◌==◌, Bool, true, false, cond, List, [], ◌∷◌, ◌++◌, map, refl, ap, sym, ◌∙◌, subst, Option, Some, None, Ok, Err, option_map}
+use Rattle.ed_types.specs.declared.refusal.Refusal.TheVariants.{NoSuchView}
+use Rattle.std.specs.Prelude.{nat_lt, not, filter, find}
 use Rattle.std.specs.List.{AllByRecursion}
-use Rattle.std.proofs.lemmas.Bool.{eqb-false}
-use Rattle.std.proofs.lemmas.List.{length-map, map-append}
+use Rattle.std.proofs.lemmas.Bool.{eqb-true, ne_eqb, cond_both}
+use Rattle.std.proofs.lemmas.List.{map-append}
 use Rattle.ed_types.specs.declared.limits.Limits.{Limits}
-use Rattle.ed_model.specs.Session.{Session, View, Document, document_at, view_at, new_document, new_view, living, left_by, without, references}
-use Rattle.ed_model.specs.SoundLaws.{IsSound, IsSoundView, occurrences}
-use Rattle.ed_model.specs.Table.{opened, closed, closed_view}
-use Rattle.ed_model.proofs.SoundFinding.{view_id}
-use Rattle.ed_model.proofs.SoundReferences.{Relists, living_found, mapped_found, found_last, without_other}
-use Rattle.document_table.specs.Documents.{Documents, documents_of}
-use Rattle.editor_session.specs.declared.view.OpenView.{OpenView}
-use Rattle.editor_session.specs.Views.{plain_view, fresh_lines, fresh_lines_of, session_kept}
-
--- Views whose documents keep their lines.
-
-abbrev pub Seen : List Document → List Document → OpenView → Type 0
-Seen old new v = fresh_lines new v.document ≡ fresh_lines old v.document
-
-same_view : (old new : List Document) (v : OpenView) → Seen old new v → plain_view new v ≡ plain_view old v
-same_view old new v seen = let plain = plain_view old v in ap (λ ls. record plain { flags = ls }) seen
-
-same_views : (old new : List Document) (vs : List OpenView) → AllByRecursion (Seen old new) vs → map (plain_view new) vs ≡ map (plain_view old) vs
-same_views old new [] seen = refl
-same_views old new (v ∷ vs) seen = let first = same_view old new v seen.0 in let others = same_views old new vs seen.1 in cc
+use Rattle.ed_model.specs.Session.{Document, View, view_at, new_document, new_view, living, left_by, without, references}
+use Rattle.ed_model.specs.SoundLaws.{Rise, IsSoundDocument, IsViewOn, ListsItsViews}
+use Rattle.ed_model.specs.Table.{closed, closed_view}
+use Rattle.id_table.specs.Entries.{Rise as IdsRise, Entry, Entries, entry, id_of, value_of, value_at, with_value_at, without_id}
+use Rattle.document.specs.Kept.{Kept}
+use Rattle.ed_view.specs.Kept.{KeptView}
+use Rattle.document_table.specs.Leaving.{documents_in as entries_in, left_over_of, let_go, IsChangedAlike, LeavesTheLiving}
+use Rattle.scene.specs.Scenes.{views_of, AreNamed}
+use Rattle.message_plans.specs.Requested.{session_in, documents_in}
+use Rattle.message_plans.specs.declared.state.SessionState.{SessionState}
+use Rattle.editor_session.specs.Kept.{IsKept, DocumentsAreNamed}
+use Rattle.editor_session.specs.Opening.{document_for, with_view_on_new}
+use Rattle.editor_session.proofs.Finding.{view_in, id_of_view, id_of_document, found_some, found_none, still_named, id_of_view_at}
 
 -- Opening.
 
-found_in_front : (ds : List Document) (new d : Document) (id : ℕ) → document_at ds id ≡ Some d → document_at (ds ++ new ∷ []) id ≡ Some d
-found_in_front [] new d id e = absurd (cc)
-found_in_front (x ∷ xs) new d id e = go (x.id == id) e (λ e. found_in_front xs new d id e)
-  where
-    go : (b : Bool) → cond b (Some x) (document_at xs id) ≡ Some d → (document_at xs id ≡ Some d → document_at (xs ++ new ∷ []) id ≡ Some d) → cond b (Some x) (document_at (xs ++ new ∷ []) id) ≡ Some d
-    go true e rest = e
-    go false e rest = rest e
-
-seen_in_front : (ds : List Document) (new : Document) (vs : List OpenView) → AllByRecursion (IsSoundView ds) (map (plain_view ds) vs) → AllByRecursion (Seen ds (ds ++ new ∷ [])) vs
-seen_in_front ds new [] all = tt
-seen_in_front ds new (v ∷ vs) all =
-    (ap fresh_lines_of (found_in_front ds new all.0.document v.document all.0.found ∙ sym all.0.found), seen_in_front ds new vs all.1)
-
--- the new view, and its document
-abbrev pub first_view : ℕ → ℕ → OpenView
-first_view id document = record { id = id; document = document; anchor = 0; caret = 0 }
-
-abbrev pub watched : ℕ → ℕ → Document
-watched view id = record (new_document id 0) { views = view ∷ [] }
-
-views_opened : (old : Documents) (views : List OpenView) (next : ℕ) (limits : Limits) → IsSound (session_kept old views next limits) →
-    map (plain_view (documents_of old.held ++ watched next old.next ∷ [])) (views ++ first_view next old.next ∷ []) ≡ map (plain_view (documents_of old.held)) views ++ new_view next (new_document old.next 0) ∷ []
-views_opened old views next limits sound =
-    let ds = documents_of old.held in
-    let new = ds ++ watched next old.next ∷ [] in
-    let others = same_views ds new views (seen_in_front ds (watched next old.next) views sound.views) in
-    let found = found_last 0 old.next ds (watched next old.next) refl sound.document_ids in
-    let plain = new_view next (new_document old.next 0) in
-    let mine : plain_view new (first_view next old.next) ≡ new_view next (new_document old.next 0) = ap (λ o. record plain { flags = fresh_lines_of o }) found in
-    map-append (plain_view new) views (first_view next old.next ∷ []) ∙ ap (λ vs. vs ++ plain_view new (first_view next old.next) ∷ []) others ∙ ap (λ v. map (plain_view ds) views ++ v ∷ []) mine
-
-none_of : (a b c : Bool) → a ≡ false → b ≡ false → c ≡ false → (a || b || c) ≡ false
-none_of a b c e f g = rw (e, f, g) refl
-
-pub opened_so : (old new : Documents) (views all : List OpenView) (next : ℕ) (limits : Limits) → IsSound (session_kept old views next limits) →
-    nat_le limits.views (length views) ≡ false → nat_lt limits.ids next ≡ false → nat_lt limits.ids old.next ≡ false →
-    documents_of new.held ≡ documents_of old.held ++ watched next old.next ∷ [] → new.next ≡ old.next + 1 → all ≡ views ++ first_view next old.next ∷ [] →
-    opened (session_kept old views next limits) ≡ Ok (session_kept new all (next + 1) limits, next)
-opened_so old new views all next limits sound few view_id_left document_id_left documents ids listed =
-    let s = session_kept old views next limits in
-    let ds = documents_of old.held ++ watched next old.next ∷ [] in
-    let count : nat_le limits.views (length s.views) ≡ false = ap (nat_le limits.views) (length-map views (plain_view (documents_of old.held))) ∙ few in
-    let allowed = none_of (nat_le limits.views (length s.views)) (nat_lt limits.ids next) (nat_lt limits.ids old.next) count view_id_left document_id_left in
-    let seen = views_opened old views next limits sound in
-    rw allowed (ap (λ (x : Session). Ok (x, next))
-    (ap (λ vs. record { documents = ds; views = vs; clipboard = []; next_document = old.next + 1; next_view = next + 1; limits = limits }) (sym seen)
-    ∙ ap (λ vs. record { documents = ds; views = map (plain_view ds) vs; clipboard = []; next_document = old.next + 1; next_view = next + 1; limits = limits }) (sym listed)
-    ∙ ap (λ es. record { documents = es; views = map (plain_view es) all; clipboard = []; next_document = old.next + 1; next_view = next + 1; limits = limits }) (sym documents)
-    ∙ ap (λ n. record { documents = documents_of new.held; views = map (plain_view (documents_of new.held)) all; clipboard = []; next_document = n; next_view = next + 1; limits = limits }) (sym ids)))
+pub opened_so : (s : SessionState) (documents1 documents2 : Entries Kept) (views1 views2 : Entries KeptView) (k : Kept) (v : KeptView)
+    → documents1.entries ≡ s.documents.entries → documents1.next ≡ s.documents.next → documents2.entries ≡ documents1.entries ++ entry documents1.next k ∷ [] → documents2.next ≡ documents1.next + 1
+    → views1.entries ≡ s.views.entries → views1.next ≡ s.views.next → views2.entries ≡ views1.entries ++ entry views1.next v ∷ [] → views2.next ≡ views1.next + 1
+    → k.document ≡ document_for s.views.next s.documents.next → v.view ≡ new_view s.views.next (new_document s.documents.next 0)
+    → session_in (record s { documents = documents2; views = views2 }) ≡ with_view_on_new (session_in s)
+opened_so s documents1 documents2 views1 views2 k v de dn de2 dn2 ve vn ve2 vn2 kd vv =
+    let old = session_in s in
+    let ds : map (λ (e : Entry Kept). e.value.document) documents2.entries ≡ old.documents ++ document_for s.views.next s.documents.next ∷ [] =
+    ap (map (λ (e : Entry Kept). e.value.document)) (de2 ∙ ap (λ es. es ++ entry documents1.next k ∷ []) de)
+    ∙ map-append (λ (e : Entry Kept). e.value.document) s.documents.entries (entry documents1.next k ∷ [])
+    ∙ ap (λ d. old.documents ++ d ∷ []) kd in
+    let vs : map (λ (e : Entry KeptView). e.value.view) views2.entries ≡ old.views ++ new_view s.views.next (new_document s.documents.next 0) ∷ [] =
+    ap (map (λ (e : Entry KeptView). e.value.view)) (ve2 ∙ ap (λ es. es ++ entry views1.next v ∷ []) ve)
+    ∙ map-append (λ (e : Entry KeptView). e.value.view) s.views.entries (entry views1.next v ∷ [])
+    ∙ ap (λ x. old.views ++ x ∷ []) vv in
+    let nd : documents2.next ≡ s.documents.next + 1 = dn2 ∙ ap (λ n. n + 1) dn in
+    let nv : views2.next ≡ s.views.next + 1 = vn2 ∙ ap (λ n. n + 1) vn in
+    ap (λ x. record old { documents = x; views = views_of views2.entries; next_document = documents2.next; next_view = views2.next }) ds
+    ∙ ap (λ x. record old { documents = old.documents ++ document_for s.views.next s.documents.next ∷ []; views = x; next_document = documents2.next; next_view = views2.next }) vs
+    ∙ ap (λ x. record (with_view_on_new old) { next_document = x; next_view = views2.next }) nd
+    ∙ ap (λ x. record (with_view_on_new old) { next_view = x }) nv
 
 -- Closing.
 
-leaves : (view : ℕ) → Relists (left_by view)
-leaves view = record { views = λ d. without view d.views; held_by_callers = λ d. d.held_by_callers; is = λ d. refl }
+pub not_open : (s : SessionState) (view : ℕ) → IsKept s → value_at s.views.entries view ≡ None → closed (session_in s) view ≡ Err NoSuchView
+not_open s view kept e = ap (closed_view (session_in s)) (found_none view_in id_of_view s.views.entries view kept.views e)
 
-some_listed : (id : ℕ) (ids : List ℕ) → occurrences id ids ≡ 1 → 0 < length ids
-some_listed id [] e = absurd (omega arith)
-some_listed id (x ∷ xs) e = omega arith
-
--- a view that stays sees its document as before
-seen_after_leaving : (ds : List Document) (view : ℕ) (v : OpenView) → v.id ≢ view → IsSoundView ds (plain_view ds v) → Seen ds (living (map (left_by view) ds)) v
-seen_after_leaving ds view v other h =
-    let d = h.document in
-    let listed : occurrences v.id (without view d.views) ≡ 1 = without_other view v.id d.views other ∙ h.stands.listed in
-    let more = some_listed v.id (without view d.views) listed in
-    let some : 0 < references (left_by view d) = omega arith in
-    let found = living_found (map (left_by view) ds) v.document (left_by view d) (mapped_found (left_by view) (leaves view) ds v.document d h.found) some in
-    ap fresh_lines_of found ∙ ap fresh_lines_of (sym h.found)
-
-others_stay : (ds : List Document) (view : ℕ) (vs : List OpenView) → AllByRecursion (IsSoundView ds) (map (plain_view ds) vs) →
-    map (plain_view (living (map (left_by view) ds))) (filter (λ (v : OpenView). not (v.id == view)) vs) ≡ filter (λ (w : View). not (w.id == view)) (map (plain_view ds) vs)
-others_stay ds view [] all = refl
-others_stay ds view (v ∷ vs) all = go (v.id == view) refl (others_stay ds view vs all.1)
+-- the views without one
+others : (entries : List (Entry KeptView)) (view : ℕ) → AreNamed entries
+    → map (λ (e : Entry KeptView). e.value.view) (without_id view entries) ≡ filter (λ (w : View). not (w.id == view)) (map (λ (e : Entry KeptView). e.value.view) entries)
+others [] view all = refl
+others (e ∷ es) view all =
+    let left = map (λ (x : Entry KeptView). x.value.view) es in
+    let rest = filter (λ (w : View). not (w.id == view)) left in
+    subst (λ n. map (λ (x : Entry KeptView). x.value.view) (cond (not (e.id == view)) (e ∷ without_id view es) (without_id view es)) ≡ cond (not (n == view)) (e.value.view ∷ rest) rest) all.0
+    (go (e.id == view) (others es view all.1))
   where
-    go : (b : Bool) → (v.id == view) ≡ b →
-        map (plain_view (living (map (left_by view) ds))) (filter (λ (v : OpenView). not (v.id == view)) vs) ≡ filter (λ (w : View). not (w.id == view)) (map (plain_view ds) vs) →
-        map (plain_view (living (map (left_by view) ds))) (cond (not b) (v ∷ filter (λ (v : OpenView). not (v.id == view)) vs) (filter (λ (v : OpenView). not (v.id == view)) vs))
-        ≡ cond (not b) (plain_view ds v ∷ filter (λ (w : View). not (w.id == view)) (map (plain_view ds) vs)) (filter (λ (w : View). not (w.id == view)) (map (plain_view ds) vs))
-    go true t rest = rest
-    go false t rest =
-        let first = same_view ds (living (map (left_by view) ds)) v (seen_after_leaving ds view v (eqb-false v.id view t) all.0) in
-        cc
+    go : (b : Bool) → map (λ (x : Entry KeptView). x.value.view) (without_id view es) ≡ filter (λ (w : View). not (w.id == view)) (map (λ (x : Entry KeptView). x.value.view) es)
+        → map (λ (x : Entry KeptView). x.value.view) (cond (not b) (e ∷ without_id view es) (without_id view es))
+        ≡ cond (not b) (e.value.view ∷ filter (λ (w : View). not (w.id == view)) (map (λ (x : Entry KeptView). x.value.view) es)) (filter (λ (w : View). not (w.id == view)) (map (λ (x : Entry KeptView). x.value.view) es))
+    go true rest = rest
+    go false rest = ap (λ ws. e.value.view ∷ ws) rest
 
-closed_found : (s : Session) (view : ℕ) (o : Option View) → view_at s.views view ≡ o → is_some o ≡ true →
-    closed_view s o ≡ Ok (record s { documents = living (map (left_by view) s.documents); views = filter (λ (w : View). not (w.id == view)) s.views })
-closed_found s view None found some = absurd (cc)
-closed_found s view (Some v) found some =
-    let own : v.id ≡ view = view_id s.views view v found in
-    ap (λ n. Ok (record s { documents = living (map (left_by n) s.documents); views = filter (λ (w : View). not (w.id == n)) s.views })) own
+all_without : {V : Type 0} (P : Entry V → Type 0) (id : ℕ) (entries : List (Entry V)) → AllByRecursion P entries → AllByRecursion P (without_id id entries)
+all_without P id [] all = tt
+all_without P id (e ∷ es) all =
+    cond_both (not (e.id == id)) (e ∷ without_id id es) (without_id id es) (AllByRecursion P) (λ _. (all.0, all_without P id es all.1)) (λ _. all_without P id es all.1)
 
-pub closed_so : (old new : Documents) (views left : List OpenView) (next : ℕ) (limits : Limits) (view : ℕ) → IsSound (session_kept old views next limits) →
-    is_some (view_at (session_kept old views next limits).views view) ≡ true → documents_of new.held ≡ living (map (left_by view) (documents_of old.held)) → new.next ≡ old.next →
-    left ≡ filter (λ (v : OpenView). not (v.id == view)) views →
-    closed (session_kept old views next limits) view ≡ Ok (session_kept new left next limits)
-closed_so old new views left next limits view sound is_open documents ids listed =
-    let s = session_kept old views next limits in
-    let ds = living (map (left_by view) (documents_of old.held)) in
-    closed_found s view (view_at s.views view) refl is_open
-    ∙ ap Ok (ap (λ vs. record { documents = ds; views = vs; clipboard = []; next_document = old.next; next_view = next; limits = limits }) (sym (others_stay (documents_of old.held) view views sound.views))
-    ∙ ap (λ vs. record { documents = ds; views = map (plain_view ds) vs; clipboard = []; next_document = old.next; next_view = next; limits = limits }) (sym listed)
-    ∙ ap (λ es. record { documents = es; views = map (plain_view es) left; clipboard = []; next_document = old.next; next_view = next; limits = limits }) (sym documents)
-    ∙ ap (λ n. record { documents = documents_of new.held; views = map (plain_view (documents_of new.held)) left; clipboard = []; next_document = n; next_view = next; limits = limits }) (sym ids))
+pub others_named : (entries : List (Entry KeptView)) (view : ℕ) → AreNamed entries → AreNamed (without_id view entries)
+others_named entries view all = all_without (λ (e : Entry KeptView). e.id ≡ e.value.view.id) view entries all
+
+-- a document that is not that of a view does not list it
+without_itself : (view : ℕ) (ids : List ℕ) → AllByRecursion (λ id. id ≢ view) ids → without view ids ≡ ids
+without_itself view [] all = refl
+without_itself view (id ∷ ids) all =
+    let t : (id == view) ≡ false = ne_eqb id view all.0 in
+    rw t (ap (λ xs. id ∷ xs) (without_itself view ids all.1))
+
+none_listed : (views : List View) (v : View) (view document : ℕ) (ids : List ℕ) → view_at views view ≡ Some v → document ≢ v.document → AllByRecursion (IsViewOn views document) ids → AllByRecursion (λ id. id ≢ view) ids
+none_listed views v view document [] found other all = tt
+none_listed views v view document (id ∷ ids) found other all = (
+  (λ e. (let listed = all.0 in
+      let w = listed.0 in
+      let at : view_at views id ≡ Some w = listed.1 in
+      let on : w.document ≡ document = listed.2 in
+      let here : view_at views id ≡ Some v = ap (view_at views) e ∙ found in
+      let same : w ≡ v = cc in
+      other (sym on ∙ ap (λ (x : View). x.document) same))),
+  none_listed views v view document ids found other all.1,
+)
+
+stays_alike : (views : List View) (v : View) (view : ℕ) (d : Document) → view_at views view ≡ Some v → d.id ≢ v.document → ListsItsViews views d → left_by view d ≡ d
+stays_alike views v view d found other lists = ap (λ ids. record d { views = ids }) (without_itself view d.views (none_listed views v view d.id d.views found other lists))
+
+-- The documents in their entries.
+
+rise_same : {V : Type 0} (low next : ℕ) (entries : List (Entry V)) → Rise low next (map id_of entries) → IdsRise low next (map id_of entries)
+rise_same low next [] r = tt
+rise_same low next (e ∷ es) r = (r.0, r.1, rise_same (e.id + 1) next es r.2)
+
+same_ids : (entries : List (Entry Kept)) → DocumentsAreNamed entries → map id_of (entries_in entries) ≡ map (λ (d : Document). d.id) (map (λ (e : Entry Kept). e.value.document) entries)
+same_ids [] all = refl
+same_ids (e ∷ es) all = let a = all.0 in let b = same_ids es all.1 in cc
+
+values_same : (entries : List (Entry Kept)) → map value_of (entries_in entries) ≡ map (λ (e : Entry Kept). e.value.document) entries
+values_same [] = refl
+values_same (e ∷ es) = ap (λ ds. e.value.document ∷ ds) (values_same es)
+
+referenced : (limits : Limits) (entries : List (Entry Kept)) → AllByRecursion (IsSoundDocument limits) (map (λ (e : Entry Kept). e.value.document) entries) → AllByRecursion (λ (e : Entry Document). 0 < references e.value) (entries_in entries)
+referenced limits [] all = tt
+referenced limits (e ∷ es) all = (all.0.referenced, referenced limits es all.1)
+
+changed_alike : (views : List View) (v : View) (view : ℕ) (entries : List (Entry Kept)) → view_at views view ≡ Some v → DocumentsAreNamed entries → AllByRecursion (ListsItsViews views) (map (λ (e : Entry Kept). e.value.document) entries)
+    → AllByRecursion (IsChangedAlike v.document (left_by view) (left_by view)) (entries_in entries)
+changed_alike views v view [] found named lists = tt
+changed_alike views v view (e ∷ es) found named lists =
+    ((λ _. refl, λ other. stays_alike views v view e.value.document found (λ is. other (named.0 ∙ is)) lists.0), changed_alike views v view es found named.1 lists.1)
+
+pub living_left : LeavesTheLiving → (s : SessionState) (view : ℕ) (v : View) (left : List (Entry Kept)) → IsKept s → view_at (session_in s).views view ≡ Some v
+    → entries_in left ≡ let_go v.document (left_by view) (entries_in s.documents.entries)
+    → map (λ (e : Entry Kept). e.value.document) left ≡ living (map (left_by view) (session_in s).documents)
+living_left law s view v left kept found is =
+    let entries = s.documents.entries in
+    sym (values_same left) ∙ ap (map value_of) is
+    ∙ law v.document 0 s.documents.next (left_by view) (left_by view) (entries_in entries)
+    (rise_same 0 s.documents.next (entries_in entries) (subst (λ ids. Rise 0 s.documents.next ids) (sym (same_ids entries kept.documents)) kept.sound.document_ids))
+    (referenced s.limits entries kept.sound.documents) (changed_alike (session_in s).views v view entries found kept.documents kept.sound.lists)
+    ∙ ap (λ ds. living (map (left_by view) ds)) (values_same entries)
+
+-- names stay
+abbrev pub IsNamedDocument : Entry Document → Type 0
+IsNamedDocument e = e.id ≡ e.value.id
+
+named_in : (entries : List (Entry Kept)) → DocumentsAreNamed entries → AllByRecursion IsNamedDocument (entries_in entries)
+named_in [] all = tt
+named_in (e ∷ es) all = (all.0, named_in es all.1)
+
+named_out : (entries : List (Entry Kept)) → AllByRecursion IsNamedDocument (entries_in entries) → DocumentsAreNamed entries
+named_out [] all = tt
+named_out (e ∷ es) all = (all.0, named_out es all.1)
+
+id_at : (entries : List (Entry Document)) (id : ℕ) (d : Document) → AllByRecursion IsNamedDocument entries → value_at entries id ≡ Some d → d.id ≡ id
+id_at [] id d all e = absurd (cc)
+id_at (x ∷ xs) id d all e = go (x.id == id) refl e (λ e. id_at xs id d all.1 e)
+  where
+    go : (b : Bool) → (x.id == id) ≡ b → option_map value_of (cond b (Some x) (find (λ (e : Entry Document). e.id == id) xs)) ≡ Some d → (value_at xs id ≡ Some d → d.id ≡ id) → d.id ≡ id
+    go true t e rest = let same : x.value ≡ d = cc in ap (λ (y : Document). y.id) (sym same) ∙ sym all.0 ∙ eqb-true x.id id t
+    go false t e rest = rest e
+
+named_left : (id view : ℕ) (entries : List (Entry Document)) → AllByRecursion IsNamedDocument entries → AllByRecursion IsNamedDocument (let_go id (left_by view) entries)
+named_left id view entries all = go (value_at entries id) refl
+  where
+    go : (o : Option Document) → value_at entries id ≡ o → AllByRecursion IsNamedDocument (left_over_of id entries (option_map (left_by view) o))
+    go None e = all
+    go (Some d) e =
+        cond_both (nat_lt 0 (references (left_by view d))) (with_value_at id (left_by view d) entries) (without_id id entries) (AllByRecursion IsNamedDocument)
+        (λ _. still_named (λ x. x) id_of_document entries id (left_by view d) (id_at entries id d all e) all) (λ _. all_without IsNamedDocument id entries all)
+
+pub still_named_left : (id view : ℕ) (old left : List (Entry Kept)) → DocumentsAreNamed old → entries_in left ≡ let_go id (left_by view) (entries_in old) → DocumentsAreNamed left
+still_named_left id view old left all is = named_out left (subst (AllByRecursion IsNamedDocument) (sym is) (named_left id view (entries_in old) (named_in old all)))
+
+pub closed_so : LeavesTheLiving → (s : SessionState) (view : ℕ) (v : KeptView) (left : Entries Kept) (views : Entries KeptView) → IsKept s → value_at s.views.entries view ≡ Some v
+    → entries_in left.entries ≡ let_go v.view.document (left_by view) (entries_in s.documents.entries) → left.next ≡ s.documents.next → views ≡ record s.views { entries = without_id view s.views.entries }
+    → closed (session_in s) view ≡ Ok (session_in (record s { documents = left; views = views }))
+closed_so law s view v left views kept at is next rest =
+    let old = session_in s in
+    let found : view_at old.views view ≡ Some v.view = found_some view_in id_of_view s.views.entries view v kept.views at in
+    let own : v.view.id ≡ view = id_of_view_at old.views view v.view found in
+    let ds : map (λ (e : Entry Kept). e.value.document) left.entries ≡ living (map (left_by view) old.documents) = living_left law s view v.view left.entries kept found is in
+    let vs : views_of views.entries ≡ filter (λ (w : View). not (w.id == view)) old.views = ap (λ (t : Entries KeptView). views_of t.entries) rest ∙ others s.views.entries view kept.views in
+    let nv : views.next ≡ s.views.next = ap (λ (t : Entries KeptView). t.next) rest in
+    ap (closed_view old) found
+    ∙ ap (λ n. Ok (record old { documents = living (map (left_by n) old.documents); views = filter (λ (w : View). not (w.id == n)) old.views })) own
+    ∙ ap Ok (ap (λ x. record old { documents = x; views = filter (λ (w : View). not (w.id == view)) old.views }) (sym ds)
+    ∙ ap (λ x. record old { documents = documents_in left; views = x }) (sym vs)
+    ∙ ap (λ x. record old { documents = documents_in left; views = views_of views.entries; next_document = x }) (sym next)
+    ∙ ap (λ x. record old { documents = documents_in left; views = views_of views.entries; next_document = left.next; next_view = x }) (sym nv))

@@ -13,45 +13,40 @@ use Rattle.ed_types.specs.Notices.{Response}
 use Rattle.ed_model.specs.Session.{Session}
 use Rattle.ed_model.specs.Table.{table, opened}
 use Rattle.ed_model.specs.Run.{Running, outcomes, run_to, after_command, after_message, after_opening}
-use Rattle.editor_session.specs.Known.{is_known}
-use Rattle.editor_session.specs.Answers.{AnswersBy, quieted, quiet_outcome, quiet_outcomes}
+use Rattle.message_plans.specs.TableSoFar.{table_so_far}
+use Rattle.editor_session.specs.Answers.{AnswersBy}
 
 pub opened_state : (files : List (List ℕ)) (run : Running) (new : Session) (id : ℕ) → opened run.session ≡ Ok (new, id) →
-    record { session = new; value = Some (pos id) } ≡ (after_command is_known files OpenView run).0
+    record { session = new; value = Some (pos id) } ≡ (after_command table_so_far files OpenView run).0
 opened_state files run new id e = ap (λ o. (after_opening run.session o).0) (sym e)
-
--- a refusal of the table without notes is one of the table
-quieted_refusal : (says : Result (Session × Response) Refusal) (refusal : Refusal) → quieted says ≡ Err refusal → says ≡ Err refusal
-quieted_refusal (Ok done) refusal e = absurd (cc)
-quieted_refusal (Err r) refusal e = e
 
 -- a refusal that did not end the run is one of the table, and left the session
 went_on : (run : Running) (view : ℕ) (m : Message) (session : Session) (refusal : Refusal) (result : Result Outcome AllocError) (Claim : Result Outcome AllocError → Type 0) →
-    ((e : AllocError) → Claim (Err e)) → ((o : Outcome) → table is_known run.session view m ≡ Err refusal → session ≡ run.session → result ≡ Ok o → Claim (Ok o)) →
-    AnswersBy {R = Response} (quieted (table is_known run.session view m)) run.session session (Err refusal) → (IsErr result ↔ (refusal ≡ OutOfMemory)) → Claim result
+    ((e : AllocError) → Claim (Err e)) → ((o : Outcome) → table table_so_far run.session view m ≡ Err refusal → session ≡ run.session → result ≡ Ok o → Claim (Ok o)) →
+    AnswersBy {R = Response} (table table_so_far run.session view m) run.session session (Err refusal) → (IsErr result ↔ (refusal ≡ OutOfMemory)) → Claim result
 went_on run view m session refusal (Err e) Claim failed passed answer memory = failed e
 went_on run view m session refusal (Ok o) Claim failed passed answer memory = go answer.1
   where
-    go : (refusal ≡ OutOfMemory) ⊎ (quieted (table is_known run.session view m) ≡ Err refusal) → Claim (Ok o)
+    go : (refusal ≡ OutOfMemory) ⊎ (table table_so_far run.session view m ≡ Err refusal) → Claim (Ok o)
     go (inl e) = let bad : false ≡ true = memory.1 e in absurd (cc)
-    go (inr e) = passed o (quieted_refusal (table is_known run.session view m) refusal e) answer.0 refl
+    go (inr e) = passed o e answer.0 refl
 
 pub refused_state : (files : List (List ℕ)) (run new : Running) (view : ℕ) (m : Message) (session : Session) (refusal : Refusal) (result : Result Outcome AllocError) →
-    AnswersBy {R = Response} (quieted (table is_known run.session view m)) run.session session (Err refusal) → (IsErr result ↔ (refusal ≡ OutOfMemory)) →
-    OnOk result (new ≡ record { session = session; value = None }) → OnOk result (new ≡ (after_command is_known files (SendMessage view m) run).0)
+    AnswersBy {R = Response} (table table_so_far run.session view m) run.session session (Err refusal) → (IsErr result ↔ (refusal ≡ OutOfMemory)) →
+    OnOk result (new ≡ record { session = session; value = None }) → OnOk result (new ≡ (after_command table_so_far files (SendMessage view m) run).0)
 refused_state files run new view m session refusal result answer memory state =
-    went_on run view m session refusal result (λ r. OnOk r (new ≡ record { session = session; value = None }) → OnOk r (new ≡ (after_command is_known files (SendMessage view m) run).0))
+    went_on run view m session refusal result (λ r. OnOk r (new ≡ record { session = session; value = None }) → OnOk r (new ≡ (after_command table_so_far files (SendMessage view m) run).0))
     (λ e state. tt)
     (λ o refused same is state. state ∙ ap (λ s. record { session = s; value = None }) same ∙ ap (λ t. (after_message run.session t).0) (sym refused))
     answer memory state
 
 pub refused_outcome : (files : List (List ℕ)) (run : Running) (view : ℕ) (m : Message) (session : Session) (refusal : Refusal) (result : Result Outcome AllocError) →
-    AnswersBy {R = Response} (quieted (table is_known run.session view m)) run.session session (Err refusal) → (IsErr result ↔ (refusal ≡ OutOfMemory)) →
-    IfOk result (λ o. o ≡ Refused refusal) → IfOk result (λ o. o ≡ quiet_outcome (after_command is_known files (SendMessage view m) run).1)
+    AnswersBy {R = Response} (table table_so_far run.session view m) run.session session (Err refusal) → (IsErr result ↔ (refusal ≡ OutOfMemory)) →
+    IfOk result (λ o. o ≡ Refused refusal) → IfOk result (λ o. o ≡ (after_command table_so_far files (SendMessage view m) run).1)
 refused_outcome files run view m session refusal result answer memory outcome =
-    went_on run view m session refusal result (λ r. IfOk r (λ o. o ≡ Refused refusal) → IfOk r (λ o. o ≡ quiet_outcome (after_command is_known files (SendMessage view m) run).1))
+    went_on run view m session refusal result (λ r. IfOk r (λ o. o ≡ Refused refusal) → IfOk r (λ o. o ≡ (after_command table_so_far files (SendMessage view m) run).1))
     (λ e outcome. tt)
-    (λ o refused same is outcome. outcome ∙ ap (λ t. quiet_outcome (after_message run.session t).1) (sym refused))
+    (λ o refused same is outcome. outcome ∙ ap (λ t. (after_message run.session t).1) (sym refused))
     answer memory outcome
 
 -- One command more.
@@ -66,30 +61,30 @@ next_take i [] x e = absurd (cc)
 next_take zero (y ∷ ys) x e = let same : y ≡ x = cc in ap (λ z. z ∷ []) same
 next_take (suc i) (y ∷ ys) x e = ap (λ zs. y ∷ zs) (next_take i ys x e)
 
-run_on : (files : List (List ℕ)) (first later : List Command) (run : Running) → run_to is_known files (first ++ later) run ≡ run_to is_known files later (run_to is_known files first run)
+run_on : (files : List (List ℕ)) (first later : List Command) (run : Running) → run_to table_so_far files (first ++ later) run ≡ run_to table_so_far files later (run_to table_so_far files first run)
 run_on files [] later run = refl
-run_on files (c ∷ cs) later run = run_on files cs later (after_command is_known files c run).0
+run_on files (c ∷ cs) later run = run_on files cs later (after_command table_so_far files c run).0
 
 join_assoc : {X : Type 0} (xs : List X) (x : X) (ys : List X) → (xs ++ x ∷ []) ++ ys ≡ xs ++ x ∷ ys
 join_assoc [] x ys = refl
 join_assoc (z ∷ zs) x ys = ap (λ ws. z ∷ ws) (join_assoc zs x ys)
 
 pub one_more_outcome : (files : List (List ℕ)) (commands : List Command) (i : ℕ) (c : Command) (now new : Running) (done more all : List Outcome) (o : Outcome) → slice_get commands i ≡ Some c →
-    new ≡ (after_command is_known files c now).0 → o ≡ quiet_outcome (after_command is_known files c now).1 → more ≡ done ++ o ∷ [] →
-    done ++ quiet_outcomes (outcomes is_known files (drop i commands) now) ≡ all → more ++ quiet_outcomes (outcomes is_known files (drop (i + 1) commands) new) ≡ all
+    new ≡ (after_command table_so_far files c now).0 → o ≡ (after_command table_so_far files c now).1 → more ≡ done ++ o ∷ [] →
+    done ++ (outcomes table_so_far files (drop i commands) now) ≡ all → more ++ (outcomes table_so_far files (drop (i + 1) commands) new) ≡ all
 one_more_outcome files commands i c now new done more all o e state outcome grown h =
     let after : i + 1 ≡ suc i = omega arith in
-    let rest = quiet_outcomes (outcomes is_known files (drop (suc i) commands) (after_command is_known files c now).0) in
-    rw (after, grown, state, outcome) (join_assoc done (quiet_outcome (after_command is_known files c now).1) rest ∙ sym (ap (λ cs. done ++ quiet_outcomes (outcomes is_known files cs now)) (next_drop i commands c e)) ∙ h)
+    let rest = (outcomes table_so_far files (drop (suc i) commands) (after_command table_so_far files c now).0) in
+    rw (after, grown, state, outcome) (join_assoc done ((after_command table_so_far files c now).1) rest ∙ sym (ap (λ cs. done ++ (outcomes table_so_far files cs now)) (next_drop i commands c e)) ∙ h)
 
 pub one_more_state : (files : List (List ℕ)) (commands : List Command) (i : ℕ) (c : Command) (now new end : Running) → slice_get commands i ≡ Some c →
-    new ≡ (after_command is_known files c now).0 → run_to is_known files (drop i commands) now ≡ end → run_to is_known files (drop (i + 1) commands) new ≡ end
+    new ≡ (after_command table_so_far files c now).0 → run_to table_so_far files (drop i commands) now ≡ end → run_to table_so_far files (drop (i + 1) commands) new ≡ end
 one_more_state files commands i c now new end e state h =
     let after : i + 1 ≡ suc i = omega arith in
-    rw (after, state) (sym (ap (λ cs. run_to is_known files cs now) (next_drop i commands c e)) ∙ h)
+    rw (after, state) (sym (ap (λ cs. run_to table_so_far files cs now) (next_drop i commands c e)) ∙ h)
 
 pub one_more_done : (files : List (List ℕ)) (commands : List Command) (i : ℕ) (c : Command) (start now new : Running) → slice_get commands i ≡ Some c →
-    new ≡ (after_command is_known files c now).0 → now ≡ run_to is_known files (take i commands) start → new ≡ run_to is_known files (take (i + 1) commands) start
+    new ≡ (after_command table_so_far files c now).0 → now ≡ run_to table_so_far files (take i commands) start → new ≡ run_to table_so_far files (take (i + 1) commands) start
 one_more_done files commands i c start now new e state h =
     let after : i + 1 ≡ suc i = omega arith in
-    rw (after, next_take i commands c e) (state ∙ ap (λ r. (after_command is_known files c r).0) h ∙ sym (run_on files (take i commands) (c ∷ []) start))
+    rw (after, next_take i commands c e) (state ∙ ap (λ r. (after_command table_so_far files c r).0) h ∙ sym (run_on files (take i commands) (c ∷ []) start))

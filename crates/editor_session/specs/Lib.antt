@@ -1,9 +1,13 @@
 -- Definitions that the contracts cite.
-pub mod Known
 pub mod Answers
-pub mod Views
-pub mod Plans
 pub mod Kept
+pub mod Plans
+pub mod Needs
+pub mod Tasks
 pub mod Lent
-pub mod StateLends
 pub mod Lends
+pub mod Prepared
+pub mod Edited
+pub mod Edits
+pub mod Opening
+pub mod PartLends

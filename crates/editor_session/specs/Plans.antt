@@ -1,95 +1,91 @@
--- Plans of the first messages, for a document whose rows, styles and options are those of a new one.
-use Rattle.std.specs.Prelude.{◌≡◌, ⊤, ℕ, ◌+◌, ◌-◌, ◌==◌, nat_le, ◌||◌, if◌then◌else◌, Bool, true, false, ℤ, pos, List, [], length, slice_range, Ok, Err, Option, Some, None}
+-- Plans: which are performed so far, and which need no memory.
+use Rattle.std.specs.Prelude.{◌≡◌, ℕ, ◌==◌, ◌&&◌, not, Bool, true, false, Option, Some, None, Ok, Err}
 use Rattle.ed_types.specs.declared.kind.Kind.{Kind}
-use Rattle.ed_types.specs.declared.kind.Kind.TheVariants.{InsertText, DeleteRange, GetLength, GetTextLength, GetCharAt, GetText, GetTextRange, GetLineCount, GetLine, GetCurLine, LineLength, GetLineEndPosition, LineFromPosition, PositionFromLine}
 use Rattle.ed_types.specs.declared.message.Message.{Message}
-use Rattle.ed_types.specs.declared.refusal.Refusal.TheVariants.{TooLong, UnknownMessage, NoSuchDocument}
+use Rattle.ed_types.specs.Messages.{kind_of, marks_of}
 use Rattle.ed_model.specs.declared.plan.Source.{Source}
 use Rattle.ed_model.specs.declared.plan.Source.TheVariants as source
+use Rattle.ed_model.specs.declared.plan.Edit.{Edit}
 use Rattle.ed_model.specs.declared.plan.Edit.TheVariants as edit
+use Rattle.ed_model.specs.declared.plan.Follow.{Follow}
 use Rattle.ed_model.specs.declared.plan.Follow.TheVariants as follow
 use Rattle.ed_model.specs.declared.plan.Plan.{Plan}
 use Rattle.ed_model.specs.declared.plan.Plan.TheVariants as plan
-use Rattle.ed_model.specs.Numbers.{within, is_minus_one}
-use Rattle.ed_model.specs.Steps.{Step, insertion, deletion}
-use Rattle.ed_types.specs.Notices.{Response}
-use Rattle.ed_model.specs.Session.{Session, View, Document, new_session, greatest_limits}
-use Rattle.document.specs.Held.{Held, document_of}
-use Rattle.editor_session.specs.declared.view.OpenView.{OpenView}
-use Rattle.editor_session.specs.Views.{plain_view}
-use Rattle.ed_model.specs.Table.{plan_of, performed, request}
-use Rattle.editor_session.specs.Answers.{without_notes}
-use Rattle.ed_model.specs.Requests.{Request, Planned, with_argument, argument}
-use Rattle.ed_model.specs.TextPlans.{get_length, get_char_at, get_text, get_text_range, get_line_count, get_line, get_cur_line, line_length, get_line_end_position, line_from_position, position_from_line}
+use Rattle.ed_model.specs.Requests.{Request, Planned}
+use Rattle.ed_model.specs.Session.{Session, View, Document, view_at, document_at}
+use Rattle.ed_model.specs.Edits.{steps_of, has_steps}
+use Rattle.ed_model.specs.Table.{request, plan_of}
+use Rattle.message_plans.specs.TableSoFar.{table_so_far}
 
--- an edit that replaces bytes, if the text then keeps its limit or nothing is done
-abbrev pub replace_within : Bool → ℕ → ℕ → Source → Planned
-replace_within fits start count from = if fits then Ok (plan.Edit (edit.Replace start count from) (pos 0) follow.Nothing) else Err TooLong
+-- The plans that are performed so far: answers, texts handed out, edits that replace bytes by others that stand somewhere, and
+-- attempts.
 
-abbrev pub place_of_insertion : ℕ → ℕ → ℤ → Option ℕ
-place_of_insertion caret size w = if is_minus_one w then Some caret else within 0 size w
+abbrev pub is_stored : Source → Bool
+is_stored (source.Clipboard convert) = not convert
+is_stored other = true
 
-abbrev pub insertion_plan : ℕ → ℕ → ℕ → Message → Planned
-insertion_plan caret size limit m =
-    with_argument (place_of_insertion caret size m.w) (λ place.
-    replace_within (length m.text == 0 || nat_le (size + length m.text) limit) place 0 (source.MessageText (length m.text)))
+abbrev pub is_replacement : Edit → Bool
+is_replacement (edit.Replace start count from) = is_stored from
+is_replacement (edit.ConvertLineEnds to) = false
 
-abbrev pub deletion_plan : ℕ → ℕ → Message → Planned
-deletion_plan size limit m =
-    argument 0 size m.w (λ start. argument 0 (size - start) m.l (λ count.
-    replace_within (count == 0 || nat_le (size - count) limit) start count source.Nothing))
+abbrev pub is_performed : Plan → Bool
+is_performed (plan.Answer value) = true
+is_performed (plan.HandOut value start count) = true
+is_performed (plan.Edit change value after) = is_replacement change
+is_performed plan.Attempt = true
+is_performed other = false
 
--- a request to a plain document
-abbrev pub plain_request : OpenView → Held → Message → Request
-plain_request v h m = request (new_session greatest_limits) (plain_view [] v) (document_of h) m
+-- Plans that need no memory.
 
--- The plan of each message that there is at this stage, by the view, its document and the limit of the text.
-abbrev pub early_plan : Kind → ℕ → OpenView → Held → Message → Planned
-early_plan InsertText limit v h m = insertion_plan v.caret (length h.cells) limit m
-early_plan DeleteRange limit v h m = deletion_plan (length h.cells) limit m
-early_plan GetLength limit v h m = get_length (plain_request v h m)
-early_plan GetTextLength limit v h m = get_length (plain_request v h m)
-early_plan GetCharAt limit v h m = get_char_at (plain_request v h m)
-early_plan GetText limit v h m = get_text (plain_request v h m)
-early_plan GetTextRange limit v h m = get_text_range (plain_request v h m)
-early_plan GetLineCount limit v h m = get_line_count (plain_request v h m)
-early_plan GetLine limit v h m = get_line (plain_request v h m)
-early_plan GetCurLine limit v h m = get_cur_line (plain_request v h m)
-early_plan LineLength limit v h m = line_length (plain_request v h m)
-early_plan GetLineEndPosition limit v h m = get_line_end_position (plain_request v h m)
-early_plan LineFromPosition limit v h m = line_from_position (plain_request v h m)
-early_plan PositionFromLine limit v h m = position_from_line (plain_request v h m)
-early_plan other limit v h m = Err UnknownMessage
+abbrev pub takes_nothing_along : Follow → Bool
+takes_nothing_along (follow.Clipboard start count) = count == 0
+takes_nothing_along other = true
 
--- plans that are made at this stage: answers, texts handed out, and edits of one step
-abbrev pub IsEarlyPlan : Message → Plan → Type 0
-IsEarlyPlan m (plan.Answer value) = ⊤
-IsEarlyPlan m (plan.HandOut value start count) = ⊤
-IsEarlyPlan m (plan.Edit (edit.Replace start count (source.MessageText n)) value follow.Nothing) = (count ≡ 0) × (n ≡ length m.text)
-IsEarlyPlan m (plan.Edit (edit.Replace start count source.Nothing) value follow.Nothing) = ⊤
-IsEarlyPlan m other = ⊥
+-- an answer needs none, nor does a text without bytes, nor an edit without steps
+abbrev pub needs_no_memory : Request → Plan → Bool
+needs_no_memory r (plan.Answer value) = true
+needs_no_memory r (plan.HandOut value start count) = count == 0
+needs_no_memory r (plan.Edit change value after) = not (has_steps (steps_of r change)) && takes_nothing_along after
+needs_no_memory r other = false
 
-abbrev pub IsEarlySource : Source → Type 0
-IsEarlySource (source.MessageText n) = ⊤
-IsEarlySource source.Nothing = ⊤
-IsEarlySource other = ⊥
+abbrev pub planned_without_memory : Request → Planned → Bool
+planned_without_memory r (Ok what) = needs_no_memory r what
+planned_without_memory r (Err refusal) = true
 
--- their steps: the bytes are put in, or so many are deleted
-abbrev pub early_steps : Source → ℕ → ℕ → List ℕ → List ℕ → List Step
-early_steps (source.MessageText n) start count bytes text = insertion start bytes
-early_steps source.Nothing start count bytes text = deletion start (slice_range text start (start + count))
-early_steps other start count bytes text = []
+-- a request whose plan needs none, and that is not recorded
+abbrev pub is_free_request : Kind → Request → Bool
+is_free_request kind r = planned_without_memory r (plan_of kind r) && not (r.view.records && (marks_of kind).r)
 
-abbrev pub is_answer : Plan → Bool
-is_answer (plan.Answer value) = true
-is_answer other = false
+abbrev pub is_free_from_document : Session → View → Kind → Message → Option Document → Bool
+is_free_from_document s v kind m None = true
+is_free_from_document s v kind m (Some d) = is_free_request kind (request s v d m)
 
--- the plan for a view's document, if it is there
-abbrev pub planned_at : Session → View → Kind → Message → Option Document → Planned
-planned_at s v kind m None = Err NoSuchDocument
-planned_at s v kind m (Some d) = plan_of kind (request s v d m)
+abbrev pub is_free_if_known : Bool → Session → View → Kind → Message → Bool
+is_free_if_known true s v kind m = is_free_from_document s v kind m (document_at s.documents v.document)
+is_free_if_known false s v kind m = true
 
--- what the plan does, but for the notes
-pub record Does (r : Request) (what : Plan) (new : Session) (reply : Response) : Type 0 where
-  pub session_after : (performed r what).0 ≡ new
-  pub reply_without_notes : without_notes (performed r what).1 ≡ reply
+abbrev pub is_free_from_kind : Session → View → Message → Option Kind → Bool
+is_free_from_kind s v m None = true
+is_free_from_kind s v m (Some kind) = is_free_if_known (table_so_far kind) s v kind m
+
+abbrev pub is_free_from_view : Session → Message → Option View → Bool
+is_free_from_view s m None = true
+is_free_from_view s m (Some v) = is_free_from_kind s v m (kind_of m.number)
+
+-- a message to a view that needs no memory: it is refused by the table, or its plan needs none and it is not recorded
+abbrev pub is_free : Session → ℕ → Message → Bool
+is_free s view m = is_free_from_view s m (view_at s.views view)
+
+-- whether the message is marked as taking no memory
+abbrev pub is_marked_free : Option Kind → Bool
+is_marked_free None = true
+is_marked_free (Some kind) = (marks_of kind).n
+
+-- whether the view is to hear of the message
+abbrev pub is_recorded_by : Option View → Option Kind → Bool
+is_recorded_by (Some v) (Some kind) = v.records && (marks_of kind).r
+is_recorded_by _ _ = false
+
+abbrev pub MarkedMessagesAreFree : Type 0
+MarkedMessagesAreFree =
+    (s : Session) (view : ℕ) (m : Message) → is_marked_free (kind_of m.number) ≡ true → is_recorded_by (view_at s.views view) (kind_of m.number) ≡ false → is_free s view m ≡ true

@@ -1,17 +1,21 @@
 //! Sessions: documents, the views on them, and one door for all messages.
 //!
-//! A message goes one way: its view is found, its number is decoded, a plan is made that carries every refusal but want of
-//! memory, room is made for all that the plan needs, and then the plan is performed, which cannot fail.
+//! A message goes one way. Its view and document are found and its number is decoded; a plan is made, which carries every
+//! refusal but want of memory; what the plan needs is told, and reserved in one pass; and then the plan is performed, which
+//! cannot fail.
 #![tactic(auto)]
 
-mod argument;
-mod lines;
-mod movement;
-mod plan;
+mod edits;
+mod find;
+mod laws;
+mod lending;
+mod need;
+mod opening;
+mod perform;
+mod prepare;
 mod run;
 mod session;
-mod state;
-mod view;
 
+pub use laws::marked_messages_are_free;
 pub use run::Run;
 pub use session::Session;

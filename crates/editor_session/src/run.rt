@@ -5,8 +5,8 @@ ghost use Rattle.ed_types.specs.declared.refusal.Refusal.TheVariants.{OutOfMemor
 ghost use Rattle.ed_types.specs.declared.script.Outcome.TheVariants.{Refused};
 ghost use Rattle.ed_model.specs.Session.{view_at};
 ghost use Rattle.ed_model.specs.Run.{starting, after_command, outcomes, run_to, loaded, file_at};
-ghost use Rattle.editor_session.specs.Known.{is_known};
-ghost use Rattle.editor_session.specs.Answers.{quiet_outcome, quiet_outcomes, StopsWithin};
+ghost use Rattle.message_plans.specs.TableSoFar.{table_so_far};
+ghost use Rattle.editor_session.specs.Answers.{StopsWithin};
 
 use crate::session::Session;
 use ed_types::{Bytes, Command, Outcome, Refusal};
@@ -52,8 +52,8 @@ impl Run {
     ///
     /// `AllocError` where the command was refused for want of memory; the run is then as it was.
     pub fn step(&mut self, files: &[Bytes], command: &Command) -> Result<Outcome, AllocError>
-        ensures state { OnOk result (self.new ≡ (after_command is_known files.now command.now self.old).0) }
-        ensures outcome { IfOk result (λ outcome. outcome ≡ quiet_outcome (after_command is_known files.now command.now self.old).1) }
+        ensures state { OnOk result (self.new ≡ (after_command table_so_far files.now command.now self.old).0) }
+        ensures outcome { IfOk result (λ outcome. outcome ≡ (after_command table_so_far files.now command.now self.old).1) }
         ensures err { OnErr result (self.new ≡ self.old) }
     {
         match command {
@@ -91,8 +91,8 @@ impl Run {
         files: &[Bytes],
         commands: &[Command],
     ) -> Result<Vec<Outcome>, AllocError>
-        ensures state { OnOk result (self.new ≡ run_to is_known files.now commands.now self.old) }
-        ensures outcomes { IfOk result (λ done. done.items ≡ quiet_outcomes (outcomes is_known files.now commands.now self.old)) }
+        ensures state { OnOk result (self.new ≡ run_to table_so_far files.now commands.now self.old) }
+        ensures outcomes { IfOk result (λ done. done.items ≡ outcomes table_so_far files.now commands.now self.old) }
         ensures err { OnErr result (StopsWithin files.now commands.now self.old self.new) }
     {
         let mut done = Vec::with_capacity(alloc, commands.len())?;
@@ -128,7 +128,7 @@ impl Run {
 
     /// Why a file is not loaded: loading sets the text, and there is no such message yet.
     fn load(&self, files: &[Bytes], view: u32, file: u32) -> Refusal
-        ensures { loaded is_known self.now.session view (view_at self.now.session.views view) (file_at files.now file) ≡ Err result }
+        ensures { loaded table_so_far self.now.session view (view_at self.now.session.views view) (file_at files.now file) ≡ Err result }
     {
         if !self.session.has_view(view) {
             return Refusal::NoSuchView;

@@ -1,32 +1,42 @@
 //! `Session` and its calls.
 
-ghost use Rattle.std.specs.Prelude.{◌≡◌, ◌≢◌, true, OnOk, OnErr, IfOk, IfErr, Ok, Err, is_some};
-ghost use Rattle.ed_types.specs.declared.refusal.Refusal.TheVariants.{OutOfMemory};
-ghost use Rattle.ed_types.specs.Messages.{kind_of};
+ghost use Rattle.std.specs.Prelude.{◌≡◌, ◌≢◌, ◌⊎◌, true, OnOk, OnErr, IfOk, IfErr, Ok, Err, is_some};
+ghost use Rattle.ed_types.specs.declared.refusal.Refusal.TheVariants.{BadArgument, NoSuchView, OutOfMemory};
 ghost use Rattle.ed_model.specs.Session.{new_session, greatest_limits, is_between_one_and, is_allowed, view_at};
 ghost use Rattle.ed_model.specs.Table.{table, limited, opened, closed};
-ghost use Rattle.editor_session.specs.Known.{is_known, takes_no_memory};
-ghost use Rattle.editor_session.specs.Answers.{AnswersBy, quieted};
+ghost use Rattle.message_plans.specs.TableSoFar.{table_so_far};
+ghost use Rattle.editor_session.specs.Answers.{AnswersBy, message_with};
+ghost use Rattle.editor_session.specs.Plans.{is_free};
 ghost use Rattle.editor_session.specs.Lent.{lent_range};
 
-use crate::state::State;
-use ed_types::{Limits, Message, Refusal, Reply};
+use crate::find::find_task;
+use crate::lending::{document_with, lend};
+use crate::opening::{close, open};
+use crate::perform::perform;
+use crate::prepare::prepare;
+use document_table::DocumentTable;
+use ed_model::{Plan, soundness_is_kept};
+use ed_types::{Bytes, Limits, Message, Refusal, Reply};
+use id_table::IdTable;
+use message_plans::SessionState;
 use std::alloc::Global;
 use std::marker::Model;
 
 /// A session: documents, and the views on them. Contracts see it as the session of the message table.
 #[derive(Drop)]
 pub struct Session {
-    state: State,
+    alloc: Global,
+    state: SessionState,
 }
 
 impl Model for Session {
     ghost use Rattle.ed_model.specs.Session.{Session};
+    ghost use Rattle.message_plans.specs.Requested.{session_in};
     ghost use Rattle.editor_session.specs.Kept.{IsKept};
 
     ghost Value = { Session };
 
-    ghost view = { λ s. s.state };
+    ghost view = { λ s. session_in s.state };
 
     ghost invariant = { λ s. IsKept s.state };
 }
@@ -59,9 +69,7 @@ impl Session {
     pub fn new(alloc: Global) -> Self
         ensures { result ≡ new_session greatest_limits }
     {
-        Session {
-            state: State::new(alloc, Limits::GREATEST),
-        }
+        Session::with_allowed(alloc, Limits::GREATEST)
     }
 
     /// No documents and no views, with lower limits. Takes no memory.
@@ -73,11 +81,25 @@ impl Session {
         ensures { result ≡ limited limits }
     {
         if is_allowed(&limits) {
-            Ok(Session {
-                state: State::new(alloc, limits),
-            })
+            Ok(Session::with_allowed(alloc, limits))
         } else {
             Err(Refusal::BadArgument)
+        }
+    }
+
+    /// The same, with limits that it may have.
+    fn with_allowed(alloc: Global, limits: Limits) -> Self
+        requires { is_allowed limits ≡ true }
+        ensures { result ≡ new_session limits }
+    {
+        Session {
+            alloc,
+            state: SessionState {
+                documents: DocumentTable::new(alloc),
+                views: IdTable::new(alloc),
+                clipboard: Vec::new(alloc),
+                limits,
+            },
         }
     }
 
@@ -91,7 +113,19 @@ impl Session {
         ensures answer { AnswersBy (opened self.old) self.old self.new result }
         ensures refused { IfErr (opened self.old) (λ refusal. result ≡ Err refusal) }
     {
-        self.state.open()
+        // The law that the session stays sound.
+        soundness_is_kept();
+        let state = &self.state;
+        if state.limits.views <= state.views.len() as u64
+            || state.limits.ids < u64::from(state.views.next())
+            || state.limits.ids < u64::from(state.documents.next())
+        {
+            return Err(Refusal::TooMany);
+        }
+        let Ok(view) = open(self.alloc, &mut self.state) else {
+            return Err(Refusal::OutOfMemory);
+        };
+        Ok(view)
     }
 
     /// Closes a view. A document that no view is attached to and no caller holds goes with it. Takes no memory.
@@ -104,14 +138,16 @@ impl Session {
         ensures refused { IfErr result (λ refusal. closed self.old view ≡ Err refusal) }
         ensures same { OnErr result (self.new ≡ self.old) }
     {
-        self.state.close(view)
+        // The law that the session stays sound.
+        soundness_is_kept();
+        close(&mut self.state, view)
     }
 
     /// Whether a view with this id is open.
     pub(crate) fn has_view(&self, view: u32) -> bool
         ensures { result ≡ is_some (view_at self.now.views view) }
     {
-        self.state.has_view(view)
+        self.state.views.contains(view)
     }
 
     /// Sends a message to a view. The messages are those of the documentation of Scintilla that `docs/MESSAGES.md` lists.
@@ -120,13 +156,45 @@ impl Session {
     ///
     /// The first refusal that holds, in the order `NoSuchView`, `UnknownMessage`, `BadArgument`, `NoSuchDocument`, `TooMany`,
     /// `TooLong`, found before any memory is taken; else `OutOfMemory` where a growth is refused, which never comes of a
-    /// message that is marked as taking no memory. The session is then as it was.
+    /// message whose plan needs no memory, unless it is recorded. The session is then as it was.
     pub fn send(&mut self, view: u32, m: &Message) -> Result<Reply, Refusal>
-        ensures answer { AnswersBy (quieted (table is_known self.old view m.now)) self.old self.new result }
-        ensures refused { IfErr (table is_known self.old view m.now) (λ refusal. result ≡ Err refusal) }
-        ensures free { takes_no_memory (kind_of m.now.number) ≡ true → IfErr result (λ refusal. refusal ≢ OutOfMemory) }
+        ensures answer { AnswersBy (table table_so_far self.old view m.now) self.old self.new result }
+        ensures refused { IfErr (table table_so_far self.old view m.now) (λ refusal. result ≡ Err refusal) }
+        ensures free { is_free self.old view m.now ≡ true → IfErr result (λ refusal. refusal ≢ OutOfMemory) }
     {
-        self.state.send(view, m)
+        self.send_lent(view, m.number, m.w, m.l, m.text.as_slice())
+    }
+
+    /// Sends a message whose text is lent.
+    ///
+    /// # Errors
+    ///
+    /// As of `send`.
+    pub fn send_lent(
+        &mut self,
+        view: u32,
+        number: u32,
+        w: i64,
+        l: i64,
+        text: &[u8],
+    ) -> Result<Reply, Refusal>
+        ensures answer { AnswersBy (table table_so_far self.old view (message_with number w l text.now)) self.old self.new result }
+        ensures refused { IfErr (table table_so_far self.old view (message_with number w l text.now)) (λ refusal. result ≡ Err refusal) }
+        ensures free { is_free self.old view (message_with number w l text.now) ≡ true → IfErr result (λ refusal. refusal ≢ OutOfMemory) }
+    {
+        // The law that the session stays sound.
+        soundness_is_kept();
+        let task = match find_task(&self.state, view, number, w, l, text) {
+            Ok(task) => task,
+            Err(refusal) => return Err(refusal),
+        };
+        if let (Plan::Answer { value }, false) = (task.plan, task.is_recorded) {
+            return Ok(Reply::quiet(self.alloc, value, Bytes::empty(self.alloc)));
+        }
+        let Ok(prepared) = prepare(self.alloc, &mut self.state, task.document, task.need) else {
+            return Err(Refusal::OutOfMemory);
+        };
+        Ok(perform(&mut self.state, &task, number, w, l, text, prepared))
     }
 
     /// Lends the `count` bytes of the view's document from `start` on as one slice, which is not copied. The session stays as
@@ -139,8 +207,9 @@ impl Session {
         ensures* back { sem 𝓛 (lent_and_back self.entry) }
         ensures lent { IfOk result (λ bytes. lent_range self.old view start count ≡ Ok bytes.now) }
         ensures refused { IfErr result (λ refusal. lent_range self.old view start count ≡ Err refusal) }
+        ensures refusals { IfErr result (λ refusal. (refusal ≡ NoSuchView) ⊎ (refusal ≡ BadArgument)) }
     {
-        let document = self.state.document_with(view, start, count)?;
-        Ok(self.state.lend(document, start, count))
+        let document = document_with(&self.state, view, start, count)?;
+        Ok(lend(&mut self.state, document, start, count))
     }
 }

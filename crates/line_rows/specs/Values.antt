@@ -26,3 +26,7 @@ module _ {V : Type 0} where
   -- the stored values of the first lines, and the default of the others
   abbrev pub padded : V → ℕ → List V → List V
   padded value lines stored = stored ++ replicate (lines - length stored) value
+
+  -- the same, where they are stored in two halves
+  abbrev pub padded_halves : V → ℕ → List V → List V → List V
+  padded_halves value lines first second = first ++ second ++ replicate (lines - (length first + length second)) value

@@ -2,7 +2,7 @@
 ghost use Rattle.std.specs.Prelude.{◌≡◌, ◌≢◌, ◌↔◌, IsTrue, ◌≤◌, ◌<◌, ◌+◌, ◌-◌, ◌^◌, ◌==◌, ◌∷◌, ◌++◌, [], length, max, slice_set, pos, IfOk, OnOk, OnErr, IsOk};
 ghost use Rattle.ed_model.specs.Changes.{with_markers, new_markers, without_marker, without_markers, is_of_number, marker_count};
 ghost use Rattle.ed_model.specs.LinePlans.{mask_of};
-ghost use Rattle.ed_model.specs.Rows.{Marker, fresh_row, rows_together};
+ghost use Rattle.ed_model.specs.Rows.{Marker, base_level, fresh_row, rows_together};
 ghost use Rattle.line_index.specs.Edits.{after_edit, after_edits, FitsLines, FitLines, fresh_by, fresh_lines};
 ghost use Rattle.line_rows.specs.Kept.{kept_rows, row_room, row_at, levels_of, is_marked, has_handle, first_from, last_up_to};
 ghost use Rattle.line_rows.specs.Rows.{markers_together};
@@ -64,7 +64,7 @@ fn carry_markers(markers: &mut MarkerStore, edits: &[LineEdit])
 }
 
 impl LineRows {
-    /// Returns the rows of one fresh line. The next handle is 1.
+    /// Returns the rows of one fresh line, and no room. The next handle is 1.
     ///
     /// # Errors
     ///
@@ -72,6 +72,7 @@ impl LineRows {
     pub fn new(alloc: Global) -> Result<Self, AllocError>
         ensures rows { IfOk result (λ r. r.rows ≡ fresh_row ∷ []) }
         ensures next_handle { IfOk result (λ r. r.next_handle ≡ 1) }
+        ensures room { IfOk result (λ r. r.room ≡ row_room 0 0 0 0) }
     {
         let markers = MarkerStore::new(alloc)?;
         Ok(LineRows {
@@ -176,7 +177,8 @@ impl LineRows {
 
     /// Lends the levels of all lines.
     pub fn levels(&self) -> &LineValues<u32>
-        ensures { result.now.values ≡ levels_of self.now.rows }
+        ensures values { result.now.values ≡ levels_of self.now.rows }
+        ensures default { result.now.default ≡ base_level }
     {
         &self.levels
     }

@@ -1,7 +1,7 @@
 //! `LineValues`: a value for each line, as a fold level or a line state.
 ghost use Rattle.std.specs.Prelude.{◌≡◌, ◌≤◌, ◌<◌, ◌+◌, ◌-◌, ◌^◌, ℕ, ◌∷◌, [], length, max, slice_set, slice_index_or, OnOk, OnErr, IsOk};
 ghost use Rattle.line_index.specs.Edits.{with_fresh, with_joined, after_edit, after_edits, FitsLines, FitLines, fresh_by, fresh_lines};
-ghost use Rattle.line_rows.specs.Values.{valued, first_or, padded};
+ghost use Rattle.line_rows.specs.Values.{valued, first_or, padded, padded_halves};
 
 use line_index::LineEdit;
 use split_vector::SplitVector;
@@ -105,6 +105,14 @@ impl<T: Copy> LineValues<T> {
         } else {
             self.default
         }
+    }
+
+    /// Lends the stored values, in two halves: those of the first lines. All lines behind them have the default.
+    pub fn stored(&self) -> (&[T], &[T])
+        ensures few { length result.0.now + length result.1.now ≤ length self.now.values }
+        ensures values { self.now.values ≡ padded_halves self.now.default (length self.now.values) result.0.now result.1.now }
+    {
+        self.stored.halves()
     }
 
     /// Makes room for `lines` fresh lines, and for the values of the first `reach` lines.

@@ -15,8 +15,7 @@ use Rattle.ed_model.specs.Reading.{reading}
 use Rattle.ed_model.specs.Printed.{printed, printed_outcome}
 use Rattle.ed_model.specs.Run.{Running, starting, outcomes, after_command, is_unmet}
 use Rattle.ed_model.specs.Session.{new_session, greatest_limits}
-use Rattle.editor_session.specs.Known.{is_known}
-use Rattle.editor_session.specs.Answers.{quiet_outcome, quiet_outcomes}
+use Rattle.message_plans.specs.TableSoFar.{table_so_far}
 use Rattle.sci_console.specs.declared.fault.RunFault.{RunFault}
 use Rattle.sci_console.specs.declared.fault.RunFault.TheVariants.{Script, Read, Write}
 use Rattle.sci_console.specs.declared.ends.WriteFailed.{WriteFailed}
@@ -149,16 +148,16 @@ step_failed r old now before after all rest fault is which so_far = subst (λ (q
 
 -- what comes of the commands from place i on
 abbrev pub left : (Kind → Bool) → List (List ℕ) → List Command → ℕ → Running → List Outcome
-left known files commands i s = quiet_outcomes (outcomes known files (drop i commands) s)
+left known files commands i s = (outcomes known files (drop i commands) s)
 
 pub next_outcomes : (known : Kind → Bool) (files : List (List ℕ)) (commands : List Command) (i : ℕ) (d : Command) (s : Running) → i < length commands → d ≡ get_or commands i d → outcomes known files (drop i commands) s ≡ (after_command known files d s).1 ∷ outcomes known files (drop (i + 1) commands) (after_command known files d s).0
 next_outcomes known files commands i d s h is =
     ap (λ cs. outcomes known files cs s) (drop_more commands i d h)
     ∙ ap (λ c. (after_command known files c s).1 ∷ outcomes known files (drop (i + 1) commands) (after_command known files c s).0) (sym is)
 
-pub unrolled : (known : Kind → Bool) (files : List (List ℕ)) (commands : List Command) (i : ℕ) (d : Command) (s new : Running) (outcome : Outcome) → i < length commands → d ≡ get_or commands i d → new ≡ (after_command known files d s).0 → outcome ≡ quiet_outcome (after_command known files d s).1 → left known files commands i s ≡ outcome ∷ left known files commands (i + 1) new
+pub unrolled : (known : Kind → Bool) (files : List (List ℕ)) (commands : List Command) (i : ℕ) (d : Command) (s new : Running) (outcome : Outcome) → i < length commands → d ≡ get_or commands i d → new ≡ (after_command known files d s).0 → outcome ≡ (after_command known files d s).1 → left known files commands i s ≡ outcome ∷ left known files commands (i + 1) new
 unrolled known files commands i d s new outcome h is state came =
-    ap quiet_outcomes (next_outcomes known files commands i d s h is)
+    next_outcomes known files commands i d s h is
     ∙ ap (λ o. o ∷ left known files commands (i + 1) (after_command known files d s).0) (sym came)
     ∙ ap (λ t. outcome ∷ left known files commands (i + 1) t) (sym state)
 
@@ -183,7 +182,7 @@ few_counted u v i false grown h = omega (arith, grown)
 
 -- nothing is left behind the last command
 pub none_left : (known : Kind → Bool) (files : List (List ℕ)) (commands : List Command) (i : ℕ) (s : Running) → length commands ≤ i → left known files commands i s ≡ []
-none_left known files commands i s h = ap (λ cs. quiet_outcomes (outcomes known files cs s)) (drop_all i commands h)
+none_left known files commands i s h = ap (λ cs. (outcomes known files cs s)) (drop_all i commands h)
 
 pub all_in : (old now : Option (List ℕ)) (before after all : List ℕ) (rest : List Outcome) → rest ≡ [] → Progress old now before after all (printed rest) → Moves old now before after all
 all_in old now before after all rest is so_far = gone_in old now before after all (subst (λ (os : List Outcome). Progress old now before after all (printed os)) is so_far)
@@ -246,12 +245,18 @@ no_memory text value r fault commands (Some bytes) old is which read =
 
 -- a run from a new session, whose buffer is written at the end
 abbrev pub from_start : List (List ℕ) → List Command → Running → List ℕ
-from_start files commands start = printed (quiet_outcomes (outcomes is_known files commands start))
+from_start files commands start = printed (outcomes table_so_far files commands start)
 
 pub run_cut : (files : List (List ℕ)) (commands : List Command) (start : Running) (old mid new : Option (List ℕ)) (before buffer shown : List ℕ) → start ≡ starting (new_session greatest_limits) → before ≡ [] → shown ≡ buffer → Moves old mid before buffer (from_start files commands start) → AppendsFront mid new shown → AppendsFront old new (printed_run files commands)
 run_cut files commands start old mid new before buffer shown begin none same moved more =
     subst (λ (s : Running). AppendsFront old new (from_start files commands s)) begin
     (flush_failed old mid new before buffer (from_start files commands start) none moved (subst (AppendsFront mid new) same more))
+
+pub run_written : (files : List (List ℕ)) (commands : List Command) (start : Running) (old mid new : Option (List ℕ)) (before buffer shown : List ℕ) → start ≡ starting (new_session greatest_limits) → before ≡ [] → shown ≡ buffer → Moves old mid before buffer (from_start files commands start) → Appends mid new shown → Appends old new (printed_run files commands)
+run_written files commands start old mid new before buffer shown begin none same moved more =
+    let text = from_start files commands start in
+    subst (λ (s : Running). Appends old new (from_start files commands s)) begin
+    (subst (Appends old new) (sym (sym (ap (λ bs. bs ++ text) none) ∙ moved.split)) (appends_more old mid new moved.written buffer moved.appended (subst (Appends mid new) same more)))
 
 pub run_stopped : (files : List (List ℕ)) (commands : List Command) (start : Running) (old mid new : Option (List ℕ)) (before buffer shown : List ℕ) (r : Result (Unit {0}) WriteFailed) → start ≡ starting (new_session greatest_limits) → before ≡ [] → shown ≡ buffer → MovesPart old mid before buffer (from_start files commands start) → WritesAll shown mid new r → AppendsFront old new (printed_run files commands)
 run_stopped files commands start old mid new before buffer shown r begin none same some more =

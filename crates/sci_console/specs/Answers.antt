@@ -6,19 +6,20 @@ use Rattle.ed_types.specs.declared.script.Outcome.{Outcome}
 use Rattle.ed_types.specs.declared.script.ScriptFault.{ScriptFault}
 use Rattle.ed_types.specs.declared.script.ScriptFault.TheVariants.{OutOfMemory}
 use Rattle.ed_model.specs.Spelling.{spelled}
-use Rattle.ed_model.specs.Listing.{ended_line}
+use Rattle.ed_model.specs.Listing.{ended_line, listing}
 use Rattle.ed_model.specs.Printed.{printed}
 use Rattle.ed_model.specs.Run.{starting, outcomes, is_unmet}
 use Rattle.ed_model.specs.Session.{new_session, greatest_limits}
-use Rattle.editor_session.specs.Known.{is_known}
-use Rattle.editor_session.specs.Answers.{quiet_outcomes}
+use Rattle.message_plans.specs.TableSoFar.{table_so_far}
 use Rattle.sci_console.specs.declared.fault.RunFault.{RunFault}
 use Rattle.sci_console.specs.declared.fault.RunFault.TheVariants.{Script, Read, Write}
+use Rattle.sci_console.specs.declared.words.Job.{Job}
+use Rattle.sci_console.specs.declared.words.Job.TheVariants.{Run, List as ListJob, Check}
 use Rattle.sci_console.specs.Ends.{AppendsFront}
 
 -- what comes of a script's commands with these files, from a new session
 abbrev pub answers : List (List ℕ) → List Command → List Outcome
-answers files commands = quiet_outcomes (outcomes is_known files commands (starting (new_session greatest_limits)))
+answers files commands = outcomes table_so_far files commands (starting (new_session greatest_limits))
 
 -- the text that is printed of them, and how many expects were not met
 abbrev pub printed_run : List (List ℕ) → List Command → List ℕ
@@ -33,6 +34,17 @@ checked commands = ended_line (codes "ok " ++ spelled (length commands))
 
 abbrev pub none : List Command → ℕ
 none commands = 0
+
+-- what a job writes of a script's commands, with these files, and what it answers
+abbrev pub text_of_job : Job → List (List ℕ) → List Command → List ℕ
+text_of_job (Run script paths) files = printed_run files
+text_of_job (ListJob script) files = listing 2
+text_of_job (Check script) files = checked
+
+abbrev pub value_of_job : Job → List (List ℕ) → List Command → ℕ
+value_of_job (Run script paths) files = unmet files
+value_of_job (ListJob script) files = none
+value_of_job (Check script) files = none
 
 -- What is answered and written of a script that the bytes spell, or of their first fault. `text` is what is to be written of a
 -- script, and `value` what is answered.

@@ -19,13 +19,14 @@ mod streams;
 mod tests;
 mod words;
 
-ghost use Rattle.std.specs.Prelude.{◌≡◌, IfOk, false};
+ghost use Rattle.std.specs.Prelude.{◌≡◌, IfOk, false, length};
+ghost use Rattle.sci_console.specs.Status.{status};
 
 use ed_types::{Bytes, ScriptFault};
 use ends::Source;
 use fault::{RunFault, status_of};
 use reading::read_file;
-use running::{check_script, list_script, run_script};
+use running::do_job;
 use std::fs::File;
 use std::process::ExitCode;
 use std::{env, io};
@@ -54,8 +55,10 @@ fn open(rt: &HostRuntime, path: &Word) -> Result<ReaderSource<File>, RunFault>
     }
 }
 
-/// Reads files whole, in order.
-fn read_files(rt: &HostRuntime, paths: &Words) -> Result<Vec<Bytes>, RunFault> {
+/// Reads files whole, in order: none is passed over.
+fn read_files(rt: &HostRuntime, paths: &Words) -> Result<Vec<Bytes>, RunFault>
+    ensures { IfOk result (λ files. length files.items ≡ length paths.now) }
+{
     let mut files = Vec::new(rt.alloc());
     for path in paths.as_slice() {
         let mut source = open(rt, path)?;
@@ -76,11 +79,7 @@ fn perform<S: Source>(
     requires { S.has_failed source.old ≡ false }
 {
     let mut sink = WriterSink::new(rt.stdout());
-    match job {
-        Job::Run { .. } => run_script(rt.alloc(), source, files, &mut sink),
-        Job::List { .. } => list_script(rt.alloc(), source, &mut sink),
-        Job::Check { .. } => check_script(rt.alloc(), source, &mut sink),
-    }
+    do_job(rt.alloc(), job, files, source, &mut sink)
 }
 
 /// Does a job: reads its files, and then its script.
@@ -98,15 +97,19 @@ fn run_job(rt: &HostRuntime, job: &Job) -> Result<u64, RunFault> {
 }
 
 /// Prints the line of a fault on standard error, if there is one, and answers the exit status.
-fn finish(rt: &HostRuntime, answer: &Result<u64, RunFault>) -> u8 {
+fn finish(rt: &HostRuntime, answer: &Result<u64, RunFault>) -> u8
+    ensures { result ≡ status answer.now }
+{
     if let Err(fault) = answer {
         let _ = eprintln!(rt; "{fault}");
     }
     status_of(answer)
 }
 
-/// Prints a usage text on standard error.
-fn tell_usage(rt: &HostRuntime, error: &clap::Error) -> u8 {
+/// Prints a usage text on standard error, and answers the exit status.
+fn tell_usage(rt: &HostRuntime, error: &clap::Error) -> u8
+    ensures { result ≡ 2 }
+{
     let _ = eprint!(rt; "{error}");
     USAGE
 }

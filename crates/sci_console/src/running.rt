@@ -5,15 +5,15 @@ ghost use Rattle.ed_model.specs.Listing.{listing};
 ghost use Rattle.ed_model.specs.Printed.{printed};
 ghost use Rattle.ed_model.specs.Reading.{reading};
 ghost use Rattle.ed_model.specs.Run.{outcomes, is_unmet as is_unmet_outcome};
-ghost use Rattle.editor_session.specs.Answers.{quiet_outcomes};
-ghost use Rattle.editor_session.specs.Known.{is_known};
+ghost use Rattle.message_plans.specs.TableSoFar.{table_so_far};
 ghost use Rattle.sci_console.specs.Ends.{TakesAtMost};
-ghost use Rattle.sci_console.specs.Answers.{Answers, HasCause, WritesNoneAtRead, Puts, PutCause, Writes, WriteCause, printed_run, unmet, checked, none};
+ghost use Rattle.sci_console.specs.Answers.{Answers, HasCause, WritesNoneAtRead, Puts, PutCause, Writes, WriteCause, printed_run, unmet, checked, none, text_of_job, value_of_job};
 
 use crate::ends::{Sink, Source};
 use crate::fault::RunFault;
 use crate::output::{put, write_all};
 use crate::reading::read_script;
+use crate::words::Job;
 use ed_types::{Bytes, Command, Outcome};
 use editor_session::{Run, Session};
 use macro_script::list;
@@ -42,8 +42,8 @@ fn run_commands<W: Sink>(
     commands: &[Command],
 ) -> Result<u64, RunFault>
     requires { W.has_failed sink.old ≡ false }
-    ensures put { Puts (printed (quiet_outcomes (outcomes is_known files.now commands.now run.old))) result (W.contents sink.old) (W.contents sink.new) buffer.old.items buffer.new.items }
-    ensures unmet { IfOk result (λ k. k ≡ count_by is_unmet_outcome (quiet_outcomes (outcomes is_known files.now commands.now run.old))) }
+    ensures put { Puts (printed (outcomes table_so_far files.now commands.now run.old)) result (W.contents sink.old) (W.contents sink.new) buffer.old.items buffer.new.items }
+    ensures unmet { IfOk result (λ k. k ≡ count_by is_unmet_outcome ((outcomes table_so_far files.now commands.now run.old))) }
     ensures cause { PutCause result (W.has_failed sink.new) }
 {
     let mut unmet = 0;
@@ -158,4 +158,31 @@ pub fn check_script<R: Source, W: Sink>(
     line.extend_from_slice(b"\n")?;
     write_all(writer, &line)?;
     Ok(0)
+}
+
+/// Does a job: runs, lists or checks the script that comes from the reader. Answers how many expects were not met, for a listing and a check 0.
+///
+/// # Errors
+///
+/// As of `run_script`.
+pub fn do_job<R: Source, W: Sink>(
+    alloc: Global,
+    job: &Job,
+    files: Vec<Bytes>,
+    reader: &mut R,
+    writer: &mut W,
+) -> Result<u64, RunFault>
+    requires reader { R.has_failed reader.old ≡ false }
+    requires writer { W.has_failed writer.old ≡ false }
+    ensures done { IfSome (R.remaining reader.old) (λ bytes.
+        Answers (text_of_job job.now files.items) (value_of_job job.now files.items) (reading bytes) result (W.contents writer.old) (W.contents writer.new)) }
+    ensures taken { TakesAtMost 16777217 (R.remaining reader.old) (R.remaining reader.new) }
+    ensures cause { HasCause result (R.has_failed reader.new) (W.has_failed writer.new) }
+    ensures unread { WritesNoneAtRead result (W.contents writer.old) (W.contents writer.new) }
+{
+    match job {
+        Job::Run { .. } => run_script(alloc, reader, files, writer),
+        Job::List { .. } => list_script(alloc, reader, writer),
+        Job::Check { .. } => check_script(alloc, reader, writer),
+    }
 }

@@ -11,11 +11,12 @@ use ed_types::{Cause, ScriptFault};
 use std::alloc::Global;
 use std::test::Fail;
 
-/// The script `examples/hello.sci`, and what it prints but for lines of notes. `tools/run_examples.py` runs all the examples.
+/// The script `examples/hello.sci`, and what it prints. `tools/run_examples.py` runs all the examples.
 const HELLO: &[u8] =
     b"sci 1\nopen\nsend 1 2003 0 0 \"hello\"\nsend 1 2006 0 0 \"\"\nsend 1 2182 0 0 \"\"\n";
 
-const HELLO_PRINTED: &[u8] = b"= 1 \"\"\n= 0 \"\"\n= 5 \"\"\n= 5 \"hello\"\n";
+const HELLO_PRINTED: &[u8] =
+    b"= 1 \"\"\n= 0 \"\"\n@ 1 2008 1040 0 5 0 0 0 0 0 0 0 0 \"hello\"\n@ 1 2003 0 0 0 0 0 0 0 0 0 0 0 \"\"\n@ 1 2008 8209 0 5 0 0 0 0 0 0 0 0 \"hello\"\n= 5 \"\"\n= 5 \"hello\"\n";
 
 /// Its listing.
 const HELLO_LISTING: &[u8] =

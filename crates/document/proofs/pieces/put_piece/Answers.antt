@@ -1,4 +1,4 @@
-use Rattle.std.proofs.Common.{◌≡◌, ◌+◌, ◌^◌, ◌<◌, ◌≤◌, length, ap, sym, ◌∙◌, arith}
+use Rattle.std.proofs.Common.{length, refl, ap, ◌∙◌, arith}
 use Rattle.std.proofs.lemmas.List.{length-map, length-append}
 use Rattle.ed_model.specs.Text.{Cell, bytes_of}
 use Rattle.ed_model.specs.Steps.{Insert}
@@ -15,31 +15,28 @@ inserted-requires-clause-was c =
     record {
       old = bytes_of c.args.cells.now.cells;
       bytes = c.args.bytes.now;
-      is = told_of_insertion c.args.cells.now.cells c.insert_reserved.new.self.cells c.args.lines.now c.args.place c.args.bytes.now _ _ c.requires.lines c.requires.place
+      is = told_of_insertion c.args.lines.now.index.types c.args.cells.now.cells c.insert_reserved.new.self.cells c.args.lines.now.index c.args.place c.args.bytes.now _ _ (record { types_are = refl; index = c.requires.lines }) c.requires.place
           c.insert_reserved.ensures.cells c.halves.ensures.joined c.near_step.ensures c.requires.line_room;
     }
 
 pub returns-clause-lines : goal.returns-clause-lines
 returns-clause-lines c =
-    lines_of_inserted c.args.cells.now.cells c.insert_reserved.new.self.cells c.args.lines.now c.inserted.new.self c.args.place c.args.bytes.now c.requires.lines c.insert_reserved.ensures.cells
+    lines_of_inserted c.args.lines.now.index.types c.args.cells.now.cells c.insert_reserved.new.self.cells c.args.lines.now.index c.inserted.new.self.index c.args.place c.args.bytes.now (record { types_are = refl; index = c.requires.lines }) c.insert_reserved.ensures.cells
     c.inserted.ensures.types
     (c.inserted.ensures.index (bytes_of c.args.cells.now.cells) c.args.bytes.now
-    (told_of_insertion c.args.cells.now.cells c.insert_reserved.new.self.cells c.args.lines.now c.args.place c.args.bytes.now _ _ c.requires.lines c.requires.place
+    (told_of_insertion c.args.lines.now.index.types c.args.cells.now.cells c.insert_reserved.new.self.cells c.args.lines.now.index c.args.place c.args.bytes.now _ _ (record { types_are = refl; index = c.requires.lines }) c.requires.place
     c.insert_reserved.ensures.cells c.halves.ensures.joined c.near_step.ensures c.requires.line_room))
 
 pub returns-clause-change : goal.returns-clause-change
 returns-clause-change c =
-    let lines = lines_of_inserted c.args.cells.now.cells c.insert_reserved.new.self.cells c.args.lines.now c.inserted.new.self c.args.place c.args.bytes.now c.requires.lines c.insert_reserved.ensures.cells
+    let lines = lines_of_inserted c.args.lines.now.index.types c.args.cells.now.cells c.insert_reserved.new.self.cells c.args.lines.now.index c.inserted.new.self.index c.args.place c.args.bytes.now (record { types_are = refl; index = c.requires.lines }) c.insert_reserved.ensures.cells
     c.inserted.ensures.types
     (c.inserted.ensures.index (bytes_of c.args.cells.now.cells) c.args.bytes.now
-    (told_of_insertion c.args.cells.now.cells c.insert_reserved.new.self.cells c.args.lines.now c.args.place c.args.bytes.now _ _ c.requires.lines c.requires.place
+    (told_of_insertion c.args.lines.now.index.types c.args.cells.now.cells c.insert_reserved.new.self.cells c.args.lines.now.index c.args.place c.args.bytes.now _ _ (record { types_are = refl; index = c.requires.lines }) c.requires.place
     c.insert_reserved.ensures.cells c.halves.ensures.joined c.near_step.ensures c.requires.line_room)) in
     c.inserted.ensures.change
-    ∙ change_of_step (Insert c.args.place c.args.bytes.now) c.args.cells.now.cells c.insert_reserved.new.self.cells c.args.lines.now c.inserted.new.self c.requires.lines
+    ∙ change_of_step c.args.lines.now.index.types (Insert c.args.place c.args.bytes.now) c.args.cells.now.cells c.insert_reserved.new.self.cells c.args.lines.now.index c.inserted.new.self.index (record { types_are = refl; index = c.requires.lines })
     lines c.insert_reserved.ensures.cells
 
 pub inserted-requires-clause-fits : goal.inserted-requires-clause-fits
-inserted-requires-clause-fits c = omega (arith, c.requires.lines.index.length, length-map c.args.cells.now.cells (λ (b : Cell). b.byte), c.requires.fits, c.requires.room)
-
-pub inserted-requires-clause-short : goal.inserted-requires-clause-short
-inserted-requires-clause-short c = omega (arith, c.requires.lines.index.length, length-map c.args.cells.now.cells (λ (b : Cell). b.byte), c.requires.fits, c.requires.room)
+inserted-requires-clause-fits c = omega (arith, c.requires.lines.length, length-map c.args.cells.now.cells (λ (b : Cell). b.byte), c.requires.fits, c.requires.room)

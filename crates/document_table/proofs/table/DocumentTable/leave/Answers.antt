@@ -1,54 +1,34 @@
--- The entry at the place, its document, and the document once the view has left it.
-use Rattle.std.proofs.Common.{◌≡◌, ◌<◌, true, false, length, nat_lt, sym, ◌∙◌, subst, arith}
-use Rattle.document_table.specs.Documents.{Documents}
-use Rattle.document_table.specs.Order.{held_by}
-use Rattle.document_table.proofs.OrderLemmas.{length_table}
-use Rattle.document_table.proofs.LeavingLemmas.{read, stays_table, stays, goes_table, goes}
+-- The view has left the document, which stays, or goes.
+use Rattle.std.proofs.Common.{sym, ap, ◌∙◌}
+use Rattle.id_table.specs.Entries.{Entries}
+use Rattle.document.specs.Kept.{Kept}
+use Rattle.ed_model.specs.Session.{left_by}
+use Rattle.document_table.proofs.LeavingLemmas.{nothing_there, still_there, gone, other_with, other_gone, room_with, room_without}
 use Rattle.document_table.proofs.table.DocumentTable.leave.Goals as goal
 
-pub index-requires : goal.index-requires
-index-requires c =
-    let count = length_table c.self.inside.slab c.self.inside.order.items c.self.inside.next c.self.invariant in
-    let lt : c.args.place < length (held_by c.self.inside.slab c.self.inside.order.items) = subst (λ (d : Documents). c.args.place < length d.held) (sym c.self.view_is) c.requires in
-    omega (arith, count, c.self.inside.order.ok.0)
+pub returns-in_default-clause-documents : goal.returns-in_default-clause-documents
+returns-in_default-clause-documents c = nothing_there c.args.id (left_by c.args.view) c.args.self.now.entries (sym c.in_default.ensures.value)
 
-pub index_mut-document-requires : goal.index_mut-document-requires
-index_mut-document-requires c =
-    let lt : c.args.place < length (held_by c.self.inside.slab c.self.inside.order.items) = subst (λ (d : Documents). c.args.place < length d.held) (sym c.self.view_is) c.requires in
-    let r = read c.self.inside.slab c.self.inside.order.items c.self.inside.next c.args.place c.index.result.now c.self.invariant lt c.index.ensures in
-    r.there
+pub returns-then-not-has_references-clause-documents : goal.returns-then-not-has_references-clause-documents
+returns-then-not-has_references-clause-documents c =
+    rw c.remove.ensures (gone c.args.id (left_by c.args.view) c.args.self.now.entries c.in-Some.document.now c.detach.new.self (sym c.in-Some.ensures.value) c.detach.ensures.document (sym c.if-not-has_references.ensures))
 
-pub invariant_of-self : goal.invariant_of-self
-invariant_of-self c =
-    let lt : c.args.place < length (held_by c.self.inside.slab c.self.inside.order.items) = subst (λ (d : Documents). c.args.place < length d.held) (sym c.self.view_is) c.requires in
-    let r = read c.self.inside.slab c.self.inside.order.items c.self.inside.next c.args.place c.index.result.now c.self.invariant lt c.index.ensures in
-    stays_table c.self.inside.slab c.self.inside.order.items c.self.inside.next c.args.place c.args.view c.index.result.now c.index_mut-document.result.now c.detach.new.self c.self.invariant r c.index_mut-document.ensures.value c.detach.ensures
+pub returns-then-not-has_references-clause-others : goal.returns-then-not-has_references-clause-others
+returns-then-not-has_references-clause-others c other differs =
+    rw c.remove.ensures (other_gone c.args.id other c.detach.new.self c.args.self.now.entries differs)
 
-pub returns-then-has_views-clause-stays : goal.returns-then-has_views-clause-stays
-returns-then-has_views-clause-stays c =
-    let lt : c.args.place < length (held_by c.self.inside.slab c.self.inside.order.items) = subst (λ (d : Documents). c.args.place < length d.held) (sym c.self.view_is) c.requires in
-    let r = read c.self.inside.slab c.self.inside.order.items c.self.inside.next c.args.place c.index.result.now c.self.invariant lt c.index.ensures in
-    let more : nat_lt 0 (length c.detach.new.self.views) ≡ true = sym c.has_views.ensures ∙ c.if-has_views.true in
-    let s = stays c.self.inside.slab c.self.inside.order.items c.self.inside.next c.args.place c.args.view c.index.result.now c.index_mut-document.result.now c.detach.new.self c.self.invariant r c.index_mut-document.ensures.value c.detach.ensures more in
-    λ _. rw (← c.self.view_is) s
+pub returns-then-not-has_references-clause-room_stays : goal.returns-then-not-has_references-clause-room_stays
+returns-then-not-has_references-clause-room_stays c =
+    rw c.remove.ensures (room_without c.args.id c.detach.new.self c.args.self.now.entries)
 
-pub remove-requires : goal.remove-requires
-remove-requires c =
-    let lt : c.args.place < length (held_by c.self.inside.slab c.self.inside.order.items) = subst (λ (d : Documents). c.args.place < length d.held) (sym c.self.view_is) c.requires in
-    let r = read c.self.inside.slab c.self.inside.order.items c.self.inside.next c.args.place c.index.result.now c.self.invariant lt c.index.ensures in
-    let within : c.args.place < length c.self.inside.order.items = r.within in
-    omega (arith, within, c.self.inside.order.ok.0)
+pub returns-else-not-has_references-clause-documents : goal.returns-else-not-has_references-clause-documents
+returns-else-not-has_references-clause-documents c =
+    still_there c.args.id (left_by c.args.view) c.args.self.now.entries c.in-Some.document.now c.detach.new.self (sym c.in-Some.ensures.value) c.detach.ensures.document (sym c.if-not-has_references.ensures)
 
-pub invariant_of-self-2 : goal.invariant_of-self-2
-invariant_of-self-2 c =
-    let lt : c.args.place < length (held_by c.self.inside.slab c.self.inside.order.items) = subst (λ (d : Documents). c.args.place < length d.held) (sym c.self.view_is) c.requires in
-    let r = read c.self.inside.slab c.self.inside.order.items c.self.inside.next c.args.place c.index.result.now c.self.invariant lt c.index.ensures in
-    rw c.remove.ensures.items (goes_table c.self.inside.slab c.remove-2.new.self c.self.inside.order.items c.self.inside.next c.args.place c.index.result.now c.detach.new.self c.self.invariant r c.remove-2.ensures.updates)
+pub returns-else-not-has_references-clause-others : goal.returns-else-not-has_references-clause-others
+returns-else-not-has_references-clause-others c other differs =
+    other_with c.args.id other c.detach.new.self c.args.self.now.entries differs
 
-pub returns-clause-goes : goal.returns-clause-goes
-returns-clause-goes c =
-    let lt : c.args.place < length (held_by c.self.inside.slab c.self.inside.order.items) = subst (λ (d : Documents). c.args.place < length d.held) (sym c.self.view_is) c.requires in
-    let r = read c.self.inside.slab c.self.inside.order.items c.self.inside.next c.args.place c.index.result.now c.self.invariant lt c.index.ensures in
-    let none : nat_lt 0 (length c.detach.new.self.views) ≡ false = sym c.has_views.ensures ∙ c.if-has_views.false in
-    let s = goes c.self.inside.slab c.remove-2.new.self c.self.inside.order.items c.self.inside.next c.args.place c.args.view c.index.result.now c.index_mut-document.result.now c.detach.new.self c.self.invariant r c.index_mut-document.ensures.value c.detach.ensures c.remove-2.ensures.updates none in
-    λ _. rw (← c.self.view_is, c.remove.ensures.items) s
+pub returns-else-not-has_references-clause-room_stays : goal.returns-else-not-has_references-clause-room_stays
+returns-else-not-has_references-clause-room_stays c =
+    room_with c.args.id c.in-Some.document.now c.detach.new.self c.args.self.now.entries (sym c.in-Some.ensures.value) (c.detach.ensures.room, c.detach.ensures.spare)

@@ -1,0 +1,78 @@
+-- What a step makes of the parts of a document.
+use Rattle.std.proofs.Common.{◌≡◌, ◌≤◌, ◌<◌, ◌+◌, ◌^◌, ℕ, Bool, true, false, List, length, min, refl, sym, ap, ◌∙◌, arith}
+use Rattle.std.proofs.lemmas.List.{length-map}
+use Rattle.ed_model.specs.Text.{Cell, bytes_of}
+use Rattle.ed_model.specs.Lines.{line_count}
+use Rattle.ed_model.specs.Steps.{Step, place_of, edited, edited_cells}
+use Rattle.ed_model.specs.declared.plan.LineEndTypes.{LineEndTypes}
+use Rattle.ed_model.specs.Indicators.{indicators_after}
+use Rattle.ed_model.specs.Rows.{Row}
+use Rattle.ed_model.specs.Session.{Document}
+use Rattle.ed_model.specs.Performing.{document_after}
+use Rattle.ed_model.specs.MergeLaws.{end_of}
+use Rattle.ed_model.proofs.StepLemmas.{bytes_of_edited_cells}
+use Rattle.line_index.specs.declared.change.LineChange.{LineChange}
+use Rattle.line_index.specs.RoomLaws.{lines_for_step}
+use Rattle.line_index.specs.StepEdits.{change_of}
+use Rattle.line_rows.specs.Kept.{KeptRows}
+use Rattle.document.specs.Kept.{bound_of}
+use Rattle.document.specs.Places.{LinesOf, IndicatorsOf}
+use Rattle.document.specs.Parts.{document_in, ArePartsOf, HasLinesOf, IsChange, AreCarried}
+use Rattle.document.specs.declared.kept.Document.TheInside.{Inside}
+use Rattle.document.proofs.LineSteps.{lines_of_index}
+
+pub small_bound : (is_large : Bool) → bound_of is_large ≤ 2 ^ 61
+small_bound true = omega arith
+small_bound false = omega arith
+
+pub length_of_bytes : (cells : List Cell) → length (bytes_of cells) ≡ length cells
+length_of_bytes cells = length-map cells (λ (c : Cell). c.byte)
+
+-- what the rows are told
+pub told_rows :
+    (step : Step) (cells : List Cell) (room options : ℕ) (lines : LinesOf) (rows : KeptRows) (indicators : IndicatorsOf) (change : LineChange) → ArePartsOf cells room options lines rows indicators
+    → change ≡ change_of lines.index.types step (bytes_of cells) → end_of step ≤ length cells → lines_for_step lines.index.types step ≤ rows.room.lines
+    → length cells + lines_for_step lines.index.types step < 2 ^ 62 → IsChange rows change lines.index.types step (bytes_of cells)
+told_rows step cells room options lines rows indicators change parts is within has few = record {
+  is = is;
+  within = omega (arith, within, length_of_bytes cells);
+  row_count = parts.row_count ∙ lines_of_index lines.index.types (bytes_of cells) lines.index parts.indexed refl;
+  has_room = has;
+  few = omega (arith, few, length_of_bytes cells);
+}
+
+-- the parts after it
+pub parts_after :
+    (step : Step) (cells new_cells : List Cell) (room new_room options : ℕ) (lines new_lines : LinesOf) (rows new_rows : KeptRows) (indicators new_indicators : IndicatorsOf)
+    → ArePartsOf cells room options lines rows indicators → new_cells ≡ edited_cells step cells → HasLinesOf lines.index.types new_cells new_lines.index → new_lines.is_large ≡ lines.is_large
+    → new_lines.index.room + length new_lines.index.starts ≡ lines.index.room + length lines.index.starts → AreCarried rows new_rows lines.index.types step (bytes_of cells)
+    → new_indicators.decorated.length ≡ length new_cells → new_indicators.is_large ≡ indicators.is_large → length new_cells + new_room ≡ length cells + room
+    → ArePartsOf new_cells new_room options new_lines new_rows new_indicators
+parts_after step cells new_cells room new_room options lines new_lines rows new_rows indicators new_indicators parts is has width sum carried marked indicator_width as_long =
+    let text : bytes_of new_cells ≡ edited step (bytes_of cells) = ap bytes_of is ∙ bytes_of_edited_cells step cells in
+    let starts = lines_of_index lines.index.types (bytes_of new_cells) new_lines.index has.index has.types_are in
+    let count : length new_rows.rows ≡ length new_lines.index.starts = carried.row_count ∙ ap (line_count lines.index.types) (sym text) ∙ sym starts in
+    record {
+      indexed = has.index;
+      row_count = count;
+      row_room = omega (arith, count, sum, carried.room_for_lines, parts.row_count, parts.row_room);
+      indicator_count = marked;
+      line_width = width ∙ parts.line_width;
+      indicator_width = indicator_width ∙ parts.indicator_width;
+      fits = omega (arith, as_long, parts.fits);
+    }
+
+-- the document with other parts
+abbrev pub document_with : Inside → List Cell → List Row → ℕ → List (List ℕ) → LineEndTypes → ℕ → Document
+document_with d cells rows handle values types styled =
+    let document = document_in d in
+    record document { cells = cells; rows = rows; next_handle = handle; indicators = values; line_end_types = types; end_styled = styled }
+
+-- the document of the parts after it
+pub document_of_parts :
+    (step : Step) (d : Inside) (cells : List Cell) (rows : KeptRows) (values : List (List ℕ)) (types : LineEndTypes) (styled : ℕ) → cells ≡ edited_cells step d.cells.cells
+    → AreCarried d.rows rows d.lines.index.types step (bytes_of d.cells.cells) → values ≡ indicators_after step d.indicators.decorated.values → types ≡ d.lines.index.types
+    → styled ≡ min d.end_styled (place_of step)
+    → document_with d cells rows.rows rows.next_handle values types styled ≡ document_after step (document_in d)
+document_of_parts step d cells rows values types styled cells_are carried values_are types_are styled_is =
+    rw (cells_are, carried.rows, carried.next_handle, values_are, types_are, styled_is) refl

@@ -1,0 +1,7 @@
+-- What is retained are the other views.
+use Rattle.std.proofs.Common.{rules, ◌==◌, not}
+use Rattle.std.proofs.lemmas.Fn.{filter_same}
+use Rattle.document.proofs.changes.leave.Goals as goal
+
+pub returns : goal.returns
+returns c = filter_same _ (λ k. not (k == c.args.view)) _ (λ x b f' k. search rules) _ _ c.retain.ensures.filtered

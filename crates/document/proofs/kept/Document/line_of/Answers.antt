@@ -1,0 +1,20 @@
+-- A text has no more lines than bytes and one.
+use Rattle.std.proofs.Common.{length, ap, arith}
+use Rattle.ed_model.specs.Numbers.{meets}
+use Rattle.ed_model.specs.Text.{bytes_of}
+use Rattle.document.proofs.CarrySteps.{few_lines}
+use Rattle.document.proofs.SteppedParts.{length_of_bytes, small_bound}
+use Rattle.document.proofs.kept.Document.line_of.Goals as goal
+
+pub returns-clause-small : goal.returns-clause-small
+returns-clause-small c =
+    let d = c.self.inside in
+    omega (
+      arith,
+      c.line_of.ensures.within,
+      ap length c.self.invariant.indexed.starts,
+      few_lines d.lines.index.types (bytes_of d.cells.cells),
+      length_of_bytes d.cells.cells,
+      c.self.invariant.fits,
+      small_bound (meets d.options 0x100),
+    )

@@ -1,0 +1,81 @@
+-- What a contract sees of a `Document`.
+use Rattle.std.specs.Prelude.{◌≡◌, ℕ, ◌+◌, ◌^◌, ◌≤◌, ◌<◌, Bool, true, false, length, min, max, ◌-◌, Option}
+use Rattle.ed_model.specs.Session.{Document, is_large}
+use Rattle.document.specs.declared.room.DocumentRoom.{DocumentRoom}
+
+-- What changes of a document that are no steps of its text need: room for how many more views and markers; of how many lines, from
+-- the first on, a level can be set, and of how many a state; which indicator can be filled; and whether styles are stored.
+pub record ChangeRoom : Type 0 where
+  pub views : ℕ
+  pub markers : ℕ
+  pub levels : ℕ
+  pub states : ℕ
+  pub fill : Option ℕ
+  pub styles : Bool
+
+-- the document, and what fits into it without more memory
+pub record Kept : Type 0 where
+  pub document : Document
+  pub room : DocumentRoom
+  pub spare : ChangeRoom
+
+abbrev pub kept : Document → DocumentRoom → ChangeRoom → Kept
+kept document room spare = record { document = document; room = room; spare = spare }
+
+abbrev pub document_room : ℕ → ℕ → ℕ → ℕ → ℕ → DocumentRoom
+document_room text lines insertions steps bytes = record { text = text; lines = lines; insertions = insertions; steps = steps; bytes = bytes }
+
+abbrev pub no_room : DocumentRoom
+no_room = document_room 0 0 0 0 0
+
+-- an amount and another, or the greatest that can be asked for
+abbrev pub amount_sum : ℕ → ℕ → ℕ
+amount_sum a b = min (a + b) (2 ^ 64 - 1)
+
+abbrev pub room_sum : DocumentRoom → DocumentRoom → DocumentRoom
+room_sum a b =
+    document_room (amount_sum a.text b.text) (amount_sum a.lines b.lines) (amount_sum a.insertions b.insertions) (amount_sum a.steps b.steps)
+    (amount_sum a.bytes b.bytes)
+
+-- what a need is for the text and what is kept of it, and for the history
+abbrev pub text_part : DocumentRoom → DocumentRoom
+text_part need = record need { steps = 0; bytes = 0 }
+
+abbrev pub history_part : DocumentRoom → DocumentRoom
+history_part need = record need { text = 0; lines = 0; insertions = 0 }
+
+-- there is room for the text and what is kept of it
+abbrev pub HasTextRoom : Kept → DocumentRoom → Type 0
+HasTextRoom k need = (need.text ≤ k.room.text) × (need.lines ≤ k.room.lines) × (need.insertions ≤ k.room.insertions)
+
+-- and in the history; one that does not collect needs none
+abbrev pub HasHistoryRoom : Kept → DocumentRoom → Type 0
+HasHistoryRoom k need = k.document.history.collecting ≡ true → (need.steps ≤ k.room.steps) × (need.bytes ≤ k.room.bytes)
+
+abbrev pub HasRoom : Kept → DocumentRoom → Type 0
+HasRoom k need = HasTextRoom k need × HasHistoryRoom k need
+
+-- from old to new no more room was taken than that
+pub record TakesRoom (old new need : DocumentRoom) : Type 0 where
+  pub text_left : old.text ≤ new.text + need.text
+  pub lines_left : old.lines ≤ new.lines + need.lines
+  pub insertions_left : old.insertions ≤ new.insertions + need.insertions
+  pub steps_left : old.steps ≤ new.steps + need.steps
+  pub bytes_left : old.bytes ≤ new.bytes + need.bytes
+
+-- no amount is more than the greater of what there was and what was asked for
+pub record IsAtMost (new old need : DocumentRoom) : Type 0 where
+  pub text : new.text ≤ max old.text need.text
+  pub lines : new.lines ≤ max old.lines need.lines
+  pub insertions : new.insertions ≤ max old.insertions need.insertions
+  pub steps : new.steps ≤ max old.steps need.steps
+  pub bytes : new.bytes ≤ max old.bytes need.bytes
+
+-- all texts of a document of the width are shorter than that, in bytes
+abbrev pub bound_of : Bool → ℕ
+bound_of true = 2 ^ 61
+bound_of false = 2 ^ 32
+
+-- a text of the length fits into the width of the document's places
+abbrev pub FitsWidth : Document → ℕ → Type 0
+FitsWidth d length = length < bound_of (is_large d)

@@ -1,0 +1,94 @@
+-- How a document is kept, in parts.
+use Rattle.std.specs.Prelude.{◌≡◌, ℕ, ◌+◌, ◌-◌, ◌^◌, ◌<◌, ◌≤◌, List, length, vec_len, vec_capacity}
+use Rattle.ed_model.specs.Numbers.{meets}
+use Rattle.ed_model.specs.Text.{Cell, bytes_of}
+use Rattle.ed_model.specs.Lines.{line_count}
+use Rattle.ed_model.specs.Rows.{rows_together}
+use Rattle.ed_model.specs.Carry.{carried_by}
+use Rattle.ed_model.specs.Steps.{Step, edited}
+use Rattle.ed_model.specs.MergeLaws.{end_of}
+use Rattle.ed_model.specs.Session.{Document}
+use Rattle.line_index.specs.declared.change.LineChange.{LineChange}
+use Rattle.line_index.specs.RoomLaws.{lines_for_step}
+use Rattle.line_index.specs.StepEdits.{change_of}
+use Rattle.ed_model.specs.declared.plan.LineEndTypes.{LineEndTypes}
+use Rattle.line_index.specs.Index.{Index, IsIndexOf}
+use Rattle.line_rows.specs.Kept.{KeptRows}
+use Rattle.document.specs.Kept.{Kept, ChangeRoom, document_room, bound_of}
+use Rattle.document.specs.Places.{LinesOf, IndicatorsOf}
+use Rattle.document.specs.declared.kept.Document.TheInside.{Inside}
+
+abbrev pub document_in : Inside → Document
+document_in d = record {
+  id = d.id;
+  cells = d.cells.cells;
+  rows = d.rows.rows;
+  indicators = d.indicators.decorated.values;
+  end_styled = d.end_styled;
+  history = d.history.history;
+  read_only = d.is_read_only;
+  line_end = d.line_end;
+  options = d.options;
+  line_end_types = d.lines.index.types;
+  next_handle = d.rows.next_handle;
+  views = d.views.items;
+  held_by_callers = d.held_by_callers;
+}
+
+abbrev pub spare_in : Inside → ChangeRoom
+spare_in d = record {
+  views = vec_capacity d.views - vec_len d.views;
+  markers = d.rows.room.markers;
+  levels = d.rows.room.levels;
+  states = d.rows.room.states;
+  fill = d.indicators.decorated.ready;
+  styles = d.cells.keeps_styles;
+}
+
+abbrev pub kept_in : Inside → Kept
+kept_in d = record {
+  document = document_in d;
+  room = document_room d.cells.room d.rows.room.lines d.indicators.decorated.room d.history.step_room d.history.byte_room;
+  spare = spare_in d;
+}
+
+-- The line starts are those of the text, with a row for each line; each byte has its indicators; the places are wide enough.
+pub record ArePartsOf (cells : List Cell) (room options : ℕ) (lines : LinesOf) (rows : KeptRows) (indicators : IndicatorsOf) : Type 0 where
+  pub indexed : IsIndexOf (bytes_of cells) lines.index
+  pub row_count : length rows.rows ≡ length lines.index.starts
+  pub row_room : rows.room.lines ≤ lines.index.room
+  pub indicator_count : indicators.decorated.length ≡ length cells
+  pub line_width : lines.is_large ≡ meets options 0x100
+  pub indicator_width : indicators.is_large ≡ meets options 0x100
+  pub fits : length cells + room < bound_of (meets options 0x100)
+
+abbrev pub AreParts : Inside → Type 0
+AreParts d = ArePartsOf d.cells.cells d.cells.room d.options d.lines d.rows d.indicators
+
+-- What a step did to the lines of a text, for rows that there are of them, with room for those that come.
+pub record IsChange (rows : KeptRows) (change : LineChange) (types : LineEndTypes) (step : Step) (text : List ℕ) : Type 0 where
+  pub is : change ≡ change_of types step text
+  pub within : end_of step ≤ length text
+  pub row_count : length rows.rows ≡ line_count types text
+  pub has_room : lines_for_step types step ≤ rows.room.lines
+  pub few : length text + lines_for_step types step < 2 ^ 62
+
+-- some step of some text did it
+pub record WasChanged (rows : KeptRows) (change : LineChange) : Type 0 where
+  pub types : LineEndTypes
+  pub step : Step
+  pub text : List ℕ
+  pub is : IsChange rows change types step text
+
+-- The rows are those after the step. So much of the room for lines was taken at most, and no less than lines came.
+pub record AreCarried (old new : KeptRows) (types : LineEndTypes) (step : Step) (text : List ℕ) : Type 0 where
+  pub rows : new.rows ≡ carried_by rows_together types step text old.rows
+  pub row_count : length new.rows ≡ line_count types (edited step text)
+  pub next_handle : new.next_handle ≡ old.next_handle
+  pub room_left : old.room.lines ≤ new.room.lines + lines_for_step types step
+  pub room_for_lines : new.room.lines + length new.rows ≤ old.room.lines + length old.rows
+
+-- the index has the lines of these cells' bytes, which line ends of these types end; no public clause cites this
+pub record HasLinesOf (types : LineEndTypes) (cells : List Cell) (lines : Index) : Type 0 where
+  pub types_are : lines.types ≡ types
+  pub index : IsIndexOf (bytes_of cells) lines

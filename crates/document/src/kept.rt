@@ -1,0 +1,251 @@
+//! `Document`: how it is made and read.
+
+ghost use Rattle.std.specs.Prelude.{◌≡◌, ◌≤◌, ◌<◌, ◌+◌, ◌++◌, ◌^◌, length, slice_get, slice_range, vec_len, vec_capacity, OnOk, OnErr, IsOk, IfOk, Some, nat_lt};
+ghost use Rattle.ed_model.specs.Text.{bytes_of, styles_of};
+ghost use Rattle.ed_model.specs.Lines.{line_starts, line_count, line_of, start_of_line, start_after_line, end_of_line};
+ghost use Rattle.ed_model.specs.Session.{new_document, text_of, lines_in, references, is_large};
+ghost use Rattle.line_index.specs.Index.{IsIndexOf};
+ghost use Rattle.document.specs.Kept.{FitsWidth, bound_of, no_room};
+
+use crate::places::{Indicators, Lines};
+use cell_buffer::Cells;
+use ed_model::{LineEnd, LineEndTypes};
+use line_rows::LineRows;
+use std::alloc::{AllocError, Global};
+use std::marker::Model;
+use undo_history::UndoHistory;
+
+/// A document. Its text is changed in single steps, for which room is made before.
+#[derive(Drop)]
+pub struct Document {
+    pub(crate) id: u32,
+    pub(crate) options: u32,
+    pub(crate) cells: Cells,
+    pub(crate) lines: Lines,
+    pub(crate) rows: LineRows,
+    pub(crate) indicators: Indicators,
+    pub(crate) end_styled: usize,
+    pub(crate) history: UndoHistory,
+    pub(crate) is_read_only: bool,
+    pub(crate) line_end: LineEnd,
+    pub(crate) views: Vec<u32>,
+    pub(crate) held_by_callers: u32,
+}
+
+impl Model for Document {
+    ghost use Rattle.document.specs.Kept.{Kept};
+
+    ghost Value = { Kept };
+
+    ghost use Rattle.document.specs.Parts.{kept_in, AreParts};
+
+    ghost view = { kept_in };
+
+    ghost invariant = { AreParts };
+}
+
+/// The option of a document for large texts, `SC_DOCUMENTOPTION_TEXT_LARGE`.
+const TEXT_LARGE: u32 = 0x100;
+
+impl Document {
+    ghost use Rattle.std.specs.Borrow.{sem};
+    ghost use Rattle.document.specs.Lends.{lent_and_back};
+
+    /// A document without text, to which no view is attached, and which no caller holds. With the option
+    /// `SC_DOCUMENTOPTION_TEXT_LARGE` its places are kept as 64 bits, else as 32.
+    ///
+    /// # Errors
+    ///
+    /// `AllocError` where the memory for its one line is refused.
+    pub fn new(alloc: Global, id: u32, options: u32) -> Result<Self, AllocError>
+        ensures document { IfOk result (λ k. k.document ≡ new_document id options) }
+        ensures room { IfOk result (λ k. k.room ≡ no_room) }
+    {
+        let is_large = options & TEXT_LARGE != 0;
+        let lines = Lines::new(alloc, is_large)?;
+        let rows = LineRows::new(alloc)?;
+        Ok(Document {
+            id,
+            options,
+            cells: Cells::new(alloc),
+            lines,
+            rows,
+            indicators: Indicators::new(alloc, is_large),
+            end_styled: 0,
+            history: UndoHistory::new(alloc),
+            is_read_only: false,
+            line_end: LineEnd::Lf,
+            views: Vec::new(alloc),
+            held_by_callers: 0,
+        })
+    }
+
+    /// Its id in the session.
+    pub fn id(&self) -> u32
+        ensures { result ≡ self.now.document.id }
+    {
+        self.id
+    }
+
+    /// Its options, bit by bit.
+    pub fn options(&self) -> u32
+        ensures { result ≡ self.now.document.options }
+    {
+        self.options
+    }
+
+    /// Whether it keeps places for a large text.
+    pub fn is_large(&self) -> bool
+        ensures { result ≡ is_large self.now.document }
+    {
+        self.options & TEXT_LARGE != 0
+    }
+
+    /// What the length of each of its texts is below, by the width of its places.
+    pub fn bound(&self) -> usize
+        ensures { result ≡ bound_of (is_large self.now.document) }
+    {
+        if self.is_large() { 1 << 61 } else { 1 << 32 }
+    }
+
+    /// The length of its text, in bytes.
+    pub fn len(&self) -> usize
+        ensures len { result ≡ length self.now.document.cells }
+        ensures within { FitsWidth self.now.document (length self.now.document.cells + self.now.room.text) }
+        ensures small { length self.now.document.cells + self.now.room.text < 2 ^ 61 }
+    {
+        self.cells.len()
+    }
+
+    /// The byte at a place.
+    pub fn byte(&self, place: usize) -> u8
+        requires { place < length self.now.document.cells }
+        ensures { slice_get (text_of self.now.document) place ≡ Some result }
+    {
+        self.cells.byte(place)
+    }
+
+    /// The style of the byte at a place.
+    pub fn style(&self, place: usize) -> u8
+        requires { place < length self.now.document.cells }
+        ensures { slice_get (styles_of self.now.document.cells) place ≡ Some result }
+    {
+        self.cells.style(place)
+    }
+
+    /// Its text in two parts, the second behind the first.
+    pub fn halves(&self) -> (&[u8], &[u8])
+        ensures { result.0.now ++ result.1.now ≡ text_of self.now.document }
+    {
+        self.cells.halves()
+    }
+
+    /// Appends the `count` bytes from `start` on to `target`.
+    ///
+    /// # Errors
+    ///
+    /// `AllocError` where memory is refused; `target` has then the same bytes.
+    pub fn append_text_to(
+        &self,
+        start: usize,
+        count: usize,
+        target: &mut Vec<u8>,
+    ) -> Result<(), AllocError>
+        requires { start + count ≤ length self.now.document.cells }
+        ensures ok { OnOk result (target.new.items ≡ target.old.items ++ slice_range (text_of self.now.document) start (start + count)) }
+        ensures room_is_there { vec_len target.old + count ≤ vec_capacity target.old → IsOk result }
+        ensures err { OnErr result (target.new.items ≡ target.old.items) }
+    {
+        self.cells.append_text_to(start, count, target)
+    }
+
+    /// Lends the `count` bytes from `start` on as one slice, which is not copied. The document stays as it is.
+    pub fn lend(&mut self, start: usize, count: usize) -> &[u8]
+        requires { start + count ≤ length self.old.document.cells }
+        ensures* back { sem 𝓛 (lent_and_back self.entry) }
+        ensures value { result.now ≡ slice_range (text_of self.old.document) start (start + count) }
+    {
+        self.cells.lend(start, count)
+    }
+
+    /// Up to which place it is styled.
+    pub fn end_styled(&self) -> usize
+        ensures { result ≡ self.now.document.end_styled }
+    {
+        self.end_styled
+    }
+
+    /// Whether callers may not change its text.
+    pub fn is_read_only(&self) -> bool
+        ensures { result ≡ self.now.document.read_only }
+    {
+        self.is_read_only
+    }
+
+    /// The line end that typing makes.
+    pub fn typed_line_end(&self) -> LineEnd
+        ensures { result ≡ self.now.document.line_end }
+    {
+        self.line_end
+    }
+
+    /// Which line ends count.
+    pub fn line_end_types(&self) -> LineEndTypes
+        ensures { result ≡ self.now.document.line_end_types }
+    {
+        self.lines.types()
+    }
+
+    /// Where its lines start.
+    pub fn lines(&self) -> &Lines
+        ensures index { IsIndexOf (text_of self.now.document) result.now.index }
+        ensures types { result.now.index.types ≡ self.now.document.line_end_types }
+    {
+        &self.lines
+    }
+
+    /// The rows of its lines: markers, fold levels and line states.
+    pub fn rows(&self) -> &LineRows
+        ensures rows { result.now.rows ≡ self.now.document.rows }
+        ensures next_handle { result.now.next_handle ≡ self.now.document.next_handle }
+        ensures count { length self.now.document.rows ≡ lines_in self.now.document }
+    {
+        &self.rows
+    }
+
+    /// Its indicators.
+    pub fn indicators(&self) -> &Indicators
+        ensures values { result.now.decorated.values ≡ self.now.document.indicators }
+        ensures length { result.now.decorated.length ≡ length self.now.document.cells }
+    {
+        &self.indicators
+    }
+
+    /// Its undo history.
+    pub fn history(&self) -> &UndoHistory
+        ensures { result.now.history ≡ self.now.document.history }
+    {
+        &self.history
+    }
+
+    /// The views attached to it, in the order of attaching.
+    pub fn views(&self) -> &[u32]
+        ensures { result.now ≡ self.now.document.views }
+    {
+        &self.views
+    }
+
+    /// How many references callers hold.
+    pub fn held_by_callers(&self) -> u32
+        ensures { result ≡ self.now.document.held_by_callers }
+    {
+        self.held_by_callers
+    }
+
+    /// Whether a view is attached, or a caller holds it.
+    pub fn has_references(&self) -> bool
+        ensures { result ≡ nat_lt 0 (references self.now.document) }
+    {
+        !self.views.is_empty() || self.held_by_callers != 0
+    }
+}

@@ -1,0 +1,351 @@
+//! Line starts and indicators of a text whose places are kept as 32 bits, or as 64 where the text may be large.
+
+ghost use Rattle.std.specs.Prelude.{◌≡◌, ◌↔◌, IsTrue, pos, ℕ, List, take, drop, ◌<◌, ◌≤◌, ◌+◌, ◌^◌, ◌++◌, [], length, max, replicate, slice_index, IfOk, OnOk, OnErr, IsOk, None};
+ghost use Rattle.ed_model.specs.Lines.{line_of, end_of_line};
+ghost use Rattle.std.specs.List.{AllByRecursion};
+ghost use Rattle.ed_model.specs.TextPlans.{at_place};
+ghost use Rattle.ed_model.specs.Steps.{Insert, Delete, edited};
+ghost use Rattle.ed_model.specs.Indicators.{indicators_after};
+ghost use Rattle.line_index.specs.Index.{IsIndexOf, IsInsertion, IsDeletion, WasInserted, WasDeleted};
+ghost use Rattle.line_index.specs.Change.{change_about, change_since, lines_about};
+ghost use Rattle.line_index.specs.StepEdits.{SmallLines};
+ghost use Rattle.document.specs.Kept.{bound_of};
+ghost use Rattle.decorations.specs.Decorated.{decorated, values_of, IsClear, run_about, mask_of};
+
+use decorations::Decorations;
+use ed_model::LineEndTypes;
+use line_index::{LineChange, LineIndex, LinesAbout};
+use partitioning::Probes;
+use std::alloc::{AllocError, Global};
+use std::marker::Model;
+
+/// The line starts by the width of places.
+#[derive(Drop)]
+pub(crate) enum LinesByWidth {
+    Small(LineIndex<u32>),
+    Large(LineIndex<u64>),
+}
+
+/// Where the lines of a document start.
+#[derive(Drop)]
+pub struct Lines {
+    pub(crate) kept: LinesByWidth,
+}
+
+impl Model for Lines {
+    ghost use Rattle.document.specs.Places.{LinesOf, lines_by_width};
+
+    ghost Value = { LinesOf };
+
+    ghost view = { λ l. lines_by_width l.kept };
+}
+
+impl Lines {
+    /// The line starts of the empty text, which has one line that CR LF, CR and LF end, as a large text keeps them or not.
+    ///
+    /// # Errors
+    ///
+    /// `AllocError` where the memory for the start is refused.
+    pub(crate) fn new(alloc: Global, is_large: bool) -> Result<Self, AllocError>
+        ensures index { IfOk result (λ l. (l.index.types ≡ LineEndTypes.Default) × IsIndexOf [] l.index) }
+        ensures width { IfOk result (λ l. l.is_large ≡ is_large) }
+    {
+        let kept = if is_large {
+            LinesByWidth::Large(LineIndex::new(alloc, LineEndTypes::Default)?)
+        } else {
+            LinesByWidth::Small(LineIndex::new(alloc, LineEndTypes::Default)?)
+        };
+        Ok(Lines { kept })
+    }
+
+    /// Returns which line ends count.
+    pub fn types(&self) -> LineEndTypes
+        ensures { result ≡ self.now.index.types }
+    {
+        match &self.kept {
+            LinesByWidth::Small(lines) => lines.types(),
+            LinesByWidth::Large(lines) => lines.types(),
+        }
+    }
+
+    /// Returns the number of lines, which is at least 1.
+    pub fn count(&self) -> usize
+        ensures count { result ≡ length self.now.index.starts }
+        ensures some { 0 < length self.now.index.starts }
+        ensures within { length self.now.index.starts + self.now.index.room < 2 ^ 63 }
+    {
+        match &self.kept {
+            LinesByWidth::Small(lines) => lines.count(),
+            LinesByWidth::Large(lines) => lines.count(),
+        }
+    }
+
+    /// Returns the length of the text, in bytes.
+    pub fn length(&self) -> usize
+        ensures { result ≡ self.now.index.length }
+    {
+        match &self.kept {
+            LinesByWidth::Small(lines) => lines.length(),
+            LinesByWidth::Large(lines) => lines.length(),
+        }
+    }
+
+    /// Returns where the line starts.
+    pub fn start(&self, line: usize) -> usize
+        requires { line < length self.now.index.starts }
+        ensures start { result ≡ slice_index self.now.index.starts line }
+        ensures within { result ≤ self.now.index.length }
+    {
+        match &self.kept {
+            LinesByWidth::Small(lines) => lines.start(line),
+            LinesByWidth::Large(lines) => lines.start(line),
+        }
+    }
+
+    /// Returns where the end of the line begins, or for the last line the end of the text. `before` and `after` are the
+    /// halves of the text, of which at most two bytes are read.
+    pub fn end(&self, line: usize, before: &[u8], after: &[u8]) -> usize
+        requires line { line < length self.now.index.starts }
+        requires text { IsIndexOf (before.now ++ after.now) self.now.index }
+        ensures { result ≡ end_of_line self.now.index.types (before.now ++ after.now) line }
+    {
+        match &self.kept {
+            LinesByWidth::Small(lines) => lines.end(line, before, after),
+            LinesByWidth::Large(lines) => lines.end(line, before, after),
+        }
+    }
+
+    /// Returns the line that holds the place: the last that starts there or before it, and the last of all for a place
+    /// past the end. Each start that it reads is counted in `probes`.
+    pub fn line_of(&self, place: usize, probes: &mut Probes) -> usize
+        ensures line { result ≡ line_of self.now.index.starts place }
+        ensures within { result < length self.now.index.starts }
+    {
+        match &self.kept {
+            LinesByWidth::Small(lines) => lines.line_of(place, probes),
+            LinesByWidth::Large(lines) => lines.line_of(place, probes),
+        }
+    }
+
+    /// Makes room for `count` more lines.
+    ///
+    /// # Errors
+    ///
+    /// `AllocError` where the memory is refused. All is then as it was.
+    pub(crate) fn reserve(&mut self, count: usize) -> Result<(), AllocError>
+        ensures ok { OnOk result (count ≤ self.new.index.room) }
+        ensures same { self.new ≡ record self.old { index = record self.old.index { room = self.new.index.room } } }
+        ensures room_is_there { count ≤ self.old.index.room → IsOk result }
+        ensures room_stays { self.old.index.room ≤ self.new.index.room }
+    {
+        match &mut self.kept {
+            LinesByWidth::Small(lines) => lines.reserve(count),
+            LinesByWidth::Large(lines) => lines.reserve(count),
+        }
+    }
+
+    /// As `LineIndex::inserted` of line_index.
+    pub(crate) fn inserted(
+        &mut self,
+        place: usize,
+        count: usize,
+        before: &[u8],
+        after: &[u8],
+    ) -> LineChange
+        requires was { WasInserted place count (before.now ++ after.now) self.old.index }
+        requires fits { self.old.index.length + count < bound_of self.old.is_large }
+        ensures width { self.new.is_large ≡ self.old.is_large }
+        ensures types { self.new.index.types ≡ self.old.index.types }
+        ensures index { (old bytes : List ℕ) → IsInsertion place count (before.now ++ after.now) old bytes self.old.index → IsIndexOf (edited (Insert place bytes) old) self.new.index }
+        ensures room { self.new.index.room + length self.new.index.starts ≡ self.old.index.room + length self.old.index.starts }
+        ensures change { result ≡ change_about place place (place + count) self.old.index.starts self.new.index.starts self.new.index.length }
+        ensures small { SmallLines result.old_lines × SmallLines result.new_lines }
+    {
+        match &mut self.kept {
+            LinesByWidth::Small(lines) => lines.inserted(place, count, before, after),
+            LinesByWidth::Large(lines) => lines.inserted(place, count, before, after),
+        }
+    }
+
+    /// As `LineIndex::deleted` of line_index.
+    pub(crate) fn deleted(
+        &mut self,
+        place: usize,
+        count: usize,
+        before: &[u8],
+        after: &[u8],
+    ) -> LineChange
+        requires was { WasDeleted place count (before.now ++ after.now) self.old.index }
+        requires short { self.old.index.length < 2 ^ 63 }
+        ensures width { self.new.is_large ≡ self.old.is_large }
+        ensures types { self.new.index.types ≡ self.old.index.types }
+        ensures index { (old : List ℕ) → IsDeletion place count (before.now ++ after.now) old self.old.index → IsIndexOf (take place old ++ drop (place + count) old) self.new.index }
+        ensures room { self.new.index.room + length self.new.index.starts ≡ self.old.index.room + length self.old.index.starts }
+        ensures change { result ≡ change_about place (place + count) place self.old.index.starts self.new.index.starts self.new.index.length }
+        ensures small { SmallLines result.old_lines × SmallLines result.new_lines }
+    {
+        match &mut self.kept {
+            LinesByWidth::Small(lines) => lines.deleted(place, count, before, after),
+            LinesByWidth::Large(lines) => lines.deleted(place, count, before, after),
+        }
+    }
+
+    /// As `LineIndex::lines_about` of line_index.
+    pub(crate) fn lines_about(&self, place: usize, end: usize) -> LinesAbout
+        ensures about { result ≡ lines_about place end self.now.index.starts }
+        ensures small { SmallLines result.old_lines }
+    {
+        match &self.kept {
+            LinesByWidth::Small(lines) => lines.lines_about(place, end),
+            LinesByWidth::Large(lines) => lines.lines_about(place, end),
+        }
+    }
+
+    /// As `LineIndex::change_since` of line_index.
+    pub(crate) fn change_since(&self, about: LinesAbout, end: usize) -> LineChange
+        ensures change { result ≡ change_since about end self.now.index.starts self.now.index.length }
+        ensures small { SmallLines result.new_lines }
+    {
+        match &self.kept {
+            LinesByWidth::Small(lines) => lines.change_since(about, end),
+            LinesByWidth::Large(lines) => lines.change_since(about, end),
+        }
+    }
+}
+
+/// The indicators by the width of places.
+#[derive(Drop)]
+pub(crate) enum IndicatorsByWidth {
+    Small(Decorations<u32>),
+    Large(Decorations<u64>),
+}
+
+/// The indicators of a document.
+#[derive(Drop)]
+pub struct Indicators {
+    pub(crate) kept: IndicatorsByWidth,
+}
+
+impl Model for Indicators {
+    ghost use Rattle.document.specs.Places.{IndicatorsOf, indicators_by_width};
+
+    ghost Value = { IndicatorsOf };
+
+    ghost view = { λ i. indicators_by_width i.kept };
+}
+
+impl Indicators {
+    /// Those of the empty text, as a large text keeps them or not. Takes no memory.
+    pub(crate) fn new(alloc: Global, is_large: bool) -> Self
+        ensures { result ≡ record { decorated = decorated 0 (replicate 32 []) 0 None; is_large = is_large } }
+    {
+        let kept = if is_large {
+            IndicatorsByWidth::Large(Decorations::new(alloc))
+        } else {
+            IndicatorsByWidth::Small(Decorations::new(alloc))
+        };
+        Indicators { kept }
+    }
+
+    /// Returns the length of the text, in bytes: each indicator has as many values.
+    pub fn length(&self) -> usize
+        ensures length { result ≡ self.now.decorated.length }
+        ensures count { length self.now.decorated.values ≡ 32 }
+        ensures each { AllByRecursion (λ values. length values ≡ self.now.decorated.length) self.now.decorated.values }
+    {
+        match &self.kept {
+            IndicatorsByWidth::Small(indicators) => indicators.length(),
+            IndicatorsByWidth::Large(indicators) => indicators.length(),
+        }
+    }
+
+    /// Returns whether an indicator has another value than 0 somewhere.
+    pub fn is_used(&self, indicator: usize) -> bool
+        requires { indicator < 32 }
+        ensures { IsTrue result ↔ (IsClear (values_of self.now.decorated.values indicator) → ⊥) }
+    {
+        match &self.kept {
+            IndicatorsByWidth::Small(indicators) => indicators.is_used(indicator),
+            IndicatorsByWidth::Large(indicators) => indicators.is_used(indicator),
+        }
+    }
+
+    /// Returns the value of an indicator at a place, and 0 past the end of the text.
+    pub fn value(&self, indicator: usize, place: usize) -> u32
+        requires { indicator < 32 }
+        ensures { result ≡ at_place (values_of self.now.decorated.values indicator) (pos place) }
+    {
+        match &self.kept {
+            IndicatorsByWidth::Small(indicators) => indicators.value(indicator, place),
+            IndicatorsByWidth::Large(indicators) => indicators.value(indicator, place),
+        }
+    }
+
+    /// Returns where the longest range of one value of an indicator begins that holds a place, and where it is past.
+    pub fn run(&self, indicator: usize, place: usize) -> (usize, usize)
+        requires indicator { indicator < 32 }
+        requires place { place < self.now.decorated.length }
+        ensures { result ≡ run_about (values_of self.now.decorated.values indicator) place }
+    {
+        match &self.kept {
+            IndicatorsByWidth::Small(indicators) => indicators.run(indicator, place),
+            IndicatorsByWidth::Large(indicators) => indicators.run(indicator, place),
+        }
+    }
+
+    /// Returns bit `k` for each indicator `k` that is not 0 at a place, and 0 past the end of the text.
+    pub fn mask_at(&self, place: usize) -> u32
+        ensures { result ≡ mask_of self.now.decorated.values place }
+    {
+        match &self.kept {
+            IndicatorsByWidth::Small(indicators) => indicators.mask_at(place),
+            IndicatorsByWidth::Large(indicators) => indicators.mask_at(place),
+        }
+    }
+
+    /// Makes room for `insertions` insertions.
+    ///
+    /// # Errors
+    ///
+    /// `AllocError` where memory is refused. All is then as it was.
+    pub(crate) fn reserve(&mut self, insertions: usize) -> Result<(), AllocError>
+        ensures ok { OnOk result (self.new ≡ record self.old { decorated = record self.old.decorated { room = max self.old.decorated.room insertions } }) }
+        ensures room_is_there { insertions ≤ self.old.decorated.room → IsOk result × (self.new ≡ self.old) }
+        ensures err { OnErr result (self.new ≡ self.old) }
+    {
+        match &mut self.kept {
+            IndicatorsByWidth::Small(indicators) => indicators.reserve(insertions),
+            IndicatorsByWidth::Large(indicators) => indicators.reserve(insertions),
+        }
+    }
+
+    /// As `Decorations::insert` of decorations.
+    pub(crate) fn insert(&mut self, place: usize, count: usize)
+        requires within { place ≤ self.old.decorated.length }
+        requires fits { self.old.decorated.length + count < bound_of self.old.is_large }
+        requires room { 0 < self.old.decorated.room }
+        ensures width { self.new.is_large ≡ self.old.is_large }
+        ensures length { self.new.decorated.length ≡ self.old.decorated.length + count }
+        ensures values { (bytes : List ℕ) → length bytes ≡ count → self.new.decorated.values ≡ indicators_after (Insert place bytes) self.old.decorated.values }
+        ensures room { self.new.decorated.room + 1 ≡ self.old.decorated.room }
+    {
+        match &mut self.kept {
+            IndicatorsByWidth::Small(indicators) => indicators.insert(place, count),
+            IndicatorsByWidth::Large(indicators) => indicators.insert(place, count),
+        }
+    }
+
+    /// As `Decorations::delete` of decorations.
+    pub(crate) fn delete(&mut self, place: usize, count: usize)
+        requires { place + count ≤ self.old.decorated.length }
+        ensures width { self.new.is_large ≡ self.old.is_large }
+        ensures length { self.new.decorated.length + count ≡ self.old.decorated.length }
+        ensures values { (bytes : List ℕ) → length bytes ≡ count → self.new.decorated.values ≡ indicators_after (Delete place bytes) self.old.decorated.values }
+        ensures room { self.new.decorated.room ≡ self.old.decorated.room }
+    {
+        match &mut self.kept {
+            IndicatorsByWidth::Small(indicators) => indicators.delete(place, count),
+            IndicatorsByWidth::Large(indicators) => indicators.delete(place, count),
+        }
+    }
+}

@@ -1,0 +1,174 @@
+//! Steps of a document's text, and their room.
+
+ghost use Rattle.std.specs.Prelude.{◌≡◌, ℕ, true, slice_range, ◌≤◌, ◌<◌, ◌+◌, length, OnOk, OnErr, IsOk};
+ghost use Rattle.ed_model.specs.History.{TextStep as Text, appended, begins_transaction};
+ghost use Rattle.ed_model.specs.Session.{text_of};
+ghost use Rattle.ed_model.specs.Performing.{document_after};
+ghost use Rattle.line_index.specs.StepEdits.{SmallLines, change_of};
+ghost use Rattle.document.specs.Kept.{HasRoom, HasTextRoom, HasHistoryRoom, TakesRoom, IsAtMost, FitsWidth, no_room, document_room, text_part, history_part};
+ghost use Rattle.ed_model.specs.Steps.{Insert, Delete};
+ghost use Rattle.undo_history.specs.Kept.{HasRoom as HasStepRoom};
+ghost use Rattle.undo_history.specs.Steps.{step_of};
+ghost use Rattle.line_index.specs.RoomLaws.{lines_for_insertion, lines_for_deletion};
+ghost use Rattle.document.specs.TextSteps.{step_in, IsStepOn, need_of};
+
+use crate::kept::Document;
+use crate::pieces::{carry_rows, put_in, take_out};
+use crate::room::DocumentRoom;
+use crate::text_step::TextStep;
+use line_index::{LineChange, lines_for_deletion, lines_for_insertion};
+use std::alloc::AllocError;
+use undo_history::{StepKind, UndoHistory};
+
+// Appends a step to a history, and answers whether it begins a transaction.
+fn append_step(
+    history: &mut UndoHistory,
+    later: bool,
+    kind: StepKind,
+    place: usize,
+    bytes: &[u8],
+) -> bool
+    requires { HasStepRoom history.old 1 (length bytes.now) }
+    ensures history { history.new.history ≡ appended later (Text (step_of kind place bytes.now)) history.old.history }
+    ensures begins { result ≡ begins_transaction later (Text (step_of kind place bytes.now)) history.old.history }
+    ensures steps_left { history.old.step_room ≤ history.new.step_room + 1 }
+    ensures bytes_left { history.old.byte_room ≤ history.new.byte_room + length bytes.now }
+{
+    let begins = history.begins_transaction(later, kind, place, bytes);
+    history.append_reserved(later, kind, place, bytes);
+    begins
+}
+
+impl Document {
+    /// The room that a step needs, of the text and of the history.
+    pub fn step_need(&self, step: TextStep) -> DocumentRoom
+        ensures need { result ≡ need_of self.now.document.line_end_types step.entry }
+    {
+        match step {
+            TextStep::Insert { bytes, .. } => DocumentRoom {
+                text: bytes.len(),
+                lines: lines_for_insertion(self.lines.types(), bytes),
+                insertions: 1,
+                steps: 1,
+                bytes: bytes.len(),
+            },
+            TextStep::Delete { count, .. } => DocumentRoom {
+                text: 0,
+                lines: lines_for_deletion(),
+                insertions: 0,
+                steps: 1,
+                bytes: count,
+            },
+        }
+    }
+
+    /// Makes room, and gives none back.
+    ///
+    /// # Errors
+    ///
+    /// `AllocError` where memory is refused; the document is then as it was.
+    pub fn reserve(&mut self, need: DocumentRoom) -> Result<(), AllocError>
+        requires wide { FitsWidth self.old.document (length self.old.document.cells + need.text) }
+        ensures same { self.new.document ≡ self.old.document }
+        ensures spare { self.new.spare ≡ self.old.spare }
+        ensures ok { OnOk result (HasRoom self.new need) }
+        ensures room_is_there { HasRoom self.old need → IsOk result }
+        ensures room_stays { TakesRoom self.old.room self.new.room no_room }
+        ensures at_most { IsAtMost self.new.room self.old.room need }
+    {
+        let Ok(()) = self.cells.reserve(need.text) else {
+            return Err(AllocError);
+        };
+        let Ok(()) = self.lines.reserve(need.lines) else {
+            return Err(AllocError);
+        };
+        let Ok(()) = self.rows.reserve(need.lines) else {
+            return Err(AllocError);
+        };
+        let Ok(()) = self.indicators.reserve(need.insertions) else {
+            return Err(AllocError);
+        };
+        let Ok(()) = self.history.reserve(need.steps, need.bytes) else {
+            return Err(AllocError);
+        };
+        Ok(())
+    }
+
+    // Puts bytes in.
+    fn insert(&mut self, place: usize, bytes: &[u8]) -> LineChange
+        requires fits { place ≤ length self.old.document.cells }
+        requires text_room { length bytes.now ≤ self.old.room.text }
+        requires line_room { lines_for_insertion self.old.document.line_end_types bytes.now ≤ self.old.room.lines }
+        requires insertion_room { 0 < self.old.room.insertions }
+        ensures document { self.new.document ≡ document_after (Insert place bytes.now) self.old.document }
+        ensures room_left { TakesRoom self.old.room self.new.room (document_room (length bytes.now) (lines_for_insertion self.old.document.line_end_types bytes.now) 1 0 0) }
+        ensures lines { result ≡ change_of self.old.document.line_end_types (Insert place bytes.now) (text_of self.old.document) }
+        ensures small { SmallLines result.old_lines × SmallLines result.new_lines }
+        ensures views { self.new.spare.views ≡ self.old.spare.views }
+    {
+        let change = put_in(&mut self.cells, &mut self.lines, place, bytes);
+        carry_rows(&mut self.rows, &change);
+        self.indicators.insert(place, bytes.len());
+        self.end_styled = self.end_styled.min(place);
+        change
+    }
+
+    // Takes bytes out.
+    fn delete(&mut self, place: usize, count: usize) -> LineChange
+        requires fits { place + count ≤ length self.old.document.cells }
+        requires line_room { lines_for_deletion ≤ self.old.room.lines }
+        ensures document { self.new.document ≡ document_after (Delete place (slice_range (text_of self.old.document) place (place + count))) self.old.document }
+        ensures room_left { TakesRoom self.old.room self.new.room (document_room 0 lines_for_deletion 0 0 0) }
+        ensures lines { result ≡ change_of self.old.document.line_end_types (Delete place (slice_range (text_of self.old.document) place (place + count))) (text_of self.old.document) }
+        ensures small { SmallLines result.old_lines × SmallLines result.new_lines }
+        ensures views { self.new.spare.views ≡ self.old.spare.views }
+    {
+        let change = take_out(&mut self.cells, &mut self.lines, place, count);
+        carry_rows(&mut self.rows, &change);
+        self.indicators.delete(place, count);
+        self.end_styled = self.end_styled.min(place);
+        change
+    }
+
+    /// Makes a step of the text. The cells, the line starts, the rows, the indicators and how far it is styled go with it. Returns
+    /// what became of the lines. The history is left alone. There must be room for all but the history.
+    pub fn step(&mut self, step: TextStep) -> LineChange
+        requires fits { IsStepOn step (length self.old.document.cells) }
+        requires room { HasTextRoom self.old (need_of self.old.document.line_end_types step) }
+        ensures document { self.new.document ≡ document_after (step_in step.entry (text_of self.old.document)) self.old.document }
+        ensures room_left { TakesRoom self.old.room self.new.room (text_part (need_of self.old.document.line_end_types step.entry)) }
+        ensures lines { result ≡ change_of self.old.document.line_end_types (step_in step.entry (text_of self.old.document)) (text_of self.old.document) }
+        ensures small { SmallLines result.old_lines × SmallLines result.new_lines }
+        ensures views { self.new.spare.views ≡ self.old.spare.views }
+    {
+        match step {
+            TextStep::Insert { place, bytes } => self.insert(place, bytes),
+            TextStep::Delete { place, count } => self.delete(place, count),
+        }
+    }
+
+    /// Appends a step to the history, before it is made; `later` says that it is a later step of its message. Answers whether it
+    /// begins a transaction. There must be room for it in the history. The text stays as it is.
+    pub fn append(&mut self, later: bool, step: TextStep) -> bool
+        requires fits { IsStepOn step (length self.old.document.cells) }
+        requires room { HasHistoryRoom self.old (need_of self.old.document.line_end_types step) }
+        ensures document { self.new.document ≡ record self.old.document { history = appended later (Text (step_in step.entry (text_of self.old.document))) self.old.document.history } }
+        ensures begins { result ≡ begins_transaction later (Text (step_in step.entry (text_of self.old.document))) self.old.document.history }
+        ensures room_left { TakesRoom self.old.room self.new.room (history_part (need_of self.old.document.line_end_types step.entry)) }
+        ensures spare { self.new.spare ≡ self.old.spare }
+    {
+        match step {
+            TextStep::Insert { place, bytes } => append_step(
+                &mut self.history,
+                later,
+                StepKind::Insert,
+                place,
+                bytes,
+            ),
+            TextStep::Delete { place, count } => {
+                let bytes = self.cells.lend(place, count);
+                append_step(&mut self.history, later, StepKind::Delete, place, bytes)
+            }
+        }
+    }
+}

@@ -1,0 +1,34 @@
+-- A reference is given back to the document, which stays, or goes.
+use Rattle.std.proofs.Common.{sym, ap, ◌∙◌}
+use Rattle.id_table.specs.Entries.{Entries}
+use Rattle.document.specs.Kept.{Kept}
+use Rattle.document_table.specs.Leaving.{released}
+use Rattle.document_table.proofs.LeavingLemmas.{nothing_there, still_there, gone, other_with, other_gone, room_with, room_without, same_room}
+use Rattle.document_table.proofs.table.DocumentTable.release.Goals as goal
+
+pub returns-in_default-clause-documents : goal.returns-in_default-clause-documents
+returns-in_default-clause-documents c = nothing_there c.args.id released c.args.self.now.entries (sym c.in_default.ensures.value)
+
+pub returns-then-not-has_references-clause-documents : goal.returns-then-not-has_references-clause-documents
+returns-then-not-has_references-clause-documents c =
+    rw c.remove.ensures (gone c.args.id released c.args.self.now.entries c.in-Some.document.now c.release.new.self (sym c.in-Some.ensures.value) (ap (λ (k : Kept). k.document) c.release.ensures) (sym c.if-not-has_references.ensures))
+
+pub returns-then-not-has_references-clause-others : goal.returns-then-not-has_references-clause-others
+returns-then-not-has_references-clause-others c other differs =
+    rw c.remove.ensures (other_gone c.args.id other c.release.new.self c.args.self.now.entries differs)
+
+pub returns-then-not-has_references-clause-room_stays : goal.returns-then-not-has_references-clause-room_stays
+returns-then-not-has_references-clause-room_stays c =
+    rw c.remove.ensures (room_without c.args.id c.release.new.self c.args.self.now.entries)
+
+pub returns-else-not-has_references-clause-documents : goal.returns-else-not-has_references-clause-documents
+returns-else-not-has_references-clause-documents c =
+    still_there c.args.id released c.args.self.now.entries c.in-Some.document.now c.release.new.self (sym c.in-Some.ensures.value) (ap (λ (k : Kept). k.document) c.release.ensures) (sym c.if-not-has_references.ensures)
+
+pub returns-else-not-has_references-clause-others : goal.returns-else-not-has_references-clause-others
+returns-else-not-has_references-clause-others c other differs =
+    other_with c.args.id other c.release.new.self c.args.self.now.entries differs
+
+pub returns-else-not-has_references-clause-room_stays : goal.returns-else-not-has_references-clause-room_stays
+returns-else-not-has_references-clause-room_stays c =
+    room_with c.args.id c.in-Some.document.now c.release.new.self c.args.self.now.entries (sym c.in-Some.ensures.value) (same_room c.in-Some.document.now c.release.new.self _ c.release.ensures)

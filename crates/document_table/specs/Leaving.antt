@@ -1,0 +1,51 @@
+-- What is left of documents where one loses a reference.
+use Rattle.std.specs.Prelude.{◌≡◌, ◌≢◌, ◌<◌, ℕ, ◌-◌, nat_lt, if◌then◌else◌, List, map, Option, Some, None, option_map, IfSome, IsSomeAnd}
+use Rattle.std.specs.List.{AllByRecursion}
+use Rattle.ed_model.specs.Session.{Document, references, living}
+use Rattle.document.specs.Kept.{Kept}
+use Rattle.id_table.specs.Entries.{Entry, Rise, entry, id_of, value_of, value_at, with_value_at, without_id}
+
+-- the documents and their ids, without their room
+abbrev pub document_in : Entry Kept → Entry Document
+document_in e = entry e.id e.value.document
+
+abbrev pub documents_in : List (Entry Kept) → List (Entry Document)
+documents_in entries = map document_in entries
+
+-- the document once a caller has given its reference back
+abbrev pub released : Document → Document
+released d = record d { held_by_callers = d.held_by_callers - 1 }
+
+-- another document at an id, or none there where nothing refers to it
+abbrev pub left_over : ℕ → Document → List (Entry Document) → List (Entry Document)
+left_over id d entries = if nat_lt 0 (references d) then with_value_at id d entries else without_id id entries
+
+abbrev pub left_over_of : ℕ → List (Entry Document) → Option Document → List (Entry Document)
+left_over_of id entries None = entries
+left_over_of id entries (Some d) = left_over id d entries
+
+-- the document at an id is changed, and goes if nothing refers to it any more
+abbrev pub let_go : ℕ → (Document → Document) → List (Entry Document) → List (Entry Document)
+let_go id change entries = left_over_of id entries (option_map change (value_at entries id))
+
+-- a document has the room that another had, but perhaps for another count of views
+abbrev pub SameRoom : Kept → Kept → Type 0
+SameRoom was left = (left.room ≡ was.room) × (left.spare ≡ record was.spare { views = left.spare.views })
+
+-- the document at an id has the room that it had, if it is still there
+abbrev pub KeepsRoom : ℕ → List (Entry Kept) → List (Entry Kept) → Type 0
+KeepsRoom id old new = IfSome (value_at new id) (λ left. IsSomeAnd (value_at old id) (λ was. SameRoom was left))
+
+-- The model changes every document, and keeps the living.
+
+-- to the document of the entry the model does what is done at the id, and nothing where the entry has another
+abbrev pub IsChangedAlike : ℕ → (Document → Document) → (Document → Document) → Entry Document → Type 0
+IsChangedAlike id change each e = (e.id ≡ id → each e.value ≡ change e.value) × (e.id ≢ id → each e.value ≡ e.value)
+
+-- where the ids rise, something refers to each document, and the model's change of each is the change of the one at the id: what is
+-- left are the living
+abbrev pub LeavesTheLiving : Type 0
+LeavesTheLiving =
+    (id low next : ℕ) (change each : Document → Document) (entries : List (Entry Document)) → Rise low next (map id_of entries)
+    → AllByRecursion (λ (e : Entry Document). 0 < references e.value) entries → AllByRecursion (IsChangedAlike id change each) entries
+    → map value_of (let_go id change entries) ≡ living (map each (map value_of entries))

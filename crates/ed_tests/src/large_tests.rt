@@ -1,0 +1,212 @@
+//! Each call that takes memory, at a large size. `tools/heap.sh` runs each of these tests once more where the heap may hold no more than the sizes justify,
+//! as its table says: a growth that no one needed is refused there, and the test fails.
+
+use crate::line_index_tests::insert;
+use cell_buffer::Cells;
+use ed_model::LineEndTypes;
+use ed_types::{Bytes, Kind, Message, Outcome};
+use line_index::LineIndex;
+use macro_script::printing::append_outcome;
+use macro_script::{Command, Script, assemble, list};
+use partitioning::{Partitioning, Place, Probes};
+use split_vector::SplitVector;
+use std::alloc::{AllocError, Global};
+use std::process::Abort;
+use std::test::Fail;
+use undo_history::{StepKind, UndoHistory};
+
+/// The length of a large text, in bytes: 1 MiB.
+const LARGE: usize = 1_048_576;
+
+/// The length of a line of it, with its LF, and how many there are.
+const LINE: usize = 16;
+
+const LINES: usize = 65_536;
+
+/// A text of `LARGE` bytes in lines of `LINE`.
+fn large_text(alloc: Global) -> Result<Vec<u8>, AllocError> {
+    let mut text = Vec::with_capacity(alloc, LARGE)?;
+    for _ in 0..LINES {
+        text.extend_from_slice(b"a line of bytes\n")?;
+    }
+    Ok(text)
+}
+
+#[test]
+fn items_at_once_and_one_by_one(rt: HostRuntime) -> Result<(), Fail> {
+    let text = large_text(rt.alloc())?;
+    let mut whole: SplitVector<u8> = SplitVector::new(rt.alloc());
+    whole.reserve(text.len())?;
+    whole.insert_slice_reserved(0, text.as_slice());
+    assert!(rt; whole.lend(0, whole.len()) == text.as_slice());
+    let mut single: SplitVector<u8> = SplitVector::new(rt.alloc());
+    for byte in text.as_slice() {
+        let end = single.len();
+        single.reserve(1)?;
+        single.insert_reserved(end, *byte);
+    }
+    assert_eq!(rt; single.len(), LARGE);
+    assert_eq!(rt; single.moved(), 1_048_576);
+    let mut filled: SplitVector<u32> = SplitVector::new(rt.alloc());
+    filled.reserve(LINES)?;
+    filled.insert_fill_reserved(0, LINES, 7);
+    assert_eq!(rt; filled.len(), LINES);
+    assert!(rt; filled.len() > 65_535);
+    assert_eq!(rt; filled.get(65_535), 7);
+    Ok(())
+}
+
+#[test]
+fn cells_of_a_large_text(rt: HostRuntime) -> Result<(), Fail> {
+    let text = large_text(rt.alloc())?;
+    let mut cells = Cells::new(rt.alloc());
+    cells.reserve(text.len())?;
+    cells.insert_reserved(0, text.as_slice());
+    cells.keep_styles()?;
+    assert_eq!(rt; cells.len(), LARGE);
+    assert!(rt; cells.lend(0, cells.len()) == text.as_slice());
+    let mut copy = Vec::with_capacity(rt.alloc(), LARGE)?;
+    cells.append_text_to(0, cells.len(), &mut copy)?;
+    assert!(rt; copy == text);
+    Ok(())
+}
+
+#[test]
+fn cells_of_a_large_text_line_by_line(rt: HostRuntime) -> Result<(), Fail> {
+    let mut cells = Cells::new(rt.alloc());
+    cells.keep_styles()?;
+    for _ in 0..LINES {
+        let end = cells.len();
+        let line = b"a line of bytes\n".as_slice();
+        cells.reserve(line.len())?;
+        cells.insert_reserved(end, line);
+    }
+    assert_eq!(rt; cells.len(), LARGE);
+    Ok(())
+}
+
+fn partitions_one_by_one<P: Place>(rt: &impl Abort, alloc: Global) -> Result<(), Fail> {
+    let mut table: Partitioning<P> = Partitioning::new(alloc)?;
+    assert!(rt; table.count() == 1 && LARGE <= P::GREATEST && table.length() == 0);
+    table.insert_text(0, LARGE);
+    for index in 1..LINES {
+        let start = LINE * index;
+        assert!(rt; table.count() == index && start <= table.length());
+        assert!(rt; table.start_of(index - 1) < start);
+        table.reserve(1)?;
+        table.insert_reserved(index, start);
+    }
+    assert_eq!(rt; table.count(), LINES);
+    // So many look-ups that each may read a few starts, and not all of them.
+    for place in 0..LARGE {
+        let mut probes = Probes::new();
+        assert_eq!(rt; table.partition_of(place, &mut probes), place / LINE);
+        assert!(rt; 16 <= probes.count() && probes.count() <= 18);
+    }
+    Ok(())
+}
+
+#[test]
+fn many_small_partitions(rt: HostRuntime) -> Result<(), Fail> {
+    partitions_one_by_one::<u32>(&rt, rt.alloc())
+}
+
+#[test]
+fn many_large_partitions(rt: HostRuntime) -> Result<(), Fail> {
+    partitions_one_by_one::<u64>(&rt, rt.alloc())
+}
+
+#[test]
+fn lines_of_a_large_text(rt: HostRuntime) -> Result<(), Fail> {
+    let bytes = large_text(rt.alloc())?;
+    for types in [LineEndTypes::Default, LineEndTypes::Unicode] {
+        let mut index: LineIndex<u32> = LineIndex::new(rt.alloc(), types)?;
+        let (text, _) = insert(
+            &rt,
+            rt.alloc(),
+            &mut index,
+            b"",
+            0,
+            bytes.as_slice(),
+            524_288,
+        )?;
+        assert_eq!(rt; index.count(), 65_537);
+        let mut probes = Probes::new();
+        assert_eq!(rt; index.line_of(1_000_000, &mut probes), 62_500);
+        assert!(rt; 16 <= probes.count() && probes.count() <= 18);
+        let (_, _) = insert(&rt, rt.alloc(), &mut index, text.as_slice(), 8, b"\n", 9)?;
+        assert_eq!(rt; index.count(), 65_538);
+    }
+    Ok(())
+}
+
+#[test]
+fn a_step_of_a_large_text(rt: HostRuntime) -> Result<(), Fail> {
+    let text = large_text(rt.alloc())?;
+    let mut history = UndoHistory::new(rt.alloc());
+    history.reserve(1, text.len())?;
+    history.append_reserved(false, StepKind::Insert, 0, text.as_slice());
+    assert_eq!(rt; history.undo_len(), 1);
+    assert!(rt; history.change_to_undo(0).bytes == text.as_slice());
+    Ok(())
+}
+
+#[test]
+fn many_steps(rt: HostRuntime) -> Result<(), Fail> {
+    let mut history = UndoHistory::new(rt.alloc());
+    for index in 0..LINES {
+        let line = b"a line of bytes\n".as_slice();
+        history.reserve(1, line.len())?;
+        history.append_reserved(false, StepKind::Insert, LINE * index, line);
+    }
+    assert_eq!(rt; history.undo_len(), LINES);
+    history.undo();
+    assert_eq!(rt; history.redo_len(), LINES);
+    Ok(())
+}
+
+/// How many commands a long script has.
+const COMMANDS: u32 = 100_000;
+
+/// A command that puts ten bytes in at the front.
+fn insertion(alloc: Global) -> Result<Command, AllocError> {
+    let text = Bytes::new(Vec::from_slice(alloc, b"abcdefghi\n")?);
+    let message = Message {
+        number: Kind::InsertText.number(),
+        w: 0,
+        l: 0,
+        text,
+    };
+    Ok(Command::SendMessage { view: 1, message })
+}
+
+fn long_script(alloc: Global) -> Result<Script, Fail> {
+    let mut script = Script::new(alloc);
+    for _ in 0..COMMANDS {
+        script.push(insertion(alloc)?)?;
+    }
+    Ok(script)
+}
+
+#[test]
+fn a_long_script_is_listed_and_read(rt: HostRuntime) -> Result<(), Fail> {
+    let script = long_script(rt.alloc())?;
+    assert_eq!(rt; script.commands().len(), 100_000);
+    let listed = list(rt.alloc(), &script)?;
+    // A first line of 6 bytes, and 32 for each command.
+    assert_eq!(rt; listed.len(), 3_200_006);
+    drop(script);
+    let again = assemble(rt.alloc(), listed.as_slice())?;
+    assert_eq!(rt; again.commands().len(), 100_000);
+    Ok(())
+}
+
+#[test]
+fn many_outcomes_are_printed(rt: HostRuntime) -> Result<(), Fail> {
+    let mut out = Vec::new(rt.alloc());
+    for _ in 0..COMMANDS {
+        append_outcome(&mut out, &Outcome::Opened(1))?;
+    }
+    assert_eq!(rt; out.len(), 700_000);
+    Ok(())
+}

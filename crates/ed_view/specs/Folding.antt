@@ -1,0 +1,38 @@
+-- What a change of a view asks for: lines that there are, and room to fold.
+use Rattle.std.specs.Prelude.{ℕ, ◌+◌, ◌<◌, ◌≤◌, ◌≡◌, if◌then◌else◌}
+use Rattle.ed_model.specs.declared.plan.ViewChange.{ViewChange}
+use Rattle.ed_model.specs.declared.plan.ViewChange.TheVariants.{ShowLines, HideLines, SetExpanded, Contract, Expand, EnsureVisible}
+use Rattle.ed_model.specs.Requests.{Request, line_total}
+use Rattle.ed_model.specs.PlansFit.{IsFitViewChange}
+use Rattle.contraction.specs.ViewLines.{FoldRoom}
+use Rattle.ed_view.specs.declared.folding.FoldNeed.{FoldNeed}
+
+-- the lines that the change names are among so many
+abbrev pub IsWithin : ℕ → ViewChange → Type 0
+IsWithin lines (ShowLines first past) = past ≤ lines
+IsWithin lines (HideLines first past) = past ≤ lines
+IsWithin lines (SetExpanded line on) = line < lines
+IsWithin lines (Contract line) = line < lines
+IsWithin lines (Expand line) = line < lines
+IsWithin lines (EnsureVisible line) = line < lines
+IsWithin lines other = Unit {0}
+
+-- for how many lines in all there must be room to be hidden, and for how many more to be contracted
+abbrev pub fold_need : ℕ → ViewChange → FoldNeed
+fold_need lines (HideLines first past) = record { hidden = lines; contracted = 0 }
+fold_need lines (SetExpanded line on) = record { hidden = 0; contracted = if on then 0 else 1 }
+fold_need lines (Contract line) = record { hidden = lines; contracted = 1 }
+fold_need lines (Expand line) = record { hidden = lines; contracted = 0 }
+fold_need lines (EnsureVisible line) = record { hidden = lines; contracted = 0 }
+fold_need lines other = record { hidden = 0; contracted = 0 }
+
+abbrev pub HasFoldRoom : FoldRoom → FoldNeed → Type 0
+HasFoldRoom room need = (need.hidden ≤ room.hidden) × (need.contracted ≤ room.contracted)
+
+-- what is left of the room once as much was needed
+abbrev pub LeavesFoldRoom : FoldRoom → FoldRoom → FoldNeed → Type 0
+LeavesFoldRoom old new need = (new.hidden ≡ old.hidden) × (old.contracted ≤ new.contracted + need.contracted)
+
+-- the lines of a fit change are among those of its document
+abbrev pub FitChangesAreWithin : Type 0
+FitChangesAreWithin = (r : Request) (change : ViewChange) → IsFitViewChange r change → IsWithin (line_total r) change

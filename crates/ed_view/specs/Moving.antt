@@ -1,0 +1,39 @@
+-- A view follows a step, told by its place, its length and what became of the lines; it reads no text.
+use Rattle.std.specs.Prelude.{◌≡◌, ◌≤◌, List, length}
+use Rattle.ed_model.specs.Steps.{Step}
+use Rattle.ed_model.specs.Rows.{flags_together}
+use Rattle.ed_model.specs.Session.{Document, View, text_of, lines_in}
+use Rattle.ed_model.specs.Performing.{moved_view}
+use Rattle.ed_model.specs.MergeLaws.{end_of}
+use Rattle.line_index.specs.declared.edit.LineEdit.{LineEdit}
+use Rattle.line_index.specs.Edits.{after_edits, FitLines}
+use Rattle.line_index.specs.StepEdits.{edits_of, change_of}
+use Rattle.selection.specs.declared.movements.Movement.{Movement}
+use Rattle.selection.specs.Positions.{moved_by, movement_of}
+
+abbrev pub with_edited_lines : List LineEdit → View → View
+with_edited_lines edits v = record v { flags = after_edits flags_together edits v.flags }
+
+abbrev pub view_moved : Movement → List LineEdit → View → View
+view_moved movement edits v = record v {
+  anchor = moved_by movement v.anchor;
+  caret = moved_by movement v.caret;
+  target_start = moved_by movement v.target_start;
+  target_end = moved_by movement v.target_end;
+  flags = after_edits flags_together edits v.flags;
+}
+
+-- what a step of the document does to its lines
+abbrev pub step_edits : Step → Document → List LineEdit
+step_edits step d = edits_of (change_of d.line_end_types step (text_of d))
+
+-- so a view of a document follows a step of it as the model's view does
+abbrev pub MovesAreThoseOfSteps : Type 0
+MovesAreThoseOfSteps =
+    (step : Step) (d : Document) (v : View) → end_of step ≤ length (text_of d) → length v.flags ≡ lines_in d
+    → view_moved (movement_of step) (step_edits step d) v ≡ moved_view step d v
+
+-- .. and the lines that the step names are the view's
+abbrev pub StepsFitViews : Type 0
+StepsFitViews =
+    (step : Step) (d : Document) (v : View) → end_of step ≤ length (text_of d) → length v.flags ≡ lines_in d → FitLines (length v.flags) (step_edits step d)

@@ -1,0 +1,94 @@
+//! What messages set in a view.
+
+ghost use Rattle.std.specs.Prelude.{◌≡◌, length};
+ghost use Rattle.ed_model.specs.Changes.{changed_view};
+ghost use Rattle.ed_view.specs.Folding.{IsWithin, fold_need, HasFoldRoom, LeavesFoldRoom};
+
+use crate::view::{Target, View};
+use contraction::Levels;
+use ed_model::ViewChange;
+use selection::Selection;
+
+impl View {
+    /// Sets anchor and caret.
+    pub fn select(&mut self, selection: Selection)
+        ensures { self.new ≡ record self.old { view = record self.old.view { anchor = selection.anchor; caret = selection.caret } } }
+    {
+        self.selection = selection;
+    }
+
+    /// Sets the target.
+    pub fn set_target(&mut self, target: Target)
+        ensures { self.new ≡ record self.old { view = record self.old.view { target_start = target.start; target_end = target.end } } }
+    {
+        self.target = target;
+    }
+
+    /// Sets the flags that it searches with.
+    pub fn set_search_flags(&mut self, flags: u32)
+        ensures { self.new ≡ record self.old { view = record self.old.view { search_flags = flags } } }
+    {
+        self.search_flags = flags;
+    }
+
+    /// Sets which kinds of change it hears, as bits.
+    pub fn set_mask(&mut self, mask: u32)
+        ensures { self.new ≡ record self.old { view = record self.old.view { mask = mask } } }
+    {
+        self.mask = mask;
+    }
+
+    /// Sets the indicator that it fills.
+    pub fn set_indicator(&mut self, indicator: u32)
+        ensures { self.new ≡ record self.old { view = record self.old.view { indicator = indicator } } }
+    {
+        self.indicator = indicator;
+    }
+
+    /// Sets the value that it fills indicators with.
+    pub fn set_indicator_value(&mut self, value: u32)
+        ensures { self.new ≡ record self.old { view = record self.old.view { indicator_value = value } } }
+    {
+        self.indicator_value = value;
+    }
+
+    /// Sets whether it turns the line ends of what it pastes into those of the document.
+    pub fn set_paste_conversion(&mut self, on: bool)
+        ensures { self.new ≡ record self.old { view = record self.old.view { converts_pastes = on } } }
+    {
+        self.converts_pastes = on;
+    }
+
+    /// Sets whether it records what it is sent.
+    pub fn set_recording(&mut self, on: bool)
+        ensures { self.new ≡ record self.old { view = record self.old.view { records = on } } }
+    {
+        self.records = on;
+    }
+
+    /// Makes a planned change. The lines that it names must be there, and the room that it needs.
+    pub fn change(&mut self, levels: &Levels, change: ViewChange)
+        requires levels { length levels.now ≡ length self.old.view.flags }
+        requires within { IsWithin (length self.old.view.flags) change }
+        requires room { HasFoldRoom self.old.room (fold_need (length self.old.view.flags) change) }
+        ensures view { self.new.view ≡ changed_view levels.now change self.old.view }
+        ensures room_left { LeavesFoldRoom self.old.room self.new.room (fold_need (length self.old.view.flags) change) }
+    {
+        match change {
+            ViewChange::Select { anchor, caret } => self.select(Selection { anchor, caret }),
+            ViewChange::SetTarget { start, end } => self.set_target(Target { start, end }),
+            ViewChange::SetSearchFlags { flags } => self.set_search_flags(flags),
+            ViewChange::SetMask { mask } => self.set_mask(mask),
+            ViewChange::SetIndicator { indicator } => self.set_indicator(indicator),
+            ViewChange::SetIndicatorValue { value } => self.set_indicator_value(value),
+            ViewChange::SetPasteConversion { on } => self.set_paste_conversion(on),
+            ViewChange::SetRecording { on } => self.set_recording(on),
+            ViewChange::ShowLines { first, past } => self.show(first, past),
+            ViewChange::HideLines { first, past } => self.hide(first, past),
+            ViewChange::SetExpanded { line, on } => self.set_expanded(line, on),
+            ViewChange::Contract { line } => self.contract(levels, line),
+            ViewChange::Expand { line } => self.expand(levels, line),
+            ViewChange::EnsureVisible { line } => self.ensure_visible(levels, line),
+        }
+    }
+}

@@ -1,0 +1,139 @@
+//! Lines of a view are shown and hidden, and folds contracted and expanded, once there is room.
+
+ghost use Rattle.std.specs.Prelude.{◌≡◌, ◌<◌, ◌≤◌, ◌+◌, ◌*◌, max, length, IsOk, OnOk};
+ghost use Rattle.split_vector.specs.Split.{most_room};
+ghost use Rattle.contraction.specs.ViewLines.{contracted_lines};
+ghost use Rattle.ed_model.specs.declared.plan.ViewChange.TheVariants as change_to;
+ghost use Rattle.ed_model.specs.Folding.{lines_shown, lines_hidden, with_expanded};
+ghost use Rattle.ed_model.specs.Changes.{changed_view};
+ghost use Rattle.ed_view.specs.Folding.{fold_need as need_of, HasFoldRoom, LeavesFoldRoom};
+
+use crate::view::View;
+use contraction::Levels;
+use ed_model::ViewChange;
+use std::alloc::AllocError;
+
+/// How much room a change of a view needs, so that it takes no memory.
+#[derive(Clone, Copy, Debug, PartialEq, Eq)]
+pub struct FoldNeed {
+    /// For how many lines in all to be hidden.
+    pub hidden: usize,
+    /// For how many more lines to be contracted.
+    pub contracted: usize,
+}
+
+impl View {
+    /// Returns how much room the change needs.
+    pub fn fold_need(&self, change: ViewChange) -> FoldNeed
+        ensures { result ≡ need_of (length self.now.view.flags) change }
+    {
+        let lines = self.lines.count();
+        match change {
+            ViewChange::SetExpanded { on, .. } => FoldNeed {
+                hidden: 0,
+                contracted: if on { 0 } else { 1 },
+            },
+            ViewChange::Contract { .. } => FoldNeed {
+                hidden: lines,
+                contracted: 1,
+            },
+            ViewChange::HideLines { .. }
+            | ViewChange::Expand { .. }
+            | ViewChange::EnsureVisible { .. } => FoldNeed {
+                hidden: lines,
+                contracted: 0,
+            },
+            _ => FoldNeed {
+                hidden: 0,
+                contracted: 0,
+            },
+        }
+    }
+
+    /// Makes room for lines to be hidden and contracted.
+    ///
+    /// # Errors
+    ///
+    /// `AllocError` where the memory is refused. The view is then as it was, and has no less room.
+    pub fn reserve_folding(&mut self, need: FoldNeed) -> Result<(), AllocError>
+        ensures same { self.new.view ≡ self.old.view }
+        ensures ok { OnOk result (HasFoldRoom self.new.room need) }
+        ensures room_is_there { HasFoldRoom self.old.room need → IsOk result × (self.new ≡ self.old) }
+        ensures room_stays { (self.old.room.hidden ≤ self.new.room.hidden) × (self.old.room.contracted ≤ self.new.room.contracted) }
+        ensures at_most_hidden { self.new.room.hidden ≤ max need.hidden (2 * self.old.room.hidden + 1) }
+        ensures at_most_contracted { self.new.room.contracted ≤ most_room (contracted_lines self.old.view.flags + 1) self.old.room.contracted need.contracted }
+    {
+        let Ok(()) = self.lines.reserve_hidden(need.hidden) else {
+            return Err(AllocError);
+        };
+        let Ok(()) = self.lines.reserve_contracted(need.contracted) else {
+            return Err(AllocError);
+        };
+        Ok(())
+    }
+
+    /// Shows the lines from `first` up to `past`. It needs no room.
+    pub fn show(&mut self, first: usize, past: usize)
+        requires within { past ≤ length self.old.view.flags }
+        ensures view { self.new.view ≡ record self.old.view { flags = lines_shown first past self.old.view.flags } }
+        ensures room { self.new.room ≡ self.old.room }
+    {
+        self.lines.show(first, past);
+    }
+
+    /// Hides the lines from `first` up to `past`, but never line 0. There must be room for all lines to be hidden.
+    pub fn hide(&mut self, first: usize, past: usize)
+        requires within { past ≤ length self.old.view.flags }
+        requires room { length self.old.view.flags ≤ self.old.room.hidden }
+        ensures view { self.new.view ≡ record self.old.view { flags = lines_hidden first past self.old.view.flags } }
+        ensures room { self.new.room ≡ self.old.room }
+    {
+        self.lines.hide(first, past);
+    }
+
+    /// Expands a line or contracts it, and leaves its children as they are. Contracting needs room for one more line.
+    pub fn set_expanded(&mut self, line: usize, on: bool)
+        requires within { line < length self.old.view.flags }
+        requires room { HasFoldRoom self.old.room (need_of (length self.old.view.flags) (change_to.SetExpanded line on)) }
+        ensures view { self.new.view ≡ record self.old.view { flags = with_expanded line on self.old.view.flags } }
+        ensures room_left { LeavesFoldRoom self.old.room self.new.room (need_of (length self.old.view.flags) (change_to.SetExpanded line on)) }
+    {
+        self.lines.set_expanded(line, on);
+    }
+
+    /// Contracts a header, which hides its children. There must be room for all lines to be hidden, and for one more to be
+    /// contracted.
+    pub fn contract(&mut self, levels: &Levels, header: usize)
+        requires levels { length levels.now ≡ length self.old.view.flags }
+        requires within { header < length self.old.view.flags }
+        requires room { HasFoldRoom self.old.room (need_of (length self.old.view.flags) (change_to.Contract header)) }
+        ensures view { self.new.view ≡ changed_view levels.now (change_to.Contract header) self.old.view }
+        ensures room_left { LeavesFoldRoom self.old.room self.new.room (need_of (length self.old.view.flags) (change_to.Contract header)) }
+    {
+        self.lines.contract(levels, header);
+    }
+
+    /// Expands a header, which shows each child that no contracted header between hides. There must be room for all lines
+    /// to be hidden.
+    pub fn expand(&mut self, levels: &Levels, header: usize)
+        requires levels { length levels.now ≡ length self.old.view.flags }
+        requires within { header < length self.old.view.flags }
+        requires room { length self.old.view.flags ≤ self.old.room.hidden }
+        ensures view { self.new.view ≡ changed_view levels.now (change_to.Expand header) self.old.view }
+        ensures room_left { LeavesFoldRoom self.old.room self.new.room (need_of (length self.old.view.flags) (change_to.Expand header)) }
+    {
+        self.lines.expand(levels, header);
+    }
+
+    /// Makes a line visible that is hidden: its fold parents are made visible and expanded first, the outermost before all.
+    /// There must be room for all lines to be hidden.
+    pub fn ensure_visible(&mut self, levels: &Levels, line: usize)
+        requires levels { length levels.now ≡ length self.old.view.flags }
+        requires within { line < length self.old.view.flags }
+        requires room { length self.old.view.flags ≤ self.old.room.hidden }
+        ensures view { self.new.view ≡ changed_view levels.now (change_to.EnsureVisible line) self.old.view }
+        ensures room_left { LeavesFoldRoom self.old.room self.new.room (need_of (length self.old.view.flags) (change_to.EnsureVisible line)) }
+    {
+        self.lines.ensure(levels, line);
+    }
+}

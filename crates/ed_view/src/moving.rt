@@ -1,0 +1,69 @@
+//! A view follows its document: a step of the text, other line ends, and another document.
+
+ghost use Rattle.std.specs.Prelude.{◌≡◌, ◌<◌, ◌≤◌, ◌+◌, ◌^◌, length};
+ghost use Rattle.ed_model.specs.Session.{Document, lines_in, attached_to};
+ghost use Rattle.line_index.specs.Edits.{FitLines, fresh_lines};
+ghost use Rattle.selection.specs.Positions.{count_of};
+ghost use Rattle.ed_view.specs.Moving.{view_moved, with_edited_lines};
+
+use crate::view::{Target, View};
+use line_index::LineEdit;
+use selection::{Movement, Selection};
+
+impl View {
+    /// Carries the flags through what became of the document's lines, as where it knows other line ends, and leaves the
+    /// rest as it is. It needs no memory.
+    pub fn carry_lines(&mut self, edits: &[LineEdit])
+        requires lines { FitLines (length self.old.view.flags) edits.now }
+        requires few { length self.old.view.flags + fresh_lines edits.now < 2 ^ 64 }
+        ensures view { self.new.view ≡ with_edited_lines edits.now self.old.view }
+        ensures hidden { self.new.room.hidden ≡ self.old.room.hidden }
+        ensures contracted { self.old.room.contracted ≤ self.new.room.contracted }
+    {
+        self.lines.carry(edits);
+    }
+
+    /// Follows a step of the text, as `moves_are_those_of_steps` says of one of its document: moves anchor, caret and
+    /// target, and carries the flags through what became of the lines. It needs no memory.
+    pub fn moved(&mut self, movement: Movement, edits: &[LineEdit])
+        requires anchor { self.old.view.anchor + count_of movement < 2 ^ 64 }
+        requires caret { self.old.view.caret + count_of movement < 2 ^ 64 }
+        requires target_start { self.old.view.target_start + count_of movement < 2 ^ 64 }
+        requires target_end { self.old.view.target_end + count_of movement < 2 ^ 64 }
+        requires lines { FitLines (length self.old.view.flags) edits.now }
+        requires few { length self.old.view.flags + fresh_lines edits.now < 2 ^ 64 }
+        ensures view { self.new.view ≡ view_moved movement edits.now self.old.view }
+        ensures hidden { self.new.room.hidden ≡ self.old.room.hidden }
+        ensures contracted { self.old.room.contracted ≤ self.new.room.contracted }
+    {
+        self.selection.moved(movement);
+        self.target = Target {
+            start: movement.moved(self.target.start),
+            end: movement.moved(self.target.end),
+        };
+        self.carry_lines(edits);
+    }
+
+    /// Attaches the view to a document of so many lines, or to its own once more: it stands at the start, and all lines
+    /// are visible and expanded. Its settings stay. It needs no memory.
+    pub fn attach_to(&mut self, document: u32, lines: usize)
+        requires lines { 0 < lines }
+        requires few { length self.old.view.flags + lines < 2 ^ 64 }
+        ensures view { (d : Document) → d.id ≡ document → lines_in d ≡ lines → self.new.view ≡ attached_to d self.old.view }
+        ensures hidden { self.new.room.hidden ≡ self.old.room.hidden }
+        ensures contracted { self.old.room.contracted ≤ self.new.room.contracted }
+    {
+        // all lines go, and as many fresh ones come: no new flags are made, which could fail
+        let fresh = [
+            LineEdit::Restart,
+            LineEdit::Come {
+                line: 1,
+                count: lines - 1,
+            },
+        ];
+        self.document = document;
+        self.selection = Selection::at(0);
+        self.target = Target { start: 0, end: 0 };
+        self.lines.carry(&fresh);
+    }
+}

@@ -1,0 +1,45 @@
+-- What holds of a session between its calls goes on holding.
+use Rattle.std.proofs.Common.{◌≡◌, ℕ, false, length, refl, ap, sym, ◌∙◌, subst, Ok, Err, IfOk, OnOk, OnErr}
+use Rattle.std.specs.Prelude.{Result, nat_le, nat_lt}
+use Rattle.std.specs.declared.alloc.AllocError.{AllocError}
+use Rattle.ed_types.specs.declared.message.Message.{Message}
+use Rattle.ed_types.specs.declared.refusal.Refusal.{Refusal}
+use Rattle.ed_types.specs.Notices.{Response}
+use Rattle.ed_model.specs.Session.{Session, is_allowed}
+use Rattle.ed_model.specs.SoundLaws.{IsSound, MessageKeepsSound, OpeningKeepsSound, ClosingKeepsSound}
+use Rattle.ed_model.specs.Table.{table, opened, closed}
+use Rattle.scene.specs.Scenes.{AreNamed}
+use Rattle.message_plans.specs.TableSoFar.{table_so_far}
+use Rattle.message_plans.specs.Requested.{session_in}
+use Rattle.message_plans.specs.declared.state.SessionState.{SessionState}
+use Rattle.editor_session.specs.Kept.{IsKept, DocumentsAreNamed}
+use Rattle.editor_session.specs.Opening.{with_view_on_new}
+
+-- the session after an answer of the table
+pub sound_after : {R : Type 0} (says : Result (Session × R) Refusal) (new : Session) (r : R) → IfOk says (λ done. IsSound done.0) → says ≡ Ok (new, r) → IsSound new
+sound_after says new r after answer = subst (λ t. IfOk t (λ done. IsSound done.0)) answer after
+
+pub kept_with : (old new : SessionState) → IsKept old → IsSound (session_in new) → new.limits ≡ old.limits → DocumentsAreNamed new.documents.entries → AreNamed new.views.entries → IsKept new
+kept_with old new kept sound same documents views = record { sound = sound; limits = ap is_allowed same ∙ kept.limits; documents = documents; views = views }
+
+-- A view opened.
+
+pub opened_is : (s : Session) → nat_le s.limits.views (length s.views) ≡ false → nat_lt s.limits.ids s.next_view ≡ false → nat_lt s.limits.ids s.next_document ≡ false → opened s ≡ Ok (with_view_on_new s, s.next_view)
+opened_is s a b c = rw (a, b, c) refl
+
+pub kept_after_opening : OpeningKeepsSound → (old new : SessionState) (result : Result ℕ AllocError) → IsKept old → opened (session_in old) ≡ Ok (with_view_on_new (session_in old), old.views.next)
+    → OnOk result (session_in new ≡ with_view_on_new (session_in old)) → OnErr result (session_in new ≡ session_in old) → new.limits ≡ old.limits → DocumentsAreNamed new.documents.entries → AreNamed new.views.entries → IsKept new
+kept_after_opening law old new (Ok id) kept is done same limits documents views =
+    kept_with old new kept (subst IsSound (sym done) (subst (λ t. IfOk t (λ done. IsSound done.0)) is (law (session_in old) kept.sound))) limits documents views
+kept_after_opening law old new (Err e) kept is done same limits documents views = kept_with old new kept (subst IsSound (sym same) kept.sound) limits documents views
+
+pub kept_after_closing : ClosingKeepsSound → (old new : SessionState) (view : ℕ) (result : Result (Unit {0}) Refusal) → IsKept old
+    → OnOk result (closed (session_in old) view ≡ Ok (session_in new)) → OnErr result (session_in new ≡ session_in old) → new.limits ≡ old.limits → DocumentsAreNamed new.documents.entries → AreNamed new.views.entries → IsKept new
+kept_after_closing law old new view (Ok u) kept done same limits documents views =
+    kept_with old new kept (subst (λ t. IfOk t IsSound) done (law (session_in old) view kept.sound)) limits documents views
+kept_after_closing law old new view (Err e) kept done same limits documents views = kept_with old new kept (subst IsSound (sym same) kept.sound) limits documents views
+
+pub kept_after_message : MessageKeepsSound → (old new : SessionState) (view : ℕ) (m : Message) (reply : Response) → IsKept old → table table_so_far (session_in old) view m ≡ Ok (session_in new, reply)
+    → new.limits ≡ old.limits → DocumentsAreNamed new.documents.entries → AreNamed new.views.entries → IsKept new
+kept_after_message law old new view m reply kept answer limits documents views =
+    kept_with old new kept (sound_after (table table_so_far (session_in old) view m) (session_in new) reply (law table_so_far (session_in old) view m kept.sound) answer) limits documents views

@@ -1,0 +1,236 @@
+-- Steps in turn, out of the room that was made for all of them.
+use Rattle.std.proofs.Common.{zero, suc, ◌≡◌, ◌≢◌, ℕ, ◌+◌, ◌-◌, ◌<◌, ◌≤◌, ◌==◌, Bool, true, false, cond, List, [], ◌∷◌, ◌++◌, length, refl, ap, sym, ◌∙◌, subst, arith, slice_range, length-take, length-drop}
+use Rattle.std.specs.List.{AllByRecursion}
+use Rattle.std.proofs.lemmas.List.{length-map}
+use Rattle.ed_model.specs.declared.plan.LineEndTypes.{LineEndTypes}
+use Rattle.ed_model.specs.Text.{Cell, bytes_of}
+use Rattle.ed_model.specs.Steps.{Step, Insert, Delete, step_bytes, replacement, insertion, deletion}
+use Rattle.ed_model.specs.History.{History, Transaction, Change, TextStep, appended, sealed_outside_groups, with_last_sealed}
+use Rattle.ed_model.specs.Session.{Document, View, text_of, watching}
+use Rattle.ed_model.specs.Performing.{Scene, step_made, edit_made, sealed_scene}
+use Rattle.document.specs.declared.room.DocumentRoom.{DocumentRoom}
+use Rattle.document.specs.declared.text_step.TextStep.TheVariants as lent
+use Rattle.document.specs.Kept.{Kept, HasRoom, TakesRoom}
+use Rattle.document.specs.TextSteps.{step_in, need_of}
+use Rattle.id_table.specs.Entries.{Entries}
+use Rattle.ed_view.specs.Kept.{KeptView}
+use Rattle.notify.specs.Gathered.{Gathered}
+use Rattle.scene.specs.Scenes.{views_of, scene_in, StandsIfOn, IsWatched}
+use Rattle.scene.specs.Hearing.{bytes_shared, made_kinds}
+use Rattle.scene.specs.Needs.{notes_needed, bytes_needed, NotesAreEnough, BytesAreEnough, SealingNeedsTheSame}
+use Rattle.editor_session.specs.Needs.{room_of_step, room_of_steps, notes_for, bytes_for}
+
+-- Notes and their bytes.
+
+pub first_notes : NotesAreEnough → (later : Bool) (step : Step) (steps : List Step) (scene : Scene) (room : ℕ) → notes_needed scene (step ∷ steps) ≤ room
+    → length (step_made later step scene).notes ≤ length scene.notes + room
+first_notes law later step steps scene room h = from (length (step_made later step scene).notes) (notes_needed (step_made later step scene) steps) (length scene.notes) (notes_needed scene (step ∷ steps)) (law later step steps scene) h
+  where
+    from : (put left had need : ℕ) → put + left ≤ had + need → need ≤ room → put ≤ had + room
+    from put left had need a b = omega arith
+
+pub next_notes : NotesAreEnough → (later : Bool) (step : Step) (steps : List Step) (scene : Scene) (room room' put : ℕ) → notes_needed scene (step ∷ steps) ≤ room
+    → put ≡ length (step_made later step scene).notes → room' + put ≡ room + length scene.notes → notes_needed (step_made later step scene) steps ≤ room'
+next_notes law later step steps scene room room' put h is e = from (length (step_made later step scene).notes) (notes_needed (step_made later step scene) steps) (length scene.notes) (notes_needed scene (step ∷ steps)) (law later step steps scene) h is e
+  where
+    from : (made left had need : ℕ) → made + left ≤ had + need → need ≤ room → put ≡ made → room' + put ≡ room + had → left ≤ room'
+    from made left had need a b is c = omega arith
+
+pub first_bytes : BytesAreEnough → (later : Bool) (step : Step) (steps : List Step) (scene : Scene) (room : ℕ) → bytes_needed scene (step ∷ steps) ≤ room
+    → bytes_shared (made_kinds later step scene.document.history) (watching scene.views scene.document) (length (step_bytes step)) ≤ room
+first_bytes law later step steps scene room h =
+    from (bytes_shared (made_kinds later step scene.document.history) (watching scene.views scene.document) (length (step_bytes step))) (bytes_needed (step_made later step scene) steps) (bytes_needed scene (step ∷ steps)) (law later step steps scene) h
+  where
+    from : (shared left need : ℕ) → shared + left ≤ need → need ≤ room → shared ≤ room
+    from shared left need a b = omega arith
+
+pub next_bytes : BytesAreEnough → (later : Bool) (step : Step) (steps : List Step) (scene : Scene) (room room' : ℕ) → bytes_needed scene (step ∷ steps) ≤ room
+    → room' + bytes_shared (made_kinds later step scene.document.history) (watching scene.views scene.document) (length (step_bytes step)) ≡ room
+    → bytes_needed (step_made later step scene) steps ≤ room'
+next_bytes law later step steps scene room room' h e =
+    from (bytes_shared (made_kinds later step scene.document.history) (watching scene.views scene.document) (length (step_bytes step))) (bytes_needed (step_made later step scene) steps) (bytes_needed scene (step ∷ steps)) (law later step steps scene) h e
+  where
+    from : (shared left need : ℕ) → shared + left ≤ need → need ≤ room → room' + shared ≡ room → left ≤ room'
+    from shared left need a b e = omega arith
+
+-- Room in the document.
+
+length_range : (cells : List Cell) (start count : ℕ) → start + count ≤ length cells → length (slice_range (bytes_of cells) start (start + count)) ≡ count
+length_range cells start count h =
+    let long : length (bytes_of cells) ≡ length cells = length-map cells (λ (c : Cell). c.byte) in
+    simp (length-take, length-drop) (omega (arith, long))
+
+pub deletion_needs : (types : LineEndTypes) (d : Document) (start count : ℕ) → start + count ≤ length d.cells
+    → room_of_step types (Delete start (slice_range (text_of d) start (start + count))) ≡ need_of types (lent.Delete start count)
+deletion_needs types d start count h = ap (λ n. room_of_count n) (length_range d.cells start count h)
+  where
+    room_of_count : ℕ → DocumentRoom
+    room_of_count n = record { text = 0; lines = 3; insertions = 0; steps = 1; bytes = n }
+
+pub deletes_some : (d : Document) (start count : ℕ) → start + count ≤ length d.cells → 0 < count → (bytes : List ℕ)
+    → replacement start count bytes (text_of d) ≡ Delete start (slice_range (text_of d) start (start + count)) ∷ insertion start bytes
+deletes_some d start count h some bytes = go (slice_range (text_of d) start (start + count)) (length_range d.cells start count h)
+  where
+    go : (gone : List ℕ) → length gone ≡ count → deletion start gone ++ insertion start bytes ≡ Delete start gone ∷ insertion start bytes
+    go [] e = absurd (omega (arith, e))
+    go (b ∷ bs) e = refl
+
+pub deletes_none : (d : Document) (start count : ℕ) → count ≡ 0 → (bytes : List ℕ)
+    → replacement start count bytes (text_of d) ≡ insertion start bytes
+deletes_none d start count none bytes = ap (λ gone. deletion start gone ++ insertion start bytes) (empty (slice_range (text_of d) start (start + count)) zero_long)
+  where
+    zero_long : length (slice_range (text_of d) start (start + count)) ≡ 0
+    zero_long = let e : start + count - start ≡ 0 = omega (arith, none) in rw e refl
+
+    empty : (gone : List ℕ) → length gone ≡ 0 → gone ≡ []
+    empty [] e = refl
+    empty (b ∷ bs) e = absurd (omega (arith, e))
+
+pub inserts_some : (start : ℕ) (bytes : List ℕ) → length bytes ≢ 0 → insertion start bytes ≡ Insert start bytes ∷ []
+inserts_some start [] h = absurd (h refl)
+inserts_some start (b ∷ bs) h = refl
+
+pub inserts_none : (start : ℕ) (bytes : List ℕ) → length bytes ≡ 0 → insertion start bytes ≡ []
+inserts_none start [] h = refl
+inserts_none start (b ∷ bs) h = absurd (omega (arith, h))
+
+pub first_room : (k : Kept) (types : LineEndTypes) (step : Step) (steps : List Step) → HasRoom k (room_of_steps types (step ∷ steps)) → HasRoom k (room_of_step types step)
+first_room k types step steps h =
+    let a = room_of_step types step in
+    let b = room_of_steps types steps in (
+      (less a.text b.text k.room.text h.0.0, less a.lines b.lines k.room.lines h.0.1, less a.insertions b.insertions k.room.insertions h.0.2),
+      λ on. (less a.steps b.steps k.room.steps (h.1 on).0, less a.bytes b.bytes k.room.bytes (h.1 on).1),
+    )
+  where
+    less : (x y z : ℕ) → x + y ≤ z → x ≤ z
+    less x y z h = omega arith
+
+pub next_room : (k k' : Kept) (types : LineEndTypes) (step : Step) (steps : List Step) → HasRoom k (room_of_steps types (step ∷ steps)) → TakesRoom k.room k'.room (room_of_step types step)
+    → k'.document.history.collecting ≡ k.document.history.collecting → HasRoom k' (room_of_steps types steps)
+next_room k k' types step steps h left same =
+    let a = room_of_step types step in
+    let b = room_of_steps types steps in (
+      (rest a.text b.text k.room.text k'.room.text h.0.0 left.text_left, rest a.lines b.lines k.room.lines k'.room.lines h.0.1 left.lines_left, rest a.insertions b.insertions k.room.insertions k'.room.insertions h.0.2 left.insertions_left),
+      λ on. (let was = h.1 (sym same ∙ on) in (rest a.steps b.steps k.room.steps k'.room.steps was.0 left.steps_left, rest a.bytes b.bytes k.room.bytes k'.room.bytes was.1 left.bytes_left)),
+    )
+  where
+    rest : (x y z z' : ℕ) → x + y ≤ z → z ≤ z' + x → y ≤ z'
+    rest x y z z' h l = omega arith
+
+pub appended_collects : (later : Bool) (c : Change) (h : History) → (appended later c h).collecting ≡ h.collecting
+appended_collects later c h = go h.collecting refl
+  where
+    go : (b : Bool) → h.collecting ≡ b → (appended later c h).collecting ≡ b
+    go true e = rw e refl
+    go false e = rw e refl
+
+pub sealed_collects : (h : History) → (sealed_outside_groups h).collecting ≡ h.collecting
+sealed_collects h = go (h.depth == 0) h.past
+  where
+    last : (past : List Transaction) → (with_last_sealed (record h { past = past })).collecting ≡ h.collecting
+    last [] = refl
+    last (t ∷ ts) = refl
+
+    go : (b : Bool) (past : List Transaction) → (cond b (with_last_sealed h) h).collecting ≡ h.collecting
+    go true past = last h.past
+    go false past = refl
+
+-- A document whose last transaction is sealed, and one that is still watched.
+
+abbrev pub sealed_kept : Kept → Kept
+sealed_kept k = record k { document = (let d = k.document in record d { history = sealed_outside_groups d.history }) }
+
+still_stands : (d : Document) (h : History) (views : List View) → AllByRecursion (StandsIfOn d) views → AllByRecursion (StandsIfOn (record d { history = h })) views
+still_stands d h [] all = tt
+still_stands d h (v ∷ vs) all = (
+  (λ e. (let on = all.0 e in record { anchor = on.anchor; caret = on.caret; target_start = on.target_start; target_end = on.target_end; lines = on.lines; first_line = on.first_line; indicator = on.indicator; listed = on.listed })),
+  still_stands d h vs all.1,
+)
+
+pub still_watched : (d : Document) (h : History) (table : Entries KeptView) → IsWatched d table → IsWatched (record d { history = h }) table
+still_watched d h table w = record { named = w.named; rise = w.rise; listed = w.listed; stand = still_stands d h (views_of table.entries) w.stand }
+
+pub positive : (n : ℕ) → n ≢ 0 → 0 < n
+positive zero h = absurd (h refl)
+positive (suc n) h = omega arith
+
+-- Two steps, between seals.
+module _ (start count : ℕ) (bytes : List ℕ) (k k1 : Kept) (views : Entries KeptView) (notes : Gathered) (range : start + count ≤ length k.document.cells) (some : (0 < count) × (0 < length bytes)) (sealed : k1 ≡ sealed_kept k) where
+  abbrev pub gone : Step
+  gone = Delete start (slice_range (text_of k.document) start (start + count))
+
+  abbrev pub come : Step
+  come = Insert start bytes
+
+  abbrev pub at_first : Scene
+  at_first = scene_in k.document views.entries notes.notes
+
+  pub are_two : replacement start count bytes (text_of k.document) ≡ gone ∷ come ∷ []
+  are_two = deletes_some k.document start count range some.0 bytes ∙ ap (λ ss. gone ∷ ss) (inserts_some start bytes (λ e. omega (arith, e, some.1)))
+
+  pub notes_sealed : SealingNeedsTheSame → notes_for (replacement start count bytes (text_of k.document)) at_first ≤ notes.note_room → notes_needed (sealed_scene at_first) (gone ∷ come ∷ []) ≤ notes.note_room
+  notes_sealed law h = subst (λ n. n ≤ notes.note_room) (sym (law (gone ∷ come ∷ []) at_first).0) (subst (λ ss. notes_for ss at_first ≤ notes.note_room) are_two h)
+
+  pub bytes_sealed : SealingNeedsTheSame → bytes_for (replacement start count bytes (text_of k.document)) at_first ≤ notes.text_room → bytes_needed (sealed_scene at_first) (gone ∷ come ∷ []) ≤ notes.text_room
+  bytes_sealed law h = subst (λ n. n ≤ notes.text_room) (sym (law (gone ∷ come ∷ []) at_first).1) (subst (λ ss. bytes_for ss at_first ≤ notes.text_room) are_two h)
+
+  -- the scene after the deletion
+  pub scene_between : (between : Scene) → between ≡ step_made false (step_in (lent.Delete start count) (text_of k1.document)) (scene_in k1.document views.entries notes.notes) → between ≡ step_made false gone (sealed_scene at_first)
+  scene_between between e = subst (λ x. between ≡ step_made false (step_in (lent.Delete start count) (text_of x.document)) (scene_in x.document views.entries notes.notes)) sealed e
+
+  pub first_of_two_notes : NotesAreEnough → SealingNeedsTheSame → notes_for (replacement start count bytes (text_of k.document)) at_first ≤ notes.note_room
+      → length (step_made false (step_in (lent.Delete start count) (text_of k1.document)) (scene_in k1.document views.entries notes.notes)).notes ≤ length notes.notes + notes.note_room
+  first_of_two_notes law same h =
+      subst (λ x. length (step_made false (step_in (lent.Delete start count) (text_of x.document)) (scene_in x.document views.entries notes.notes)).notes ≤ length notes.notes + notes.note_room) (sym sealed)
+      (first_notes law false gone (come ∷ []) (sealed_scene at_first) notes.note_room (notes_sealed same h))
+
+  abbrev pub shared_first : Kept → ℕ
+  shared_first x = bytes_shared (made_kinds false (step_in (lent.Delete start count) (text_of x.document)) x.document.history) (watching (views_of views.entries) x.document) (length (step_bytes (step_in (lent.Delete start count) (text_of x.document))))
+
+  pub first_of_two_bytes : BytesAreEnough → SealingNeedsTheSame → bytes_for (replacement start count bytes (text_of k.document)) at_first ≤ notes.text_room → shared_first k1 ≤ notes.text_room
+  first_of_two_bytes law same h =
+      subst (λ x. shared_first x ≤ notes.text_room) (sym sealed) (first_bytes law false gone (come ∷ []) (sealed_scene at_first) notes.text_room (bytes_sealed same h))
+
+  module _ (k2 : Kept) (views2 : Entries KeptView) (notes2 : Gathered)
+      (made : scene_in k2.document views2.entries notes2.notes ≡ step_made false (step_in (lent.Delete start count) (text_of k1.document)) (scene_in k1.document views.entries notes.notes)) where
+    abbrev pub between : Scene
+    between = scene_in k2.document views2.entries notes2.notes
+
+    pub second_notes : NotesAreEnough → SealingNeedsTheSame → notes_for (replacement start count bytes (text_of k.document)) at_first ≤ notes.note_room → notes2.note_room + length notes2.notes ≡ notes.note_room + length notes.notes
+        → length (step_made true come between).notes ≤ length notes2.notes + notes2.note_room
+    second_notes law same h e =
+        let is = scene_between between made in
+        first_notes law true come [] between notes2.note_room
+        (subst (λ x. notes_needed x (come ∷ []) ≤ notes2.note_room) (sym is)
+        (next_notes law false gone (come ∷ []) (sealed_scene at_first) notes.note_room notes2.note_room (length notes2.notes) (notes_sealed same h) (ap (λ (x : Scene). length x.notes) is) e))
+
+    pub second_bytes : BytesAreEnough → SealingNeedsTheSame → bytes_for (replacement start count bytes (text_of k.document)) at_first ≤ notes.text_room → notes2.text_room + shared_first k1 ≡ notes.text_room
+        → bytes_shared (made_kinds true come k2.document.history) (watching (views_of views2.entries) k2.document) (length bytes) ≤ notes2.text_room
+    second_bytes law same h e =
+        let is = scene_between between made in
+        first_bytes law true come [] between notes2.text_room
+        (subst (λ x. bytes_needed x (come ∷ []) ≤ notes2.text_room) (sym is)
+        (next_bytes law false gone (come ∷ []) (sealed_scene at_first) notes.text_room notes2.text_room (bytes_sealed same h) (subst (λ x. notes2.text_room + shared_first x ≡ notes.text_room) sealed e)))
+
+    pub second_room : HasRoom k (room_of_steps k.document.line_end_types (replacement start count bytes (text_of k.document))) → TakesRoom k1.room k2.room (need_of k1.document.line_end_types (lent.Delete start count))
+        → HasRoom k2 (room_of_step k2.document.line_end_types come)
+    second_room room left =
+        let types = k.document.line_end_types in
+        let is = scene_between between made in
+        let room' : HasRoom k (room_of_steps types (gone ∷ come ∷ [])) = subst (λ ss. HasRoom k (room_of_steps types ss)) are_two room in
+        let at_k : TakesRoom (sealed_kept k).room k2.room (need_of types (lent.Delete start count)) = subst (λ x. TakesRoom x.room k2.room (need_of x.document.line_end_types (lent.Delete start count))) sealed left in
+        let left' : TakesRoom k.room k2.room (room_of_step types gone) = subst (λ n. TakesRoom k.room k2.room n) (sym (deletion_needs types k.document start count range)) at_k in
+        let collects : k2.document.history.collecting ≡ k.document.history.collecting =
+        ap (λ (x : Scene). x.document.history.collecting) is ∙ appended_collects false (TextStep gone) (sealed_outside_groups k.document.history) ∙ sealed_collects k.document.history in
+        let same_types : k2.document.line_end_types ≡ types = ap (λ (x : Scene). x.document.line_end_types) is in
+        subst (λ t. HasRoom k2 (room_of_step t come)) (sym same_types) (first_room k2 types come [] (next_room k k2 types gone (come ∷ []) room' left' collects))
+
+    pub two_made : (k3 k4 : Kept) (views3 : Entries KeptView) (notes3 : Gathered) → scene_in k3.document views3.entries notes3.notes ≡ step_made true come between → k4 ≡ sealed_kept k3
+        → scene_in k4.document views3.entries notes3.notes ≡ edit_made (replacement start count bytes (text_of k.document)) at_first
+    two_made k3 k4 views3 notes3 next ends =
+        ap (λ (x : Kept). scene_in x.document views3.entries notes3.notes) ends
+        ∙ ap sealed_scene (next ∙ ap (step_made true come) (scene_between between made))
+        ∙ sym (ap (λ ss. edit_made ss at_first) are_two)
+
+pub ends_watched : (k3 k4 : Kept) (views : Entries KeptView) → k4 ≡ sealed_kept k3 → IsWatched k3.document views → IsWatched k4.document views
+ends_watched k3 k4 views e w = subst (λ x. IsWatched x.document views) (sym e) (still_watched k3.document (sealed_outside_groups k3.document.history) views w)

@@ -1,0 +1,162 @@
+-- The way of a message through the table.
+use Rattle.std.proofs.Common.{◌&&◌, ◌≡◌, ◌≢◌, ℕ, Bool, true, false, cond, refl, ap, sym, ◌∙◌, subst, Option, Some, None, Ok, Err}
+use Rattle.std.specs.Prelude.{Result, not}
+use Rattle.ed_types.specs.declared.message.Message.{Message}
+use Rattle.ed_types.specs.declared.kind.Kind.{Kind}
+use Rattle.ed_types.specs.declared.refusal.Refusal.{Refusal}
+use Rattle.ed_types.specs.declared.refusal.Refusal.TheVariants.{NoSuchView, UnknownMessage, NoSuchDocument, OutOfMemory}
+use Rattle.ed_types.specs.Notices.{Response}
+use Rattle.ed_types.specs.Messages.{kind_of, marks_of}
+use Rattle.ed_model.specs.Session.{Session, View, Document, document_at, view_at}
+use Rattle.ed_model.specs.SoundLaws.{IsSound}
+use Rattle.ed_model.specs.Requests.{Request, Planned}
+use Rattle.ed_model.specs.declared.plan.Plan.{Plan}
+use Rattle.ed_model.specs.declared.plan.Plan.TheVariants as plan
+use Rattle.ed_model.specs.Table.{table, table_from_view, table_from_kind, table_if_known, table_from_document, answered, request, plan_of}
+use Rattle.message_plans.specs.TableSoFar.{table_so_far}
+use Rattle.editor_session.proofs.Finding.{id_of_view_at}
+use Rattle.editor_session.specs.declared.find.Task.{Task}
+use Rattle.editor_session.specs.Plans.{needs_no_memory, planned_without_memory, is_free, is_free_request, is_free_from_document, is_free_if_known, is_free_from_kind, is_free_from_view, is_marked_free, is_recorded_by, MarkedMessagesAreFree}
+use Rattle.editor_session.specs.Tasks.{known_kind, IsFound, IsTask}
+use Rattle.editor_session.proofs.KnownPlans.{known_plan, IsKnownPlan, is_answer}
+
+pub no_view : (s : Session) (id : ℕ) (m : Message) → view_at s.views id ≡ None → table table_so_far s id m ≡ Err NoSuchView
+no_view s id m none = ap (table_from_view table_so_far s m) none
+
+unknown : (s : Session) (v : View) (m : Message) (kind : Option Kind) → known_kind kind ≡ None → table_from_kind table_so_far s v m kind ≡ Err UnknownMessage
+unknown s v m None e = refl
+unknown s v m (Some kind) e = go (table_so_far kind) e
+  where
+    go : (b : Bool) → cond b (Some kind) None ≡ None → table_if_known b s v kind m ≡ Err UnknownMessage
+    go true e = absurd (cc)
+    go false e = refl
+
+pub no_kind : (s : Session) (id : ℕ) (m : Message) (v : View) → view_at s.views id ≡ Some v → known_kind (kind_of m.number) ≡ None → table table_so_far s id m ≡ Err UnknownMessage
+no_kind s id m v found none = ap (table_from_view table_so_far s m) found ∙ unknown s v m (kind_of m.number) none
+
+-- a kind that is known
+pub record IsOfKind (o : Option Kind) (kind : Kind) : Type 0 where
+  pub known : table_so_far kind ≡ true
+  pub is : o ≡ Some kind
+
+pub of_known : (o : Option Kind) (kind : Kind) → known_kind o ≡ Some kind → IsOfKind o kind
+of_known None kind e = absurd (cc)
+of_known (Some k) kind e = go (table_so_far k) refl e
+  where
+    go : (b : Bool) → table_so_far k ≡ b → cond b (Some k) None ≡ Some kind → IsOfKind (Some k) kind
+    go true t e = let same : k ≡ kind = cc in record { known = subst (λ x. table_so_far x ≡ true) same t; is = ap Some same }
+    go false t e = absurd (cc)
+
+to_document : (s : Session) (id : ℕ) (m : Message) (v : View) (kind : Kind) → view_at s.views id ≡ Some v → known_kind (kind_of m.number) ≡ Some kind →
+    table table_so_far s id m ≡ table_from_document s v kind m (document_at s.documents v.document)
+to_document s id m v kind found known =
+    let of = of_known (kind_of m.number) kind known in
+    ap (table_from_view table_so_far s m) found ∙ ap (table_from_kind table_so_far s v m) of.is ∙ ap (λ b. table_if_known b s v kind m) of.known
+
+pub no_document : (s : Session) (id : ℕ) (m : Message) (v : View) (kind : Kind) → view_at s.views id ≡ Some v → known_kind (kind_of m.number) ≡ Some kind → document_at s.documents v.document ≡ None →
+    table table_so_far s id m ≡ Err NoSuchDocument
+no_document s id m v kind found known none = to_document s id m v kind found known ∙ ap (table_from_document s v kind m) none
+
+pub is_found : (s : Session) (id : ℕ) (m : Message) (v : View) (kind : Kind) (d : Document) → IsSound s → view_at s.views id ≡ Some v → known_kind (kind_of m.number) ≡ Some kind →
+    document_at s.documents v.document ≡ Some d → IsFound s id m kind (request s v d m)
+is_found s id m v kind d sound found known there =
+    let own : v.id ≡ id = id_of_view_at s.views id v found in
+    record {
+      sound = record { sound = sound; view = ap (view_at s.views) own ∙ found; document = there };
+      known = (of_known (kind_of m.number) kind known).known;
+      decoded = (of_known (kind_of m.number) kind known).is;
+      session = refl;
+      view_id = own;
+      message = refl;
+      answer = to_document s id m v kind found known ∙ ap (table_from_document s v kind m) there;
+    }
+
+-- The table never refuses for want of memory.
+
+plan_refuses : (kind : Kind) (r : Request) (refusal : Refusal) → table_so_far kind ≡ true → answered kind r (plan_of kind r) ≡ Err refusal → refusal ≢ OutOfMemory
+plan_refuses kind r refusal known e = go (plan_of kind r) (known_plan kind r known) e
+  where
+    go : (p : Planned) → IsKnownPlan (marks_of kind).n p → answered kind r p ≡ Err refusal → refusal ≢ OutOfMemory
+    go (Ok what) h e = absurd (cc)
+    go (Err other) h e = let same : other ≡ refusal = cc in subst (λ x. x ≢ OutOfMemory) same h
+
+pub refuses : (s : Session) (view : ℕ) (m : Message) (refusal : Refusal) → table table_so_far s view m ≡ Err refusal → refusal ≢ OutOfMemory
+refuses s view m refusal e = from_view (view_at s.views view) e
+  where
+    is_not : (t : Result (Session × Response) Refusal) (other : Refusal) → t ≡ Err other → t ≡ Err refusal → other ≢ OutOfMemory → refusal ≢ OutOfMemory
+    is_not t other x e h = let same : other ≡ refusal = cc in subst (λ x. x ≢ OutOfMemory) same h
+
+    from_document : (v : View) (kind : Kind) (o : Option Document) → table_so_far kind ≡ true → table_from_document s v kind m o ≡ Err refusal → refusal ≢ OutOfMemory
+    from_document v kind None known e = is_not (Err NoSuchDocument) NoSuchDocument refl e (λ x. absurd (cc))
+    from_document v kind (Some d) known e = plan_refuses kind (request s v d m) refusal known e
+
+    if_known : (v : View) (kind : Kind) (b : Bool) → table_so_far kind ≡ b → table_if_known b s v kind m ≡ Err refusal → refusal ≢ OutOfMemory
+    if_known v kind true known e = from_document v kind (document_at s.documents v.document) known e
+    if_known v kind false known e = is_not (Err UnknownMessage) UnknownMessage refl e (λ x. absurd (cc))
+
+    from_kind : (v : View) (kind : Option Kind) → table_from_kind table_so_far s v m kind ≡ Err refusal → refusal ≢ OutOfMemory
+    from_kind v None e = is_not (Err UnknownMessage) UnknownMessage refl e (λ x. absurd (cc))
+    from_kind v (Some kind) e = if_known v kind (table_so_far kind) refl e
+
+    from_view : (o : Option View) → table_from_view table_so_far s m o ≡ Err refusal → refusal ≢ OutOfMemory
+    from_view None e = is_not (Err NoSuchView) NoSuchView refl e (λ x. absurd (cc))
+    from_view (Some v) e = from_kind v (kind_of m.number) e
+
+-- Messages that need no memory.
+
+both_true : (a b : Bool) → (a && b) ≡ true → (a ≡ true) × (b ≡ true)
+both_true true b h = (refl, h)
+both_true false b h = absurd (cc)
+
+not_true : (b : Bool) → not b ≡ true → b ≡ false
+not_true true h = absurd (cc)
+not_true false h = refl
+
+pub free_task : (s : Session) (view : ℕ) (m : Message) (task : Task) (t : IsTask s view m task) → is_free s view m ≡ true → (needs_no_memory t.request task.plan ≡ true) × (task.is_recorded ≡ false)
+free_task s view m task t free =
+    let r = t.request in
+    let f = t.found in
+    let seen : view_at s.views view ≡ Some r.view = subst (λ (x : Session). view_at x.views view ≡ Some r.view) f.session (ap (view_at r.session.views) (sym f.view_id) ∙ f.sound.view) in
+    let there : document_at s.documents r.view.document ≡ Some r.document = subst (λ (x : Session). document_at x.documents r.view.document ≡ Some r.document) f.session f.sound.document in
+    let same : request s r.view r.document m ≡ r = ap (λ x. request x r.view r.document m) (sym f.session) ∙ ap (λ x. request r.session r.view r.document x) (sym f.message) in
+    let is : is_free s view m ≡ is_free_request t.kind r =
+    ap (is_free_from_view s m) seen ∙ ap (is_free_from_kind s r.view m) f.decoded ∙ ap (λ b. is_free_if_known b s r.view t.kind m) f.known ∙ ap (is_free_from_document s r.view t.kind m) there ∙ ap (is_free_request t.kind) same in
+    let parts = both_true (planned_without_memory r (plan_of t.kind r)) (not (r.view.records && (marks_of t.kind).r)) (sym is ∙ free) in
+    (subst (λ p. planned_without_memory r p ≡ true) t.planned parts.0, t.recorded ∙ not_true (r.view.records && (marks_of t.kind).r) parts.1)
+
+answer_needs_none : (r : Request) (what : Plan) → is_answer what ≡ true → needs_no_memory r what ≡ true
+answer_needs_none r (plan.Answer value) h = refl
+answer_needs_none r (plan.HandOut value start count) h = absurd (cc)
+answer_needs_none r (plan.HandOutStyled start count) h = absurd (cc)
+answer_needs_none r (plan.Edit change value after) h = absurd (cc)
+answer_needs_none r plan.Attempt h = absurd (cc)
+answer_needs_none r plan.Undo h = absurd (cc)
+answer_needs_none r plan.Redo h = absurd (cc)
+answer_needs_none r (plan.ChangeDocument change value) h = absurd (cc)
+answer_needs_none r (plan.ChangeView change value) h = absurd (cc)
+answer_needs_none r (plan.ChangeSession change value) h = absurd (cc)
+
+pub marked_are_free : MarkedMessagesAreFree
+marked_are_free s view m marked unrecorded = from_view (view_at s.views view) marked unrecorded
+  where
+    of_plan : (r : Request) (kind : Kind) (p : Planned) → IsKnownPlan (marks_of kind).n p → (marks_of kind).n ≡ true → planned_without_memory r p ≡ true
+    of_plan r kind (Ok what) h n = answer_needs_none r what (h.1 n)
+    of_plan r kind (Err refusal) h n = refl
+
+    from_document : (v : View) (kind : Kind) (o : Option Document) → table_so_far kind ≡ true → (marks_of kind).n ≡ true → (v.records && (marks_of kind).r) ≡ false → is_free_from_document s v kind m o ≡ true
+    from_document v kind None known n r = refl
+    from_document v kind (Some d) known n r =
+        let q = request s v d m in
+        rw (of_plan q kind (plan_of kind q) (known_plan kind q known) n, r) refl
+
+    if_known : (v : View) (kind : Kind) (b : Bool) → table_so_far kind ≡ b → (marks_of kind).n ≡ true → (v.records && (marks_of kind).r) ≡ false → is_free_if_known b s v kind m ≡ true
+    if_known v kind true known n r = from_document v kind (document_at s.documents v.document) known n r
+    if_known v kind false known n r = refl
+
+    from_kind : (v : View) (kind : Option Kind) → is_marked_free kind ≡ true → is_recorded_by (Some v) kind ≡ false → is_free_from_kind s v m kind ≡ true
+    from_kind v None n r = refl
+    from_kind v (Some kind) n r = if_known v kind (table_so_far kind) refl n r
+
+    from_view : (o : Option View) → is_marked_free (kind_of m.number) ≡ true → is_recorded_by o (kind_of m.number) ≡ false → is_free_from_view s m o ≡ true
+    from_view None n r = refl
+    from_view (Some v) n r = from_kind v (kind_of m.number) n r

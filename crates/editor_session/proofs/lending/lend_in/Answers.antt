@@ -1,0 +1,18 @@
+-- The document that lent its bytes is as it was, and so is the table.
+use Rattle.std.proofs.Common.{◌≡◌, refl, ap, sym, ◌∙◌, subst, IfSome, ◌+◌, slice_range}
+use Rattle.std.specs.Option.{option_copied_mut}
+use Rattle.ed_model.specs.Session.{text_of}
+use Rattle.editor_session.proofs.LendingLemmas.{lent_back}
+use Rattle.editor_session.proofs.lending.lend_in.Goals as goal
+
+pub returns : goal.returns
+returns c =
+    let documents = c.args.documents.now in
+    let at = sym c.get_mut.ensures.value ∙ ap option_copied_mut c.in-Some.is in
+    let whole = lent_back documents c.args.document c.in-Some.document.now c.lend.follows.lender-at-none c.requires.named c.requires.rise at c.lend.follows.holds-at-none in (
+      (refl, (λ _. tt), whole),
+      record {
+        back = tt;
+        value = subst (λ o. IfSome o (λ k. c.lend.result.now ≡ slice_range (text_of k.document) c.args.start (c.args.start + c.args.count))) (sym at) c.lend.ensures.value;
+      },
+    )

@@ -1,0 +1,55 @@
+-- From a message to what is done for it.
+use Rattle.std.specs.Prelude.{◌≡◌, ℕ, ◌≤◌, ◌&&◌, if◌then◌else◌, Bool, true, false, List, [], ◌∷◌, Option, Some, None, Ok}
+use Rattle.ed_types.specs.declared.kind.Kind.{Kind}
+use Rattle.ed_types.specs.declared.message.Message.{Message}
+use Rattle.ed_types.specs.Messages.{kind_of, marks_of}
+use Rattle.ed_types.specs.Notices.{Notice}
+use Rattle.ed_model.specs.Notes as notes
+use Rattle.ed_model.specs.Session.{Session}
+use Rattle.ed_model.specs.PlansFit.{IsSoundRequest, IsFitPlan}
+use Rattle.ed_model.specs.Requests.{Request}
+use Rattle.ed_model.specs.Table.{table, plan_of, answered}
+use Rattle.message_plans.specs.TableSoFar.{table_so_far}
+use Rattle.editor_session.specs.declared.find.Task.{Task}
+use Rattle.editor_session.specs.Plans.{is_performed, needs_no_memory}
+use Rattle.editor_session.specs.Needs.{IsCounted, IsEnough, room_of_plan, no_need}
+
+-- the kind, if there is such a message yet
+abbrev pub known_kind : Option Kind → Option Kind
+known_kind None = None
+known_kind (Some kind) = if table_so_far kind then Some kind else None
+
+-- a message came this far: its view and its document are found, it is known, and the table's answer is that of its plan
+pub record IsFound (s : Session) (view : ℕ) (m : Message) (kind : Kind) (r : Request) : Type 0 where
+  pub sound : IsSoundRequest r
+  pub known : table_so_far kind ≡ true
+  pub decoded : kind_of m.number ≡ Some kind
+  pub session : r.session ≡ s
+  pub view_id : r.view.id ≡ view
+  pub message : r.message ≡ m
+  pub answer : table table_so_far s view m ≡ answered kind r (plan_of kind r)
+
+-- the task of a message: the request that it comes of, its plan, and what it needs
+pub record IsTask (s : Session) (view : ℕ) (m : Message) (task : Task) : Type 0 where
+  pub kind : Kind
+  pub request : Request
+  pub found : IsFound s view m kind request
+  pub planned : plan_of kind request ≡ Ok task.plan
+  pub view_id : task.view ≡ view
+  pub document_id : task.document ≡ request.document.id
+  pub recorded : task.is_recorded ≡ (request.view.records && (marks_of kind).r)
+  pub performed : is_performed task.plan ≡ true
+  pub fit : IsFitPlan request task.plan
+  pub enough : IsCounted task.need → IsEnough request task.plan task.is_recorded task.need
+  pub at_most : task.need.document.text ≤ (room_of_plan request task.plan).text
+  pub free : needs_no_memory request task.plan ≡ true → task.is_recorded ≡ false → task.need ≡ no_need
+
+-- the note by which a view that records hears of the message
+abbrev pub recording : ℕ → Message → Notice
+recording view m =
+    let n = notes.blank notes.macro_record in record n { view = view; message = m.number; w = m.w; l = m.l; text = m.text }
+
+-- that note first, where it is recorded
+abbrev pub first_note : Bool → ℕ → Message → List Notice
+first_note true view m = recording view m ∷ []
+first_note false view m = []

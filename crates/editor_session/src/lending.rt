@@ -1,0 +1,73 @@
+//! Lending bytes of a document as one slice.
+
+ghost use Rattle.std.specs.Prelude.{◌≡◌, ◌⊎◌, ◌≤◌, ◌+◌, map, length, slice_range, IfOk, IfErr, IfSome, IsSomeAnd, Ok, Err};
+ghost use Rattle.std.specs.Borrow.{sem};
+ghost use Rattle.ed_types.specs.declared.refusal.Refusal.TheVariants.{NoSuchView, BadArgument};
+ghost use Rattle.id_table.specs.Entries.{value_at};
+ghost use Rattle.ed_model.specs.Session.{Document as ModelDocument, text_of};
+ghost use Rattle.ed_model.specs.SoundLaws.{Rise};
+ghost use Rattle.message_plans.specs.Requested.{session_in, documents_in};
+ghost use Rattle.editor_session.specs.Kept.{IsKept, DocumentsAreNamed};
+ghost use Rattle.editor_session.specs.Lent.{lent_range};
+ghost use Rattle.editor_session.specs.PartLends.{documents_back, state_back};
+
+use document_table::DocumentTable;
+use ed_types::Refusal;
+use message_plans::SessionState;
+
+/// The id of the document of a view, where so many bytes lie in its text from `start` on. Takes no memory.
+///
+/// # Errors
+///
+/// `NoSuchView` where no view has this id, `BadArgument` where `start + count` is past the end of the text.
+pub(crate) fn document_with(
+    state: &SessionState,
+    view: u32,
+    start: usize,
+    count: usize,
+) -> Result<u32, Refusal>
+    requires kept { IsKept state.now }
+    ensures range { IfOk result (λ document. IsSomeAnd (value_at state.now.documents.entries document) (λ k. start + count ≤ length k.document.cells)) }
+    ensures bytes { IfOk result (λ document. IfSome (value_at state.now.documents.entries document) (λ k. lent_range (session_in state.now) view start count ≡ Ok (slice_range (text_of k.document) start (start + count)))) }
+    ensures refused { IfErr result (λ refusal. lent_range (session_in state.now) view start count ≡ Err refusal) }
+    ensures refusals { IfErr result (λ refusal. (refusal ≡ NoSuchView) ⊎ (refusal ≡ BadArgument)) }
+{
+    let Some(open) = state.views.get(view) else {
+        return Err(Refusal::NoSuchView);
+    };
+    let Some(document) = state.documents.get(open.document()) else {
+        unreachable!()
+    };
+    let length = document.len();
+    if length < start {
+        return Err(Refusal::BadArgument);
+    }
+    if length - start < count {
+        return Err(Refusal::BadArgument);
+    }
+    Ok(open.document())
+}
+
+/// Lends the `count` bytes of a document from `start` on. All documents stay as they are.
+fn lend_in(documents: &mut DocumentTable, document: u32, start: usize, count: usize) -> &[u8]
+    requires there { IsSomeAnd (value_at documents.old.entries document) (λ k. start + count ≤ length k.document.cells) }
+    requires named { DocumentsAreNamed documents.old.entries }
+    requires rise { Rise 0 documents.old.next (map (λ (d : ModelDocument). d.id) (documents_in documents.old)) }
+    ensures* back { sem 𝓛 (documents_back documents.entry) }
+    ensures value { IfSome (value_at documents.old.entries document) (λ k. result.now ≡ slice_range (text_of k.document) start (start + count)) }
+{
+    let Some(document) = documents.get_mut(document) else {
+        unreachable!()
+    };
+    document.lend(start, count)
+}
+
+/// The same in a session's state, which stays as it is.
+pub(crate) fn lend(state: &mut SessionState, document: u32, start: usize, count: usize) -> &[u8]
+    requires there { IsSomeAnd (value_at state.old.documents.entries document) (λ k. start + count ≤ length k.document.cells) }
+    requires kept { IsKept state.old }
+    ensures* back { sem 𝓛 (state_back state.entry) }
+    ensures value { IfSome (value_at state.old.documents.entries document) (λ k. result.now ≡ slice_range (text_of k.document) start (start + count)) }
+{
+    lend_in(&mut state.documents, document, start, count)
+}

@@ -1,0 +1,85 @@
+//! Opening and closing views.
+
+ghost use Rattle.std.specs.Prelude.{◌≡◌, ◌<◌, ◌+◌, ◌^◌, Ok, Err, OnOk, OnErr, IfOk, IfErr, true};
+ghost use Rattle.ed_model.specs.Session.{view_at, new_document, new_view};
+ghost use Rattle.ed_model.specs.Table.{opened, closed};
+ghost use Rattle.message_plans.specs.Requested.{session_in};
+ghost use Rattle.scene.specs.Scenes.{AreNamed};
+ghost use Rattle.editor_session.specs.Kept.{IsKept, DocumentsAreNamed};
+ghost use Rattle.editor_session.specs.Opening.{document_for, with_view_on_new};
+
+use document::Document;
+use document_table::the_living_are_left;
+use ed_types::Refusal;
+use ed_view::View;
+use message_plans::SessionState;
+use std::alloc::{AllocError, Global};
+
+/// A new document of this id without text, to which the view of that id is attached, and that view.
+///
+/// # Errors
+///
+/// `AllocError` where memory is refused.
+fn make_view(alloc: Global, document: u32, view: u32) -> Result<(Document, View), AllocError>
+    ensures { IfOk result (λ made. (made.0.document ≡ document_for view document) × (made.1.view ≡ new_view view (new_document document 0))) }
+{
+    let mut made = Document::new(alloc, document, 0)?;
+    let Ok(()) = made.reserve_view() else {
+        return Err(AllocError);
+    };
+    made.attach_reserved(view);
+    let view = View::new(alloc, view, document, made.line_count())?;
+    Ok((made, view))
+}
+
+/// Opens a view on a new document. There must be ids left for both.
+///
+/// # Errors
+///
+/// `AllocError` where memory is refused. All is then as it was.
+pub(crate) fn open(alloc: Global, state: &mut SessionState) -> Result<u32, AllocError>
+    requires document_ids { state.old.documents.next + 1 < 2 ^ 32 }
+    requires view_ids { state.old.views.next + 1 < 2 ^ 32 }
+    requires named_documents { DocumentsAreNamed state.old.documents.entries }
+    requires named_views { AreNamed state.old.views.entries }
+    ensures id { IfOk result (λ id. id ≡ state.old.views.next) }
+    ensures ok { OnOk result (session_in state.new ≡ with_view_on_new (session_in state.old)) }
+    ensures err { OnErr result (session_in state.new ≡ session_in state.old) }
+    ensures limits { state.new.limits ≡ state.old.limits }
+    ensures documents { DocumentsAreNamed state.new.documents.entries }
+    ensures views { AreNamed state.new.views.entries }
+{
+    let (document, view) = make_view(alloc, state.documents.next(), state.views.next())?;
+    let Ok(()) = state.documents.reserve(1) else {
+        return Err(AllocError);
+    };
+    let Ok(()) = state.views.reserve(1) else {
+        return Err(AllocError);
+    };
+    state.documents.insert_reserved(document);
+    Ok(state.views.insert_reserved(view))
+}
+
+/// Closes the view of an id. Its document goes with it, if nothing else refers to it. Takes no memory.
+///
+/// # Errors
+///
+/// `NoSuchView` where no view has this id. All is then as it was.
+pub(crate) fn close(state: &mut SessionState, view: u32) -> Result<(), Refusal>
+    requires kept { IsKept state.old }
+    ensures closed { OnOk result (closed (session_in state.old) view ≡ Ok (session_in state.new)) }
+    ensures refused { IfErr result (λ refusal. closed (session_in state.old) view ≡ Err refusal) }
+    ensures same { OnErr result (session_in state.new ≡ session_in state.old) }
+    ensures limits { state.new.limits ≡ state.old.limits }
+    ensures documents { DocumentsAreNamed state.new.documents.entries }
+    ensures views { AreNamed state.new.views.entries }
+{
+    let Some(open) = state.views.get(view) else {
+        return Err(Refusal::NoSuchView);
+    };
+    // The law that the documents left are the living.
+    the_living_are_left();
+    state.documents.leave(open.document(), view);
+    state.views.remove(view);
+    Ok(())
+}

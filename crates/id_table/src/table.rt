@@ -1,0 +1,165 @@
+//! `IdTable` and its calls.
+ghost use Rattle.std.specs.Prelude.{◌≡◌, ◌≤◌, ◌<◌, ◌+◌, ◌^◌, ◌∷◌, ◌++◌, [], map, length, max, IfSome, IfNone, IsOk, OnOk, OnErr, is_some, option_copied};
+ghost use Rattle.std.specs.Option.{option_copied_mut};
+ghost use Rattle.std.specs.Borrow.{sem};
+ghost use Rattle.id_table.specs.Entries.{Rise, id_of, table_of, value_at, without_id};
+ghost use Rattle.id_table.specs.Order.{IsOrdered, IsAt, IsNowhere};
+
+use slab::Slab;
+use std::alloc::{AllocError, Global};
+use std::marker::Model;
+
+/// Where the value of an id lies in the slab.
+#[derive(Clone, Copy)]
+struct Place {
+    id: u32,
+    key: usize,
+}
+
+/// Values under ids, which rise from 1 on in the order of insertion. An id is never given again.
+#[derive(Drop)]
+pub struct IdTable<T> {
+    slab: Slab<T>,
+    // By rising id.
+    order: Vec<Place>,
+    next: u32,
+    // How many more values were asked for and fit in.
+    room: usize,
+}
+
+impl<T> Model for IdTable<T> {
+    ghost use Rattle.std.specs.Prelude.{vec_capacity};
+    ghost use Rattle.id_table.specs.Entries.{Entries, table_of, entries_code};
+
+    ghost Value = { Entries T };
+
+    ghost coded = { entries_code T.code };
+
+    ghost use Rattle.id_table.specs.Order.{entries_by, IsTable};
+
+    ghost view = { λ t. table_of (entries_by t.slab t.order.items) t.next t.room };
+
+    ghost invariant = { λ t. IsTable t.slab t.order.items (vec_capacity t.order) t.next t.room };
+}
+
+/// Where an id stands in the order. The last one is looked at first, as what came last is asked for most.
+fn position_of(order: &[Place], id: u32) -> Option<usize>
+    requires { IsOrdered order.now }
+    ensures found { IfSome result (IsAt id order.now) }
+    ensures missing { IfNone result (IsNowhere id order.now) }
+{
+    if let Some(last) = order.last() {
+        if last.id == id {
+            return Some(order.len() - 1);
+        }
+    }
+    order.binary_search_by_key(&id, |place| place.id).ok()
+}
+
+impl<T> IdTable<T> {
+    ghost use Rattle.id_table.specs.Lends.{lends_value};
+
+    /// No value. Takes no memory.
+    pub fn new(alloc: Global) -> Self
+        ensures { result ≡ table_of [] 1 0 }
+    {
+        IdTable {
+            slab: Slab::new(alloc),
+            order: Vec::new(alloc),
+            next: 1,
+            room: 0,
+        }
+    }
+
+    /// The id of the next value. The ids of all values rise, from 1 on, and are below it.
+    #[tactic(auto, using(crate::proofs::EntryLemmas::ids_rise))]
+    pub fn next(&self) -> u32
+        ensures next { result ≡ self.now.next }
+        ensures ids { Rise 1 result (map id_of self.now.entries) }
+    {
+        self.next
+    }
+
+    /// The number of values.
+    #[tactic(auto, using(crate::proofs::EntryLemmas::length_table))]
+    pub fn len(&self) -> usize
+        ensures { result ≡ length self.now.entries }
+    {
+        self.order.len()
+    }
+
+    /// Whether an id has a value.
+    #[tactic(auto, using(crate::proofs::EntryLemmas::table_ordered, crate::proofs::EntryLemmas::value_found, crate::proofs::EntryLemmas::value_missing))]
+    pub fn contains(&self, id: u32) -> bool
+        ensures { result ≡ is_some (value_at self.now.entries id) }
+    {
+        position_of(&self.order, id).is_some()
+    }
+
+    /// The value of an id, or `None` where there is none.
+    #[tactic(auto, using(crate::proofs::EntryLemmas::table_ordered, crate::proofs::EntryLemmas::value_found, crate::proofs::EntryLemmas::value_missing))]
+    pub fn get(&self, id: u32) -> Option<&T>
+        ensures { option_copied result ≡ value_at self.now.entries id }
+    {
+        let at = position_of(&self.order, id)?;
+        self.slab.get(self.order[at].key)
+    }
+
+    /// The value of an id, to be changed, or `None` where there is none. All others stay as they are.
+    #[tactic(auto, using(crate::proofs::EntryLemmas::table_ordered, crate::proofs::EntryLemmas::value_found, crate::proofs::EntryLemmas::value_missing))]
+    pub fn get_mut(&mut self, id: u32) -> Option<&mut T>
+        ensures* writes_back { sem 𝓛 (lends_value T.row self.entry id result) }
+        ensures value { option_copied_mut result ≡ value_at self.old.entries id }
+    {
+        let at = position_of(&self.order, id)?;
+        let key = self.order[at].key;
+        Some(&mut self.slab[key])
+    }
+
+    /// Makes room for `count` more values.
+    ///
+    /// # Errors
+    ///
+    /// `AllocError` where memory is refused. All is then as it was.
+    pub fn reserve(&mut self, count: usize) -> Result<(), AllocError>
+        ensures ok { OnOk result (self.new ≡ record self.old { room = max self.old.room count }) }
+        ensures room_is_there { count ≤ self.old.room → IsOk result × (self.new ≡ self.old) }
+        ensures err { OnErr result (self.new ≡ self.old) }
+    {
+        if count <= self.room {
+            return Ok(());
+        }
+        self.slab.reserve(count)?;
+        self.order.reserve(count)?;
+        self.room = count;
+        Ok(())
+    }
+
+    /// Puts a value behind all others. There must be room for it. Returns its id.
+    pub fn insert_reserved(&mut self, value: T) -> u32
+        requires room { 0 < self.old.room }
+        requires ids { self.old.next + 1 < 2 ^ 32 }
+        ensures id { result ≡ self.old.next }
+        ensures entries { self.new.entries ≡ self.old.entries ++ record { id = self.old.next; value = value } ∷ [] }
+        ensures next { self.new.next ≡ self.old.next + 1 }
+        ensures room { self.new.room + 1 ≡ self.old.room }
+    {
+        let id = self.next;
+        let key = self.slab.insert_reserved(value);
+        self.order.push_reserved(Place { id, key });
+        self.next = id + 1;
+        self.room -= 1;
+        id
+    }
+
+    /// Takes the value of an id out, or returns `None` where there is none. The order of the others stays.
+    #[tactic(auto, using(crate::proofs::EntryLemmas::table_ordered, crate::proofs::EntryLemmas::value_found, crate::proofs::EntryLemmas::value_missing))]
+    pub fn remove(&mut self, id: u32) -> Option<T>
+        ensures value { result ≡ value_at self.old.entries id }
+        ensures rest { self.new ≡ record self.old { entries = without_id id self.old.entries } }
+    {
+        let at = position_of(&self.order, id)?;
+        let key = self.order.remove(at).key;
+        Some(self.slab.remove(key))
+    }
+}

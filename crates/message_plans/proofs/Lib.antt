@@ -1,0 +1,4 @@
+pub mod Lines
+pub mod Replacements
+pub mod Standing
+pub mod Undoing

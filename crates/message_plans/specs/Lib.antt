@@ -1,0 +1,5 @@
+-- Definitions that the contracts cite.
+pub mod Acting
+pub mod Replacing
+pub mod Requested
+pub mod TableSoFar

@@ -1,0 +1,64 @@
+//! Plans that answer a value, hand out text, or make one change and answer 0.
+
+ghost use Rattle.std.specs.Prelude.{◌≡◌, ◌<◌, ◌^◌};
+ghost use Rattle.ed_model.specs.Numbers.{flag};
+ghost use Rattle.ed_model.specs.Requests.{answer, answer_number, change_document, change_session, change_view};
+ghost use Rattle.ed_model.specs.TextPlans.{hand_out};
+
+use ed_model::{DocumentChange, Plan, Planned, SessionChange, ViewChange};
+
+/// Answers a value, and does nothing.
+pub(crate) fn answer(value: i64) -> Planned
+    ensures { result ≡ answer value }
+{
+    Ok(Plan::Answer { value })
+}
+
+/// Answers a number, and does nothing.
+pub(crate) fn answer_number(number: usize) -> Planned
+    requires { number < 2 ^ 63 }
+    ensures { result ≡ answer_number number }
+{
+    answer(number as i64)
+}
+
+/// Answers 1 for yes and 0 for no, and does nothing.
+pub(crate) fn answer_flag(on: bool) -> Planned
+    ensures { result ≡ answer (flag on) }
+{
+    answer(i64::from(on))
+}
+
+/// Hands out the bytes from one place up to another.
+pub(crate) fn hand_out(start: usize, past: usize) -> Planned
+    requires { past < 2 ^ 63 }
+    ensures { result ≡ hand_out start past }
+{
+    let count = past.saturating_sub(start);
+    Ok(Plan::HandOut {
+        value: count as i64,
+        start,
+        count,
+    })
+}
+
+/// A change of the document, which answers 0.
+pub(crate) fn change_document(change: DocumentChange) -> Planned
+    ensures { result ≡ change_document change }
+{
+    Ok(Plan::ChangeDocument { change, value: 0 })
+}
+
+/// A change of the view, which answers 0.
+pub(crate) fn change_view(change: ViewChange) -> Planned
+    ensures { result ≡ change_view change }
+{
+    Ok(Plan::ChangeView { change, value: 0 })
+}
+
+/// A change of the session, which answers 0.
+pub(crate) fn change_session(change: SessionChange) -> Planned
+    ensures { result ≡ change_session change }
+{
+    Ok(Plan::ChangeSession { change, value: 0 })
+}

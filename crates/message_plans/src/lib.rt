@@ -1,0 +1,25 @@
+//! Plans of messages: what each is going to do, or why it is refused.
+//!
+//! A plan is found before anything changes: `plan_of` reads a `Request` and answers the model's plan. Its functions stand in
+//! modules named as the sections of `docs/MESSAGES.md`, one function a message, and none of them takes memory.
+#![tactic(auto)]
+
+mod answers;
+mod arguments;
+mod edits;
+mod folding_plans;
+mod key_plans;
+mod line_plans;
+mod plan;
+mod request;
+mod selection_plans;
+mod session_plans;
+mod state;
+mod style_plans;
+mod target_plans;
+mod text_plans;
+mod undo_plans;
+
+pub use plan::{plan_of, table_so_far};
+pub use request::{Request, SentMessage};
+pub use state::SessionState;

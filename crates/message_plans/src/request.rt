@@ -1,0 +1,255 @@
+//! `Request`: a message on its way, with all that its plan reads.
+
+ghost use Rattle.std.specs.Prelude.{◌≡◌, ◌≤◌, ◌<◌, ◌^◌, length, slice_get, Some};
+ghost use Rattle.ed_model.specs.Session.{limit_of, lines_in};
+ghost use Rattle.ed_model.specs.PlansFit.{IsSoundRequest};
+ghost use Rattle.ed_model.specs.Requests.{size, text, line_total, line_at, selection_end, selection_start, target_greatest, target_least};
+ghost use Rattle.ed_model.specs.Characters.{cut_after, cut_before};
+ghost use Rattle.ed_model.specs.TextPlans.{line_start, line_past, line_end};
+
+use crate::state::SessionState;
+use document::Document;
+use ed_view::View;
+use std::marker::Model;
+
+/// A message as it was sent, with its text lent.
+#[derive(Drop)]
+pub struct SentMessage<'a> {
+    /// Which message, by the numbers of Scintilla's documentation.
+    pub number: u32,
+    /// The first argument, `wParam` there.
+    pub w: i64,
+    /// The second argument, `lParam` there.
+    pub l: i64,
+    /// The text that goes with the message; a NUL is an ordinary byte.
+    pub text: &'a [u8],
+}
+
+impl<'a> Model for SentMessage<'a> {
+    ghost use Rattle.ed_types.specs.declared.message.Message.{Message};
+
+    ghost Value = { Message };
+
+    ghost view = { λ m. record { number = m.number; w = m.w; l = m.l; text = m.text.now } };
+}
+
+/// A message to a view: the session, the view, its document and the message, all lent. Contracts see the model's request.
+#[derive(Drop)]
+pub struct Request<'a> {
+    /// What the session keeps.
+    pub session: &'a SessionState,
+    /// The view that the message is sent to.
+    pub view: &'a View,
+    /// The view's document.
+    pub document: &'a Document,
+    /// What is asked.
+    pub message: SentMessage<'a>,
+}
+
+impl<'a> Model for Request<'a> {
+    ghost use Rattle.ed_model.specs.Requests.{Request as ModelRequest};
+    ghost use Rattle.message_plans.specs.Requested.{session_in};
+
+    ghost Value = { ModelRequest };
+
+    ghost view = { λ r. record { session = session_in r.session.now; view = r.view.now.view; document = r.document.now.document; message = r.message } };
+}
+
+// What plans read of a request, in the words of the model's `Requests`.
+impl<'a> Request<'a> {
+    /// The length of the text, in bytes.
+    pub(crate) fn size(&self) -> usize
+        ensures size { result ≡ size self.now }
+        ensures bounded { result < 2 ^ 62 }
+    {
+        self.document.len()
+    }
+
+    /// The number of lines.
+    pub(crate) fn line_total(&self) -> usize
+        ensures lines { result ≡ line_total self.now }
+        ensures some { 0 < line_total self.now }
+        ensures bounded { result < 2 ^ 63 }
+    {
+        self.document.line_count()
+    }
+
+    /// Where a line starts.
+    pub(crate) fn line_start(&self, line: usize) -> usize
+        requires { line < line_total self.now }
+        ensures start { result ≡ line_start self.now line }
+        ensures bounded { result < 2 ^ 62 }
+    {
+        self.document.line_start(line)
+    }
+
+    /// Where the line behind a line starts, or the length of the text where there is none.
+    pub(crate) fn line_past(&self, line: usize) -> usize
+        ensures past { result ≡ line_past self.now line }
+        ensures bounded { result < 2 ^ 62 }
+    {
+        self.document.line_past(line)
+    }
+
+    /// Where the end of a line begins, or the length of the text for the last line and all behind it.
+    pub(crate) fn line_end(&self, line: usize) -> usize
+        ensures end { result ≡ line_end self.now line }
+        ensures bounded { result < 2 ^ 62 }
+    {
+        self.document.line_end(line)
+    }
+
+    /// The line that holds a place.
+    pub(crate) fn line_at(&self, place: usize) -> usize
+        ensures line { result ≡ line_at self.now place }
+        ensures within { result < line_total self.now }
+        ensures bounded { result < 2 ^ 63 }
+    {
+        self.document.line_of(place)
+    }
+
+    /// The byte at a place.
+    pub(crate) fn byte(&self, place: usize) -> u8
+        requires { place < size self.now }
+        ensures { slice_get (text self.now) place ≡ Some result }
+    {
+        self.document.byte(place)
+    }
+
+    /// The last cut between characters before a place, or 0.
+    #[tactic(auto, using(crate::proofs::Standing::length_text))]
+    pub(crate) fn cut_before(&self, place: usize) -> usize
+        requires { place ≤ size self.now }
+        ensures cut { result ≡ cut_before (text self.now) place }
+        ensures within { result ≤ place }
+    {
+        let (first, second) = self.document.halves();
+        char_cut::before(first, second, place)
+    }
+
+    /// The next cut between characters behind a place, or the length of the text.
+    #[tactic(auto, using(crate::proofs::Standing::length_text))]
+    pub(crate) fn cut_after(&self, place: usize) -> usize
+        requires { place ≤ size self.now }
+        ensures cut { result ≡ cut_after (text self.now) place }
+        ensures within { result ≤ size self.now }
+    {
+        let (first, second) = self.document.halves();
+        char_cut::after(first, second, place)
+    }
+
+    /// The anchor's place, which lies in the text.
+    #[tactic(auto, using(crate::proofs::Standing::anchor_in_text))]
+    pub(crate) fn anchor(&self) -> usize
+        requires { IsSoundRequest self.now }
+        ensures anchor { result ≡ self.now.view.anchor }
+        ensures within { result ≤ size self.now }
+        ensures bounded { result < 2 ^ 62 }
+    {
+        let anchor = self.view.selection().anchor;
+        prove!(anchor <= self.size());
+        anchor
+    }
+
+    /// The caret's place, which lies in the text.
+    #[tactic(auto, using(crate::proofs::Standing::caret_in_text))]
+    pub(crate) fn caret(&self) -> usize
+        requires { IsSoundRequest self.now }
+        ensures caret { result ≡ self.now.view.caret }
+        ensures within { result ≤ size self.now }
+        ensures bounded { result < 2 ^ 62 }
+    {
+        let caret = self.view.selection().caret;
+        prove!(caret <= self.size());
+        caret
+    }
+
+    /// Where the selection starts.
+    pub(crate) fn selection_start(&self) -> usize
+        requires { IsSoundRequest self.now }
+        ensures start { result ≡ selection_start self.now }
+        ensures bounded { result < 2 ^ 62 }
+    {
+        self.anchor().min(self.caret())
+    }
+
+    /// Where the selection ends.
+    pub(crate) fn selection_end(&self) -> usize
+        requires { IsSoundRequest self.now }
+        ensures end { result ≡ selection_end self.now }
+        ensures within { result ≤ size self.now }
+        ensures bounded { result < 2 ^ 62 }
+    {
+        self.anchor().max(self.caret())
+    }
+
+    /// Up to where the text is styled, which lies in it.
+    #[tactic(auto, using(crate::proofs::Standing::styled_in_text))]
+    pub(crate) fn end_styled(&self) -> usize
+        requires { IsSoundRequest self.now }
+        ensures end { result ≡ self.now.document.end_styled }
+        ensures within { result ≤ size self.now }
+        ensures bounded { result < 2 ^ 62 }
+    {
+        let end = self.document.end_styled();
+        prove!(end <= self.size());
+        end
+    }
+
+    /// Where the target starts, which lies in the text.
+    #[tactic(auto, using(crate::proofs::Standing::target_start_in_text))]
+    pub(crate) fn target_start(&self) -> usize
+        requires { IsSoundRequest self.now }
+        ensures start { result ≡ self.now.view.target_start }
+        ensures within { result ≤ size self.now }
+        ensures bounded { result < 2 ^ 62 }
+    {
+        let start = self.view.target().start;
+        prove!(start <= self.size());
+        start
+    }
+
+    /// Where the target ends, which lies in the text; it may lie before its start.
+    #[tactic(auto, using(crate::proofs::Standing::target_end_in_text))]
+    pub(crate) fn target_end(&self) -> usize
+        requires { IsSoundRequest self.now }
+        ensures end { result ≡ self.now.view.target_end }
+        ensures within { result ≤ size self.now }
+        ensures bounded { result < 2 ^ 62 }
+    {
+        let end = self.view.target().end;
+        prove!(end <= self.size());
+        end
+    }
+
+    /// The lesser end of the target.
+    pub(crate) fn target_least(&self) -> usize
+        requires { IsSoundRequest self.now }
+        ensures least { result ≡ target_least self.now }
+        ensures bounded { result < 2 ^ 62 }
+    {
+        self.target_start().min(self.target_end())
+    }
+
+    /// The greater end of the target.
+    pub(crate) fn target_greatest(&self) -> usize
+        requires { IsSoundRequest self.now }
+        ensures greatest { result ≡ target_greatest self.now }
+        ensures within { result ≤ size self.now }
+        ensures bounded { result < 2 ^ 62 }
+    {
+        self.target_start().max(self.target_end())
+    }
+
+    /// How many bytes the document may have.
+    pub(crate) fn limit(&self) -> u64
+        ensures { result ≡ limit_of self.now.session.limits self.now.document }
+    {
+        let limits = &self.session.limits;
+        if self.document.is_large() {
+            limits.large_bytes
+        } else {
+            limits.doc_bytes
+        }
+    }
+}

@@ -1,0 +1,191 @@
+//! Plans of the messages on styles and indicators.
+
+ghost use Rattle.std.specs.Prelude.{◌≡◌};
+ghost use Rattle.ed_model.specs.PlansFit.{IsSoundRequest};
+ghost use Rattle.ed_model.specs.StylePlans.{colourise, fill_indicator, get_end_styled, get_indicator_current, get_indicator_value, get_style_at, get_styled_text, indicator_clear_range, indicator_fill_range, set_indicator_current, set_indicator_value, set_styling, set_styling_ex, start_styling, styles, unstyled};
+ghost use Rattle.ed_model.specs.TextPlans.{at_place};
+
+use crate::answers::{answer, answer_number, change_document, change_view};
+use crate::arguments::within;
+use crate::request::Request;
+use crate::text_plans::past_argument;
+use ed_model::{DocumentChange, Plan, Planned, ViewChange};
+use ed_types::Refusal;
+
+/// The style of the byte at a place that may be outside the text; 0 there.
+fn style_at(r: &Request, argument: i64) -> u8
+    ensures { result ≡ at_place (styles r.now) argument }
+{
+    if argument < 0 {
+        return 0;
+    }
+    let place = argument as usize;
+    if place < r.size() {
+        r.document.style(place)
+    } else {
+        0
+    }
+}
+
+/// GETSTYLEAT: the style of the byte at `w`.
+pub(crate) fn get_style_at(r: &Request) -> Planned
+    ensures { result ≡ get_style_at r.now }
+{
+    answer(i64::from(style_at(r, r.message.w)))
+}
+
+/// GETSTYLEDTEXT: the bytes from `w` up to `l`, each with its style behind it.
+pub(crate) fn get_styled_text(r: &Request) -> Planned
+    ensures { result ≡ get_styled_text r.now }
+{
+    let Some(start) = within(0, r.size(), r.message.w) else {
+        return Err(Refusal::BadArgument);
+    };
+    match past_argument(r, start) {
+        Some(past) => Ok(Plan::HandOutStyled {
+            start,
+            count: past - start,
+        }),
+        None => Err(Refusal::BadArgument),
+    }
+}
+
+/// GETENDSTYLED: up to where the text is styled.
+pub(crate) fn get_end_styled(r: &Request) -> Planned
+    requires { IsSoundRequest r.now }
+    ensures { result ≡ get_end_styled r.now }
+{
+    answer_number(r.end_styled())
+}
+
+/// STARTSTYLING: the text counts as styled up to `w`.
+pub(crate) fn start_styling(r: &Request) -> Planned
+    ensures { result ≡ start_styling r.now }
+{
+    match within(0, r.size(), r.message.w) {
+        Some(place) => change_document(DocumentChange::SetEndStyled { place }),
+        None => Err(Refusal::BadArgument),
+    }
+}
+
+/// How many bytes stand behind the end of what is styled.
+fn unstyled(r: &Request) -> usize
+    requires { IsSoundRequest r.now }
+    ensures { result ≡ unstyled r.now }
+{
+    r.size() - r.end_styled()
+}
+
+/// SETSTYLING: the next `w` bytes have style `l`.
+pub(crate) fn set_styling(r: &Request) -> Planned
+    requires { IsSoundRequest r.now }
+    ensures { result ≡ set_styling r.now }
+{
+    let Some(style) = within(0, 255, r.message.l) else {
+        return Err(Refusal::BadArgument);
+    };
+    match within(0, unstyled(r), r.message.w) {
+        Some(count) => change_document(DocumentChange::StyleRun {
+            count,
+            style: style as u32,
+        }),
+        None => Err(Refusal::BadArgument),
+    }
+}
+
+/// SETSTYLINGEX: the next `w` bytes have the styles that the message's text has.
+pub(crate) fn set_styling_ex(r: &Request) -> Planned
+    requires { IsSoundRequest r.now }
+    ensures { result ≡ set_styling_ex r.now }
+{
+    match within(0, r.message.text.len(), r.message.w) {
+        Some(count) if count <= unstyled(r) => {
+            change_document(DocumentChange::StyleBytes { count })
+        }
+        _ => Err(Refusal::BadArgument),
+    }
+}
+
+/// COLOURISE: the text from `w` up to `l` is to be styled.
+pub(crate) fn colourise(r: &Request) -> Planned
+    ensures { result ≡ colourise r.now }
+{
+    let Some(start) = within(0, r.size(), r.message.w) else {
+        return Err(Refusal::BadArgument);
+    };
+    match past_argument(r, start) {
+        Some(end) => change_document(DocumentChange::NeedStyle { start, end }),
+        None => Err(Refusal::BadArgument),
+    }
+}
+
+/// SETINDICATORCURRENT: the view fills indicator `w` from now on.
+pub(crate) fn set_indicator_current(r: &Request) -> Planned
+    ensures { result ≡ set_indicator_current r.now }
+{
+    match within(0, 31, r.message.w) {
+        Some(indicator) => change_view(ViewChange::SetIndicator {
+            indicator: indicator as u32,
+        }),
+        None => Err(Refusal::BadArgument),
+    }
+}
+
+/// GETINDICATORCURRENT: which indicator the view fills.
+pub(crate) fn get_indicator_current(r: &Request) -> Planned
+    ensures { result ≡ get_indicator_current r.now }
+{
+    answer(i64::from(r.view.indicator()))
+}
+
+/// SETINDICATORVALUE: the view fills with `w` from now on, or with 1 for 0.
+pub(crate) fn set_indicator_value(r: &Request) -> Planned
+    ensures { result ≡ set_indicator_value r.now }
+{
+    match within(0, i32::MAX as usize, r.message.w) {
+        Some(value) => change_view(ViewChange::SetIndicatorValue {
+            value: (value as u32).max(1),
+        }),
+        None => Err(Refusal::BadArgument),
+    }
+}
+
+/// GETINDICATORVALUE: what the view fills with.
+pub(crate) fn get_indicator_value(r: &Request) -> Planned
+    ensures { result ≡ get_indicator_value r.now }
+{
+    answer(i64::from(r.view.indicator_value()))
+}
+
+/// The view's indicator has this value on `l` bytes from `w` on.
+fn fill_indicator(r: &Request, value: u32) -> Planned
+    ensures { result ≡ fill_indicator r.now value }
+{
+    let size = r.size();
+    let Some(start) = within(0, size, r.message.w) else {
+        return Err(Refusal::BadArgument);
+    };
+    match within(0, size - start, r.message.l) {
+        Some(count) => change_document(DocumentChange::FillIndicator {
+            indicator: r.view.indicator(),
+            start,
+            count,
+            value,
+        }),
+        None => Err(Refusal::BadArgument),
+    }
+}
+
+/// INDICATORFILLRANGE: fills with the view's value.
+pub(crate) fn indicator_fill_range(r: &Request) -> Planned
+    ensures { result ≡ indicator_fill_range r.now }
+{
+    fill_indicator(r, r.view.indicator_value())
+}
+
+/// INDICATORCLEARRANGE: fills with 0.
+pub(crate) fn indicator_clear_range(r: &Request) -> Planned
+    ensures { result ≡ indicator_clear_range r.now }
+{
+    fill_indicator(r, 0)
+}

@@ -1,0 +1,118 @@
+-- What became of the views, and what is still to become of them, while one after the other follows a step.
+use Rattle.std.proofs.Common.{◌≡◌, ℕ, ◌+◌, ◌<◌, Bool, true, false, cond, List, [], ◌∷◌, map, refl, ap, sym, ◌∙◌, subst, arith}
+use Rattle.std.specs.Prelude.{◌==◌, Option, Some, None, find, if◌then◌else◌}
+use Rattle.std.proofs.lemmas.Bool.{eqb-true, eqb-false, eq-eqb, ne_eqb}
+use Rattle.line_index.specs.declared.edit.LineEdit.{LineEdit}
+use Rattle.selection.specs.declared.movements.Movement.{Movement}
+use Rattle.ed_model.specs.Session.{View, view_at, with_view}
+use Rattle.id_table.specs.Entries.{Entry, Entries, entry, id_of, value_at, with_value_at}
+use Rattle.ed_view.specs.Kept.{KeptView}
+use Rattle.ed_view.specs.Moving.{view_moved}
+use Rattle.scene.specs.Scenes.{views_of, AreNamed}
+use Rattle.scene.specs.Following.{with_followed, followed_at, CanFollow, CanFollowInTurn}
+use Rattle.scene.proofs.Pending.{named_some, named_none}
+
+-- what is found passes the test
+found_test : {X : Type 0} (test : X → Bool) (xs : List X) (x : X) → find test xs ≡ Some x → test x ≡ true
+found_test test [] x e = absurd (cc)
+found_test {X} test (y ∷ ys) x e = go (test y) refl e (λ e. found_test test ys x e)
+  where
+    go : (b : Bool) → test y ≡ b → cond b (Some y) (find test ys) ≡ Some x → (find test ys ≡ Some x → test x ≡ true) → test x ≡ true
+    go true t e rest = let same : y ≡ x = cc in subst (λ z. test z ≡ true) same t
+    go false t e rest = rest e
+
+pub view_id : (views : List View) (id : ℕ) (v : View) → view_at views id ≡ Some v → v.id ≡ id
+view_id views id v e = eqb-true v.id id (found_test (λ (v : View). v.id == id) views v e)
+
+-- Another value at an id.
+
+pub value_views : (entries : List (Entry KeptView)) (id : ℕ) (k : KeptView) → AreNamed entries → k.view.id ≡ id
+    → views_of (with_value_at id k entries) ≡ with_view k.view (views_of entries)
+value_views [] id k named e = refl
+value_views (x ∷ xs) id k named e = go (x.id == id) refl (value_views xs id k named.1 e)
+  where
+    go : (b : Bool) → (x.id == id) ≡ b → views_of (with_value_at id k xs) ≡ with_view k.view (views_of xs)
+        → (cond b (entry id k) x).value.view ∷ views_of (with_value_at id k xs) ≡ (cond (x.value.view.id == k.view.id) k.view x.value.view) ∷ with_view k.view (views_of xs)
+    go true t rest =
+        let same : (x.value.view.id == k.view.id) ≡ true = eq-eqb x.value.view.id k.view.id (sym named.0 ∙ eqb-true x.id id t ∙ sym e) in
+        rw same (ap (λ vs. k.view ∷ vs) rest)
+    go false t rest =
+        let other : (x.value.view.id == k.view.id) ≡ false = ne_eqb x.value.view.id k.view.id (λ p. eqb-false x.id id t (named.0 ∙ p ∙ e)) in
+        rw other (ap (λ vs. x.value.view ∷ vs) rest)
+
+pub value_named : (entries : List (Entry KeptView)) (id : ℕ) (k : KeptView) → AreNamed entries → k.view.id ≡ id → AreNamed (with_value_at id k entries)
+value_named [] id k named e = tt
+value_named (x ∷ xs) id k named e = (go (x.id == id) refl, value_named xs id k named.1 e)
+  where
+    go : (b : Bool) → (x.id == id) ≡ b → (cond b (entry id k) x).id ≡ (cond b (entry id k) x).value.view.id
+    go true t = sym e
+    go false t = named.0
+
+pub value_ids : (entries : List (Entry KeptView)) (id : ℕ) (k : KeptView) → map id_of (with_value_at id k entries) ≡ map id_of entries
+value_ids [] id k = refl
+value_ids (x ∷ xs) id k = go (x.id == id) refl (value_ids xs id k)
+  where
+    go : (b : Bool) → (x.id == id) ≡ b → map id_of (with_value_at id k xs) ≡ map id_of xs
+        → id_of (cond b (entry id k) x) ∷ map id_of (with_value_at id k xs) ≡ id_of x ∷ map id_of xs
+    go true t rest = let same = eqb-true x.id id t in cc
+    go false t rest = ap (λ ids. id_of x ∷ ids) rest
+
+-- The loop.
+
+pub record IsFollowedSoFar (movement : Movement) (edits : List LineEdit) (ids rest : List ℕ) (old now : Entries KeptView) : Type 0 where
+  pub views : followed_at movement edits rest (views_of now.entries) ≡ followed_at movement edits ids (views_of old.entries)
+  pub named : AreNamed now.entries
+  pub can : CanFollowInTurn movement edits rest (views_of now.entries)
+  pub same : map id_of now.entries ≡ map id_of old.entries
+  pub next : now.next ≡ old.next
+  pub room : now.room ≡ old.room
+
+pub follow_none : (movement : Movement) (edits : List LineEdit) (ids : List ℕ) (old : Entries KeptView) → AreNamed old.entries
+    → CanFollowInTurn movement edits ids (views_of old.entries) → IsFollowedSoFar movement edits ids ids old old
+follow_none movement edits ids old named can = record { views = refl; named = named; can = can; same = refl; next = refl; room = refl }
+
+-- the next view can follow
+pub next_can : (movement : Movement) (edits : List LineEdit) (ids rest after : List ℕ) (id : ℕ) (k : KeptView) (old now : Entries KeptView)
+    → IsFollowedSoFar movement edits ids rest old now → rest ≡ id ∷ after → value_at now.entries id ≡ Some k → CanFollow movement edits k.view
+next_can movement edits ids rest after id k old now so e found =
+    (subst (λ r. CanFollowInTurn movement edits r (views_of now.entries)) e so.can).0 k.view (named_some now.entries id k so.named found)
+
+-- .. and does
+pub follow_one : (movement : Movement) (edits : List LineEdit) (ids rest after : List ℕ) (id : ℕ) (k moved : KeptView) (old now new : Entries KeptView)
+    → IsFollowedSoFar movement edits ids rest old now → rest ≡ id ∷ after → value_at now.entries id ≡ Some k → moved.view ≡ view_moved movement edits k.view
+    → new ≡ record now { entries = with_value_at id moved now.entries } → IsFollowedSoFar movement edits ids after old new
+follow_one movement edits ids rest after id k moved old now new so e found follows put =
+    let at : view_at (views_of now.entries) id ≡ Some k.view = named_some now.entries id k so.named found in
+    let is : moved.view.id ≡ id = ap (λ (v : View). v.id) follows ∙ view_id (views_of now.entries) id k.view at in
+    let views : views_of (with_value_at id moved now.entries) ≡ with_followed movement edits (view_at (views_of now.entries) id) (views_of now.entries) =
+    value_views now.entries id moved so.named is ∙ ap (λ v. with_view v (views_of now.entries)) follows
+    ∙ ap (λ o. with_followed movement edits o (views_of now.entries)) (sym at) in
+    rw put (record {
+      views = ap (followed_at movement edits after) views ∙ ap (λ r. followed_at movement edits r (views_of now.entries)) (sym e) ∙ so.views;
+      named = value_named now.entries id moved so.named is;
+      can = subst (CanFollowInTurn movement edits after) (sym views) (subst (λ r. CanFollowInTurn movement edits r (views_of now.entries)) e so.can).1;
+      same = value_ids now.entries id moved ∙ so.same;
+      next = so.next;
+      room = so.room;
+    })
+
+-- no view has the next id
+pub follow_missing : (movement : Movement) (edits : List LineEdit) (ids rest after : List ℕ) (id : ℕ) (old now new : Entries KeptView)
+    → IsFollowedSoFar movement edits ids rest old now → rest ≡ id ∷ after → value_at now.entries id ≡ None → new ≡ now
+    → IsFollowedSoFar movement edits ids after old new
+follow_missing movement edits ids rest after id old now new so e found put =
+    let at : view_at (views_of now.entries) id ≡ None = named_none now.entries id so.named found in
+    let views : views_of now.entries ≡ with_followed movement edits (view_at (views_of now.entries) id) (views_of now.entries) =
+    ap (λ o. with_followed movement edits o (views_of now.entries)) (sym at) in
+    rw put (record {
+      views = ap (followed_at movement edits after) views ∙ ap (λ r. followed_at movement edits r (views_of now.entries)) (sym e) ∙ so.views;
+      named = so.named;
+      can = subst (CanFollowInTurn movement edits after) (sym views) (subst (λ r. CanFollowInTurn movement edits r (views_of now.entries)) e so.can).1;
+      same = so.same;
+      next = so.next;
+      room = so.room;
+    })
+
+pub follow_all : (movement : Movement) (edits : List LineEdit) (ids rest : List ℕ) (old now : Entries KeptView)
+    → IsFollowedSoFar movement edits ids rest old now → rest ≡ [] → views_of now.entries ≡ followed_at movement edits ids (views_of old.entries)
+follow_all movement edits ids rest old now so e = ap (λ r. followed_at movement edits r (views_of now.entries)) (sym e) ∙ so.views

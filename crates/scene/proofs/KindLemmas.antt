@@ -1,0 +1,101 @@
+-- Kinds of notes, and who hears them.
+use Rattle.std.proofs.Common.{◌≡◌, ℕ, ◌+◌, ◌<◌, ◌≤◌, Bool, true, false, cond, List, [], ◌∷◌, map, length, refl, ap, sym, ◌∙◌, subst, arith}
+use Rattle.std.specs.Prelude.{◌==◌, not, filter, bit_and, bit_or, ℤ}
+use Rattle.std.specs.Int.Bits.{and_zero_l}
+use Rattle.std.proofs.lemmas.Nat.{and_assoc, and_or_self, or_comm}
+use Rattle.std.proofs.lemmas.Bool.{eqb-true, eqb-false, eq-eqb, ne_eqb}
+use Rattle.ed_types.specs.Notices.{Notice}
+use Rattle.ed_types.specs.declared.reply.Note.{Note}
+use Rattle.ed_model.specs.Numbers.{meets}
+use Rattle.ed_types.specs.Heard.{with_text}
+use Rattle.ed_model.specs.Steps.{Step, Insert, Delete, step_bytes}
+use Rattle.ed_model.specs.Notes.{told, heard, before_note, after_note}
+use Rattle.document.specs.declared.text_step.TextStep.{TextStep}
+use Rattle.document.specs.declared.text_step.TextStep.TheVariants.{Insert as put_in, Delete as take_out}
+use Rattle.document.specs.TextSteps.{step_in}
+use Rattle.ed_model.specs.Session.{View}
+use Rattle.scene.specs.declared.telling.Audience.TheVariants.{Hearers}
+use Rattle.scene.specs.declared.telling.NoteText.{NoteText}
+use Rattle.scene.specs.declared.telling.NoteText.TheVariants.{Shared}
+use Rattle.scene.specs.Hearing.{audience_of, with_note_text, hearers, before_kind, after_kind, step_kinds}
+use Rattle.scene.specs.StepNotes.{text_before, note_text_before}
+
+-- what meets a mask meets it with more bits too
+and_none : (m a b : ℕ) → bit_and m (bit_or b a) ≡ 0 → bit_and m a ≡ 0
+and_none m a b e =
+    ap (bit_and m) (sym (and_or_self a b)) ∙ sym (and_assoc a m (bit_or b a)) ∙ ap (λ x. bit_and x a) e ∙ and_zero_l a
+
+pub meets_right : (m a b : ℕ) → meets m a ≡ true → meets m (bit_or b a) ≡ true
+meets_right m a b h = go (bit_and m (bit_or b a) == 0) refl
+  where
+    go : (c : Bool) → (bit_and m (bit_or b a) == 0) ≡ c → not c ≡ true
+    go true t =
+        let none : bit_and m a ≡ 0 = and_none m a b (eqb-true (bit_and m (bit_or b a)) 0 t) in
+        let same : (bit_and m a == 0) ≡ true = eq-eqb (bit_and m a) 0 none in
+        absurd (let wrong = sym (ap not same) ∙ h in cc)
+    go false t = refl
+
+pub meets_left : (m a b : ℕ) → meets m a ≡ true → meets m (bit_or a b) ≡ true
+meets_left m a b h = subst (λ k. meets m k ≡ true) (or_comm b a) (meets_right m a b h)
+
+-- the views that hear a kind hear more kinds too
+pub hearers_more : (a b : ℕ) (views : List View) → ((m : ℕ) → meets m a ≡ true → meets m b ≡ true) → hearers a views ≤ hearers b views
+hearers_more a b [] h = omega arith
+hearers_more a b (v ∷ vs) h = go (meets v.mask a) refl (hearers_more a b vs h)
+  where
+    go : (c : Bool) → meets v.mask a ≡ c → hearers a vs ≤ hearers b vs
+        → length (cond c (v ∷ filter (λ (v : View). meets v.mask a) vs) (filter (λ (v : View). meets v.mask a) vs)) ≤ hearers b (v ∷ vs)
+    go true t le = let more : meets v.mask b ≡ true = h v.mask t in rw more (omega arith)
+    go false t le = either (meets v.mask b)
+      where
+        either : (c : Bool) → hearers a vs ≤ length (cond c (v ∷ filter (λ (v : View). meets v.mask b) vs) (filter (λ (v : View). meets v.mask b) vs))
+        either true = omega arith
+        either false = le
+
+empty_or_some : {X : Type 0} (xs : List X) (P : List X → Type 0) → P [] → (0 < length xs → P xs) → P xs
+empty_or_some [] P a b = a
+empty_or_some (x ∷ xs) P a b = b (omega arith)
+
+-- a note that was put for the hearers is one that was heard, if it has the right text where any hears it
+pub told_as_heard : (views : List View) (note : Note) (t : NoteText) (shared : List ℕ) (n : Notice) → note.kind ≡ n.kind
+    → (0 < hearers n.kind views → with_note_text t note shared ≡ n) → told (audience_of Hearers note.kind views) (with_note_text t note shared) ≡ heard views n
+told_as_heard views note t shared n kind text =
+    ap (λ k. told (filter (λ (v : View). meets v.mask k) views) (with_note_text t note shared)) kind
+    ∙ empty_or_some (filter (λ (v : View). meets v.mask n.kind) views) (λ vs. told vs (with_note_text t note shared) ≡ told vs n) refl
+    (λ some. ap (told (filter (λ (v : View). meets v.mask n.kind) views)) (text some))
+
+-- The notes of a step.
+
+pub before_kind_is : (bits : ℕ) (s : Step) → (before_note bits s).kind ≡ before_kind bits s
+before_kind_is bits (Insert p bytes) = refl
+before_kind_is bits (Delete p bytes) = refl
+
+pub after_kind_is : (bits : ℕ) (lines : ℤ) (s : Step) → (after_note bits lines s).kind ≡ after_kind bits s
+after_kind_is bits lines (Insert p bytes) = refl
+after_kind_is bits lines (Delete p bytes) = refl
+
+with_right_text : (step : TextStep) (text : List ℕ) (note : Note) (shared : List ℕ) (n : Notice) → with_text note (text_before (step_in step text)) ≡ n
+    → shared ≡ step_bytes (step_in step text) → with_note_text (note_text_before step) note shared ≡ n
+with_right_text (put_in p bytes) text note shared n e same = ap (with_text note) same ∙ e
+with_right_text (take_out p count) text note shared n e same = e
+
+pub told_before : (views : List View) (step : TextStep) (text : List ℕ) (note : Note) (shared : List ℕ) (before after : ℕ)
+    → with_text note (text_before (step_in step text)) ≡ before_note before (step_in step text)
+    → (0 < hearers (step_kinds before after (step_in step text)) views → shared ≡ step_bytes (step_in step text))
+    → told (audience_of Hearers note.kind views) (with_note_text (note_text_before step) note shared) ≡ heard views (before_note before (step_in step text))
+told_before views step text note shared before after is some =
+    let s = step_in step text in
+    let n = before_note before s in
+    let more : hearers n.kind views ≤ hearers (step_kinds before after s) views =
+    hearers_more n.kind (step_kinds before after s) views (λ m h. meets_left m (before_kind before s) (after_kind after s) (rw (before_kind_is before s) at h)) in
+    told_as_heard views note (note_text_before step) shared n (ap (λ (x : Notice). x.kind) is) (λ some_hear. with_right_text step text note shared n is (some (omega arith)))
+
+pub told_after : (views : List View) (s : Step) (note : Note) (shared : List ℕ) (before after : ℕ) (lines : ℤ)
+    → with_text note (step_bytes s) ≡ after_note after lines s
+    → (0 < hearers (step_kinds before after s) views → shared ≡ step_bytes s)
+    → told (audience_of Hearers note.kind views) (with_note_text Shared note shared) ≡ heard views (after_note after lines s)
+told_after views s note shared before after lines is some =
+    let n = after_note after lines s in
+    let more : hearers n.kind views ≤ hearers (step_kinds before after s) views =
+    hearers_more n.kind (step_kinds before after s) views (λ m h. meets_right m (after_kind after s) (before_kind before s) (rw (after_kind_is after lines s) at h)) in
+    told_as_heard views note Shared shared n (ap (λ (x : Notice). x.kind) is) (λ some_hear. ap (with_text note) (some (omega arith)) ∙ is)

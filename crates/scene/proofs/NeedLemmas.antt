@@ -1,0 +1,207 @@
+-- What steps put is no more than what was told before.
+use Rattle.std.proofs.Common.{◌≡◌, ℕ, suc, ◌+◌, ◌*◌, ◌<◌, ◌≤◌, Bool, true, false, cond, List, [], ◌∷◌, ◌++◌, map, length, refl, ap, sym, ◌∙◌, subst, arith, length-append}
+use Rattle.std.specs.Prelude.{◌==◌, ◌&&◌, ◌||◌, not, nat_le, nat_lt, ℤ, Option, Some, None, filter, filter_map, option_map, if◌then◌else◌, bit_or}
+use Rattle.std.specs.List.{cons_option}
+use Rattle.std.proofs.lemmas.Bool.{ne_eqb, leb-true, ltb-true, lt-ltb}
+use Rattle.ed_types.specs.Notices.{Notice}
+use Rattle.ed_model.specs.Numbers.{meets, growth, is_number}
+use Rattle.ed_model.specs.Steps.{Step, Insert, Delete, step_bytes}
+use Rattle.ed_model.specs.History.{History, Change, Transaction, TextStep, at_save_point, appended, begins_transaction, joins, joins_last, with_change, reachable, sealed_outside_groups, seal_first, with_last_sealed}
+use Rattle.ed_model.specs.Notes as notes
+use Rattle.ed_model.specs.Notes.{told, heard, before_note, after_note, performed_user}
+use Rattle.ed_model.specs.Session.{View, Document, view_at, watching, lines_in}
+use Rattle.ed_model.specs.Performing.{Scene, document_after, moved_view, view_after, leaving, step_made, sealed_scene}
+use Rattle.scene.specs.Hearing.{hearers, before_kind, after_kind, step_kinds, user_bits, bytes_shared}
+use Rattle.scene.specs.Needs.{user_kinds, leaving_count, notes_of_step, bytes_of_step, notes_of_steps, bytes_of_steps, NotesAreEnough, BytesAreEnough, SealingNeedsTheSame}
+use Rattle.scene.proofs.ToldSoFar.{length_told}
+use Rattle.scene.proofs.KindLemmas.{meets_left, meets_right, hearers_more, before_kind_is, after_kind_is}
+
+-- Kinds of a step, whether it begins a transaction or not.
+
+made_more : (begins : Bool) (s : Step) (m : ℕ) → meets m (step_kinds performed_user (user_bits begins) s) ≡ true → meets m (user_kinds s) ≡ true
+made_more true s m h = h
+made_more false (Insert p bytes) m h = meets_left m 0x411 0x2000 h
+made_more false (Delete p bytes) m h = meets_left m 0x812 0x2000 h
+
+made_before : (s : Step) (m : ℕ) → meets m (before_kind performed_user s) ≡ true → meets m (user_kinds s) ≡ true
+made_before s m h = meets_left m (before_kind performed_user s) (after_kind (user_bits true) s) h
+
+made_after : (begins : Bool) (s : Step) (m : ℕ) → meets m (after_kind (user_bits begins) s) ≡ true → meets m (user_kinds s) ≡ true
+made_after begins s m h = made_more begins s m (meets_right m (after_kind (user_bits begins) s) (before_kind performed_user s) h)
+
+before_few : (s : Step) (views : List View) → length (heard views (before_note performed_user s)) ≤ hearers (user_kinds s) views
+before_few s views =
+    let n = before_note performed_user s in
+    let l = length_told (filter (λ (v : View). meets v.mask n.kind) views) n in
+    let le : hearers n.kind views ≤ hearers (user_kinds s) views = hearers_more n.kind (user_kinds s) views (λ m h. made_before s m (rw (before_kind_is performed_user s) at h)) in
+    omega arith
+
+after_few : (begins : Bool) (lines : ℤ) (s : Step) (views : List View) → length (heard views (after_note (user_bits begins) lines s)) ≤ hearers (user_kinds s) views
+after_few begins lines s views =
+    let n = after_note (user_bits begins) lines s in
+    let l = length_told (filter (λ (v : View). meets v.mask n.kind) views) n in
+    let le : hearers n.kind views ≤ hearers (user_kinds s) views = hearers_more n.kind (user_kinds s) views (λ m h. made_after begins s m (rw (after_kind_is (user_bits begins) lines s) at h)) in
+    omega arith
+
+-- Those that watch after a step are those that watched before, with the same masks.
+
+after_id : (s : Step) (d : Document) (v : View) (b : Bool) → (cond b (moved_view s d v) v).id ≡ v.id
+after_id s d v true = refl
+after_id s d v false = refl
+
+after_mask : (s : Step) (d : Document) (v : View) (b : Bool) → (cond b (moved_view s d v) v).mask ≡ v.mask
+after_mask s d v true = refl
+after_mask s d v false = refl
+
+found_after : (s : Step) (d : Document) (vs : List View) (id : ℕ) → view_at (map (view_after s d) vs) id ≡ option_map (view_after s d) (view_at vs id)
+found_after s d [] id = refl
+found_after s d (v ∷ vs) id =
+    let same : (view_after s d v).id ≡ v.id = after_id s d v (v.document == d.id) in
+    rw same (go (v.id == id) (found_after s d vs id))
+  where
+    go : (b : Bool) → view_at (map (view_after s d) vs) id ≡ option_map (view_after s d) (view_at vs id)
+        → cond b (Some (view_after s d v)) (view_at (map (view_after s d) vs) id) ≡ option_map (view_after s d) (cond b (Some v) (view_at vs id))
+    go true rest = refl
+    go false rest = rest
+
+cons_after : (f : View → View) (o : Option View) (vs : List View) → cons_option (option_map f o) (map f vs) ≡ map f (cons_option o vs)
+cons_after f None vs = refl
+cons_after f (Some v) vs = refl
+
+watch_after : (s : Step) (d : Document) (vs : List View) (ids : List ℕ) → filter_map (view_at (map (view_after s d) vs)) ids ≡ map (view_after s d) (filter_map (view_at vs) ids)
+watch_after s d vs [] = refl
+watch_after s d vs (id ∷ ids) =
+    ap (λ o. cons_option o (filter_map (view_at (map (view_after s d) vs)) ids)) (found_after s d vs id)
+    ∙ ap (cons_option (option_map (view_after s d) (view_at vs id))) (watch_after s d vs ids)
+    ∙ cons_after (view_after s d) (view_at vs id) (filter_map (view_at vs) ids)
+
+hear_after : (k : ℕ) (s : Step) (d : Document) (vs : List View) → hearers k (map (view_after s d) vs) ≡ hearers k vs
+hear_after k s d [] = refl
+hear_after k s d (v ∷ vs) =
+    let same : (view_after s d v).mask ≡ v.mask = after_mask s d v (v.document == d.id) in
+    rw same (go (meets v.mask k) (hear_after k s d vs))
+  where
+    go : (b : Bool) → hearers k (map (view_after s d) vs) ≡ hearers k vs
+        → length (cond b (view_after s d v ∷ filter (λ (v : View). meets v.mask k) (map (view_after s d) vs)) (filter (λ (v : View). meets v.mask k) (map (view_after s d) vs)))
+        ≡ length (cond b (v ∷ filter (λ (v : View). meets v.mask k) vs) (filter (λ (v : View). meets v.mask k) vs))
+    go true rest = ap (λ n. suc n) rest
+    go false rest = rest
+
+hear_same : (k : ℕ) (s : Step) (d : Document) (vs : List View) → hearers k (filter_map (view_at (map (view_after s d) vs)) d.views) ≡ hearers k (filter_map (view_at vs) d.views)
+hear_same k s d vs = ap (hearers k) (watch_after s d vs d.views) ∙ hear_after k s d (filter_map (view_at vs) d.views)
+
+notes_same : (s : Step) (d : Document) (vs : List View) (steps : List Step)
+    → notes_of_steps (filter_map (view_at (map (view_after s d) vs)) d.views) steps ≡ notes_of_steps (filter_map (view_at vs) d.views) steps
+notes_same s d vs [] = refl
+notes_same s d vs (x ∷ xs) = let a = hear_same (user_kinds x) s d vs in let b = notes_same s d vs xs in rw (a, b) refl
+
+bytes_same : (s : Step) (d : Document) (vs : List View) (steps : List Step)
+    → bytes_of_steps (filter_map (view_at (map (view_after s d) vs)) d.views) steps ≡ bytes_of_steps (filter_map (view_at vs) d.views) steps
+bytes_same s d vs [] = refl
+bytes_same s d vs (x ∷ xs) = let a = hear_same (user_kinds x) s d vs in let b = bytes_same s d vs xs in rw (a, b) refl
+
+-- A document that collects is not at the save point after a step.
+
+not_behind : (n m : ℕ) (o : Option ℕ) → n < m → is_number m (reachable n o) ≡ false
+not_behind n m None l = refl
+not_behind n m (Some k) l = go (nat_le k n) refl
+  where
+    go : (b : Bool) → nat_le k n ≡ b → is_number m (cond b (Some k) None) ≡ false
+    go true t = let le = leb-true k n t in ne_eqb k m (λ e. omega arith)
+    go false t = refl
+
+not_there : (n : ℕ) (o : Option ℕ) → is_number n o ≡ false → is_number n (reachable n o) ≡ false
+not_there n None e = refl
+not_there n (Some k) e = go (nat_le k n)
+  where
+    go : (b : Bool) → is_number n (cond b (Some k) None) ≡ false
+    go true = e
+    go false = refl
+
+-- a change joins only where the save point is left
+joined_left : (x y z : Bool) → (x && not y && z) ≡ true → y ≡ false
+joined_left true true z h = absurd (cc)
+joined_left true false z h = refl
+joined_left false y z h = absurd (cc)
+
+left_past : (later : Bool) (c : Change) (h : History) (past : List Transaction) → h.past ≡ past
+    → is_number (length (with_change (joins_last later c h past) c past)) (reachable (length past) h.save_point) ≡ false
+left_past later c h [] e = not_behind 0 1 h.save_point (omega arith)
+left_past later c h (t ∷ ts) e = go (joins_last later c h (t ∷ ts)) refl
+  where
+    go : (b : Bool) → joins_last later c h (t ∷ ts) ≡ b → is_number (length (with_change b c (t ∷ ts))) (reachable (length (t ∷ ts)) h.save_point) ≡ false
+    go true j =
+        let away : at_save_point h ≡ false = joined_left (not t.is_sealed) (at_save_point h) _ j in
+        not_there (length (t ∷ ts)) h.save_point (rw e at away)
+    go false j = not_behind (length (t ∷ ts)) (suc (length (t ∷ ts))) h.save_point (omega arith)
+
+none_left : (later : Bool) (c : Change) (h : History) (views : List View) → leaving_count views (appended later c h) ≡ 0
+none_left later c h views = go h.collecting refl
+  where
+    go : (b : Bool) → h.collecting ≡ b
+        → leaving_count views (cond b (record h { past = with_change (joins later c h) c h.past; future = []; save_point = reachable (length h.past) h.save_point }) h) ≡ 0
+    go true e = let a = left_past later c h h.past refl in rw (e, a) refl
+    go false e = rw e refl
+
+leaving_length : (views : List View) (h : History) → length (leaving views h) ≡ leaving_count views h
+leaving_length views h = go (h.collecting && at_save_point h)
+  where
+    go : (b : Bool) → length (cond b (told views (notes.blank notes.save_point_left)) []) ≡ cond b (length views) 0
+    go true = length_told views (notes.blank notes.save_point_left)
+    go false = refl
+
+-- Laws.
+
+four_parts : (a b c d : List Notice) → length (a ++ b ++ c ++ d) ≡ length a + (length b + (length c + length d))
+four_parts a b c d = simp length-append (omega arith)
+
+pub notes_enough : NotesAreEnough
+notes_enough later step steps scene =
+    let d = scene.document in
+    let h = d.history in
+    let W = watching scene.views d in
+    let begins = begins_transaction later (TextStep step) h in
+    let lines = growth (lines_in d) (lines_in (document_after step d)) in
+    let all = four_parts scene.notes (heard W (before_note performed_user step)) (leaving W h) (heard W (after_note (user_bits begins) lines step)) in
+    let b = before_few step W in
+    let a = after_few begins lines step W in
+    let l = leaving_length W h in
+    let none = none_left later (TextStep step) h (watching (step_made later step scene).views (step_made later step scene).document) in
+    let same = notes_same step d scene.views steps in
+    omega arith
+
+shared_more : (a b : ℕ) (views : List View) (n : ℕ) → ((m : ℕ) → meets m a ≡ true → meets m b ≡ true) → bytes_shared a views n ≤ bytes_shared b views n
+shared_more a b views n more = go (nat_lt 0 (hearers a views)) refl
+  where
+    go : (c : Bool) → nat_lt 0 (hearers a views) ≡ c → cond c n 0 ≤ bytes_shared b views n
+    go true t =
+        let some : 0 < hearers a views = ltb-true 0 (hearers a views) t in
+        let le = hearers_more a b views more in
+        let there : nat_lt 0 (hearers b views) ≡ true = lt-ltb 0 (hearers b views) (omega arith) in
+        rw there (omega arith)
+    go false t = omega arith
+
+pub bytes_enough : BytesAreEnough
+bytes_enough later step steps scene =
+    let d = scene.document in
+    let W = watching scene.views d in
+    let begins = begins_transaction later (TextStep step) d.history in
+    let le = shared_more (step_kinds performed_user (user_bits begins) step) (user_kinds step) W (length (step_bytes step)) (made_more begins step) in
+    let same = bytes_same step d scene.views steps in
+    omega arith
+
+length_sealed : (past : List Transaction) → length (seal_first past) ≡ length past
+length_sealed [] = refl
+length_sealed (t ∷ ts) = refl
+
+sealed_leaves : (h : History) (views : List View) → leaving_count views (sealed_outside_groups h) ≡ leaving_count views h
+sealed_leaves h views = go (h.depth == 0)
+  where
+    go : (b : Bool) → leaving_count views (cond b (with_last_sealed h) h) ≡ leaving_count views h
+    go true = let l = length_sealed h.past in rw l refl
+    go false = refl
+
+pub sealing_same : SealingNeedsTheSame
+sealing_same steps scene =
+    let W = watching scene.views scene.document in
+    (ap (λ n. n + notes_of_steps W steps) (sealed_leaves scene.document.history W), refl)

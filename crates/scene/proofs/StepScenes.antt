@@ -1,0 +1,240 @@
+-- A scene under a step: each view that stands on the document can follow, all follow as the model says, and stand on it again.
+use Rattle.std.proofs.Common.{◌≡◌, ℕ, ◌+◌, ◌^◌, ◌<◌, ◌≤◌, Bool, true, false, cond, List, [], ◌∷◌, ◌++◌, map, length, refl, ap, sym, ◌∙◌, subst, arith, length-append}
+use Rattle.std.specs.Prelude.{◌==◌, ◌&&◌, Option, Some, None, if◌then◌else◌}
+use Rattle.std.specs.List.{AllByRecursion}
+use Rattle.std.proofs.lemmas.List.{length-map}
+use Rattle.std.proofs.lemmas.Bool.{eqb-true, eqb-false, eq-eqb, ne_eqb}
+use Rattle.ed_types.specs.Notices.{Notice}
+use Rattle.line_index.specs.declared.edit.LineEdit.{LineEdit}
+use Rattle.line_index.specs.Edits.{fresh_lines}
+use Rattle.line_index.specs.RoomLaws.{lines_for_step}
+use Rattle.line_index.specs.StepEdits.{EditsBringFewLines}
+use Rattle.selection.specs.declared.movements.Movement.{Movement}
+use Rattle.selection.specs.Positions.{movement_of, count_of}
+use Rattle.ed_model.specs.declared.plan.LineEndTypes.{LineEndTypes}
+use Rattle.ed_model.specs.Text.{Cell}
+use Rattle.ed_model.specs.Steps as model
+use Rattle.ed_model.specs.Steps.{Step, step_bytes}
+use Rattle.ed_model.specs.MergeLaws.{end_of}
+use Rattle.ed_model.specs.History.{History, TextStep as Text, appended, begins_transaction, at_save_point}
+use Rattle.ed_model.specs.Notes.{told, blank, save_point_left, performed_user}
+use Rattle.ed_model.specs.Session.{View, Document, view_at, text_of, lines_in, watching}
+use Rattle.ed_model.specs.Performing.{Scene, document_after, moved_view, view_after, leaving, step_heard, step_made}
+use Rattle.ed_model.specs.SoundLaws.{Rise, StandsOn, IsViewOn, occurrences}
+use Rattle.ed_model.specs.StandingLaws.{StepsKeepViewsStanding}
+use Rattle.id_table.specs.Entries.{Entry, Entries}
+use Rattle.ed_view.specs.Kept.{KeptView}
+use Rattle.ed_view.specs.Moving.{view_moved, step_edits, MovesAreThoseOfSteps, StepsFitViews}
+use Rattle.document.specs.declared.text_step.TextStep.{TextStep}
+use Rattle.document.specs.declared.text_step.TextStep.TheVariants.{Insert, Delete}
+use Rattle.document.specs.declared.room.DocumentRoom.{DocumentRoom}
+use Rattle.document.specs.TextSteps.{step_in, IsStepOn, need_of}
+use Rattle.scene.specs.Scenes.{views_of, scene_in, AreNamed, StandsIfOn, IsWatched}
+use Rattle.scene.specs.Hearing.{left_note, user_bits}
+use Rattle.scene.specs.Following.{followed_at, CanFollow, CanFollowInTurn}
+use Rattle.scene.specs.StepNotes.{IsSmallStep, place_in, count_in}
+use Rattle.scene.proofs.Followed.{view_id}
+use Rattle.scene.proofs.Watching.{ids_of, through, followed_through, through_none, through_once, can_in_turn, Ready, EachOnce, each_found, found_has, not_listed}
+use Rattle.scene.proofs.NotesOfSteps.{length_slice}
+
+abbrev pub scene_with : Document → List View → List Notice → Scene
+scene_with d vs ns = record { document = d; views = vs; notes = ns }
+
+pub length_text : (d : Document) → length (text_of d) ≡ length d.cells
+length_text d = length-map d.cells (λ (c : Cell). c.byte)
+
+-- a step of the cells is one of the text
+pub on_text : (step : TextStep) (d : Document) → IsStepOn step (length d.cells) → IsStepOn step (length (text_of d))
+on_text step d h = subst (IsStepOn step) (sym (length_text d)) h
+
+-- it ends in the text
+pub end_within : (step : TextStep) (text : List ℕ) → IsStepOn step (length text) → end_of (step_in step text) ≤ length text
+end_within (Insert p bytes) text h = h
+end_within (Delete p n) text h = let l = length_slice text p n h in omega arith
+
+-- its numbers are small
+pub small_step : (types : LineEndTypes) (step : TextStep) (size room : ℕ) → IsStepOn step size → (need_of types step).text ≤ room → size + room < 2 ^ 61 → IsSmallStep step
+small_step types (Insert p bytes) size room on put bound = (omega arith, omega arith)
+small_step types (Delete p n) size room on put bound = (omega arith, omega arith)
+
+pub count_is : (step : TextStep) (text : List ℕ) → IsStepOn step (length text) → count_of (movement_of (step_in step text)) ≡ count_in step
+count_is (Insert p bytes) text h = refl
+count_is (Delete p n) text h = length_slice text p n h
+
+pub lines_of_need : (types : LineEndTypes) (step : TextStep) (text : List ℕ) → (need_of types step).lines ≡ lines_for_step types (step_in step text)
+lines_of_need types (Insert p bytes) text = refl
+lines_of_need types (Delete p n) text = refl
+
+pub same_scene : (d d' : Document) (vs vs' : List View) (ns ns' : List Notice) → d ≡ d' → vs ≡ vs' → ns ≡ ns'
+    → scene_with d vs ns ≡ scene_with d' vs' ns'
+same_scene d d' vs vs' ns ns' a b c = cc
+
+-- The views of a scene.
+
+abbrev listed_stands : Document → List View → ℕ → Type 0
+listed_stands d vs id = (v : View) × (view_at vs id ≡ Some v) × StandsOn d v
+
+all_stand : (d : Document) (vs : List View) (ids : List ℕ) → AllByRecursion (StandsIfOn d) vs → AllByRecursion (IsViewOn vs d.id) ids → AllByRecursion (listed_stands d vs) ids
+all_stand d vs [] stand listed = tt
+all_stand d vs (id ∷ ids) stand listed =
+    let v = listed.0.0 in
+    ((v, listed.0.1, found_has (StandsIfOn d) vs id v stand listed.0.1 listed.0.2), all_stand d vs ids stand listed.1)
+
+all_once : (d : Document) (vs : List View) (ids : List ℕ) → AllByRecursion (listed_stands d vs) ids → AllByRecursion (λ id. occurrences id d.views ≡ 1) ids
+all_once d vs [] all = tt
+all_once d vs (id ∷ ids) all =
+    let v = all.0.0 in
+    (subst (λ k. occurrences k d.views ≡ 1) (view_id vs id v all.0.1) all.0.2.listed, all_once d vs ids all.1)
+
+all_ready : (movement : Movement) (edits : List LineEdit) (d : Document) (vs : List View) (ids : List ℕ) → ((v : View) → StandsOn d v → CanFollow movement edits v)
+    → AllByRecursion (listed_stands d vs) ids → AllByRecursion (Ready movement edits vs) ids
+all_ready movement edits d vs [] can all = tt
+all_ready movement edits d vs (id ∷ ids) can all =
+    let v = all.0.0 in
+    ((λ u found. let is : Some v ≡ Some u = sym all.0.1 ∙ found in let same : v ≡ u = cc in can u (subst (StandsOn d) same all.0.2)), all_ready movement edits d vs ids can all.1)
+
+-- all can follow
+pub watched_can : (movement : Movement) (edits : List LineEdit) (d : Document) (table : Entries KeptView) → IsWatched d table
+    → ((v : View) → StandsOn d v → CanFollow movement edits v) → CanFollowInTurn movement edits d.views (views_of table.entries)
+watched_can movement edits d table w can =
+    let vs = views_of table.entries in
+    let all = all_stand d vs d.views w.stand w.listed in
+    can_in_turn movement edits d.views 0 table.next vs w.rise (all_once d vs d.views all) (all_ready movement edits d vs d.views can all)
+
+pub stands_can : (step : Step) (d : Document) (v : View) → StepsFitViews → EditsBringFewLines → end_of step ≤ length (text_of d)
+    → length d.cells + count_of (movement_of step) < 2 ^ 64 → lines_in d + lines_for_step d.line_end_types step < 2 ^ 64 → StandsOn d v
+    → CanFollow (movement_of step) (step_edits step d) v
+stands_can step d v fit few within places lines on =
+    let a = on.anchor in
+    let c = on.caret in
+    let s = on.target_start in
+    let e = on.target_end in
+    let n = on.lines in
+    let f = few d.line_end_types step (text_of d) within in
+    record {
+      anchor = omega arith;
+      caret = omega arith;
+      target_start = omega arith;
+      target_end = omega arith;
+      lines = fit step d v within on.lines;
+      few = omega arith;
+    }
+
+map_all : (f g : View → View) (vs : List View) → AllByRecursion (λ v. f v ≡ g v) vs → map f vs ≡ map g vs
+map_all f g [] all = refl
+map_all f g (v ∷ vs) all = let a = all.0 in let b = map_all f g vs all.1 in cc
+
+all_pairs : (P Q S : View → Type 0) (vs : List View) → ((v : View) → P v → Q v → S v) → AllByRecursion P vs → AllByRecursion Q vs → AllByRecursion S vs
+all_pairs P Q S [] h a b = tt
+all_pairs P Q S (v ∷ vs) h a b = (h v a.0 b.0, all_pairs P Q S vs h a.1 b.1)
+
+-- all that followed are those of the model after the step
+pub watched_after : (step : Step) (d : Document) (table : Entries KeptView) → IsWatched d table → MovesAreThoseOfSteps → end_of step ≤ length (text_of d)
+    → followed_at (movement_of step) (step_edits step d) d.views (views_of table.entries) ≡ map (view_after step d) (views_of table.entries)
+watched_after step d table w moves within =
+    let vs = views_of table.entries in
+    let m = movement_of step in
+    let es = step_edits step d in
+    let one : (v : View) → view_at vs v.id ≡ Some v → StandsIfOn d v → through m es d.views v ≡ view_after step d v = λ v found stand. each v found stand (v.document == d.id) refl in
+    followed_through m es d.views 0 table.next vs w.rise
+    ∙ map_all (through m es d.views) (view_after step d) vs
+    (all_pairs (λ v. view_at vs v.id ≡ Some v) (StandsIfOn d) (λ v. through m es d.views v ≡ view_after step d v) vs one (each_found 0 table.next vs w.rise) w.stand)
+  where
+    each : (v : View) → view_at (views_of table.entries) v.id ≡ Some v → StandsIfOn d v → (b : Bool) → (v.document == d.id) ≡ b
+        → through (movement_of step) (step_edits step d) d.views v ≡ cond b (moved_view step d v) v
+    each v found stand true t =
+        let on = stand (eqb-true v.document d.id t) in
+        through_once (movement_of step) (step_edits step d) d.views v on.listed ∙ moves step d v within on.lines
+    each v found stand false t =
+        through_none (movement_of step) (step_edits step d) d.views v (not_listed d.id d.views (views_of table.entries) v found (eqb-false v.document d.id t) w.listed)
+
+-- The scene is watched again.
+
+after_id : (step : Step) (d : Document) (v : View) → (view_after step d v).id ≡ v.id
+after_id step d v = go (v.document == d.id)
+  where
+    go : (b : Bool) → (cond b (moved_view step d v) v).id ≡ v.id
+    go true = refl
+    go false = refl
+
+after_ids : (step : Step) (d : Document) (vs : List View) → ids_of (map (view_after step d) vs) ≡ ids_of vs
+after_ids step d [] = refl
+after_ids step d (v ∷ vs) = let a = after_id step d v in let b = after_ids step d vs in cc
+
+after_found : (step : Step) (d : Document) (vs : List View) (id : ℕ) (v : View) → view_at vs id ≡ Some v → view_at (map (view_after step d) vs) id ≡ Some (view_after step d v)
+after_found step d [] id v e = absurd (cc)
+after_found step d (u ∷ us) id v e =
+    let same = after_id step d u in
+    rw same (go (u.id == id) e (λ e. after_found step d us id v e))
+  where
+    go : (b : Bool) → cond b (Some u) (view_at us id) ≡ Some v → (view_at us id ≡ Some v → view_at (map (view_after step d) us) id ≡ Some (view_after step d v))
+        → cond b (Some (view_after step d u)) (view_at (map (view_after step d) us) id) ≡ Some (view_after step d v)
+    go true e rest = let is : u ≡ v = cc in ap (λ x. Some (view_after step d x)) is
+    go false e rest = rest e
+
+after_on : (step : Step) (d : Document) (v : View) → (view_after step d v).document ≡ v.document
+after_on step d v = go (v.document == d.id)
+  where
+    go : (b : Bool) → (cond b (moved_view step d v) v).document ≡ v.document
+    go true = refl
+    go false = refl
+
+after_listed : (step : Step) (d : Document) (vs : List View) (ids : List ℕ) → AllByRecursion (IsViewOn vs d.id) ids → AllByRecursion (IsViewOn (map (view_after step d) vs) d.id) ids
+after_listed step d vs [] all = tt
+after_listed step d vs (id ∷ ids) all =
+    let v = all.0.0 in
+    ((view_after step d v, after_found step d vs id v all.0.1, after_on step d v ∙ all.0.2), after_listed step d vs ids all.1)
+
+after_stand : (step : Step) (d : Document) (h : History) (vs : List View) → StepsKeepViewsStanding → AllByRecursion (StandsIfOn d) vs
+    → AllByRecursion (StandsIfOn (record (document_after step d) { history = h })) (map (view_after step d) vs)
+after_stand step d h [] law all = tt
+after_stand step d h (v ∷ vs) law all = (go (v.document == d.id) refl, after_stand step d h vs law all.1)
+  where
+    go : (b : Bool) → (v.document == d.id) ≡ b → StandsIfOn (record (document_after step d) { history = h }) (cond b (moved_view step d v) v)
+    go true t = λ on. law d step h v (all.0 on)
+    go false t = λ on. absurd (eqb-false v.document d.id t on)
+
+pub watched_again : (step : Step) (d : Document) (h : History) (old new : Entries KeptView) → StepsKeepViewsStanding → IsWatched d old
+    → views_of new.entries ≡ map (view_after step d) (views_of old.entries) → AreNamed new.entries → new.next ≡ old.next
+    → IsWatched (record (document_after step d) { history = h }) new
+watched_again step d h old new law w views named next =
+    let vs = views_of old.entries in
+    record {
+      named = named;
+      rise = subst (λ n. Rise 0 n (ids_of (views_of new.entries))) (sym next)
+          (subst (λ us. Rise 0 old.next (ids_of us)) (sym views) (subst (Rise 0 old.next) (sym (after_ids step d vs)) w.rise));
+      listed = subst (λ us. AllByRecursion (IsViewOn us d.id) d.views) (sym views) (after_listed step d vs d.views w.listed);
+      stand = subst (AllByRecursion (StandsIfOn (record (document_after step d) { history = h }))) (sym views) (after_stand step d h vs law w.stand);
+    }
+
+-- with another history
+pub watched_with_history : (d : Document) (h : History) (table : Entries KeptView) → IsWatched d table → IsWatched (record d { history = h }) table
+watched_with_history d h table w = record {
+  named = w.named;
+  rise = w.rise;
+  listed = w.listed;
+  stand = all_pairs (StandsIfOn d) (λ v. Unit {0}) (StandsIfOn (record d { history = h })) (views_of table.entries)
+      (λ v stand _ on. let s = stand on in record { anchor = s.anchor; caret = s.caret; target_start = s.target_start; target_end = s.target_end; lines = s.lines; first_line = s.first_line; indicator = s.indicator; listed = s.listed })
+      w.stand (units (views_of table.entries));
+}
+  where
+    units : (vs : List View) → AllByRecursion (λ (v : View). Unit {0}) vs
+    units [] = tt
+    units (v ∷ vs) = (tt, units vs)
+
+-- A step of a message.
+
+left_is_leaving : (views : List View) (h : History) → left_note (h.collecting && at_save_point h) views ≡ leaving views h
+left_is_leaving views h = go (h.collecting && at_save_point h)
+  where
+    go : (b : Bool) → left_note b views ≡ cond b (told views (blank save_point_left)) []
+    go true = refl
+    go false = refl
+
+pub made_as_heard : (later : Bool) (s : Step) (d : Document) (entries : List (Entry KeptView)) (ns : List Notice)
+    → step_heard performed_user (user_bits (begins_transaction later (Text s) d.history)) (left_note (d.history.collecting && at_save_point d.history) (watching (views_of entries) d)) s
+    (scene_in (record d { history = appended later (Text s) d.history }) entries ns)
+    ≡ step_made later s (scene_in d entries ns)
+made_as_heard later s d entries ns =
+    ap (λ l. step_heard performed_user (user_bits (begins_transaction later (Text s) d.history)) l s (scene_in (record d { history = appended later (Text s) d.history }) entries ns))
+    (left_is_leaving (watching (views_of entries) d) d.history)

@@ -1,0 +1,38 @@
+use Rattle.std.proofs.Common.{◌≡◌, sym, ap, ◌∙◌, get_or}
+use Rattle.std.proofs.lemmas.List.{drop_all}
+use Rattle.std.specs.Option.{option_copied_mut}
+use Rattle.scene.proofs.Pending.{drop_next}
+use Rattle.scene.proofs.Followed.{follow_none, next_can, follow_one, follow_missing, follow_all}
+use Rattle.scene.proofs.moving.follow.Goals as goal
+use Rattle.scene.proofs.moving.follow.Goals.{in-Some, in_default}
+
+pub loop-id-init : goal.loop-id-init
+loop-id-init c = follow_none _ _ _ _ c.requires.named c.requires.can
+
+pub moved-requires : goal.moved-requires
+moved-requires c =
+    let can = next_can _ _ _ _ _ (get_or c.args.ids.now c.loop-id.id-index 0) c.in-Some.view.now _ _ c.loop-id.invariant (drop_next c.args.ids.now c.loop-id.id-index c.loop-id-test.true)
+    (sym c.get_mut.ensures.value ∙ ap option_copied_mut c.in-Some.is) in
+    record { anchor = can.anchor; caret = can.caret; target_start = can.target_start; target_end = can.target_end; lines = can.lines; few = can.few }
+
+pub loop-id-preserved : goal.loop-id-preserved
+loop-id-preserved c =
+    elim c.match-get_mut.branch [
+      | in-Some w ↦
+          follow_one _ _ _ _ _ (get_or c.args.ids.now c.loop-id.id-index 0) w.in-Some.view.now w.moved.new.self _ _ _ c.loop-id.invariant
+          (drop_next c.args.ids.now c.loop-id.id-index c.loop-id-test.true) (sym c.get_mut.ensures.value ∙ ap option_copied_mut w.in-Some.is) w.moved.ensures.view w.views-is
+      | in_default w ↦
+          follow_missing _ _ _ _ _ (get_or c.args.ids.now c.loop-id.id-index 0) _ _ _ c.loop-id.invariant
+          (drop_next c.args.ids.now c.loop-id.id-index c.loop-id-test.true) (sym c.get_mut.ensures.value ∙ ap option_copied_mut w.in_default.is) w.views-is
+    ]
+
+pub returns : goal.returns
+returns c =
+    let so = c.loop-id.invariant in
+    record {
+      views = follow_all _ _ _ _ _ _ so (drop_all c.loop-id.id-index c.args.ids.now c.loop-id-test.false);
+      named = so.named;
+      next = so.next;
+      room = so.room;
+      ids = so.same;
+    }

@@ -1,0 +1,157 @@
+use Rattle.std.proofs.Common.{◌≡◌, ◌++◌, ◌∙◌, length, sym, ap, arith, refl, subst}
+use Rattle.line_index.specs.StepEdits.{edits_of}
+use Rattle.selection.specs.Positions.{movement_of}
+use Rattle.ed_model.specs.Numbers.{growth}
+use Rattle.ed_model.specs.Session.{Document, text_of, lines_in}
+use Rattle.ed_model.specs.Notes.{heard, before_note, after_note}
+use Rattle.ed_model.specs.Performing.{document_after}
+use Rattle.document.specs.TextSteps.{step_in}
+use Rattle.ed_view.specs.Moving.{step_edits}
+use Rattle.scene.specs.declared.telling.Audience.TheVariants.{Hearers}
+use Rattle.scene.specs.declared.telling.NoteText.TheVariants.{Shared}
+use Rattle.scene.specs.Scenes.{watchers, views_of, IsWatched}
+use Rattle.scene.specs.Hearing.{left_note, audience_of, with_note_text}
+use Rattle.scene.proofs.ToldSoFar.{told_last, length_told, length_parts}
+use Rattle.scene.proofs.KindLemmas.{told_after}
+use Rattle.scene.proofs.StepScenes.{length_text, on_text, end_within, small_step, count_is, lines_of_need, same_scene, watched_can, stands_can, watched_after, watched_again}
+use Rattle.scene.proofs.steps.step_heard.Goals as goal
+
+pub tell_before-requires : goal.tell_before-requires
+tell_before-requires c =
+    let d = c.args.document.now.document in
+    let s = step_in c.args.step (text_of d) in
+    let W = watchers d c.args.views.now in
+    let p = length_parts c.args.notes.now.notes (heard W (before_note c.args.bits.before s)) (left_note c.args.is_left W)
+    (heard W (after_note c.args.bits.after (growth (lines_in d) (lines_in (document_after s d))) s)) in
+    let r = c.requires.notes in
+    record {
+      fits = c.requires.fits;
+      small = small_step d.line_end_types c.args.step (length d.cells) c.args.document.now.room.text c.requires.fits c.requires.room.0 c.len.ensures.small;
+      named = c.requires.watched.named;
+      notes = omega arith;
+      texts = c.requires.texts;
+    }
+
+pub tell-requires : goal.tell-requires
+tell-requires c =
+    let d = c.args.document.now.document in
+    let s = step_in c.args.step (text_of d) in
+    let on = on_text c.args.step d c.requires.fits in
+    let same = c.tell_before.ensures.document in
+    let after = rw same at c.step-change.ensures.document in
+    let W = watchers d c.args.views.now in
+    let old_lines = rw same at c.line_count-old_lines.ensures.count in
+    let lines = rw after at c.line_count-lines.ensures.count in
+    let is = rw (old_lines, lines) at (c.after_note-note.ensures (text_of d) on) in
+    let note = c.after_note-note.result in
+    let shared = c.tell_before.new.notes.shared in
+    let t = told_after W s note shared c.args.bits.before c.args.bits.after (growth (lines_in d) (lines_in (document_after s d))) is c.tell_before.ensures.shared in
+    let l = sym (length_told (audience_of Hearers note.kind W) (with_note_text Shared note shared)) ∙ ap length t in
+    let p = length_parts c.args.notes.now.notes (heard W (before_note c.args.bits.before s)) (left_note c.args.is_left W)
+    (heard W (after_note c.args.bits.after (growth (lines_in d) (lines_in (document_after s d))) s)) in
+    let r = c.requires.notes in
+    let n = c.tell_before.ensures.note_room in
+    record { named = c.requires.watched.named; room = rw after (omega arith) }
+
+pub follow-requires : goal.follow-requires
+follow-requires c =
+    let d = c.args.document.now.document in
+    let s = step_in c.args.step (text_of d) in
+    let on = on_text c.args.step d c.requires.fits in
+    let same = c.tell_before.ensures.document in
+    let after = rw same at c.step-change.ensures.document in
+    let change = rw same at c.step-change.ensures.lines in
+    let M = c.movement_of.ensures (text_of d) on in
+    let E : c.as_slice.result.now ≡ step_edits s d = c.as_slice.ensures ∙ c.edits-edits.ensures ∙ ap edits_of change in
+    let V : c.views.result.now ≡ d.views = c.views.ensures ∙ ap (λ (x : Document). x.views) after in
+    let small = small_step d.line_end_types c.args.step (length d.cells) c.args.document.now.room.text c.requires.fits c.requires.room.0 c.len.ensures.small in
+    let count = count_is c.args.step (text_of d) on in
+    let need = lines_of_need d.line_end_types c.args.step (text_of d) in
+    let bound = rw same at c.line_count-old_lines.ensures.within in
+    let lines = rw same at c.line_count-old_lines.ensures.count in
+    let room = c.requires.room.1 in
+    let cells = c.len.ensures.small in
+    record {
+      named = c.requires.watched.named;
+      can = rw (M, E, V) (watched_can (movement_of s) (step_edits s d) d c.args.views.now c.requires.watched
+          (λ v stands. stands_can s d v c.moves_are_those_of_steps.ensures.fit c.edits_of_steps.ensures.few (end_within c.args.step (text_of d) on) (omega arith) (omega arith) stands));
+    }
+
+pub returns-clause-scene : goal.returns-clause-scene
+returns-clause-scene c =
+    let d = c.args.document.now.document in
+    let s = step_in c.args.step (text_of d) in
+    let on = on_text c.args.step d c.requires.fits in
+    let same = c.tell_before.ensures.document in
+    let after = rw same at c.step-change.ensures.document in
+    let W = watchers d c.args.views.now in
+    let old_lines = rw same at c.line_count-old_lines.ensures.count in
+    let lines = rw after at c.line_count-lines.ensures.count in
+    let is = rw (old_lines, lines) at (c.after_note-note.ensures (text_of d) on) in
+    let note = c.after_note-note.result in
+    let shared = c.tell_before.new.notes.shared in
+    let t = told_after W s note shared c.args.bits.before c.args.bits.after (growth (lines_in d) (lines_in (document_after s d))) is c.tell_before.ensures.shared in
+    let told = told_last (audience_of Hearers note.kind W) (with_note_text Shared note shared) (heard W (before_note c.args.bits.before s)) (left_note c.args.is_left W)
+    (heard W (after_note c.args.bits.after (growth (lines_in d) (lines_in (document_after s d))) s))
+    c.args.notes.now c.tell_before.new.notes c.tell.new.notes c.tell_before.ensures.notes c.tell_before.ensures.note_room (rw after at c.tell.ensures) t c.requires.notes in
+    let M = c.movement_of.ensures (text_of d) on in
+    let change = rw same at c.step-change.ensures.lines in
+    let E : c.as_slice.result.now ≡ step_edits s d = c.as_slice.ensures ∙ c.edits-edits.ensures ∙ ap edits_of change in
+    let V : c.views.result.now ≡ d.views = c.views.ensures ∙ ap (λ (x : Document). x.views) after in
+    let views = (rw (M, E, V) at c.follow.ensures.views)
+    ∙ watched_after s d c.args.views.now c.requires.watched c.moves_are_those_of_steps.ensures.view (end_within c.args.step (text_of d) on) in
+    same_scene _ _ _ _ _ _ after views told.notes
+
+pub returns-clause-watched : goal.returns-clause-watched
+returns-clause-watched c =
+    let d = c.args.document.now.document in
+    let s = step_in c.args.step (text_of d) in
+    let on = on_text c.args.step d c.requires.fits in
+    let same = c.tell_before.ensures.document in
+    let after = rw same at c.step-change.ensures.document in
+    let M = c.movement_of.ensures (text_of d) on in
+    let change = rw same at c.step-change.ensures.lines in
+    let E : c.as_slice.result.now ≡ step_edits s d = c.as_slice.ensures ∙ c.edits-edits.ensures ∙ ap edits_of change in
+    let V : c.views.result.now ≡ d.views = c.views.ensures ∙ ap (λ (x : Document). x.views) after in
+    let views = (rw (M, E, V) at c.follow.ensures.views)
+    ∙ watched_after s d c.args.views.now c.requires.watched c.moves_are_those_of_steps.ensures.view (end_within c.args.step (text_of d) on) in
+    subst (λ x. IsWatched x c.follow.new.views) (sym after)
+    (watched_again s d d.history c.args.views.now c.follow.new.views c.steps_keep_views_standing.ensures c.requires.watched views c.follow.ensures.named c.follow.ensures.next)
+
+pub returns-clause-note_room_left : goal.returns-clause-note_room_left
+returns-clause-note_room_left c =
+    let d = c.args.document.now.document in
+    let s = step_in c.args.step (text_of d) in
+    let on = on_text c.args.step d c.requires.fits in
+    let same = c.tell_before.ensures.document in
+    let after = rw same at c.step-change.ensures.document in
+    let W = watchers d c.args.views.now in
+    let old_lines = rw same at c.line_count-old_lines.ensures.count in
+    let lines = rw after at c.line_count-lines.ensures.count in
+    let is = rw (old_lines, lines) at (c.after_note-note.ensures (text_of d) on) in
+    let note = c.after_note-note.result in
+    let shared = c.tell_before.new.notes.shared in
+    let t = told_after W s note shared c.args.bits.before c.args.bits.after (growth (lines_in d) (lines_in (document_after s d))) is c.tell_before.ensures.shared in
+    let told = told_last (audience_of Hearers note.kind W) (with_note_text Shared note shared) (heard W (before_note c.args.bits.before s)) (left_note c.args.is_left W)
+    (heard W (after_note c.args.bits.after (growth (lines_in d) (lines_in (document_after s d))) s))
+    c.args.notes.now c.tell_before.new.notes c.tell.new.notes c.tell_before.ensures.notes c.tell_before.ensures.note_room (rw after at c.tell.ensures) t c.requires.notes in
+    told.note_room
+
+pub returns-clause-text_room_left : goal.returns-clause-text_room_left
+returns-clause-text_room_left c =
+    let d = c.args.document.now.document in
+    let s = step_in c.args.step (text_of d) in
+    let on = on_text c.args.step d c.requires.fits in
+    let same = c.tell_before.ensures.document in
+    let after = rw same at c.step-change.ensures.document in
+    let W = watchers d c.args.views.now in
+    let old_lines = rw same at c.line_count-old_lines.ensures.count in
+    let lines = rw after at c.line_count-lines.ensures.count in
+    let is = rw (old_lines, lines) at (c.after_note-note.ensures (text_of d) on) in
+    let note = c.after_note-note.result in
+    let shared = c.tell_before.new.notes.shared in
+    let t = told_after W s note shared c.args.bits.before c.args.bits.after (growth (lines_in d) (lines_in (document_after s d))) is c.tell_before.ensures.shared in
+    let told = told_last (audience_of Hearers note.kind W) (with_note_text Shared note shared) (heard W (before_note c.args.bits.before s)) (left_note c.args.is_left W)
+    (heard W (after_note c.args.bits.after (growth (lines_in d) (lines_in (document_after s d))) s))
+    c.args.notes.now c.tell_before.new.notes c.tell.new.notes c.tell_before.ensures.notes c.tell_before.ensures.note_room (rw after at c.tell.ensures) t c.requires.notes in
+    rw told.text_room c.tell_before.ensures.text_room

@@ -1,0 +1,11 @@
+-- what was counted and what is still to be counted is the whole
+use Rattle.std.proofs.Common.{◌≡◌, ◌≤◌, ℕ, ◌+◌, List, length, drop}
+use Rattle.scene.proofs.Pending.{pending}
+use Rattle.scene.proofs.telling.count.Given as goal
+
+abbrev pub invariant-loop-watcher : goal.invariant-loop-watcher
+invariant-loop-watcher l = record {
+  counted : l.count + length (pending l.fn.audience l.fn.kind l.fn.views.entries (drop l.watcher-index l.fn.document.document.views))
+      ≡ length (pending l.fn.audience l.fn.kind l.fn.views.entries l.fn.document.document.views);
+  few : l.count ≤ l.watcher-index;
+}

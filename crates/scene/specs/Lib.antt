@@ -1,0 +1,5 @@
+pub mod Scenes
+pub mod Hearing
+pub mod Following
+pub mod Needs
+pub mod StepNotes

@@ -1,0 +1,62 @@
+-- How many notes steps put at most, and how many bytes are shared for them.
+use Rattle.std.specs.Prelude.{ℕ, ◌+◌, ◌*◌, ◌≤◌, ◌≡◌, ◌&&◌, if◌then◌else◌, Bool, true, List, [], ◌∷◌, length, min}
+use Rattle.ed_model.specs.Steps.{Step, step_bytes}
+use Rattle.ed_model.specs.History.{History, at_save_point}
+use Rattle.ed_model.specs.Session.{View, watching}
+use Rattle.ed_model.specs.Notes.{performed_user}
+use Rattle.ed_model.specs.Performing.{Scene, step_made, sealed_scene}
+use Rattle.scene.specs.declared.need.NoteRoom.{NoteRoom}
+use Rattle.scene.specs.Hearing.{step_kinds, user_bits, made_kinds, hearers, bytes_shared}
+
+abbrev pub note_room : ℕ → ℕ → NoteRoom
+note_room notes bytes = record { notes = notes; bytes = bytes }
+
+-- each kind that a step of a message may be told under
+abbrev pub user_kinds : Step → ℕ
+user_kinds step = step_kinds performed_user (user_bits true) step
+
+-- that the save point is left, if the document is at it
+abbrev pub leaving_count : List View → History → ℕ
+leaving_count views h = if h.collecting && at_save_point h then length views else 0
+
+-- one step: a note before and one after it for each view that hears it
+abbrev pub notes_of_step : List View → Step → ℕ
+notes_of_step views step = 2 * hearers (user_kinds step) views
+
+abbrev pub bytes_of_step : List View → Step → ℕ
+bytes_of_step views step = bytes_shared (user_kinds step) views (length (step_bytes step))
+
+abbrev pub notes_of_steps : List View → List Step → ℕ
+notes_of_steps views [] = 0
+notes_of_steps views (step ∷ steps) = notes_of_step views step + notes_of_steps views steps
+
+abbrev pub bytes_of_steps : List View → List Step → ℕ
+bytes_of_steps views [] = 0
+bytes_of_steps views (step ∷ steps) = bytes_of_step views step + bytes_of_steps views steps
+
+-- what steps of a message need in all, from this scene on
+abbrev pub notes_needed : Scene → List Step → ℕ
+notes_needed scene steps = let views = watching scene.views scene.document in leaving_count views scene.document.history + notes_of_steps views steps
+
+abbrev pub bytes_needed : Scene → List Step → ℕ
+bytes_needed scene steps = bytes_of_steps (watching scene.views scene.document) steps
+
+-- the first of the steps takes of the notes no more than what the others then need less
+abbrev pub NotesAreEnough : Type 0
+NotesAreEnough =
+    (later : Bool) (step : Step) (steps : List Step) (scene : Scene)
+    → length (step_made later step scene).notes + notes_needed (step_made later step scene) steps ≤ length scene.notes + notes_needed scene (step ∷ steps)
+
+-- and so of the bytes
+abbrev pub BytesAreEnough : Type 0
+BytesAreEnough =
+    (later : Bool) (step : Step) (steps : List Step) (scene : Scene)
+    → bytes_shared (made_kinds later step scene.document.history) (watching scene.views scene.document) (length (step_bytes step))
+    + bytes_needed (step_made later step scene) steps
+    ≤ bytes_needed scene (step ∷ steps)
+
+-- sealing changes neither
+abbrev pub SealingNeedsTheSame : Type 0
+SealingNeedsTheSame =
+    (steps : List Step) (scene : Scene)
+    → (notes_needed (sealed_scene scene) steps ≡ notes_needed scene steps) × (bytes_needed (sealed_scene scene) steps ≡ bytes_needed scene steps)

@@ -1,0 +1,34 @@
+-- A scene as it is kept: a document, the views of the session by their ids, and the notes.
+use Rattle.std.specs.Prelude.{◌≡◌, ℕ, List, map}
+use Rattle.std.specs.List.{AllByRecursion}
+use Rattle.ed_types.specs.Notices.{Notice}
+use Rattle.ed_model.specs.Session.{Document, View, watching}
+use Rattle.ed_model.specs.Performing.{Scene}
+use Rattle.ed_model.specs.SoundLaws.{Rise, StandsOn, ListsItsViews}
+use Rattle.id_table.specs.Entries.{Entry, Entries}
+use Rattle.ed_view.specs.Kept.{KeptView}
+
+abbrev pub views_of : List (Entry KeptView) → List View
+views_of entries = map (λ (e : Entry KeptView). e.value.view) entries
+
+abbrev pub scene_in : Document → List (Entry KeptView) → List Notice → Scene
+scene_in d entries notes = record { document = d; views = views_of entries; notes = notes }
+
+-- the views that watch the document, in the order of attaching
+abbrev pub watchers : Document → Entries KeptView → List View
+watchers d table = watching (views_of table.entries) d
+
+-- each view is kept under its own id
+abbrev pub AreNamed : List (Entry KeptView) → Type 0
+AreNamed entries = AllByRecursion (λ (e : Entry KeptView). e.id ≡ e.value.view.id) entries
+
+-- a view of the document stands on it
+abbrev pub StandsIfOn : Document → View → Type 0
+StandsIfOn d v = v.document ≡ d.id → StandsOn d v
+
+-- each view is kept under its own id, and the ids rise; the document lists the views that are on it, and those stand well on it
+pub record IsWatched (d : Document) (table : Entries KeptView) : Type 0 where
+  pub named : AreNamed table.entries
+  pub rise : Rise 0 table.next (map (λ (v : View). v.id) (views_of table.entries))
+  pub listed : ListsItsViews (views_of table.entries) d
+  pub stand : AllByRecursion (StandsIfOn d) (views_of table.entries)

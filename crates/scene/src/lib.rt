@@ -1,0 +1,18 @@
+//! A scene: a document, the views that watch it, and what they hear, under the steps that messages make.
+//!
+//! A step is told of before and after it is made, to each view whose mask asks for it, in the order in which the views were
+//! attached; and each view follows it. What its notes tell of is shared among them, and nothing is kept where no view
+//! hears. All room is made before, so that a step cannot fail.
+#![tactic(auto)]
+
+mod laws;
+mod moving;
+mod need;
+mod step_notes;
+mod steps;
+mod telling;
+
+pub use laws::needs_are_enough;
+pub use need::{NoteRoom, leaving_need, note_need};
+pub use steps::{StepBits, make_step, step_heard};
+pub use telling::{Audience, NoteText, attempt, count_hearers, count_watchers, tell};

@@ -1,0 +1,28 @@
+//! Moving: the views that watch a document follow a step.
+
+ghost use Rattle.std.specs.Prelude.{◌≡◌, map};
+ghost use Rattle.id_table.specs.Entries.{id_of};
+ghost use Rattle.scene.specs.Scenes.{views_of, AreNamed};
+ghost use Rattle.scene.specs.Following.{followed_at, CanFollowInTurn};
+
+use ed_view::View;
+use id_table::IdTable;
+use line_index::LineEdit;
+use selection::Movement;
+
+/// Moves the views of the ids as a step does, one after the other. The edits are what it did to lines.
+pub(crate) fn follow(ids: &[u32], views: &mut IdTable<View>, movement: Movement, edits: &[LineEdit])
+    requires named { AreNamed views.old.entries }
+    requires can { CanFollowInTurn movement edits.now ids.now (views_of views.old.entries) }
+    ensures views { views_of views.new.entries ≡ followed_at movement edits.now ids.now (views_of views.old.entries) }
+    ensures named { AreNamed views.new.entries }
+    ensures next { views.new.next ≡ views.old.next }
+    ensures room { views.new.room ≡ views.old.room }
+    ensures ids { map id_of views.new.entries ≡ map id_of views.old.entries }
+{
+    for id in ids {
+        if let Some(view) = views.get_mut(*id) {
+            view.moved(movement, edits);
+        }
+    }
+}

@@ -1,0 +1,71 @@
+//! What steps need of a list of notes.
+
+ghost use Rattle.std.specs.Prelude.{◌≡◌, length};
+ghost use Rattle.ed_model.specs.Session.{text_of};
+ghost use Rattle.document.specs.Kept.{amount_sum};
+ghost use Rattle.document.specs.TextSteps.{step_in, IsStepOn};
+ghost use Rattle.scene.specs.Scenes.{watchers, AreNamed};
+ghost use Rattle.scene.specs.Needs.{note_room, leaving_count, notes_of_step, bytes_of_step};
+
+use crate::step_notes::{PERFORMED_USER, START_ACTION, count_of, kind_after, kind_before};
+use crate::steps::leaves_save_point;
+use crate::telling::{count_hearers, count_watchers};
+use document::{Document, TextStep};
+use ed_view::View;
+use id_table::IdTable;
+
+/// How many more notes, and bytes of texts that they share.
+#[derive(Clone, Copy, Debug, PartialEq, Eq)]
+pub struct NoteRoom {
+    /// Notes.
+    pub notes: usize,
+    /// Bytes of texts.
+    pub bytes: usize,
+}
+
+impl NoteRoom {
+    /// Nothing.
+    pub fn none() -> Self
+        ensures { result ≡ note_room 0 0 }
+    {
+        NoteRoom { notes: 0, bytes: 0 }
+    }
+
+    /// Both together. An amount past the greatest `usize` is that one, for which there is never room.
+    pub fn plus(self, other: Self) -> Self
+        ensures { result ≡ note_room (amount_sum self.notes other.notes) (amount_sum self.bytes other.bytes) }
+    {
+        NoteRoom {
+            notes: self.notes.saturating_add(other.notes),
+            bytes: self.bytes.saturating_add(other.bytes),
+        }
+    }
+}
+
+/// Returns how many notes tell that the save point is left, with the next step of a message: none where the document is
+/// not at it.
+pub fn leaving_need(document: &Document, views: &IdTable<View>) -> usize
+    requires named { AreNamed views.now.entries }
+    ensures { result ≡ leaving_count (watchers document.now.document views.now) document.now.document.history }
+{
+    if leaves_save_point(document) {
+        return count_watchers(document, views);
+    }
+    0
+}
+
+/// Returns what a step of a message needs at most, but for the notes that the save point is left: nothing where no view
+/// that watches hears it.
+pub fn note_need(document: &Document, views: &IdTable<View>, step: TextStep) -> NoteRoom
+    requires fits { IsStepOn step (length document.now.document.cells) }
+    requires named { AreNamed views.now.entries }
+    ensures notes { result.notes ≡ notes_of_step (watchers document.now.document views.now) (step_in step.entry (text_of document.now.document)) }
+    ensures bytes { result.bytes ≡ bytes_of_step (watchers document.now.document views.now) (step_in step.entry (text_of document.now.document)) }
+{
+    let kinds = kind_before(PERFORMED_USER, step) | kind_after(PERFORMED_USER | START_ACTION, step);
+    let hearers = count_hearers(document, views, kinds);
+    NoteRoom {
+        notes: 2 * hearers,
+        bytes: if hearers > 0 { count_of(step) } else { 0 },
+    }
+}

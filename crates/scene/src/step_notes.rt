@@ -1,0 +1,141 @@
+//! The notes of a step.
+
+ghost use Rattle.std.specs.Prelude.{◌≡◌, ◌≤◌, ◌<◌, ◌-◌, ◌^◌, List, ℕ, length};
+ghost use Rattle.ed_types.specs.Heard.{with_text};
+ghost use Rattle.ed_model.specs.Steps.{step_bytes};
+ghost use Rattle.ed_model.specs.Notes.{range_note as note_of_range, before_note as note_before, after_note as note_after};
+ghost use Rattle.ed_model.specs.Numbers.{growth};
+ghost use Rattle.ed_model.specs.Session.{text_of};
+ghost use Rattle.selection.specs.Positions.{movement_of as movement};
+ghost use Rattle.document.specs.TextSteps.{step_in, IsStepOn};
+ghost use Rattle.scene.specs.Hearing.{before_kind, after_kind};
+ghost use Rattle.scene.specs.StepNotes.{place_in, count_in, IsSmallStep, text_before, note_text_before};
+
+use crate::telling::NoteText;
+use document::{Document, TextStep};
+use ed_types::Note;
+use notify::{NoteList, blank};
+use selection::Movement;
+
+/// SCN_MODIFIED
+const MODIFIED: u32 = 2008;
+
+// Bits of its kind, SC_MOD_ and SC_ left out.
+const INSERT_TEXT: u32 = 0x1;
+
+const DELETE_TEXT: u32 = 0x2;
+
+const BEFORE_INSERT: u32 = 0x400;
+
+const BEFORE_DELETE: u32 = 0x800;
+
+pub(crate) const PERFORMED_USER: u32 = 0x10;
+
+pub(crate) const START_ACTION: u32 = 0x2000;
+
+// Where the step is made.
+fn place_of(step: TextStep) -> usize
+    ensures { result ≡ place_in step.entry }
+{
+    match step {
+        TextStep::Insert { place, .. } => place,
+        TextStep::Delete { place, .. } => place,
+    }
+}
+
+/// How many bytes come or go.
+pub(crate) fn count_of(step: TextStep) -> usize
+    ensures { result ≡ count_in step.entry }
+{
+    match step {
+        TextStep::Insert { bytes, .. } => bytes.len(),
+        TextStep::Delete { count, .. } => count,
+    }
+}
+
+/// What the step does to positions.
+pub(crate) fn movement_of(step: TextStep) -> Movement
+    ensures { (text : List ℕ) → IsStepOn step.entry (length text) → result ≡ movement (step_in step.entry text) }
+{
+    match step {
+        TextStep::Insert { place, bytes } => Movement::Inserted {
+            place,
+            count: bytes.len(),
+        },
+        TextStep::Delete { place, count } => Movement::Deleted { place, count },
+    }
+}
+
+/// The kind of its notes before it.
+pub(crate) fn kind_before(bits: u32, step: TextStep) -> u32
+    ensures { (text : List ℕ) → result ≡ before_kind bits (step_in step.entry text) }
+{
+    match step {
+        TextStep::Insert { .. } => BEFORE_INSERT | bits,
+        TextStep::Delete { .. } => BEFORE_DELETE | bits,
+    }
+}
+
+/// The kind of its notes after it.
+pub(crate) fn kind_after(bits: u32, step: TextStep) -> u32
+    ensures { (text : List ℕ) → result ≡ after_kind bits (step_in step.entry text) }
+{
+    match step {
+        TextStep::Insert { .. } => INSERT_TEXT | bits,
+        TextStep::Delete { .. } => DELETE_TEXT | bits,
+    }
+}
+
+// A note of a change of some bytes.
+fn range_note(kind: u32, place: usize, count: usize) -> Note
+    requires { (place < 2 ^ 63) × (count < 2 ^ 63) }
+    ensures { (text : List ℕ) → let n = note_of_range kind place count in with_text result text ≡ record n { text = text } }
+{
+    let mut note = blank(MODIFIED);
+    note.kind = kind;
+    note.position = place as i64;
+    note.length = count as i64;
+    note
+}
+
+/// The note before it.
+pub(crate) fn before_note(bits: u32, step: TextStep) -> Note
+    requires { IsSmallStep step }
+    ensures { (text : List ℕ) → IsStepOn step.entry (length text) → with_text result (text_before (step_in step.entry text)) ≡ note_before bits (step_in step.entry text) }
+{
+    range_note(kind_before(bits, step), place_of(step), count_of(step))
+}
+
+/// Which text that note has: a deletion's has none.
+pub(crate) fn text_of_before(step: TextStep) -> NoteText
+    ensures { result ≡ note_text_before step.entry }
+{
+    match step {
+        TextStep::Insert { .. } => NoteText::Shared,
+        TextStep::Delete { .. } => NoteText::Empty,
+    }
+}
+
+/// The note after it, where the text had so many lines and has so many now.
+pub(crate) fn after_note(bits: u32, old_lines: usize, lines: usize, step: TextStep) -> Note
+    requires small { IsSmallStep step }
+    requires lines { (old_lines < 2 ^ 63) × (lines < 2 ^ 63) }
+    ensures { (text : List ℕ) → IsStepOn step.entry (length text) → with_text result (step_bytes (step_in step.entry text)) ≡ note_after bits (growth old_lines lines) (step_in step.entry text) }
+{
+    let mut note = range_note(kind_after(bits, step), place_of(step), count_of(step));
+    note.lines = lines as i64 - old_lines as i64;
+    note
+}
+
+/// Shares the bytes that come or go among the notes to come. There must be room for them.
+pub(crate) fn share_bytes(document: &mut Document, notes: &mut NoteList, step: TextStep)
+    requires fits { IsStepOn step (length document.old.document.cells) }
+    requires room { length (step_bytes (step_in step (text_of document.old.document))) ≤ notes.old.text_room }
+    ensures document { document.new ≡ document.old }
+    ensures notes { notes.new ≡ record notes.old { shared = step_bytes (step_in step.entry (text_of document.old.document)); text_room = notes.old.text_room - length (step_bytes (step_in step.entry (text_of document.old.document))) } }
+{
+    match step {
+        TextStep::Insert { bytes, .. } => notes.share(bytes, &[]),
+        TextStep::Delete { place, count } => notes.share(document.lend(place, count), &[]),
+    }
+}

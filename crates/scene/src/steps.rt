@@ -1,0 +1,212 @@
+//! Steps: a step of a document's text, told of and followed.
+
+ghost use Rattle.std.specs.Prelude.{◌≡◌, ◌≤◌, ◌<◌, ◌+◌, ◌++◌, ◌-◌, ◌^◌, ◌&&◌, map, length};
+ghost use Rattle.ed_model.specs.Steps.{step_bytes};
+ghost use Rattle.ed_model.specs.History.{at_save_point};
+ghost use Rattle.ed_model.specs.Notes.{heard, before_note as note_before, performed_user};
+ghost use Rattle.ed_model.specs.Session.{text_of};
+ghost use Rattle.ed_model.specs.Performing.{step_heard as heard_step, step_made};
+ghost use Rattle.id_table.specs.Entries.{id_of};
+ghost use Rattle.document.specs.Kept.{HasRoom, HasTextRoom, TakesRoom, text_part};
+ghost use Rattle.document.specs.TextSteps.{step_in, IsStepOn, need_of};
+ghost use Rattle.scene.specs.Scenes.{scene_in, watchers, AreNamed, IsWatched};
+ghost use Rattle.scene.specs.Hearing.{hearers, step_kinds, made_kinds, bytes_shared, left_note, user_bits as bits_of_user};
+ghost use Rattle.scene.specs.StepNotes.{IsSmallStep};
+
+use crate::moving::follow;
+use crate::step_notes::{
+    PERFORMED_USER, START_ACTION, after_note, before_note, kind_after, kind_before, movement_of,
+    share_bytes, text_of_before,
+};
+use crate::telling::{Audience, NoteText, count_hearers, tell};
+use document::{Document, TextStep};
+use ed_model::steps_keep_views_standing;
+use ed_view::{View, moves_are_those_of_steps};
+use id_table::IdTable;
+use line_index::edits_of_steps;
+use notify::{NoteList, blank};
+
+/// SCN_SAVEPOINTLEFT
+const SAVE_POINT_LEFT: u32 = 2003;
+
+/// The bits of a step's notes that say who makes it, and as which of several.
+#[derive(Clone, Copy, Debug, PartialEq, Eq)]
+pub struct StepBits {
+    /// Those of the notes before it.
+    pub before: u32,
+    /// Those of the notes after it.
+    pub after: u32,
+}
+
+// Shares the step's bytes, if a view that watches hears of it.
+fn share_if_heard(
+    document: &mut Document,
+    views: &IdTable<View>,
+    notes: &mut NoteList,
+    bits: StepBits,
+    step: TextStep,
+)
+    requires fits { IsStepOn step (length document.old.document.cells) }
+    requires named { AreNamed views.now.entries }
+    requires texts { bytes_shared (step_kinds bits.before bits.after (step_in step (text_of document.old.document))) (watchers document.old.document views.now) (length (step_bytes (step_in step (text_of document.old.document)))) ≤ notes.old.text_room }
+    ensures document { document.new ≡ document.old }
+    ensures notes { notes.new.notes ≡ notes.old.notes }
+    ensures note_room { notes.new.note_room ≡ notes.old.note_room }
+    ensures text_room { notes.new.text_room + bytes_shared (step_kinds bits.before bits.after (step_in step.entry (text_of document.old.document))) (watchers document.old.document views.now) (length (step_bytes (step_in step.entry (text_of document.old.document)))) ≡ notes.old.text_room }
+    ensures shared { 0 < hearers (step_kinds bits.before bits.after (step_in step.entry (text_of document.old.document))) (watchers document.old.document views.now) → notes.new.shared ≡ step_bytes (step_in step.entry (text_of document.old.document)) }
+{
+    let kinds = kind_before(bits.before, step) | kind_after(bits.after, step);
+    if count_hearers(document, views, kinds) > 0 {
+        share_bytes(document, notes, step);
+    }
+}
+
+// Tells each view that watches that the save point is left, if so.
+fn tell_left(document: &Document, views: &IdTable<View>, notes: &mut NoteList, is_left: bool)
+    requires named { AreNamed views.now.entries }
+    requires room { length (left_note is_left (watchers document.now.document views.now)) ≤ notes.old.note_room }
+    ensures { notes.new ≡ record notes.old { notes = notes.old.notes ++ left_note is_left (watchers document.now.document views.now); note_room = notes.old.note_room - length (left_note is_left (watchers document.now.document views.now)) } }
+{
+    if is_left {
+        let note = blank(SAVE_POINT_LEFT);
+        tell(
+            document,
+            views,
+            notes,
+            &note,
+            Audience::Everyone,
+            NoteText::Empty,
+        );
+    }
+}
+
+// Tells of a step before it is made, and of the save point. The bytes are shared for the note after it.
+fn tell_before(
+    document: &mut Document,
+    views: &IdTable<View>,
+    notes: &mut NoteList,
+    bits: StepBits,
+    is_left: bool,
+    step: TextStep,
+)
+    requires fits { IsStepOn step (length document.old.document.cells) }
+    requires small { IsSmallStep step }
+    requires named { AreNamed views.now.entries }
+    requires notes { length (heard (watchers document.old.document views.now) (note_before bits.before (step_in step (text_of document.old.document)))) + length (left_note is_left (watchers document.old.document views.now)) ≤ notes.old.note_room }
+    requires texts { bytes_shared (step_kinds bits.before bits.after (step_in step (text_of document.old.document))) (watchers document.old.document views.now) (length (step_bytes (step_in step (text_of document.old.document)))) ≤ notes.old.text_room }
+    ensures document { document.new ≡ document.old }
+    ensures notes { notes.new.notes ≡ notes.old.notes ++ heard (watchers document.old.document views.now) (note_before bits.before (step_in step.entry (text_of document.old.document))) ++ left_note is_left (watchers document.old.document views.now) }
+    ensures note_room { notes.new.note_room + (length (heard (watchers document.old.document views.now) (note_before bits.before (step_in step.entry (text_of document.old.document)))) + length (left_note is_left (watchers document.old.document views.now))) ≡ notes.old.note_room }
+    ensures text_room { notes.new.text_room + bytes_shared (step_kinds bits.before bits.after (step_in step.entry (text_of document.old.document))) (watchers document.old.document views.now) (length (step_bytes (step_in step.entry (text_of document.old.document)))) ≡ notes.old.text_room }
+    ensures shared { 0 < hearers (step_kinds bits.before bits.after (step_in step.entry (text_of document.old.document))) (watchers document.old.document views.now) → notes.new.shared ≡ step_bytes (step_in step.entry (text_of document.old.document)) }
+{
+    share_if_heard(document, views, notes, bits, step);
+    let note = before_note(bits.before, step);
+    tell(
+        document,
+        views,
+        notes,
+        &note,
+        Audience::Hearers,
+        text_of_before(step),
+    );
+    tell_left(document, views, notes, is_left);
+}
+
+/// Makes a step of the document's text: those views that watch and hear it are told before and after it, with these bits,
+/// and in between, if the save point `is_left`, each view is told that; and all that watch follow it. The history stays as
+/// it is.
+pub fn step_heard(
+    document: &mut Document,
+    views: &mut IdTable<View>,
+    notes: &mut NoteList,
+    bits: StepBits,
+    is_left: bool,
+    step: TextStep,
+)
+    requires fits { IsStepOn step (length document.old.document.cells) }
+    requires room { HasTextRoom document.old (need_of document.old.document.line_end_types step) }
+    requires watched { IsWatched document.old.document views.old }
+    requires notes { length (heard_step bits.before bits.after (left_note is_left (watchers document.old.document views.old)) (step_in step (text_of document.old.document)) (scene_in document.old.document views.old.entries notes.old.notes)).notes ≤ length notes.old.notes + notes.old.note_room }
+    requires texts { bytes_shared (step_kinds bits.before bits.after (step_in step (text_of document.old.document))) (watchers document.old.document views.old) (length (step_bytes (step_in step (text_of document.old.document)))) ≤ notes.old.text_room }
+    ensures scene { scene_in document.new.document views.new.entries notes.new.notes ≡ heard_step bits.before bits.after (left_note is_left (watchers document.old.document views.old)) (step_in step.entry (text_of document.old.document)) (scene_in document.old.document views.old.entries notes.old.notes) }
+    ensures watched { IsWatched document.new.document views.new }
+    ensures room_left { TakesRoom document.old.room document.new.room (text_part (need_of document.old.document.line_end_types step.entry)) }
+    ensures note_room_left { notes.new.note_room + length notes.new.notes ≡ notes.old.note_room + length notes.old.notes }
+    ensures text_room_left { notes.new.text_room + bytes_shared (step_kinds bits.before bits.after (step_in step.entry (text_of document.old.document))) (watchers document.old.document views.old) (length (step_bytes (step_in step.entry (text_of document.old.document)))) ≡ notes.old.text_room }
+    ensures ids { map id_of views.new.entries ≡ map id_of views.old.entries }
+    ensures next { views.new.next ≡ views.old.next }
+    ensures view_room { views.new.room ≡ views.old.room }
+{
+    edits_of_steps();
+    moves_are_those_of_steps();
+    steps_keep_views_standing();
+    let _ = document.len(); // it says that no position runs out of numbers
+    tell_before(document, views, notes, bits, is_left, step);
+    let old_lines = document.line_count();
+    let change = document.step(step);
+    let lines = document.line_count();
+    let note = after_note(bits.after, old_lines, lines, step);
+    tell(
+        document,
+        views,
+        notes,
+        &note,
+        Audience::Hearers,
+        NoteText::Shared,
+    );
+    let edits = change.edits();
+    follow(document.views(), views, movement_of(step), edits.as_slice());
+}
+
+// The bits of a step of a message.
+fn user_bits(begins: bool) -> StepBits
+    ensures before { result.before ≡ performed_user }
+    ensures after { result.after ≡ bits_of_user begins }
+{
+    StepBits {
+        before: PERFORMED_USER,
+        after: if begins {
+            PERFORMED_USER | START_ACTION
+        } else {
+            PERFORMED_USER
+        },
+    }
+}
+
+// Whether a step of a message leaves the save point.
+pub(crate) fn leaves_save_point(document: &Document) -> bool
+    ensures { result ≡ (document.now.document.history.collecting && at_save_point document.now.document.history) }
+{
+    let history = document.history();
+    history.is_collecting() && history.is_at_save_point()
+}
+
+/// Makes a step of a message, and appends it to the history; `later` says that it is a later step of its message. Those
+/// views that watch and hear it are told before and after it, in between each is told if the save point is left, and all
+/// that watch follow it.
+pub fn make_step(
+    document: &mut Document,
+    views: &mut IdTable<View>,
+    notes: &mut NoteList,
+    later: bool,
+    step: TextStep,
+)
+    requires fits { IsStepOn step (length document.old.document.cells) }
+    requires room { HasRoom document.old (need_of document.old.document.line_end_types step) }
+    requires watched { IsWatched document.old.document views.old }
+    requires notes { length (step_made later (step_in step (text_of document.old.document)) (scene_in document.old.document views.old.entries notes.old.notes)).notes ≤ length notes.old.notes + notes.old.note_room }
+    requires texts { bytes_shared (made_kinds later (step_in step (text_of document.old.document)) document.old.document.history) (watchers document.old.document views.old) (length (step_bytes (step_in step (text_of document.old.document)))) ≤ notes.old.text_room }
+    ensures scene { scene_in document.new.document views.new.entries notes.new.notes ≡ step_made later (step_in step.entry (text_of document.old.document)) (scene_in document.old.document views.old.entries notes.old.notes) }
+    ensures watched { IsWatched document.new.document views.new }
+    ensures room_left { TakesRoom document.old.room document.new.room (need_of document.old.document.line_end_types step.entry) }
+    ensures note_room_left { notes.new.note_room + length notes.new.notes ≡ notes.old.note_room + length notes.old.notes }
+    ensures text_room_left { notes.new.text_room + bytes_shared (made_kinds later (step_in step.entry (text_of document.old.document)) document.old.document.history) (watchers document.old.document views.old) (length (step_bytes (step_in step.entry (text_of document.old.document)))) ≡ notes.old.text_room }
+    ensures ids { map id_of views.new.entries ≡ map id_of views.old.entries }
+    ensures next { views.new.next ≡ views.old.next }
+    ensures view_room { views.new.room ≡ views.old.room }
+{
+    let is_left = leaves_save_point(document);
+    let begins = document.append(later, step);
+    step_heard(document, views, notes, user_bits(begins), is_left, step);
+}

@@ -1,0 +1,141 @@
+//! Telling: a note for each view that is to hear it.
+
+ghost use Rattle.std.specs.Prelude.{◌≡◌, ◌≤◌, ◌<◌, ◌-◌, ◌^◌, ◌++◌, [], ◌∷◌, List, ℕ, length};
+ghost use Rattle.ed_types.specs.Heard.{with_text};
+ghost use Rattle.ed_model.specs.Notes.{told, modify_attempt, blank as blank_note};
+ghost use Rattle.scene.specs.Scenes.{watchers, AreNamed};
+ghost use Rattle.scene.specs.Hearing.{audience_of, belongs, with_note_text, hearers};
+
+use document::Document;
+use ed_types::Note;
+use ed_view::View;
+use id_table::IdTable;
+use notify::{NoteList, blank};
+
+/// Who is told, of the views that watch a document.
+#[derive(Clone, Copy, Debug, PartialEq, Eq)]
+pub enum Audience {
+    /// Each of them, whatever it asks for.
+    Everyone,
+    /// Those whose mask has a bit in common with the kind of the note.
+    Hearers,
+}
+
+/// Which text a note has.
+#[derive(Clone, Copy, Debug, PartialEq, Eq)]
+pub enum NoteText {
+    /// None.
+    Empty,
+    /// The one that is shared in the list of notes.
+    Shared,
+}
+
+/// SCN_MODIFYATTEMPTRO
+const MODIFY_ATTEMPT: u32 = 2004;
+
+// The same note for a view. Its text is not looked at.
+fn note_for(note: &Note, view: u32) -> Note
+    ensures { (text : List ℕ) → with_text result text ≡ record (with_text note.entry.now text) { view = view } }
+{
+    Note {
+        view,
+        text: 0..0,
+        ..*note
+    }
+}
+
+// Whether a view is told.
+fn is_told(view: &View, audience: Audience, kind: u32) -> bool
+    ensures { result ≡ belongs audience kind view.now.view }
+{
+    match audience {
+        Audience::Everyone => true,
+        Audience::Hearers => view.mask() & kind != 0,
+    }
+}
+
+// Puts a note in, with its text.
+fn put(notes: &mut NoteList, note: Note, text: NoteText)
+    requires { 0 < notes.old.note_room }
+    ensures { notes.new ≡ record notes.old { notes = notes.old.notes ++ with_note_text text note notes.old.shared ∷ []; note_room = notes.old.note_room - 1 } }
+{
+    match text {
+        NoteText::Empty => notes.put_bare(note),
+        NoteText::Shared => notes.put_again(note),
+    }
+}
+
+/// Puts a note for each view that watches the document and belongs to the audience, in the order in which the views were
+/// attached. There must be room for as many notes.
+pub fn tell(
+    document: &Document,
+    views: &IdTable<View>,
+    notes: &mut NoteList,
+    note: &Note,
+    audience: Audience,
+    text: NoteText,
+)
+    requires named { AreNamed views.now.entries }
+    requires room { length (audience_of audience note.now.kind (watchers document.now.document views.now)) ≤ notes.old.note_room }
+    ensures { notes.new ≡ record notes.old { notes = notes.old.notes ++ told (audience_of audience note.entry.now.kind (watchers document.now.document views.now)) (with_note_text text note.entry.now notes.old.shared); note_room = notes.old.note_room - length (audience_of audience note.entry.now.kind (watchers document.now.document views.now)) } }
+{
+    for id in document.views() {
+        if let Some(view) = views.get(*id) {
+            if is_told(view, audience, note.kind) {
+                put(notes, note_for(note, view.id()), text);
+            }
+        }
+    }
+}
+
+/// Tells each view that watches the document that a message was to change its text, which is read-only. There must be room
+/// for as many notes.
+pub fn attempt(document: &Document, views: &IdTable<View>, notes: &mut NoteList)
+    requires named { AreNamed views.now.entries }
+    requires room { length (watchers document.now.document views.now) ≤ notes.old.note_room }
+    ensures { notes.new ≡ record notes.old { notes = notes.old.notes ++ told (watchers document.now.document views.now) (blank_note modify_attempt); note_room = notes.old.note_room - length (watchers document.now.document views.now) } }
+{
+    let note = blank(MODIFY_ATTEMPT);
+    tell(
+        document,
+        views,
+        notes,
+        &note,
+        Audience::Everyone,
+        NoteText::Empty,
+    );
+}
+
+// How many of the views that watch the document belong to the audience of notes of this kind.
+fn count(document: &Document, views: &IdTable<View>, audience: Audience, kind: u32) -> usize
+    requires named { AreNamed views.now.entries }
+    ensures count { result ≡ length (audience_of audience kind (watchers document.now.document views.now)) }
+    ensures few { result < 2 ^ 63 }
+{
+    let mut count = 0;
+    for watcher in document.views() {
+        if let Some(view) = views.get(*watcher) {
+            if is_told(view, audience, kind) {
+                count += 1;
+            }
+        }
+    }
+    count
+}
+
+/// Returns how many of the views that watch the document hear notes of one of the kinds.
+pub fn count_hearers(document: &Document, views: &IdTable<View>, kinds: u32) -> usize
+    requires named { AreNamed views.now.entries }
+    ensures count { result ≡ hearers kinds (watchers document.now.document views.now) }
+    ensures few { result < 2 ^ 63 }
+{
+    count(document, views, Audience::Hearers, kinds)
+}
+
+/// Returns how many views watch the document.
+pub fn count_watchers(document: &Document, views: &IdTable<View>) -> usize
+    requires named { AreNamed views.now.entries }
+    ensures { result ≡ length (watchers document.now.document views.now) }
+{
+    count(document, views, Audience::Everyone, 0)
+}
