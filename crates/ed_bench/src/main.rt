@@ -11,6 +11,7 @@
 //!     ed_bench folding LINES COUNT
 //!     ed_bench characters BYTES
 //!     ed_bench history STEPS
+//!     ed_bench session BYTES COUNT
 //!     ed_bench all                                  (each part, tiny)
 #![tactic(auto)]
 
@@ -22,6 +23,7 @@ mod partitions;
 mod rows;
 mod scripts;
 mod search;
+mod sessions;
 mod split;
 mod styling;
 
@@ -67,7 +69,8 @@ fn main(rt: HostRuntime) -> io::Result<()> {
             styling::run(&rt, 1600, 20)?;
             folding::run(&rt, 80, 10)?;
             characters::run(&rt, 140)?;
-            histories::run(&rt, 10)
+            histories::run(&rt, 10)?;
+            sessions::run(&rt, 400, 10)
         }
         "split" => split::run(&rt, first, second, third),
         "script" => scripts::run(&rt, first),
@@ -78,9 +81,10 @@ fn main(rt: HostRuntime) -> io::Result<()> {
         "folding" => folding::run(&rt, first, second),
         "characters" => characters::run(&rt, first),
         "history" => histories::run(&rt, first),
+        "session" => sessions::run(&rt, first, second),
         "partitions" => partitions::run(&rt, first, second, third),
         _ => eprintln!(&rt;
-            "ed_bench split|partitions|script|lines|search|rows|styling|folding|characters|history|all SIZES.."
+            "ed_bench split|partitions|script|lines|search|rows|styling|folding|characters|history|session|all SIZES.."
         ),
     }
 }
