@@ -12,31 +12,35 @@ const GET_LENGTH: u32 = 2006;
 const GET_CHAR_AT: u32 = 2007;
 const BEGIN_UNDO_ACTION: u32 = 2078;
 const END_UNDO_ACTION: u32 = 2079;
-const GOTO_POS: u32 = 2025;
+pub const GOTO_POS: u32 = 2025;
 const GET_TEXT_RANGE: u32 = 2162;
 const LINE_FROM_POSITION: u32 = 2166;
 const UNDO: u32 = 2176;
-const SET_TEXT: u32 = 2181;
+pub const SET_TEXT: u32 = 2181;
 const GET_TEXT: u32 = 2182;
-const SET_MASK: u32 = 2359;
+pub const SET_MASK: u32 = 2359;
 
 /// Every kind of change is heard.
-const WHOLE_MASK: i64 = 0x7F_FFFF;
+pub const WHOLE_MASK: i64 = 0x7F_FFFF;
 
 /// A stride that is odd and far from a power of two, so that places lie far apart.
-const STRIDE: i64 = 7_368_787;
+pub const STRIDE: i64 = 7_368_787;
 
 /// A message that is sent again and again: `w` goes on by a stride below `size`, and `l` is that much greater.
 #[derive(Clone, Copy, Debug)]
-struct Series {
-    number: u32,
-    size: i64,
-    stride: i64,
-    reach: i64,
+pub struct Series {
+    /// Which message.
+    pub number: u32,
+    /// `w` stays below it.
+    pub size: i64,
+    /// By how much `w` goes on.
+    pub stride: i64,
+    /// By how much `l` is greater than `w`.
+    pub reach: i64,
 }
 
 /// Sends one message, and answers its value: -1 where it is refused.
-fn send(session: &mut Session, view: u32, number: u32, w: i64, l: i64, text: &[u8]) -> i64 {
+pub fn send(session: &mut Session, view: u32, number: u32, w: i64, l: i64, text: &[u8]) -> i64 {
     match session.send_lent(view, number, w, l, text) {
         Ok(reply) => reply.value(),
         Err(_) => -1,
@@ -44,7 +48,7 @@ fn send(session: &mut Session, view: u32, number: u32, w: i64, l: i64, text: &[u
 }
 
 /// Sends a series of messages, and answers a check sum of their values.
-fn send_series(session: &mut Session, view: u32, series: Series, count: usize, text: &[u8]) -> i64 {
+pub fn send_series(session: &mut Session, view: u32, series: Series, count: usize, text: &[u8]) -> i64 {
     let mut sum = 0i64;
     let mut w = 0i64;
     for _ in 0..count {
@@ -59,7 +63,7 @@ fn send_series(session: &mut Session, view: u32, series: Series, count: usize, t
 }
 
 /// Sends a series of messages, and tells how long each took.
-fn measure(rt: &HostRuntime, session: &mut Session, view: u32, what: &str, series: Series, count: usize) -> io::Result<()> {
+pub fn measure(rt: &HostRuntime, session: &mut Session, view: u32, what: &str, series: Series, count: usize) -> io::Result<()> {
     let start = Instant::now(rt)?;
     let sum = send_series(session, view, series, count, &[]);
     tell(rt, what, start, count)?;
@@ -67,7 +71,7 @@ fn measure(rt: &HostRuntime, session: &mut Session, view: u32, what: &str, serie
 }
 
 /// Types `count` bytes at the caret, one message each.
-fn type_bytes(session: &mut Session, view: u32, count: usize) -> i64 {
+pub fn type_bytes(session: &mut Session, view: u32, count: usize) -> i64 {
     let mut sum = 0i64;
     for typed in 0..count {
         let byte = if typed % 40 == 39 { b'\n' } else { b'x' };
@@ -167,7 +171,7 @@ fn undo_group(rt: &HostRuntime, session: &mut Session, view: u32, count: usize) 
 }
 
 /// Sets the text, and tells how long a byte took.
-fn set_text(rt: &HostRuntime, session: &mut Session, view: u32, what: &str, text: &[u8]) -> io::Result<()> {
+pub fn set_text(rt: &HostRuntime, session: &mut Session, view: u32, what: &str, text: &[u8]) -> io::Result<()> {
     let start = Instant::now(rt)?;
     let value = send(session, view, SET_TEXT, 0, 0, text);
     tell(rt, what, start, text.len())?;
@@ -175,7 +179,7 @@ fn set_text(rt: &HostRuntime, session: &mut Session, view: u32, what: &str, text
 }
 
 /// A text of so many bytes, in 40-byte lines.
-fn text_of(alloc: Global, bytes: usize) -> Result<Vec<u8>, AllocError> {
+pub fn text_of(alloc: Global, bytes: usize) -> Result<Vec<u8>, AllocError> {
     let mut text = Vec::with_capacity(alloc, bytes)?;
     for place in 0..bytes {
         text.push(if place % 40 == 39 { b'\n' } else { b'x' })?;
