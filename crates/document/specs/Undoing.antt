@@ -1,5 +1,5 @@
 -- What undo and redo perform, and what each of their changes needs.
-use Rattle.std.specs.Prelude.{◌≡◌, ℕ, List, [], length}
+use Rattle.std.specs.Prelude.{◌≡◌, ℕ, List, [], length, Option, Some, None}
 use Rattle.ed_model.specs.declared.plan.LineEndTypes.{LineEndTypes}
 use Rattle.ed_model.specs.Steps as model
 use Rattle.ed_model.specs.History.{History, Change, TextStep, ContainerStep, undo_changes, redo_changes, undone, redone}
@@ -50,14 +50,12 @@ abbrev pub CanMake : Kept → Change → Type 0
 CanMake k (TextStep step) = Fits step (text_of k.document) × HasTextRoom k (room_of_step k.document.line_end_types step)
 CanMake k (ContainerStep token coalesce) = ⊥
 
-abbrev pub IsTextStep : Change → Type 0
-IsTextStep (TextStep step) = Unit {0}
-IsTextStep (ContainerStep token coalesce) = ⊥
-
--- the step lends the bytes that the change puts in, and tells those that it takes out by their number
-abbrev pub IsLentOf : Lent → Change → Type 0
-IsLentOf (lent.Insert place bytes) (TextStep (model.Insert p bs)) = (place ≡ p) × (bytes.now ≡ bs)
-IsLentOf (lent.Delete place count) (TextStep (model.Delete p bs)) = (place ≡ p) × (count ≡ length bs)
-IsLentOf (lent.Insert place bytes) (TextStep (model.Delete p bs)) = ⊥
-IsLentOf (lent.Delete place count) (TextStep (model.Insert p bs)) = ⊥
-IsLentOf step (ContainerStep token coalesce) = ⊥
+-- the step lends the bytes that the change puts in, and tells those that it takes out by their number; none is a container's
+abbrev pub IsLentOf : Option Lent → Change → Type 0
+IsLentOf (Some (lent.Insert place bytes)) (TextStep (model.Insert p bs)) = (place ≡ p) × (bytes.now ≡ bs)
+IsLentOf (Some (lent.Insert place bytes)) (TextStep (model.Delete p bs)) = ⊥
+IsLentOf (Some (lent.Delete place count)) (TextStep (model.Insert p bs)) = ⊥
+IsLentOf (Some (lent.Delete place count)) (TextStep (model.Delete p bs)) = (place ≡ p) × (count ≡ length bs)
+IsLentOf (Some step) (ContainerStep token coalesce) = ⊥
+IsLentOf None (TextStep step) = ⊥
+IsLentOf None (ContainerStep token coalesce) = Unit {0}

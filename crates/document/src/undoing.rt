@@ -8,13 +8,13 @@ ghost use Rattle.ed_model.specs.Steps.{Step};
 ghost use Rattle.line_index.specs.StepEdits.{SmallLines, change_of as change_of_lines};
 ghost use Rattle.undo_history.specs.Records.{change_of, HasItsBytes};
 ghost use Rattle.document.specs.Kept.{TakesRoom};
-ghost use Rattle.document.specs.Undoing.{changes_of, history_behind, outline_of, bytes_in, room_of_step, room_of_change, CanMake, IsTextStep, IsLentOf};
+ghost use Rattle.document.specs.Undoing.{changes_of, history_behind, outline_of, bytes_in, room_of_step, room_of_change, CanMake, IsLentOf};
 
 use crate::kept::Document;
 use crate::making::make_step;
 use crate::room::DocumentRoom;
 use crate::text_step::TextStep;
-use line_index::{LineChange, lines_for_deletion, lines_for_insertion};
+use line_index::LineChange;
 use undo_history::{ChangeKind, LentChange, StepKind, UndoHistory};
 
 /// Which of the two is performed.
@@ -78,9 +78,9 @@ fn change_at(history: &UndoHistory, direction: Direction, index: usize) -> LentC
     }
 }
 
-// The same, where it is a step of the text.
-fn step_at(history: &UndoHistory, direction: Direction, index: usize) -> TextStep
-    requires text { IsSomeAnd (slice_get (changes_of direction history.now.history) index) IsTextStep }
+// The same as a step of the text; none where it is a container's.
+fn step_at(history: &UndoHistory, direction: Direction, index: usize) -> Option<TextStep>
+    requires there { index < length (changes_of direction history.now.history) }
     ensures step { IsSomeAnd (slice_get (changes_of direction history.now.history) index) (IsLentOf result) }
 {
     let change = change_at(history, direction, index);
@@ -88,18 +88,18 @@ fn step_at(history: &UndoHistory, direction: Direction, index: usize) -> TextSte
         ChangeKind::Text {
             kind: StepKind::Insert,
             place,
-        } => TextStep::Insert {
+        } => Some(TextStep::Insert {
             place,
             bytes: change.bytes,
-        },
+        }),
         ChangeKind::Text {
             kind: StepKind::Delete,
             place,
-        } => TextStep::Delete {
+        } => Some(TextStep::Delete {
             place,
             count: change.bytes.len(),
-        },
-        ChangeKind::Container { .. } => unreachable!(),
+        }),
+        ChangeKind::Container { .. } => None,
     }
 }
 
@@ -147,25 +147,13 @@ impl Document {
         requires there { index < length (changes_of direction self.now.document.history) }
         ensures need { IsSomeAnd (slice_get (changes_of direction self.now.document.history) index) (λ change. result ≡ room_of_change self.now.document.line_end_types change) }
     {
-        let change = change_at(&self.history, direction, index);
-        match change.kind {
-            ChangeKind::Text {
-                kind: StepKind::Insert,
-                ..
-            } => DocumentRoom {
-                text: change.bytes.len(),
-                lines: lines_for_insertion(self.lines.types(), change.bytes),
-                insertions: 1,
-                ..DocumentRoom::none()
+        match step_at(&self.history, direction, index) {
+            Some(step) => DocumentRoom {
+                steps: 0,
+                bytes: 0,
+                ..self.step_need(step)
             },
-            ChangeKind::Text {
-                kind: StepKind::Delete,
-                ..
-            } => DocumentRoom {
-                lines: lines_for_deletion(),
-                ..DocumentRoom::none()
-            },
-            ChangeKind::Container { .. } => DocumentRoom::none(),
+            None => DocumentRoom::none(),
         }
     }
 
@@ -179,7 +167,9 @@ impl Document {
         ensures small { SmallLines result.old_lines × SmallLines result.new_lines }
         ensures views { self.new.spare.views ≡ self.old.spare.views }
     {
-        let step = step_at(&self.history, direction, index);
+        let Some(step) = step_at(&self.history, direction, index) else {
+            unreachable!();
+        };
         self.end_styled = self.end_styled.min(step.place());
         make_step(
             &mut self.cells,

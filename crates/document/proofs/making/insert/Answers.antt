@@ -1,4 +1,4 @@
-use Rattle.std.proofs.Common.{◌≤◌, ◌+◌, length, slice_range, refl, arith}
+use Rattle.std.proofs.Common.{refl, arith}
 use Rattle.ed_model.specs.Numbers.{meets}
 use Rattle.ed_model.specs.Text.{bytes_of}
 use Rattle.ed_model.specs.Steps.{Insert}
