@@ -3,3 +3,4 @@ pub mod LineSteps
 pub mod PieceLemmas
 pub mod CarrySteps
 pub mod SteppedParts
+pub mod LentSteps

@@ -8,13 +8,16 @@
 mod changes;
 mod kept;
 mod line_queries;
+mod making;
 mod pieces;
 mod places;
 mod room;
 mod stepping;
 mod text_step;
+mod undoing;
 
 pub use kept::Document;
 pub use places::{Indicators, Lines};
 pub use room::DocumentRoom;
 pub use text_step::TextStep;
+pub use undoing::{ChangeOutline, Direction};
