@@ -4,3 +4,4 @@ pub mod TextSteps
 pub mod Places
 pub mod Parts
 pub mod Lends
+pub mod Changes
