@@ -3,3 +3,6 @@ pub mod LineSteps
 pub mod PieceLemmas
 pub mod CarrySteps
 pub mod SteppedParts
+pub mod StyledCells
+pub mod MarkerLines
+pub mod TypeSettings

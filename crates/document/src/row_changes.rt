@@ -17,7 +17,7 @@ pub fn count_numbers(mask: u32) -> usize
 {
     let mut count = 0;
     'counting: for number in 0..32u32 {
-        if mask >> number & 1 == 1 {
+        if (mask >> number) % 2 == 1 {
             count += 1;
         }
     }
@@ -62,7 +62,7 @@ impl Document {
         ensures spare { self.new.spare ≡ record self.old.spare { markers = self.old.spare.markers - length (numbers_in mask) } }
     {
         'adding: for number in 0..32u32 {
-            if mask >> number & 1 == 1 {
+            if (mask >> number) % 2 == 1 {
                 self.add_marker_reserved(line, number);
             }
         }

@@ -11,7 +11,7 @@ ghost use Rattle.document.specs.Changes.{container_need};
 
 use crate::kept::Document;
 use crate::room::DocumentRoom;
-use ed_model::LineEndTypes;
+use ed_model::{LineEndTypes, rows_match_lines, rows_that_meet};
 use line_index::{LineEdit, edits_of_settings};
 use std::alloc::{AllocError, Global};
 
@@ -65,6 +65,8 @@ impl Document {
         ensures marker_room { self.old.spare.markers ≤ self.new.spare.markers }
     {
         edits_of_settings();
+        rows_that_meet();
+        rows_match_lines();
         let (before, after) = self.cells.halves();
         self.lines.set_types(types, before, after);
         self.rows.carry(edits);
