@@ -6,3 +6,4 @@ pub mod SteppedParts
 pub mod StyledCells
 pub mod MarkerLines
 pub mod TypeSettings
+pub mod MarkerNumbers

@@ -1,8 +1,8 @@
 -- From which line the markers with a handle went.
-use Rattle.std.proofs.Common.{◌≡◌, ◌≤◌, ℕ, zero, suc, ◌+◌, ◌==◌, not, Bool, true, false, cond, if◌then◌else◌, List, [], ◌∷◌, ◌++◌, length, filter, Option, Some, None, refl, ap, sym, subst, ◌∙◌, arith, append_assoc, length-append}
+use Rattle.std.proofs.Common.{◌≡◌, ◌≤◌, ℕ, zero, suc, ◌+◌, ◌-◌, ◌==◌, not, Bool, true, false, cond, if◌then◌else◌, List, [], ◌∷◌, ◌++◌, length, filter, Option, Some, None, refl, ap, sym, subst, ◌∙◌, arith, append_assoc, length-append}
 use Rattle.std.specs.List.{range_with_len, list_any, sum_by}
 use Rattle.std.specs.Prelude.{find, slice_index_or, ◌||◌}
-use Rattle.std.proofs.lemmas.Bool.{ne_eqb}
+use Rattle.std.proofs.lemmas.Bool.{eq-eqb, ne_eqb, eqb-true, eqb-false}
 use Rattle.std.proofs.lemmas.List.Sums.{sum_by-cons}
 use Rattle.std.proofs.lemmas.List.Filters.{length-filter_both}
 use Rattle.ed_model.specs.Rows.{Marker, Row, fresh_row}
@@ -28,7 +28,7 @@ module _ (handle : ℕ) where
   left rows line = if marker_count rows == marker_count (without rows) then None else Some (line_with_handle handle line rows)
 
   any_step : (b : Bool) (m : Marker) (ms : List Marker) → list_any is_it ms ≡ not (length (filter is_it ms) == 0) → (b || list_any is_it ms) ≡ not (length (cond b (m ∷ filter is_it ms) (filter is_it ms)) == 0)
-  any_step true m ms h = refl
+  any_step true m ms h = sym (ap not (ne_eqb (length (m ∷ filter is_it ms)) 0 (λ z. omega arith)))
   any_step false m ms h = h
 
   any_is : (markers : List Marker) → list_any is_it markers ≡ not (hits markers == 0)
@@ -48,23 +48,24 @@ module _ (handle : ℕ) where
   fewer [] = omega arith
   fewer (row ∷ rows) = omega (arith, counted row rows, counted_left row rows, apart row.markers, fewer rows)
 
-  eqb_of_sums : (a b c d n : ℕ) → a ≡ n + c → b ≡ n + d → (a == b) ≡ (c == d)
-  eqb_of_sums a b c d zero p q = rw (p, q) refl
-  eqb_of_sums a b c d (suc n) p q = rw (p, q) (eqb_of_sums (n + c) (n + d) c d n refl refl)
+  sums_alike : (a b c d n : ℕ) → a ≡ n + c → b ≡ n + d → (same : Bool) → (c == d) ≡ same → (a == b) ≡ same
+  sums_alike a b c d n p q true e = eq-eqb a b (omega (arith, p, q, eqb-true c d e))
+  sums_alike a b c d n p q false e = ne_eqb a b (λ f. eqb-false c d e (omega (arith, p, q, f)))
 
   step :
       (n line : ℕ) (row : Row) (rest : List Row) (others : Option ℕ) → hits row.markers ≡ n → others ≡ left rest (line + 1)
       → cond (not (n == 0)) (Some line) others ≡ left (row ∷ rest) line
   step zero line row rest others none others_are =
       let same : (marker_count (row ∷ rest) == marker_count (without (row ∷ rest))) ≡ (marker_count rest == marker_count (without rest)) =
-      eqb_of_sums (marker_count (row ∷ rest)) (marker_count (without (row ∷ rest))) (marker_count rest) (marker_count (without rest)) (length row.markers) (counted row rest)
-      (omega (arith, counted_left row rest, apart row.markers, none)) in
+      sums_alike (marker_count (row ∷ rest)) (marker_count (without (row ∷ rest))) (marker_count rest) (marker_count (without rest)) (length row.markers) (counted row rest)
+      (omega (arith, counted_left row rest, apart row.markers, none)) (marker_count rest == marker_count (without rest)) refl in
       rw (same, none) others_are
   step (suc n) line row rest others some others_are =
       let differ : (marker_count (row ∷ rest) == marker_count (without (row ∷ rest))) ≡ false =
       ne_eqb (marker_count (row ∷ rest)) (marker_count (without (row ∷ rest)))
       (λ e. omega (arith, e, counted row rest, counted_left row rest, apart row.markers, some, fewer rest)) in
-      rw (differ, some) refl
+      let more : (suc n == 0) ≡ false = ne_eqb (suc n) 0 (λ z. omega arith) in
+      rw (differ, some, more) refl
 
   found : (front rest : List Row) → find (has_handle handle (front ++ rest)) (range_with_len (length front) (length rest)) ≡ left rest (length front)
   found front [] = refl
@@ -79,4 +80,6 @@ module _ (handle : ℕ) where
 
 -- the first line with the handle is the one that the markers left, if some went
 pub first_is_left : (handle : ℕ) (rows new : List Row) → new ≡ without_markers (λ m. m.handle == handle) rows → first_from (has_handle handle rows) rows 0 ≡ line_it_left handle rows new
-first_is_left handle rows new is = found handle [] rows ∙ ap (λ (after : List Row). line_it_left handle rows after) (sym is)
+first_is_left handle rows new is =
+    let all : length rows - 0 ≡ length rows = omega arith in
+    ap (λ n. find (has_handle handle rows) (range_with_len 0 n)) all ∙ found handle [] rows ∙ ap (λ (after : List Row). line_it_left handle rows after) (sym is)

@@ -3,7 +3,7 @@ use Rattle.std.proofs.Common.{◌≡◌, ℕ, ◌==◌, not, Bool, true, false, 
 use Rattle.std.specs.List.{range_with_len}
 use Rattle.std.specs.Prelude.{slice_index}
 use Rattle.std.proofs.lemmas.Bool.{eq-eqb}
-use Rattle.std.proofs.lemmas.List.{map-append, take_append_drop}
+use Rattle.std.proofs.lemmas.List.{map-append, take-append-drop}
 use Rattle.ed_model.specs.Text.{Cell, bytes_of, styles_of}
 use Rattle.ed_model.specs.Changes.{restyled}
 use Rattle.ed_model.specs.Indicators.{extent, changed_range}
@@ -22,7 +22,7 @@ bytes_stay start styles cells =
     map-append (λ (c : Cell). c.byte) (take start cells) (restyled styles (drop start cells))
     ∙ ap (λ rest. bytes_of (take start cells) ++ rest) (bytes_of_restyled styles (drop start cells))
     ∙ sym (map-append (λ (c : Cell). c.byte) (take start cells) (drop start cells))
-    ∙ ap bytes_of (take_append_drop start cells)
+    ∙ ap bytes_of (take-append-drop start cells)
 
 -- the parts of a document whose cells have other styles
 pub parts_restyled :

@@ -5,9 +5,10 @@ ghost use Rattle.ed_model.specs.declared.plan.DocumentChange.TheVariants.{AddMar
 ghost use Rattle.ed_model.specs.Changes.{changed_document, document_row, marker_count};
 ghost use Rattle.ed_model.specs.LinePlans.{numbers_in};
 ghost use Rattle.ed_model.specs.Session.{lines_in};
-ghost use Rattle.document.specs.Changes.{line_it_left, markers_changed};
+ghost use Rattle.document.specs.Changes.{line_it_left, markers_changed, numbers_of, with_more_markers};
 
 use crate::kept::Document;
+use line_rows::LineRows;
 use std::alloc::AllocError;
 
 /// How many markers a mask has a bit for.
@@ -22,6 +23,20 @@ pub fn count_numbers(mask: u32) -> usize
         }
     }
     count
+}
+
+// Puts a marker for each bit of a mask behind those of a line.
+fn add_markers(rows: &mut LineRows, line: usize, mask: u32)
+    requires line { line < length rows.old.rows }
+    requires room { length (numbers_of mask) ≤ rows.old.room.markers }
+    requires handles { rows.old.next_handle + length (numbers_of mask) < 2 ^ 32 }
+    ensures { rows.new ≡ with_more_markers line (numbers_of mask) rows.old }
+{
+    'adding: for number in 0..32u32 {
+        if (mask >> number) % 2 == 1 {
+            rows.add_reserved(line, number);
+        }
+    }
 }
 
 impl Document {
@@ -61,11 +76,7 @@ impl Document {
         ensures room { self.new.room ≡ self.old.room }
         ensures spare { self.new.spare ≡ record self.old.spare { markers = self.old.spare.markers - length (numbers_in mask) } }
     {
-        'adding: for number in 0..32u32 {
-            if (mask >> number) % 2 == 1 {
-                self.add_marker_reserved(line, number);
-            }
-        }
+        add_markers(&mut self.rows, line, mask);
     }
 
     /// Takes a line's first marker with a number away, or all of its markers where no number is named. Their room comes back.
