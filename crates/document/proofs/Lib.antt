@@ -4,3 +4,7 @@ pub mod PieceLemmas
 pub mod CarrySteps
 pub mod SteppedParts
 pub mod LentSteps
+pub mod StyledCells
+pub mod MarkerLines
+pub mod TypeSettings
+pub mod MarkerNumbers

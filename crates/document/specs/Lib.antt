@@ -5,3 +5,4 @@ pub mod Places
 pub mod Parts
 pub mod Lends
 pub mod Undoing
+pub mod Changes
