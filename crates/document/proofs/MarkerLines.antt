@@ -1,11 +1,11 @@
 -- From which line the markers with a handle went.
 use Rattle.std.proofs.Common.{◌≡◌, ◌≤◌, ℕ, zero, suc, ◌+◌, ◌-◌, ◌==◌, not, Bool, true, false, cond, if◌then◌else◌, List, [], ◌∷◌, ◌++◌, length, filter, Option, Some, None, refl, ap, sym, subst, ◌∙◌, arith, append_assoc, length-append}
-use Rattle.std.specs.List.{range_with_len, list_any, sum_by}
-use Rattle.std.specs.Prelude.{find, slice_index_or, ◌||◌}
+use Rattle.std.specs.List.{range_with_len, list_any}
+use Rattle.std.specs.Prelude.{find, ◌||◌}
 use Rattle.std.proofs.lemmas.Bool.{eq-eqb, ne_eqb, eqb-true, eqb-false}
 use Rattle.std.proofs.lemmas.List.Sums.{sum_by-cons}
 use Rattle.std.proofs.lemmas.List.Filters.{length-filter_both}
-use Rattle.ed_model.specs.Rows.{Marker, Row, fresh_row}
+use Rattle.ed_model.specs.Rows.{Marker, Row}
 use Rattle.ed_model.specs.Changes.{marker_count, without_markers, line_with_handle}
 use Rattle.line_rows.specs.Kept.{row_at, has_handle, first_from}
 use Rattle.document.specs.Changes.{line_it_left}

@@ -1,10 +1,10 @@
 -- Cells whose styles change: their bytes stay, and so do the other parts of a document.
-use Rattle.std.proofs.Common.{◌≡◌, ℕ, ◌==◌, not, Bool, true, false, List, [], ◌∷◌, ◌++◌, length, take, drop, filter, Option, None, refl, ap, sym, subst, ◌∙◌, arith}
+use Rattle.std.proofs.Common.{◌≡◌, ℕ, ◌==◌, not, Bool, false, List, [], ◌∷◌, ◌++◌, length, take, drop, filter, None, refl, ap, sym, subst, ◌∙◌, arith}
 use Rattle.std.specs.List.{range_with_len}
 use Rattle.std.specs.Prelude.{slice_index}
 use Rattle.std.proofs.lemmas.Bool.{eq-eqb}
 use Rattle.std.proofs.lemmas.List.{map-append, take-append-drop}
-use Rattle.ed_model.specs.Text.{Cell, bytes_of, styles_of}
+use Rattle.ed_model.specs.Text.{Cell, bytes_of}
 use Rattle.ed_model.specs.Changes.{restyled}
 use Rattle.ed_model.specs.Indicators.{extent, changed_range}
 use Rattle.line_index.specs.Index.{IsIndexOf}

@@ -49,9 +49,10 @@ impl Document {
         ensures document { self.new ≡ record self.old { document = changed_document [] (StyleRun count style) self.old.document } }
         ensures changed { result ≡ changed_range (styles_of self.old.document.cells) (styles_of self.new.document.cells) }
     {
+        let keeps_none = self.keeps_no_styles();
         let start = self.end_styled;
         self.end_styled = start + count;
-        if self.options & STYLES_NONE != 0 {
+        if keeps_none {
             return None;
         }
         self.cells.set_style_run(start, count, style)
@@ -64,9 +65,10 @@ impl Document {
         ensures document { self.new ≡ record self.old { document = changed_document styles.now (StyleBytes (length styles.now)) self.old.document } }
         ensures changed { result ≡ changed_range (styles_of self.old.document.cells) (styles_of self.new.document.cells) }
     {
+        let keeps_none = self.keeps_no_styles();
         let start = self.end_styled;
         self.end_styled = start + styles.len();
-        if self.options & STYLES_NONE != 0 {
+        if keeps_none {
             return None;
         }
         self.cells.set_styles(start, styles)

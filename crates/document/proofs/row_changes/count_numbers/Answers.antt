@@ -1,4 +1,4 @@
-use Rattle.std.proofs.Common.{length, ap, refl, sym, ◌∙◌, arith}
+use Rattle.std.proofs.Common.{length, ap, ◌∙◌, arith}
 use Rattle.document.proofs.MarkerNumbers.{from_the_first, next_is_in, next_is_out, none_from_the_end, numbers_are}
 use Rattle.document.proofs.row_changes.count_numbers.Goals.{then-mask-number-eq1, else-mask-number-eq1}
 use Rattle.document.proofs.row_changes.count_numbers.Goals as goal

@@ -1,4 +1,4 @@
-use Rattle.std.proofs.Common.{◌≡◌, ◌≤◌, ◌<◌, ◌+◌, ◌^◌, [], length, ap, sym, subst}
+use Rattle.std.proofs.Common.{◌≡◌, ◌≤◌, ◌<◌, ◌+◌, ◌^◌, [], length, sym, subst}
 use Rattle.ed_model.specs.declared.plan.DocumentChange.TheVariants.{AddMarkers}
 use Rattle.ed_model.specs.Changes.{changed_document}
 use Rattle.ed_model.specs.LinePlans.{numbers_in}

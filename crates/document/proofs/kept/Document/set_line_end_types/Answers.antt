@@ -1,4 +1,4 @@
-use Rattle.std.proofs.Common.{◌≡◌, refl, ap, subst, sym, ◌∙◌}
+use Rattle.std.proofs.Common.{◌≡◌, ap, subst, sym, ◌∙◌}
 use Rattle.ed_model.specs.Text.{bytes_of}
 use Rattle.line_index.specs.Index.{IsIndexOf}
 use Rattle.line_index.specs.Settings.{edits_of_setting}

@@ -4,8 +4,8 @@ use Rattle.ed_model.specs.Text.{bytes_of, styles_of}
 use Rattle.document.proofs.StyledCells.{bytes_stay, none_changed, parts_restyled}
 use Rattle.document.proofs.kept.Document.style_bytes.Goals as goal
 
-pub returns-then-self-ne0-clause-changed : goal.returns-then-self-ne0-clause-changed
-returns-then-self-ne0-clause-changed c = rw (← c.self.view_is) (sym (none_changed (styles_of c.self.inside.cells.cells)))
+pub returns-then-keeps_none-clause-changed : goal.returns-then-keeps_none-clause-changed
+returns-then-keeps_none-clause-changed c = rw (← c.self.view_is) (sym (none_changed (styles_of c.self.inside.cells.cells)))
 
 pub invariant_of-self-2 : goal.invariant_of-self-2
 invariant_of-self-2 c =
