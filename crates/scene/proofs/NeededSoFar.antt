@@ -55,8 +55,8 @@ needed_none views who types all h = record {
 pub needed_next : (views : List View) (who : ℕ) (types : LineEndTypes) (c : Change) (rest after all : List Change) (need : HistoryNeed)
     → IsNeededSoFar views who types rest all need → rest ≡ c ∷ after
     → IsNeededSoFar views who types after all (history_need
-        (note_room (amount_sum need.notes.notes (notes_of_change views who c)) (amount_sum need.notes.bytes (bytes_of_change views who c)))
-        (room_sum need.document (room_of_change types c)))
+    (note_room (amount_sum need.notes.notes (notes_of_change views who c)) (amount_sum need.notes.bytes (bytes_of_change views who c)))
+    (room_sum need.document (room_of_change types c)))
 needed_next views who types c rest after all need so e =
     let so = subst (λ cs. IsNeededSoFar views who types cs all need) e so in
     let room = room_of_change types c in

@@ -31,9 +31,9 @@ use Rattle.scene.proofs.ChangeSteps.{LeavesRoom, leaves_all, leaves_next, leaves
 pub record IsPerformedSoFar (direction : Direction) (rest : List Change) (changed : Bool) (old : Kept) (views : Entries KeptView) (gathered : Gathered)
     (now : Kept) (views' : Entries KeptView) (gathered' : Gathered) : Type 0 where
   pub scene : changes_performed (bits_of direction) (bit_if (nat_lt 1 (length (changes_of direction old.document.history))) multi_step) changed rest
-          (scene_in now.document views'.entries gathered'.notes)
+      (scene_in now.document views'.entries gathered'.notes)
       ≡ changes_performed (bits_of direction) (bit_if (nat_lt 1 (length (changes_of direction old.document.history))) multi_step) false
-          (changes_of direction old.document.history) (scene_in old.document views.entries gathered.notes)
+      (changes_of direction old.document.history) (scene_in old.document views.entries gathered.notes)
   pub watched : IsWatched now.document views'
   pub history : now.document.history ≡ old.document.history
   pub types : now.document.line_end_types ≡ old.document.line_end_types

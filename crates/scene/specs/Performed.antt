@@ -27,7 +27,7 @@ pub record AreAllPerformed (direction : Direction) (k : Kept) (views : Entries K
     (k' : Kept) (views' : Entries KeptView) (gathered' : Gathered) : Type 0 where
   pub scene : scene_in k'.document views'.entries gathered'.notes
       ≡ changes_performed (bits_of direction) (bit_if (nat_lt 1 (length (changes_of direction k.document.history))) multi_step) false
-          (changes_of direction k.document.history) (scene_in k.document views.entries gathered.notes)
+      (changes_of direction k.document.history) (scene_in k.document views.entries gathered.notes)
   pub history : k'.document.history ≡ k.document.history
   pub watched : IsWatched k'.document views'
   pub room : TakesRoom k.room k'.room (room_of_changes k.document.line_end_types (changes_of direction k.document.history))

@@ -1,12 +1,11 @@
 //! Changes that undo or redo performs, one by one: each told of and followed.
 
 ghost use Rattle.std.specs.Prelude.{◌≡◌, ◌≤◌, ◌<◌, ◌+◌, ◌++◌, ◌==◌, not, true, if◌then◌else◌, [], List, ℕ, length, Some};
-ghost use Rattle.ed_model.specs.InverseLaws.{Fits};
-ghost use Rattle.ed_model.specs.Steps.{Step};
 ghost use Rattle.ed_types.specs.Heard.{with_text};
+ghost use Rattle.ed_model.specs.Steps.{Step};
+ghost use Rattle.ed_model.specs.InverseLaws.{Fits};
 ghost use Rattle.ed_model.specs.History.{Change, TextStep as Text};
 ghost use Rattle.ed_model.specs.Notes.{heard};
-
 ghost use Rattle.ed_model.specs.Performing.{container_note};
 ghost use Rattle.document.specs.TextSteps.{step_in, IsStepOn};
 ghost use Rattle.scene.specs.Scenes.{watchers, AreNamed};
@@ -15,7 +14,9 @@ ghost use Rattle.scene.specs.Undoing.{bits_of, all_bits as every_bit, container_
 ghost use Rattle.scene.specs.Turns.{change_at, bits_behind, CanPerform, IsToldBefore, IsPerformed};
 
 use crate::moving::follow;
-use crate::step_notes::{after_note, before_note, kind_after, kind_before, movement_of, text_of_before};
+use crate::step_notes::{
+    MODIFIED, after_note, before_note, kind_after, kind_before, movement_of, text_of_before,
+};
 use crate::telling::{Audience, NoteText, count_hearers, tell};
 use document::{ChangeOutline, Direction, Document, TextStep};
 use ed_model::steps_keep_views_standing;
@@ -25,10 +26,7 @@ use id_table::IdTable;
 use line_index::edits_of_steps;
 use notify::{NoteList, blank};
 
-/// SCN_MODIFIED
-const MODIFIED: u32 = 2008;
-
-// Bits of the kinds of notes, SC_ and SC_MOD_ left out.
+// Bits of the kind of SCN_MODIFIED, SC_ and SC_MOD_ left out.
 const PERFORMED_UNDO: u32 = 0x20;
 
 const PERFORMED_REDO: u32 = 0x40;
@@ -221,7 +219,10 @@ pub(crate) fn perform_change(
     requires { (change : Change) × CanPerform turn document.old views.old notes.old change }
     ensures { (change : Change) → change_at turn document.old.document.history ≡ Some change → IsPerformed turn lines_changed result document.old views.old notes.old document.new views.new notes.new change }
 {
-    if let ChangeOutline::Container { token } = document.change_outline(turn.direction, turn.index) {
+    if let ChangeOutline::Container { token } = document.change_outline(
+        turn.direction,
+        turn.index,
+    ) {
         perform_container(document, views, notes, turn, token, lines_changed);
         return lines_changed;
     }

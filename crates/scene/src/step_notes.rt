@@ -18,7 +18,7 @@ use notify::{NoteList, blank};
 use selection::Movement;
 
 /// SCN_MODIFIED
-const MODIFIED: u32 = 2008;
+pub(crate) const MODIFIED: u32 = 2008;
 
 // Bits of its kind, SC_MOD_ and SC_ left out.
 pub(crate) const INSERT_TEXT: u32 = 0x1;

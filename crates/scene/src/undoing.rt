@@ -1,6 +1,6 @@
 //! Undo and redo: a transaction performed, and what that needs.
 
-ghost use Rattle.std.specs.Prelude.{◌≡◌, ◌≤◌, ◌<◌, ◌+◌, ◌*◌, ◌++◌, length, map, reverse, slice_get, Some};
+ghost use Rattle.std.specs.Prelude.{◌≡◌, ◌≤◌, ◌<◌, ◌+◌, ◌++◌, length, map, reverse, slice_get, Some};
 ghost use Rattle.ed_model.specs.History.{Change, latest_text_step};
 ghost use Rattle.ed_model.specs.Session.{text_of};
 ghost use Rattle.ed_model.specs.SoundLaws.{AreStepsOf};
@@ -11,14 +11,14 @@ ghost use Rattle.document.specs.Kept.{HasTextRoom, TakesRoom};
 ghost use Rattle.document.specs.Undoing.{changes_of, history_behind};
 ghost use Rattle.scene.specs.Scenes.{scene_in, watchers, AreNamed, IsWatched};
 ghost use Rattle.scene.specs.Needs.{note_room};
-ghost use Rattle.scene.specs.Hearing.{hearers, bytes_shared};
 ghost use Rattle.scene.specs.Turns.{turn_of};
 ghost use Rattle.scene.specs.Performed.{CanPerformAll, AreAllPerformed};
 ghost use Rattle.scene.specs.Undoing.{bits_of, notes_of_change, bytes_of_change, bytes_of_changes, notes_of_history, room_of_changes, capped_room, capped_notes, place_behind_any};
 
-use crate::need::NoteRoom;
+use crate::need::{NoteRoom, told_need};
 use crate::performing::{CONTAINER, Turn, all_bits, bit_of, perform_change};
 use crate::step_notes::{BEFORE_DELETE, BEFORE_INSERT, DELETE_TEXT, INSERT_TEXT};
+use crate::steps::SAVE_POINT_LEFT;
 use crate::telling::{Audience, NoteText, count_hearers, count_watchers, tell};
 use document::{ChangeOutline, Direction, Document, DocumentRoom};
 use ed_model::positions_after_a_step;
@@ -29,9 +29,6 @@ use notify::{NoteList, blank};
 /// SCN_SAVEPOINTREACHED
 const SAVE_POINT_REACHED: u32 = 2002;
 
-/// SCN_SAVEPOINTLEFT
-const SAVE_POINT_LEFT: u32 = 2003;
-
 /// How much memory undo or redo needs. An amount past the greatest `usize` is that one, which is never there.
 #[derive(Clone, Copy, Debug, PartialEq, Eq)]
 pub struct HistoryNeed {
@@ -41,7 +38,7 @@ pub struct HistoryNeed {
     pub document: DocumentRoom,
 }
 
-/// The change that undo or redo performs at `index`, of `count`.
+// The turn of the change at `index`, of `count`.
 fn turn_at(direction: Direction, index: usize, count: usize) -> Turn
     requires { index < count }
     ensures { result ≡ turn_of direction index count }
@@ -136,24 +133,6 @@ pub fn perform_history(
     tell_save_point(document, views, notes, was_there, is_there);
 }
 
-// What a step of the text needs that is told of under these kinds, before it and after it.
-fn step_note_need(
-    document: &Document,
-    views: &IdTable<View>,
-    kinds: u32,
-    count: usize,
-) -> NoteRoom
-    requires named { AreNamed views.now.entries }
-    ensures notes { result.notes ≡ 2 * hearers kinds (watchers document.now.document views.now) }
-    ensures bytes { result.bytes ≡ bytes_shared kinds (watchers document.now.document views.now) count }
-{
-    let hearers = count_hearers(document, views, kinds);
-    NoteRoom {
-        notes: 2 * hearers,
-        bytes: if hearers > 0 { count } else { 0 },
-    }
-}
-
 // What a change needs of the notes.
 fn change_note_need(
     document: &Document,
@@ -169,10 +148,20 @@ fn change_note_need(
     let after = all_bits(direction);
     match document.change_outline(direction, index) {
         ChangeOutline::Insert { count, .. } => {
-            step_note_need(document, views, (BEFORE_INSERT | before) | (INSERT_TEXT | after), count)
+            told_need(
+                document,
+                views,
+                (BEFORE_INSERT | before) | (INSERT_TEXT | after),
+                count,
+            )
         }
         ChangeOutline::Delete { count, .. } => {
-            step_note_need(document, views, (BEFORE_DELETE | before) | (DELETE_TEXT | after), count)
+            told_need(
+                document,
+                views,
+                (BEFORE_DELETE | before) | (DELETE_TEXT | after),
+                count,
+            )
         }
         ChangeOutline::Container { .. } => NoteRoom {
             notes: count_hearers(document, views, CONTAINER | after),
@@ -182,11 +171,7 @@ fn change_note_need(
 }
 
 /// Returns what undo or redo needs at most.
-pub fn history_need(
-    document: &Document,
-    views: &IdTable<View>,
-    direction: Direction,
-) -> HistoryNeed
+pub fn history_need(document: &Document, views: &IdTable<View>, direction: Direction) -> HistoryNeed
     requires named { AreNamed views.now.entries }
     ensures notes { result.notes ≡ capped_notes (notes_of_history (watchers document.now.document views.now) (bits_of direction) (changes_of direction document.now.document.history)) (bytes_of_changes (watchers document.now.document views.now) (bits_of direction) (changes_of direction document.now.document.history)) }
     ensures document { result.document ≡ capped_room (room_of_changes document.now.document.line_end_types (changes_of direction document.now.document.history)) }

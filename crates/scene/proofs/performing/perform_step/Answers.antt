@@ -100,7 +100,7 @@ follow-requires-clause-can c =
     let lines = c.line_count-old_lines.ensures.count in
     let room = can.room.1 in
     rw (M, E, V) (watched_can (movement_of s) (step_edits s d) d c.args.views.now can.watched
-        (λ v stands. stands_can s d v c.moves_are_those_of_steps.ensures.fit c.edits_of_steps.ensures.few within (omega arith) (omega arith) stands))
+    (λ v stands. stands_can s d v c.moves_are_those_of_steps.ensures.fit c.edits_of_steps.ensures.few within (omega arith) (omega arith) stands))
 
 pub returns : goal.returns
 returns c =
@@ -137,14 +137,14 @@ returns c =
     (rw after at c.tell.ensures) t (omega arith) in
     let views = (rw (M, E, V) at c.follow.ensures.views) ∙ watched_after s d c.args.views.now can.watched c.moves_are_those_of_steps.ensures.view within in
     λ step e. subst (λ x. IsPerformed turn c.args.lines_changed changed c.args.document.now c.args.views.now c.args.notes.now c.make_change-change.new.self c.follow.new.views c.tell.new.notes (TextStep x)) (step_same _ s step can.at e) (record {
-        lines = rw (old_lines, lines) at c.is_changed-changed.ensures;
-        scene = same_scene _ _ _ _ _ _ after views told.notes;
-        watched = subst (λ x. IsWatched x c.follow.new.views) (sym after)
-            (watched_again s d d.history c.args.views.now c.follow.new.views c.steps_keep_views_standing.ensures can.watched views c.follow.ensures.named c.follow.ensures.next);
-        room = c.make_change-change.ensures.room_left s can.at;
-        note_room = told.note_room;
-        text_room = rw told.text_room tb.text_room;
-        ids = c.follow.ensures.ids;
-        next = c.follow.ensures.next;
-        view_room = c.follow.ensures.room;
-      })
+      lines = rw (old_lines, lines) at c.is_changed-changed.ensures;
+      scene = same_scene _ _ _ _ _ _ after views told.notes;
+      watched = subst (λ x. IsWatched x c.follow.new.views) (sym after)
+          (watched_again s d d.history c.args.views.now c.follow.new.views c.steps_keep_views_standing.ensures can.watched views c.follow.ensures.named c.follow.ensures.next);
+      room = c.make_change-change.ensures.room_left s can.at;
+      note_room = told.note_room;
+      text_room = rw told.text_room tb.text_room;
+      ids = c.follow.ensures.ids;
+      next = c.follow.ensures.next;
+      view_room = c.follow.ensures.room;
+    })

@@ -70,8 +70,8 @@ returns c =
     let n = c.share_if.ensures.note_room in
     let r = can.notes in
     λ step e. subst (λ x. IsToldBefore who W c.args.notes.now c.tell.new.notes x) (step_same _ s step can.at e) (rw put (record {
-        notes = ap (λ ns. ns ++ heard W (before_note who s)) c.share_if.ensures.notes;
-        note_room = omega arith;
-        text_room = rw (H, B) at c.share_if.ensures.text_room;
-        shared = hear;
-      }))
+      notes = ap (λ ns. ns ++ heard W (before_note who s)) c.share_if.ensures.notes;
+      note_room = omega arith;
+      text_room = rw (H, B) at c.share_if.ensures.text_room;
+      shared = hear;
+    }))

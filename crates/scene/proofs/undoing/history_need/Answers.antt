@@ -18,7 +18,7 @@ loop-index-preserved c =
     let N = c.change_note_need-notes.ensures next.0 next.1 in
     let D = some_has _ _ next.0 next.1 c.change_need.ensures.need in
     rw (c.plus.ensures, c.plus-in-loop-index.ensures, N, D) (needed_next (watchers d c.args.views.now) (bits_of c.args.direction) d.line_end_types next.0 (drop i all) (drop (i + 1) all) all
-        c.loop-index.need c.loop-index.invariant (drop_some all i next.0 next.1))
+    c.loop-index.need c.loop-index.invariant (drop_some all i next.0 next.1))
 
 pub returns : goal.returns
 returns c =

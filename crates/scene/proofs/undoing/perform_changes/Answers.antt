@@ -40,5 +40,7 @@ pub returns : goal.returns
 returns c =
     let all = changes_of c.args.direction c.args.document.now.document.history in
     let count = c.change_count-count.ensures in
-    record { all = performed_all c.args.direction (drop c.loop-index.index all) c.loop-index.lines_changed c.args.document.now c.loop-index.document c.args.views.now c.loop-index.views
-        c.args.notes.now c.loop-index.notes c.loop-index.invariant (drop_all c.loop-index.index all (omega arith)) }
+    record {
+      all = performed_all c.args.direction (drop c.loop-index.index all) c.loop-index.lines_changed c.args.document.now c.loop-index.document c.args.views.now c.loop-index.views
+          c.args.notes.now c.loop-index.notes c.loop-index.invariant (drop_all c.loop-index.index all (omega arith));
+    }
