@@ -1,13 +1,12 @@
 -- What is unwanted of a text in which nothing is missing.
-use Rattle.std.proofs.Common.{◌≡◌, ℕ, zero, suc, ◌+◌, ◌-◌, ◌<◌, ◌≤◌, Bool, true, false, cond, ◌==◌, ◌||◌, ◌&&◌, inl, inr, List, [], ◌∷◌, ◌++◌, length, take, drop, refl, ap, ◌∙◌, sym, arith, append_assoc, append-nil, length-append}
+use Rattle.std.proofs.Common.{◌≡◌, ℕ, ◌+◌, Bool, true, false, cond, ◌==◌, ◌||◌, ◌&&◌, List, [], ◌∷◌, ◌++◌, length, take, drop, refl, ap, ◌∙◌, sym, arith, append_assoc, length-append}
 use Rattle.std.specs.Prelude.{count_by, not}
-use Rattle.std.proofs.lemmas.Bool.{true≢false, or_from, and_left, and_right, eqb-true}
+use Rattle.std.proofs.lemmas.Bool.{true≢false, or_from, and_right, eqb-true}
 use Rattle.std.proofs.lemmas.List.{take_at, drop_at}
 use Rattle.std.proofs.lemmas.List.Recursion.{is_count_by}
 use Rattle.std.proofs.lemmas.List.Sums.{sum_by-append}
 use Rattle.ed_model.specs.declared.plan.LineEnd.{LineEnd}
 use Rattle.ed_model.specs.declared.plan.LineEnd.TheVariants.{CrLf, Cr, Lf}
-use Rattle.ed_model.specs.Steps.{Step, Insert, Delete, edited}
 use Rattle.ed_model.specs.LineEnds.{begins_with_line_feed, lacks_return, lacks_feed, missing_at, missing_from, is_unwanted, unwanted_at, place_after, unwanted_from, after_steps}
 use Rattle.line_ends.specs.Conversion.{completed}
 
@@ -41,8 +40,8 @@ fills to (b ∷ bs) f p front e = go (lacks_return f to b) (lacks_feed to b bs) 
     go false true rest =
         ap (after_steps (missing_from (p + 1 + 1) (b == 13) to bs))
         (ap (λ t. take (p + 1) t ++ (10 ∷ []) ++ drop (p + 1) t) (sym (append_assoc front (b ∷ []) bs))
-            ∙ inserted_between (p + 1) (front ++ b ∷ []) (10 ∷ []) bs (simp length-append (omega arith))
-            ∙ append_assoc front (b ∷ []) (10 ∷ bs) ∙ sym (append_assoc front (b ∷ 10 ∷ []) bs))
+        ∙ inserted_between (p + 1) (front ++ b ∷ []) (10 ∷ []) bs (simp length-append (omega arith))
+        ∙ append_assoc front (b ∷ []) (10 ∷ bs) ∙ sym (append_assoc front (b ∷ 10 ∷ []) bs))
         ∙ rest (p + 1 + 1) (front ++ b ∷ 10 ∷ []) (simp length-append (omega arith))
         ∙ append_assoc front (b ∷ 10 ∷ []) (filled (b == 13) to bs)
     go false false rest =

@@ -1,7 +1,7 @@
 -- The insertions of a conversion, one after another.
-use Rattle.std.proofs.Common.{◌≡◌, ℕ, zero, suc, ◌+◌, ◌-◌, ◌<◌, ◌≤◌, Bool, true, false, cond, ◌==◌, ◌||◌, ◌&&◌, inl, inr, List, [], ◌∷◌, ◌++◌, length, get_or, take, drop, refl, ap, ◌∙◌, sym, arith, append_assoc, length-append}
+use Rattle.std.proofs.Common.{◌≡◌, ℕ, suc, ◌+◌, ◌<◌, ◌≤◌, Bool, true, false, ◌==◌, ◌||◌, ◌&&◌, inl, inr, List, [], ◌∷◌, ◌++◌, length, get_or, take, drop, refl, ap, ◌∙◌, sym, arith, append_assoc, length-append}
 use Rattle.std.specs.Prelude.{not}
-use Rattle.std.proofs.lemmas.Bool.{true≢false, or_parts, or_cases, and_parts, eqb-true, not-true, ne_eqb, cases_Bool}
+use Rattle.std.proofs.lemmas.Bool.{true≢false, or_parts, or_cases, and_parts, eqb-true, not-true}
 use Rattle.std.proofs.lemmas.List.{drop_more, drop_all, drop_at, length-take-le, get_or_at}
 use Rattle.ed_model.specs.declared.plan.LineEnd.{LineEnd}
 use Rattle.ed_model.specs.Text.{stands}

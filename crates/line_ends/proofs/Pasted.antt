@@ -1,5 +1,5 @@
 -- A text turned piece by piece.
-use Rattle.std.proofs.Common.{◌≡◌, ℕ, zero, suc, ◌+◌, ◌-◌, ◌<◌, ◌≤◌, Bool, true, false, cond, ◌==◌, ◌||◌, ◌&&◌, inl, inr, List, [], ◌∷◌, ◌++◌, length, get_or, take, drop, slice_range, ◌*◌, refl, ap, subst, ◌∙◌, sym, arith, append_assoc, append-nil, length-append}
+use Rattle.std.proofs.Common.{◌≡◌, ℕ, zero, suc, ◌+◌, ◌-◌, ◌<◌, ◌≤◌, Bool, true, false, cond, ◌==◌, ◌||◌, ◌&&◌, List, [], ◌∷◌, ◌++◌, length, get_or, take, drop, slice_range, ◌*◌, refl, ap, subst, ◌∙◌, sym, arith, append_assoc, append-nil, length-append}
 use Rattle.std.proofs.lemmas.Bool.{true≢false, or_parts, and_right}
 use Rattle.std.proofs.lemmas.List.{drop_all, drop_more, drop-drop, take_rest, length-take-le, length-drop}
 use Rattle.ed_model.specs.declared.plan.LineEnd.{LineEnd}
@@ -72,7 +72,7 @@ with_two to bs n l quiet return feed =
     quiet_front to bs n (omega arith) quiet
     ∙ ap (λ t. take n bs ++ converted to t)
     (drop_more bs n 0 (omega arith) ∙ ap (λ t. get_or bs n 0 ∷ t) (drop_more bs (n + 1) 0 l)
-        ∙ ap (λ b. b ∷ get_or bs (n + 1) 0 ∷ drop (n + 1 + 1) bs) return ∙ ap (λ b. 13 ∷ b ∷ drop (n + 1 + 1) bs) feed ∙ ap (λ k. 13 ∷ 10 ∷ drop k bs) more)
+    ∙ ap (λ b. b ∷ get_or bs (n + 1) 0 ∷ drop (n + 1 + 1) bs) return ∙ ap (λ b. 13 ∷ b ∷ drop (n + 1 + 1) bs) feed ∙ ap (λ k. 13 ∷ 10 ∷ drop k bs) more)
     ∙ sym (append_assoc (take n bs) (line_end_bytes to) (converted to (drop (n + 2) bs)))
 
 -- The bytes of a line end.

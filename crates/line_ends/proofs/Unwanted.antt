@@ -1,6 +1,6 @@
 -- The deletions of a conversion, one after another.
-use Rattle.std.proofs.Common.{◌≡◌, ℕ, zero, suc, ◌+◌, ◌-◌, ◌<◌, ◌≤◌, Bool, true, false, cond, ◌==◌, ◌||◌, ◌&&◌, inl, inr, List, [], ◌∷◌, ◌++◌, length, get_or, take, drop, slice_range, refl, ap, ◌∙◌, sym, arith, append_assoc, length-append}
-use Rattle.std.proofs.lemmas.Bool.{true≢false, or_parts, or_cases, or_from, and_parts, and_right, eqb-true, le-ltb}
+use Rattle.std.proofs.Common.{◌≡◌, ℕ, zero, suc, ◌+◌, ◌-◌, ◌<◌, ◌≤◌, Bool, true, false, ◌==◌, ◌||◌, ◌&&◌, inl, inr, List, [], ◌∷◌, ◌++◌, length, get_or, take, drop, slice_range, refl, ap, ◌∙◌, sym, arith}
+use Rattle.std.proofs.lemmas.Bool.{true≢false, or_cases, or_from, and_parts, and_right, eqb-true, le-ltb}
 use Rattle.std.proofs.lemmas.List.{drop_more, drop_all, drop_at, length-take-le}
 use Rattle.ed_model.specs.declared.plan.LineEnd.{LineEnd}
 use Rattle.ed_model.specs.declared.plan.LineEnd.TheVariants.{CrLf, Cr, Lf}
@@ -9,7 +9,7 @@ use Rattle.ed_model.specs.Steps.{Step, Delete, edited}
 use Rattle.ed_model.specs.LineEnds.{begins_with_line_feed, is_feed_unwanted, is_return_unwanted, is_unwanted, unwanted_at, place_after, unwanted_from}
 use Rattle.line_ends.specs.Conversion.{follows_return, spare_feed, spare_return, unwanted_in, unwanted_since, IsNextUnwanted}
 use Rattle.line_ends.proofs.Halves.{stands_at, Quiet}
-use Rattle.line_ends.proofs.Walk.{follows_next, begins_is, along_quiet, quiet_spare}
+use Rattle.line_ends.proofs.Walk.{follows_next, begins_is, quiet_spare}
 
 -- what is deleted of one byte, and the rest
 abbrev about : LineEnd → List ℕ → ℕ → Bool → List Step
@@ -40,7 +40,7 @@ unwanted_between start to text zero p s l quiet = let e : p + 0 ≡ p = omega ar
 unwanted_between start to text (suc n) p s l quiet =
     let e : p + suc n ≡ p + 1 + n = omega arith in
     rw e (unwanted_on start to text p s (omega arith) (quiet_spare start to text p (omega arith) (quiet p (omega arith) (omega arith)))
-        ∙ unwanted_between start to text n (p + 1) (omega arith) (omega arith) (λ k a b. quiet k (omega arith) (omega arith)))
+    ∙ unwanted_between start to text n (p + 1) (omega arith) (omega arith) (λ k a b. quiet k (omega arith) (omega arith)))
 
 pub unwanted_along : (start : ℕ) (to : LineEnd) (text : List ℕ) (from end : ℕ) → start ≤ from → from ≤ end → end ≤ length text → Quiet text from end
     → unwanted_since start to text from ≡ unwanted_since start to text end

@@ -1,15 +1,12 @@
 -- Going along a text from its quiet places to the next line end.
-use Rattle.std.proofs.Common.{◌≡◌, ℕ, zero, suc, ◌+◌, ◌-◌, ◌<◌, ◌≤◌, Bool, true, false, ◌==◌, ◌||◌, ◌&&◌, List, [], ◌∷◌, ◌++◌, length, get_or, take, drop, refl, ap, ◌∙◌, sym, arith, append_assoc, length-append}
-use Rattle.std.specs.Prelude.{not}
-use Rattle.std.proofs.lemmas.Bool.{lt-ltb, or_parts, and_left, or_from}
-use Rattle.std.proofs.lemmas.List.{drop_more, drop_all}
+use Rattle.std.proofs.Common.{◌≡◌, ℕ, zero, suc, ◌+◌, ◌-◌, ◌<◌, ◌≤◌, false, ◌==◌, ◌||◌, List, [], ◌∷◌, length, get_or, drop, refl, ap, ◌∙◌, arith}
+use Rattle.std.proofs.lemmas.Bool.{lt-ltb, or_parts}
 use Rattle.ed_model.specs.declared.plan.LineEnd.{LineEnd}
-use Rattle.ed_model.specs.declared.plan.LineEnd.TheVariants.{CrLf, Cr, Lf}
 use Rattle.ed_model.specs.Text.{stands}
 use Rattle.ed_model.specs.Steps.{Step}
 use Rattle.ed_model.specs.LineEnds.{begins_with_line_feed}
 use Rattle.line_ends.specs.Conversion.{is_end, follows_return, lone_feed, lone_return, spare_feed, spare_return}
-use Rattle.line_ends.proofs.Halves.{stands_at, stands_past, Quiet}
+use Rattle.line_ends.proofs.Halves.{stands_at, Quiet}
 
 pub follows_next : (start : ℕ) (text : List ℕ) (p : ℕ) → start ≤ p → p < length text → follows_return start text (p + 1) ≡ (get_or text p 0 == 13)
 follows_next start text p s h =

@@ -1,7 +1,7 @@
 -- How long a text becomes by the steps of a conversion.
-use Rattle.std.proofs.Common.{◌≡◌, ℕ, zero, suc, ◌+◌, ◌-◌, ◌<◌, ◌≤◌, Bool, true, false, cond, ◌==◌, ◌||◌, ◌&&◌, inl, inr, List, [], ◌∷◌, ◌++◌, length, refl, ap, ◌∙◌, sym, arith, length-append}
+use Rattle.std.proofs.Common.{◌≡◌, ℕ, zero, suc, ◌+◌, ◌-◌, ◌<◌, ◌≤◌, Bool, true, false, ◌==◌, ◌||◌, ◌&&◌, List, [], ◌∷◌, ◌++◌, length, refl, ap, ◌∙◌, sym, arith, length-append}
 use Rattle.std.specs.Prelude.{nat_le, nat_lt}
-use Rattle.std.proofs.lemmas.Bool.{true≢false, leb-true, leb-false, le-leb, lt-leb, lt-ltb, ne_eqb, eq-eqb, or_left}
+use Rattle.std.proofs.lemmas.Bool.{leb-true, leb-false, le-leb, lt-leb, lt-ltb, ne_eqb, eq-eqb, or_left}
 use Rattle.ed_model.specs.declared.plan.LineEnd.{LineEnd}
 use Rattle.ed_model.specs.Steps.{Step, Insert, Delete}
 use Rattle.ed_model.specs.LineEnds.{lacks_return, lacks_feed, missing_at, missing_from, is_unwanted, unwanted_at, place_after, unwanted_from, conversion_steps}
@@ -173,4 +173,4 @@ rest_kept limit to first second m d n e h f some size =
     let text = first ++ second in
     let same : n ≡ length text - 1 = omega (arith, length-append first second) in
     sym (rest_within limit (length text) to text refl (omega arith)
-        ∙ ap (λ x. x || nat_le (length text - 1) limit) (ne_eqb (takes_of to text) 0 (λ z. some (f ∙ z))) ∙ ap (λ k. nat_le k limit) (sym same))
+    ∙ ap (λ x. x || nat_le (length text - 1) limit) (ne_eqb (takes_of to text) 0 (λ z. some (f ∙ z))) ∙ ap (λ k. nat_le k limit) (sym same))

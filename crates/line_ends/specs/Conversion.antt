@@ -60,8 +60,8 @@ pub record IsNextUnwanted (to : LineEnd) (text : List ℕ) (start place : ℕ) :
   pub behind : start ≤ place
   pub within : place < length text
   pub steps :
-    unwanted_in to text start
-    ≡ Delete place (slice_range text place (place + 1)) ∷ unwanted_in to (edited (Delete place (slice_range text place (place + 1))) text) place
+      unwanted_in to text start
+      ≡ Delete place (slice_range text place (place + 1)) ∷ unwanted_in to (edited (Delete place (slice_range text place (place + 1))) text) place
 
 -- For pastes: the bytes of a line end in the place of one of so many bytes, where none stands for the end of the text.
 abbrev pub end_bytes : ℕ → LineEnd → List ℕ

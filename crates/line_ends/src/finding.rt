@@ -107,12 +107,7 @@ fn is_spare(first: &[u8], second: &[u8], start: usize, place: usize, to: LineEnd
 }
 
 /// The first place from `from` on of an LF or CR that another byte is missing about.
-pub(crate) fn next_lone(
-    first: &[u8],
-    second: &[u8],
-    from: usize,
-    to: LineEnd,
-) -> Option<usize>
+pub(crate) fn next_lone(first: &[u8], second: &[u8], from: usize, to: LineEnd) -> Option<usize>
     requires { from ≤ length first.now + length second.now }
     ensures { MatchOption result (missing_in to (first.now ++ second.now) from ≡ []) (λ place. IsNextLone to (first.now ++ second.now) from place) }
 {
@@ -128,12 +123,7 @@ pub(crate) fn next_lone(
 
 /// The first place from `from` on at which a byte is missing, and that byte, where each line end is to be of this kind: a CR
 /// in front of a lone LF, or an LF behind a lone CR. With it put in, the next one is looked for from behind it on.
-pub fn next_missing(
-    first: &[u8],
-    second: &[u8],
-    from: usize,
-    to: LineEnd,
-) -> Option<(usize, u8)>
+pub fn next_missing(first: &[u8], second: &[u8], from: usize, to: LineEnd) -> Option<(usize, u8)>
     requires { from ≤ length first.now + length second.now }
     ensures { MatchOption result (missing_in to (first.now ++ second.now) from ≡ []) (λ found. IsNextMissing to (first.now ++ second.now) from found.0 found.1) }
 {

@@ -1,4 +1,4 @@
-use Rattle.std.proofs.Common.{◌++◌, ◌+◌, ◌∙◌, sym, ap}
+use Rattle.std.proofs.Common.{◌++◌, ◌∙◌, sym}
 use Rattle.line_ends.proofs.Completed.{none_of_both, all_feeds, all_returns, count_both}
 use Rattle.line_ends.proofs.counting.count_unwanted.Goals as goal
 

@@ -1,5 +1,4 @@
-use Rattle.std.proofs.Common.{◌++◌, ◌∙◌, sym, subst, ◌<◌}
-use Rattle.std.proofs.lemmas.Bool.{lt-ltb, or_left}
+use Rattle.std.proofs.Common.{◌++◌}
 use Rattle.line_ends.proofs.Within.{some_there}
 use Rattle.line_ends.proofs.counting.has_conversion.Goals as goal
 

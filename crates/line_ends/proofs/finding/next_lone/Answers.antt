@@ -1,4 +1,4 @@
-use Rattle.std.proofs.Common.{◌+◌, ◌++◌, length, ◌∙◌, sym, arith, length-append}
+use Rattle.std.proofs.Common.{◌+◌, ◌++◌, ◌∙◌, sym, arith, length-append}
 use Rattle.line_ends.proofs.Missing.{missing_on, missing_along, missing_end}
 use Rattle.line_ends.proofs.finding.next_lone.Goals as goal
 
@@ -21,9 +21,9 @@ looking-preserved c =
       low = (let low = c.looking.invariant.low in omega (arith, n.within.0));
       high = n.within.1;
       none =
-        c.looking.invariant.none
-        ∙ missing_on a.to text c.looking.place (omega (arith, length-append a.first.now a.second.now)) (sym c.is_lone.ensures ∙ c.if-is_lone.false)
-        ∙ missing_along a.to text (c.looking.place + 1) c.next_end-place-in-looking.result n.within.0 (omega (arith, n.within.1, length-append a.first.now a.second.now)) n.quiet;
+          c.looking.invariant.none
+          ∙ missing_on a.to text c.looking.place (omega (arith, length-append a.first.now a.second.now)) (sym c.is_lone.ensures ∙ c.if-is_lone.false)
+          ∙ missing_along a.to text (c.looking.place + 1) c.next_end-place-in-looking.result n.within.0 (omega (arith, n.within.1, length-append a.first.now a.second.now)) n.quiet;
     }
 
 pub returns-then-is_lone : goal.returns-then-is_lone

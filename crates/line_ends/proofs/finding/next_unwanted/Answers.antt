@@ -1,4 +1,4 @@
-use Rattle.std.proofs.Common.{◌+◌, ◌++◌, length, ◌∙◌, sym, arith, length-append}
+use Rattle.std.proofs.Common.{◌+◌, ◌++◌, ◌∙◌, sym, arith, length-append}
 use Rattle.line_ends.proofs.Unwanted.{unwanted_on, unwanted_along, unwanted_first, unwanted_end, next_spare}
 use Rattle.line_ends.proofs.finding.next_unwanted.Goals as goal
 
@@ -11,8 +11,8 @@ looking-init c =
       low = n.within.0;
       high = n.within.1;
       none =
-        unwanted_first a.to text a.from
-        ∙ unwanted_along a.from a.to text a.from c.next_end-place.result (omega arith) n.within.0 (omega (arith, n.within.1, length-append a.first.now a.second.now)) n.quiet;
+          unwanted_first a.to text a.from
+          ∙ unwanted_along a.from a.to text a.from c.next_end-place.result (omega arith) n.within.0 (omega (arith, n.within.1, length-append a.first.now a.second.now)) n.quiet;
     }
 
 pub looking-preserved : goal.looking-preserved
@@ -25,9 +25,9 @@ looking-preserved c =
       low = omega (arith, n.within.0);
       high = n.within.1;
       none =
-        c.looking.invariant.none
-        ∙ unwanted_on a.from a.to text c.looking.place low (omega (arith, length-append a.first.now a.second.now)) (sym c.is_spare.ensures ∙ c.if-is_spare.false)
-        ∙ unwanted_along a.from a.to text (c.looking.place + 1) c.next_end-place-in-looking.result (omega arith) n.within.0 (omega (arith, n.within.1, length-append a.first.now a.second.now)) n.quiet;
+          c.looking.invariant.none
+          ∙ unwanted_on a.from a.to text c.looking.place low (omega (arith, length-append a.first.now a.second.now)) (sym c.is_spare.ensures ∙ c.if-is_spare.false)
+          ∙ unwanted_along a.from a.to text (c.looking.place + 1) c.next_end-place-in-looking.result (omega arith) n.within.0 (omega (arith, n.within.1, length-append a.first.now a.second.now)) n.quiet;
     }
 
 pub returns-then-is_spare : goal.returns-then-is_spare

@@ -1,6 +1,6 @@
-use Rattle.std.proofs.Common.{◌+◌, ◌++◌, length, vec_len, vec_capacity, arith}
+use Rattle.std.proofs.Common.{◌++◌, vec_len, vec_capacity, arith}
 use Rattle.ed_model.specs.LineEnds.{converted}
-use Rattle.line_ends.proofs.Pasted.{within_on, items_on, first_room, second_room, room_on}
+use Rattle.line_ends.proofs.Pasted.{within_on, items_on, room_on}
 use Rattle.line_ends.proofs.pasting.convert_into.Goals as goal
 
 pub pieces-preserved : goal.pieces-preserved

@@ -1,4 +1,4 @@
-use Rattle.std.proofs.Common.{◌+◌, ◌==◌, get_or, length, arith}
+use Rattle.std.proofs.Common.{◌+◌, ◌==◌, get_or, arith}
 use Rattle.std.proofs.lemmas.Bool.{ne_eqb}
 use Rattle.line_ends.proofs.Pasted.{all_quiet, with_one, with_two, alone_behind, alone_at_end, not_alone}
 use Rattle.line_ends.proofs.pasting.next_piece.Goals as goal
