@@ -6,3 +6,4 @@ pub mod KindLemmas
 pub mod NotesOfSteps
 pub mod StepScenes
 pub mod NeedLemmas
+pub mod Regrouped

@@ -8,11 +8,13 @@
 mod laws;
 mod moving;
 mod need;
+mod regrouping;
 mod step_notes;
 mod steps;
 mod telling;
 
 pub use laws::needs_are_enough;
 pub use need::{NoteRoom, leaving_need, note_need};
+pub use regrouping::regroup;
 pub use steps::{StepBits, make_step, step_heard};
 pub use telling::{Audience, NoteText, attempt, count_hearers, count_watchers, tell};
