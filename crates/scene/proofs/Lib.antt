@@ -11,3 +11,4 @@ pub mod ChangeSteps
 pub mod PerformedSoFar
 pub mod NeededSoFar
 pub mod LatestStep
+pub mod Regrouped
