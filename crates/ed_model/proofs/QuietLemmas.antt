@@ -19,6 +19,7 @@ use Rattle.ed_model.specs.TargetPlans.{found_target}
 use Rattle.ed_model.specs.SessionPlans.{with_reference, release_of, document_named}
 use Rattle.ed_model.specs.Changes.{change_told, changed_document}
 use Rattle.ed_model.specs.Table.{plan_of, performed}
+use Rattle.ed_model.specs.FreePlans.{IsFreeDocumentChange, IsFreePlan, IsFreePlanned, MarkedPlansAreFree}
 
 -- Queries.
 
@@ -161,34 +162,10 @@ query_is_quiet _ r h = cc
 
 -- Messages that take no memory.
 
--- a change of which nothing is told
-abbrev pub IsSilentChange : DocumentChange → Type 0
-IsSilentChange (document_change.SetReadOnly on) = Unit {0}
-IsSilentChange (document_change.SetLineEnd to) = Unit {0}
-IsSilentChange (document_change.SetLineEndTypes to) = Unit {0}
-IsSilentChange document_change.SetSavePoint = ⊥
-IsSilentChange document_change.BeginGroup = Unit {0}
-IsSilentChange document_change.EndGroup = Unit {0}
-IsSilentChange document_change.ForgetHistory = Unit {0}
-IsSilentChange (document_change.CollectUndo on) = Unit {0}
-IsSilentChange (document_change.AppendContainer token coalesce) = ⊥
-IsSilentChange (document_change.AddMarker line number) = ⊥
-IsSilentChange (document_change.AddMarkers line mask) = ⊥
-IsSilentChange (document_change.DeleteMarker line number) = ⊥
-IsSilentChange (document_change.DeleteMarkers number) = ⊥
-IsSilentChange (document_change.DeleteHandle handle) = ⊥
-IsSilentChange (document_change.SetLevel line level) = ⊥
-IsSilentChange (document_change.SetState line state) = ⊥
-IsSilentChange (document_change.SetEndStyled place) = Unit {0}
-IsSilentChange (document_change.StyleRun count style) = ⊥
-IsSilentChange (document_change.StyleBytes count) = ⊥
-IsSilentChange (document_change.NeedStyle start past) = ⊥
-IsSilentChange (document_change.FillIndicator indicator start count value) = ⊥
-
-pub silent_change_tells_nothing : (sender : View) (views : List View) (old new : Document) (c : DocumentChange) → IsSilentChange c → change_told sender views old new c ≡ []
+pub silent_change_tells_nothing : (sender : View) (views : List View) (old new : Document) (c : DocumentChange) → IsFreeDocumentChange c → change_told sender views old new c ≡ []
 silent_change_tells_nothing sender views old new (document_change.SetReadOnly on) h = refl
 silent_change_tells_nothing sender views old new (document_change.SetLineEnd to) h = refl
-silent_change_tells_nothing sender views old new (document_change.SetLineEndTypes to) h = refl
+silent_change_tells_nothing sender views old new (document_change.SetLineEndTypes to) h = absurd h
 silent_change_tells_nothing sender views old new document_change.SetSavePoint h = absurd h
 silent_change_tells_nothing sender views old new document_change.BeginGroup h = refl
 silent_change_tells_nothing sender views old new document_change.EndGroup h = refl
@@ -207,24 +184,6 @@ silent_change_tells_nothing sender views old new (document_change.StyleRun count
 silent_change_tells_nothing sender views old new (document_change.StyleBytes count) h = absurd h
 silent_change_tells_nothing sender views old new (document_change.NeedStyle start past) h = absurd h
 silent_change_tells_nothing sender views old new (document_change.FillIndicator indicator start count value) h = absurd h
-
--- a plan that only answers, or changes something of which nothing is told
-abbrev pub IsFreePlan : Plan → Type 0
-IsFreePlan (plan.Answer value) = Unit {0}
-IsFreePlan (plan.HandOut value start count) = ⊥
-IsFreePlan (plan.HandOutStyled start count) = ⊥
-IsFreePlan (plan.Edit edit value follow) = ⊥
-IsFreePlan plan.Attempt = ⊥
-IsFreePlan plan.Undo = ⊥
-IsFreePlan plan.Redo = ⊥
-IsFreePlan (plan.ChangeDocument change value) = IsSilentChange change
-IsFreePlan (plan.ChangeView change value) = Unit {0}
-IsFreePlan (plan.ChangeSession change value) = Unit {0}
-
--- or a refusal
-abbrev pub IsFree : Planned → Type 0
-IsFree (Err refusal) = Unit {0}
-IsFree (Ok p) = IsFreePlan p
 
 -- such a plan hands out no text
 pub free_plan_has_no_text : (r : Request) (p : Plan) → IsFreePlan p → (performed r p).1.text ≡ []
@@ -252,34 +211,34 @@ free_plan_has_no_note r (plan.ChangeDocument change value) h = silent_change_tel
 free_plan_has_no_note r (plan.ChangeView change value) h = refl
 free_plan_has_no_note r (plan.ChangeSession change value) h = refl
 
-refusal_is_free : (e : Refusal) → IsFree (Err e)
+refusal_is_free : (e : Refusal) → IsFreePlanned (Err e)
 refusal_is_free e = tt
 
-free_with_argument : {A : Type 0} (a : Option A) (act : A → Planned) → ((x : A) → IsFree (act x)) → IsFree (with_argument a act)
-free_with_argument a act h = with_argument_keeps IsFree refusal_is_free a act h
+free_with_argument : {A : Type 0} (a : Option A) (act : A → Planned) → ((x : A) → IsFreePlanned (act x)) → IsFreePlanned (with_argument a act)
+free_with_argument a act h = with_argument_keeps IsFreePlanned refusal_is_free a act h
 
-free_with_line : (line : Option ℕ) (bad : Planned) (act : ℕ → Planned) → IsFree bad → ((n : ℕ) → IsFree (act n)) → IsFree (with_line line bad act)
-free_with_line line bad act b h = with_line_keeps IsFree refusal_is_free line bad act b h
+free_with_line : (line : Option ℕ) (bad : Planned) (act : ℕ → Planned) → IsFreePlanned bad → ((n : ℕ) → IsFreePlanned (act n)) → IsFreePlanned (with_line line bad act)
+free_with_line line bad act b h = with_line_keeps IsFreePlanned refusal_is_free line bad act b h
 
-free_either : (b : Bool) (x y : Planned) → IsFree x → IsFree y → IsFree (cond b x y)
-free_either b x y hx hy = either_keeps IsFree refusal_is_free b x y hx hy
+free_either : (b : Bool) (x y : Planned) → IsFreePlanned x → IsFreePlanned y → IsFreePlanned (cond b x y)
+free_either b x y hx hy = either_keeps IsFreePlanned refusal_is_free b x y hx hy
 
-found_target_is_free : (size : ℕ) (found : Option ℕ) → IsFree (found_target size found)
+found_target_is_free : (size : ℕ) (found : Option ℕ) → IsFreePlanned (found_target size found)
 found_target_is_free size None = tt
 found_target_is_free size (Some place) = tt
 
-with_reference_is_free : (r : Request) (d : Option Document) (change : ℕ → SessionChange) → IsFree (with_reference r d change)
-with_reference_is_free r None change = tt
-with_reference_is_free r (Some d) change = either_keeps IsFree refusal_is_free (nat_lt (references d) r.session.limits.refs) (change_session (change d.id)) (Err TooMany) tt tt
+with_reference_is_free : (r : Request) (d : Option Document) → IsFreePlanned (with_reference r d session_change.AddReference)
+with_reference_is_free r None = tt
+with_reference_is_free r (Some d) = either_keeps IsFreePlanned refusal_is_free (nat_lt (references d) r.session.limits.refs) (change_session (session_change.AddReference d.id)) (Err TooMany) tt tt
 
-release_is_free : (d : Option Document) → IsFree (release_of d)
+release_is_free : (d : Option Document) → IsFreePlanned (release_of d)
 release_is_free None = tt
-release_is_free (Some d) = either_keeps IsFree refusal_is_free (nat_lt 0 d.held_by_callers) (change_session (session_change.Release d.id)) (Err NoSuchDocument) tt tt
+release_is_free (Some d) = either_keeps IsFreePlanned refusal_is_free (nat_lt 0 d.held_by_callers) (change_session (session_change.Release d.id)) (Err NoSuchDocument) tt tt
 
 ruleset free_arguments = (free_with_argument, free_with_line, free_either, found_target_is_free)
 
 -- the plan of every message that takes no memory is free
-pub message_without_memory_is_free : (kind : Kind) (r : Request) → (marks_of kind).n ≡ true → IsFree (plan_of kind r)
+pub message_without_memory_is_free : MarkedPlansAreFree
 message_without_memory_is_free kinds.GetLength r h = tt
 message_without_memory_is_free kinds.GetCharAt r h = tt
 message_without_memory_is_free kinds.GetCurrentPos r h = tt
@@ -351,7 +310,7 @@ message_without_memory_is_free kinds.DocumentEndExtend r h = tt
 message_without_memory_is_free kinds.LineLength r h = search free_arguments
 message_without_memory_is_free kinds.GetDocPointer r h = tt
 message_without_memory_is_free kinds.SetModEventMask r h = search free_arguments
-message_without_memory_is_free kinds.AddRefDocument r h = with_reference_is_free r (document_named r.session r.message.l) session_change.AddReference
+message_without_memory_is_free kinds.AddRefDocument r h = with_reference_is_free r (document_named r.session r.message.l)
 message_without_memory_is_free kinds.ReleaseDocument r h = release_is_free (document_named r.session r.message.l)
 message_without_memory_is_free kinds.GetModEventMask r h = tt
 message_without_memory_is_free kinds.GetDocumentOptions r h = tt

@@ -47,7 +47,7 @@ clamped_bound n x = omega arith
 -- Combinators.
 
 pub with_argument_fits : {A : Type 0} (r : Request) (o : Option A) (plan : A → Planned) → ((a : A) → o ≡ Some a → IsFitPlanned r (plan a)) → IsFitPlanned r (with_argument o plan)
-with_argument_fits r None plan h = tt
+with_argument_fits r None plan h = λ e. absurd (cc)
 with_argument_fits r (Some a) plan h = h a refl
 
 pub argument_fits : (r : Request) (low high : ℕ) (x : ℤ) (plan : ℕ → Planned) → ((n : ℕ) → low ≤ n → n ≤ high → IsFitPlanned r (plan n)) → IsFitPlanned r (argument low high x plan)

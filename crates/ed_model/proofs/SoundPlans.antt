@@ -1,9 +1,9 @@
 -- The plan of each message to a sound session is fit.
-use Rattle.std.proofs.Common.{◌≡◌, ℕ, ◌+◌, ◌-◌, ◌^◌, ◌<◌, ◌≤◌, min, max, Bool, true, false, cond, List, length, reverse, refl, ap, sym, ◌∙◌, subst, arith}
-use Rattle.std.specs.Prelude.{ℤ, pos, negsuc, ◌==◌, ◌&&◌, ◌||◌, not, nat_lt, nat_le, Option, Some, None, Ok, Err, if◌then◌else◌, take, is_some}
-use Rattle.std.specs.List.{range_with_len}
+use Rattle.std.proofs.Common.{◌≡◌, ℕ, ◌+◌, ◌-◌, ◌^◌, ◌<◌, ◌≤◌, min, max, Bool, true, false, cond, List, [], ◌∷◌, length, map, zero, suc, reverse, refl, ap, sym, ◌∙◌, subst, arith}
+use Rattle.std.specs.Prelude.{ℤ, pos, negsuc, int_le, filter, slice_index_or, ◌==◌, ◌&&◌, ◌||◌, not, nat_lt, nat_le, Option, Some, None, Ok, Err, if◌then◌else◌, take, is_some}
+use Rattle.std.specs.List.{range_with_len, list_any}
 use Rattle.std.proofs.lemmas.List.{length-take}
-use Rattle.std.proofs.lemmas.Bool.{leb-true, ltb-true, not-false}
+use Rattle.std.proofs.lemmas.Bool.{leb-true, ltb-true, ltb-false, and_parts, not-false}
 use Rattle.ed_types.specs.declared.kind.Kind.TheVariants as kinds
 use Rattle.ed_types.specs.declared.refusal.Refusal.TheVariants.{TooLong}
 use Rattle.ed_model.specs.declared.plan.Source.{Source}
@@ -16,8 +16,8 @@ use Rattle.ed_model.specs.declared.plan.SessionChange.{SessionChange}
 use Rattle.ed_model.specs.declared.plan.SessionChange.TheVariants as session_change
 use Rattle.ed_model.specs.declared.plan.Plan.{Plan}
 use Rattle.ed_model.specs.declared.plan.Plan.TheVariants as plan
-use Rattle.ed_model.specs.Numbers.{is_on, is_minus_one, within, clamped, some_or_all, is_negative}
-use Rattle.ed_model.specs.Rows.{base_level}
+use Rattle.ed_model.specs.Numbers.{at_least_zero, is_on, is_minus_one, within, clamped, some_or_all, is_negative}
+use Rattle.ed_model.specs.Rows.{Marker, Row, fresh_row, base_level}
 use Rattle.ed_model.specs.LineEnds.{after_steps}
 use Rattle.ed_model.specs.Steps.{replacement}
 use Rattle.ed_model.specs.History.{Change, can_undo, can_redo, undo_changes, redo_changes}
@@ -41,11 +41,12 @@ use Rattle.ed_model.specs.StylePlans.{unstyled, fill_indicator}
 use Rattle.ed_model.specs.TargetPlans.{found_target, replacement_length, search_flags}
 use Rattle.ed_model.specs.FoldingPlans.{past_line, fold_by, fold_at, levels}
 use Rattle.ed_model.specs.SessionPlans.{document_named, has_document_ids, with_reference, release_of, is_zero, document_options}
-use Rattle.ed_model.specs.SoundLaws.{IsSoundDocument, IsSoundView, StandsOn}
-use Rattle.ed_model.specs.PlansFit.{IsSoundRequest, IsFitSource, IsFitEdit, IsFitFollow, IsFitPlan, IsFitPlanned, IsRoomFor, IsFitSessionChange, PlansFit}
+use Rattle.ed_model.specs.SoundLaws.{occurrences, handles_in, IsSoundDocument, IsSoundView, StandsOn}
+use Rattle.ed_model.specs.PlansFit.{IsSoundRequest, IsMarkerNumber, IsLineState, IsFitSource, IsFitEdit, IsFitFollow, IsFitPlan, IsFitPlanned, IsRoomFor, IsFitSessionChange, PlansFit}
+use Rattle.ed_model.proofs.SoundCarry.{occurrences_append}
 use Rattle.ed_model.proofs.SoundSteps.{length_replacement}
 use Rattle.ed_model.proofs.SoundDocuments.{length_text}
-use Rattle.ed_model.proofs.SoundFinding.{found_all, document_sound, document_id}
+use Rattle.ed_model.proofs.SoundFinding.{found_all, found_test, document_sound, document_id}
 use Rattle.ed_model.proofs.SoundArguments.{with_argument_fits, argument_fits, text_length_fits, text_range_fits, counted_range_fits, line_fits, if_fits, within_bounds, clamped_bound, start_bound, past_bound, end_bound, cut_after_bound, cut_before_bound, match_bound, all_range, all_reverse}
 
 -- The request's own document and view.
@@ -70,7 +71,7 @@ edit_fits r change value after e f =
     (if stays_within (limit_of r.session.limits r.document) (size r) (steps_of r change) then Ok (plan.Edit change value after) else Err TooLong)
     (λ _. tt)
     (λ _. if_fits r (stays_within (limit_of r.session.limits r.document) (size r) (steps_of r change)) (Ok (plan.Edit change value after)) (Err TooLong)
-    (λ t. (e, f, t)) (λ _. tt))
+    (λ t. (e, f, t)) (λ _ e. absurd (cc)))
 
 replace_fits : (r : Request) (start count : ℕ) (from : Source) → start + count ≤ size r → IsFitSource r from → IsFitPlanned r (replace_plan r start count from)
 replace_fits r start count from h s = edit_fits r (edit.Replace start count from) (pos 0) follow.Nothing (h, s) tt
@@ -198,7 +199,7 @@ history_fits r can changes act h =
     (λ c. if_fits r r.document.read_only (Ok plan.Attempt) (if stays_within (limit_of r.session.limits r.document) (size r) (text_steps changes) then Ok act else Err TooLong)
     (λ _. tt)
     (λ _. if_fits r (stays_within (limit_of r.session.limits r.document) (size r) (text_steps changes)) (Ok act) (Err TooLong)
-    (λ t. h (not-false can c) t) (λ _. tt)))
+    (λ t. h (not-false can c) t) (λ _ e. absurd (cc))))
 
 -- Lines.
 
@@ -231,30 +232,96 @@ fold_at_fits r action =
 reference_fits : (r : Request) (x : ℤ) (change : ℕ → SessionChange)
     → ((d : Document) → document_at r.session.documents d.id ≡ Some d → references d < r.session.limits.refs → IsFitSessionChange r (change d.id))
     → IsFitPlanned r (with_reference r (document_named r.session x) change)
-reference_fits r (negsuc n) change h = tt
+reference_fits r (negsuc n) change h = λ e. absurd (cc)
 reference_fits r (pos id) change h = go (document_at r.session.documents id) refl
   where
     go : (o : Option Document) → document_at r.session.documents id ≡ o → IsFitPlanned r (with_reference r o change)
-    go None e = tt
+    go None e = λ e. absurd (cc)
     go (Some d) e =
         if_fits r (nat_lt (references d) r.session.limits.refs) _ _
-        (λ t. h d (ap (document_at r.session.documents) (document_id r.session.documents id d e) ∙ e) (ltb-true (references d) r.session.limits.refs t)) (λ _. tt)
+        (λ t. h d (ap (document_at r.session.documents) (document_id r.session.documents id d e) ∙ e) (ltb-true (references d) r.session.limits.refs t)) (λ _ e. absurd (cc))
 
 release_fits : (r : Request) (x : ℤ) → IsFitPlanned r (release_of (document_named r.session x))
-release_fits r (negsuc n) = tt
+release_fits r (negsuc n) = λ e. absurd (cc)
 release_fits r (pos id) = go (document_at r.session.documents id) refl
   where
     go : (o : Option Document) → document_at r.session.documents id ≡ o → IsFitPlanned r (release_of o)
-    go None e = tt
+    go None e = λ e. absurd (cc)
     go (Some d) e =
         if_fits r (nat_lt 0 d.held_by_callers) _ _
-        (λ t. (d, ap (document_at r.session.documents) (document_id r.session.documents id d e) ∙ e, ltb-true 0 d.held_by_callers t)) (λ _. tt)
+        (λ t. (d, ap (document_at r.session.documents) (document_id r.session.documents id d e) ∙ e, ltb-true 0 d.held_by_callers t)) (λ _ e. absurd (cc))
 
 set_doc_pointer_fits : (r : Request) → IsFitPlanned r (SessionPlans.set_doc_pointer r)
 set_doc_pointer_fits r =
     if_fits r (is_zero r.message.l) _ (with_reference r (document_named r.session r.message.l) session_change.Attach)
-    (λ _. if_fits r (has_document_ids r.session) _ _ (λ t. leb-true r.session.next_document r.session.limits.ids t) (λ _. tt))
+    (λ _. if_fits r (has_document_ids r.session) _ _ (λ t. leb-true r.session.next_document r.session.limits.ids t) (λ _ e. absurd (cc)))
     (λ _. reference_fits r r.message.l session_change.Attach (λ d e l. (d, e, l)))
+
+-- Markers and line states.
+
+marker_number_fits : (x : ℤ) (number : Option ℕ) → some_or_all 31 x ≡ Some number → IsMarkerNumber number
+marker_number_fits (pos n) number e = go (nat_le n 31) refl e
+  where
+    go : (b : Bool) → nat_le n 31 ≡ b → cond b (Some (Some n)) None ≡ Some number → IsMarkerNumber number
+    go true t e = let same : Some n ≡ number = cc in subst IsMarkerNumber same (leb-true n 31 t)
+    go false t e = absurd (cc)
+marker_number_fits (negsuc n) number e = go (n == 0) e
+  where
+    go : (b : Bool) → cond b (Some None) None ≡ Some number → IsMarkerNumber number
+    go true e = let same : None ≡ number = cc in subst IsMarkerNumber same tt
+    go false e = absurd (cc)
+
+line_state_fits : (x state : ℤ) → int_within (negsuc (2 ^ 31 - 1)) (pos (2 ^ 31 - 1)) x ≡ Some state → IsLineState state
+line_state_fits x state e = go (int_le (negsuc (2 ^ 31 - 1)) x && int_le x (pos (2 ^ 31 - 1))) refl e
+  where
+    go : (b : Bool) → (int_le (negsuc (2 ^ 31 - 1)) x && int_le x (pos (2 ^ 31 - 1))) ≡ b → cond b (Some x) None ≡ Some state → IsLineState state
+    go true t e = let same : x ≡ state = cc in subst IsLineState same (and_parts (int_le (negsuc (2 ^ 31 - 1)) x) (int_le x (pos (2 ^ 31 - 1))) t)
+    go false t e = absurd (cc)
+
+abbrev handles_of : List Marker → List ℕ
+handles_of markers = map (λ (m : Marker). m.handle) markers
+
+occurs_on_line : (handle : ℕ) (markers : List Marker) → list_any (LinePlans.has_handle (pos handle)) markers ≡ true → 0 < occurrences handle (handles_of markers)
+occurs_on_line handle [] t = absurd (cc)
+occurs_on_line handle (m ∷ ms) t = go (m.handle == handle) t (occurs_on_line handle ms)
+  where
+    go : (b : Bool) → (b || list_any (LinePlans.has_handle (pos handle)) ms) ≡ true → (list_any (LinePlans.has_handle (pos handle)) ms ≡ true → 0 < occurrences handle (handles_of ms))
+        → 0 < length (cond b (m.handle ∷ filter (λ n. n == handle) (handles_of ms)) (filter (λ n. n == handle) (handles_of ms)))
+    go true t rest = omega arith
+    go false t rest = rest t
+
+occurs_in_rows : (handle : ℕ) (rows : List Row) (line : ℕ) → 0 < occurrences handle (handles_of (slice_index_or rows line fresh_row).markers) → 0 < occurrences handle (handles_in rows)
+occurs_in_rows handle [] line h = h
+occurs_in_rows handle (row ∷ rows) zero h =
+    let both = occurrences_append handle (handles_of row.markers) (handles_in rows) in omega arith
+occurs_in_rows handle (row ∷ rows) (suc line) h =
+    let rest = occurs_in_rows handle rows line h in
+    let both = occurrences_append handle (handles_of row.markers) (handles_in rows) in omega arith
+
+no_negative_handle : (n : ℕ) (markers : List Marker) → list_any (LinePlans.has_handle (negsuc n)) markers ≡ true → ⊥
+no_negative_handle n [] t = cc
+no_negative_handle n (m ∷ ms) t = no_negative_handle n ms t
+
+-- a handle that a marker has is below the next one
+handle_fits : (r : Request) → IsSoundRequest r → is_some (LinePlans.line_of_handle r) ≡ true → at_least_zero r.message.w < r.document.next_handle
+handle_fits r h t = go (LinePlans.line_of_handle r) refl t
+  where
+    on_line : (x : ℤ) (line : ℕ) → list_any (LinePlans.has_handle x) (LinePlans.row_at r line).markers ≡ true → at_least_zero x < r.document.next_handle
+    on_line (pos handle) line found =
+        let there = occurs_in_rows handle r.document.rows line (occurs_on_line handle (LinePlans.row_at r line).markers found) in
+        below (nat_lt handle r.document.next_handle) refl there
+      where
+        below : (b : Bool) → nat_lt handle r.document.next_handle ≡ b → 0 < occurrences handle (handles_in r.document.rows) → handle < r.document.next_handle
+        below true b there = ltb-true handle r.document.next_handle b
+        below false b there =
+            let past : r.document.next_handle ≤ handle = ltb-false handle r.document.next_handle b in
+            let none : occurrences handle (handles_in r.document.rows) ≡ 0 = (request_document r h).handles_below handle past in
+            absurd (omega arith)
+    on_line (negsuc n) line found = absurd (no_negative_handle n (LinePlans.row_at r line).markers found)
+
+    go : (o : Option ℕ) → LinePlans.line_of_handle r ≡ o → is_some o ≡ true → at_least_zero r.message.w < r.document.next_handle
+    go None e t = absurd (cc)
+    go (Some line) e t = on_line r.message.w line (found_test (λ line. list_any (LinePlans.has_handle r.message.w) (LinePlans.row_at r line).markers) (range_with_len 0 (line_total r)) line e)
 
 -- Each message.
 
@@ -272,7 +339,7 @@ plan_fits kinds.Undo r h = history_fits r (can_undo r.document.history) (undo_ch
 plan_fits kinds.SetUndoCollection r h = if_fits r (is_on r.message.w && r.document.history.collecting) _ _ (λ _. tt) (λ _. tt)
 plan_fits kinds.SelectAll r h = (omega arith, omega arith)
 plan_fits kinds.GetStyledText r h = text_range_fits r _ (λ start past a b. omega arith)
-plan_fits kinds.MarkerDeleteHandle r h = if_fits r (is_some (LinePlans.line_of_handle r)) _ _ (λ _. tt) (λ _. tt)
+plan_fits kinds.MarkerDeleteHandle r h = if_fits r (is_some (LinePlans.line_of_handle r)) _ _ (λ t. handle_fits r h t) (λ _. tt)
 plan_fits kinds.GotoLine r h = let a = line_start_bound r (clamped (line_total r - 1) r.message.w) in (a, a)
 plan_fits kinds.GotoPos r h = let a = clamped_bound (size r) r.message.w in (a, a)
 plan_fits kinds.SetEmptySelection r h = let a = clamped_bound (size r) r.message.w in (a, a)
@@ -331,19 +398,19 @@ plan_fits kinds.DocumentStartExtend r h = ((request_stands r h).anchor, omega ar
 plan_fits kinds.DocumentEnd r h = (omega arith, omega arith)
 plan_fits kinds.DocumentEndExtend r h = ((request_stands r h).anchor, omega arith)
 plan_fits kinds.BeginUndoAction r h =
-    if_fits r (nat_lt r.document.history.depth r.session.limits.depth) _ _ (λ t. ltb-true r.document.history.depth r.session.limits.depth t) (λ _. tt)
+    if_fits r (nat_lt r.document.history.depth r.session.limits.depth) _ _ (λ t. ltb-true r.document.history.depth r.session.limits.depth t) (λ _ e. absurd (cc))
 plan_fits kinds.AddUndoAction r h = argument_fits r 0 1 r.message.l _ (λ flags a b. tt)
 plan_fits kinds.MarkerAdd r h =
     argument_fits r 0 31 r.message.l _ (λ number a b. line_fits r (answer (negsuc 0)) _ tt (λ line l.
-    if_fits r (has_handles r 1) _ _ (λ t. (l, b, leb-true (r.document.next_handle + 1) (r.session.limits.handles + 1) t)) (λ _. tt)))
+    if_fits r (has_handles r 1) _ _ (λ t. (l, b, leb-true (r.document.next_handle + 1) (r.session.limits.handles + 1) t)) (λ _ e. absurd (cc))))
 plan_fits kinds.MarkerAddSet r h =
     argument_fits r 0 (2 ^ 32 - 1) r.message.l _ (λ mask a b. line_fits r (answer (pos 0)) _ tt (λ line l.
-    if_fits r (has_handles r (length (numbers_in mask))) _ _ (λ t. (l, omega arith, leb-true (r.document.next_handle + length (numbers_in mask)) (r.session.limits.handles + 1) t)) (λ _. tt)))
-plan_fits kinds.MarkerDelete r h = with_argument_fits r (some_or_all 31 r.message.l) _ (λ number e. line_fits r (answer (pos 0)) _ tt (λ line l. l))
-plan_fits kinds.MarkerDeleteAll r h = with_argument_fits r (some_or_all 31 r.message.w) _ (λ number e. tt)
+    if_fits r (has_handles r (length (numbers_in mask))) _ _ (λ t. (l, omega arith, leb-true (r.document.next_handle + length (numbers_in mask)) (r.session.limits.handles + 1) t)) (λ _ e. absurd (cc))))
+plan_fits kinds.MarkerDelete r h = with_argument_fits r (some_or_all 31 r.message.l) _ (λ number e. line_fits r (answer (pos 0)) _ tt (λ line l. (l, marker_number_fits r.message.l number e)))
+plan_fits kinds.MarkerDeleteAll r h = with_argument_fits r (some_or_all 31 r.message.w) _ (λ number e. marker_number_fits r.message.w number e)
 plan_fits kinds.MarkerGet r h = line_fits r (answer (pos 0)) (λ line. answer_number (LinePlans.line_mask r line)) tt (λ line l. tt)
 plan_fits kinds.SetLineState r h =
-    with_argument_fits r (int_within (negsuc (2 ^ 31 - 1)) (pos (2 ^ 31 - 1)) r.message.l) _ (λ state e. line_fits r (answer (pos 0)) _ tt (λ line l. l))
+    with_argument_fits r (int_within (negsuc (2 ^ 31 - 1)) (pos (2 ^ 31 - 1)) r.message.l) _ (λ state e. line_fits r (answer (pos 0)) _ tt (λ line l. (l, line_state_fits r.message.l state e)))
 plan_fits kinds.GetLineState r h = line_fits r (answer (pos 0)) (λ line. answer (LinePlans.row_at r line).state) tt (λ line l. tt)
 plan_fits kinds.StartStyling r h = argument_fits r 0 (size r) r.message.w _ (λ place a b. b)
 plan_fits kinds.SetStyling r h =
@@ -351,10 +418,10 @@ plan_fits kinds.SetStyling r h =
     argument_fits r 0 255 r.message.l _ (λ style a b. argument_fits r 0 (unstyled r) r.message.w _ (λ count c d. (omega arith, b)))
 plan_fits kinds.SetStylingEx r h =
     let s : r.document.end_styled ≤ size r = (request_document r h).styled in
-    text_length_fits r _ (λ count le. if_fits r (nat_le count (unstyled r)) _ _ (λ t. let d = leb-true count (unstyled r) t in (omega arith, le)) (λ _. tt))
+    text_length_fits r _ (λ count le. if_fits r (nat_le count (unstyled r)) _ _ (λ t. let d = leb-true count (unstyled r) t in (omega arith, le)) (λ _ e. absurd (cc)))
 plan_fits kinds.Colourise r h = text_range_fits r _ (λ start past a b. (a, b))
 plan_fits kinds.SetIndicatorCurrent r h = argument_fits r 0 31 r.message.w _ (λ indicator a b. omega arith)
-plan_fits kinds.SetIndicatorValue r h = argument_fits r 0 (2 ^ 31 - 1) r.message.w _ (λ value a b. tt)
+plan_fits kinds.SetIndicatorValue r h = argument_fits r 0 (2 ^ 31 - 1) r.message.w _ (λ value a b. (omega arith, omega arith))
 plan_fits kinds.IndicatorFillRange r h = counted_range_fits r _ (λ start count le. ((request_stands r h).indicator, le))
 plan_fits kinds.IndicatorClearRange r h = counted_range_fits r _ (λ start count le. ((request_stands r h).indicator, le))
 plan_fits kinds.IndicatorValueAt r h = argument_fits r 0 31 r.message.w _ (λ indicator a b. tt)
@@ -384,9 +451,9 @@ plan_fits kinds.EnsureVisible r h = line_fits r (answer (pos 0)) _ tt (λ line l
 plan_fits kinds.SetDocPointer r h = set_doc_pointer_fits r
 plan_fits kinds.CreateDocument r h =
     argument_fits r 0 (2 ^ 63 - 1) r.message.w _ (λ unused a b. with_argument_fits r (document_options r.message.l) _ (λ options e.
-    if_fits r (has_document_ids r.session) _ _ (λ t. leb-true r.session.next_document r.session.limits.ids t) (λ _. tt)))
+    if_fits r (has_document_ids r.session) _ _ (λ t. leb-true r.session.next_document r.session.limits.ids t) (λ _ e. absurd (cc))))
 plan_fits kinds.AddRefDocument r h = reference_fits r r.message.l session_change.AddReference (λ d e l. (d, e, l))
 plan_fits kinds.ReleaseDocument r h = release_fits r r.message.l
 plan_fits kinds.SetLineEndTypesAllowed r h = argument_fits r 0 1 r.message.w _ (λ types a b. if_fits r (types == SessionPlans.types_number r.document.line_end_types) _ _ (λ _. tt) (λ _. tt))
-plan_fits kinds.SetModEventMask r h = argument_fits r 0 0x7FFFFF r.message.w _ (λ mask a b. tt)
+plan_fits kinds.SetModEventMask r h = argument_fits r 0 0x7FFFFF r.message.w _ (λ mask a b. b)
 plan_fits _ r h = tt

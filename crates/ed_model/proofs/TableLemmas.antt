@@ -13,7 +13,8 @@ use Rattle.ed_model.specs.Requests.{Request, Planned}
 use Rattle.ed_model.specs.Table.{table, table_from_view, table_from_kind, table_if_known, table_from_document, answered, record_note, performed, plan_of, request, opened, closed}
 use Rattle.ed_model.specs.Run.{Running, after_command, after_opening, after_closing, after_message, run_to, loaded, file_at}
 use Rattle.ed_model.specs.TableLaws.{Answered, LeavesSession, HasNoText, HasNotes, recording, QueriesLeaveTheSession, FreeMessagesHandOutNoText, FreeMessagesHaveNoNote, RecordedFreeMessagesHaveOneNote, RefusedCommandsLeaveTheSession, is_refused, kept_unless, unrefused, RefusedCommandsCanBeLeftOut}
-use Rattle.ed_model.proofs.QuietLemmas.{IsQuiet, IsFree, query_is_quiet, quiet_plan_leaves, message_without_memory_is_free, free_plan_has_no_text, free_plan_has_no_note}
+use Rattle.ed_model.specs.FreePlans.{IsFreePlanned}
+use Rattle.ed_model.proofs.QuietLemmas.{IsQuiet, query_is_quiet, quiet_plan_leaves, message_without_memory_is_free, free_plan_has_no_text, free_plan_has_no_note}
 
 same_view : (v w : View) (found : Option View) → found ≡ Some v → found ≡ Some w → w ≡ v
 same_view v w found e f = cc
@@ -68,7 +69,7 @@ text_if_recorded : (b : Bool) (note : Notice) (reply : Response) → (cond b (re
 text_if_recorded true note reply = refl
 text_if_recorded false note reply = refl
 
-free_answer_has_no_text : (kind : Kind) (r : Request) (p : Planned) → IsFree p → HasNoText (answered kind r p)
+free_answer_has_no_text : (kind : Kind) (r : Request) (p : Planned) → IsFreePlanned p → HasNoText (answered kind r p)
 free_answer_has_no_text kind r (Err e) h = tt
 free_answer_has_no_text kind r (Ok p) h =
     text_if_recorded (r.view.records && (marks_of kind).r) (record_note r) (performed r p).1 ∙ free_plan_has_no_text r p h
@@ -86,7 +87,7 @@ notes_if_recorded : (b : Bool) (note : Notice) (reply : Response) → b ≡ true
 notes_if_recorded true note reply e = refl
 notes_if_recorded false note reply e = cc
 
-free_answer_has_no_note : (kind : Kind) (r : Request) (p : Planned) → IsFree p → (r.view.records && (marks_of kind).r) ≡ false → HasNotes [] (answered kind r p)
+free_answer_has_no_note : (kind : Kind) (r : Request) (p : Planned) → IsFreePlanned p → (r.view.records && (marks_of kind).r) ≡ false → HasNotes [] (answered kind r p)
 free_answer_has_no_note kind r (Err e) h b = tt
 free_answer_has_no_note kind r (Ok p) h b =
     notes_if_unrecorded (r.view.records && (marks_of kind).r) (record_note r) (performed r p).1 b ∙ free_plan_has_no_note r p h
@@ -97,7 +98,7 @@ free_messages_have_no_note known s view m kind v e n sees b =
     (λ w d seen found. free_answer_has_no_note kind (request s w d m) _ (message_without_memory_is_free kind (request s w d m) n)
     (rw (same_view v w _ sees seen) b))
 
-free_answer_has_one_note : (kind : Kind) (r : Request) (p : Planned) → IsFree p → (r.view.records && (marks_of kind).r) ≡ true → HasNotes (record_note r ∷ []) (answered kind r p)
+free_answer_has_one_note : (kind : Kind) (r : Request) (p : Planned) → IsFreePlanned p → (r.view.records && (marks_of kind).r) ≡ true → HasNotes (record_note r ∷ []) (answered kind r p)
 free_answer_has_one_note kind r (Err e) h b = tt
 free_answer_has_one_note kind r (Ok p) h b =
     notes_if_recorded (r.view.records && (marks_of kind).r) (record_note r) (performed r p).1 b ∙ ap (λ notes. record_note r ∷ notes) (free_plan_has_no_note r p h)

@@ -59,6 +59,7 @@ pub mod MergeLaws
 pub mod SoundLaws
 pub mod HandleLaws
 pub mod PlansFit
+pub mod FreePlans
 pub mod Recording
 pub mod WorkedRecording
 pub mod EarlierTextLaws

@@ -1,6 +1,7 @@
 -- Fit plans: the numbers of a plan are in range for its request.
-use Rattle.std.specs.Prelude.{ℕ, ◌+◌, ◌^◌, ◌≡◌, ◌≤◌, ◌<◌, true, List, length, Some, Ok, Err}
+use Rattle.std.specs.Prelude.{◌≢◌, ℕ, ◌+◌, ◌-◌, ◌^◌, ◌≡◌, ◌≤◌, ◌<◌, true, ℤ, pos, negsuc, int_le, List, length, Option, Some, None, Ok, Err}
 use Rattle.ed_types.specs.declared.kind.Kind.{Kind}
+use Rattle.ed_types.specs.declared.refusal.Refusal.TheVariants.{OutOfMemory}
 use Rattle.ed_model.specs.declared.plan.Source.{Source}
 use Rattle.ed_model.specs.declared.plan.Source.TheVariants as source
 use Rattle.ed_model.specs.declared.plan.Edit.{Edit}
@@ -47,13 +48,24 @@ IsFitFollow r after (follow.Caret place) = place ≤ after
 IsFitFollow r after (follow.Target start past) = (start ≤ after) × (past ≤ after)
 IsFitFollow r after (follow.Clipboard start count) = start + count ≤ size r
 
+-- a number of a marker, or all of them
+abbrev pub IsMarkerNumber : Option ℕ → Type 0
+IsMarkerNumber None = Unit {0}
+IsMarkerNumber (Some number) = number ≤ 31
+
+-- a number of 32 bits, with a sign
+abbrev pub IsLineState : ℤ → Type 0
+IsLineState state = (int_le (negsuc (2 ^ 31 - 1)) state ≡ true) × (int_le state (pos (2 ^ 31 - 1)) ≡ true)
+
 abbrev pub IsFitDocumentChange : Request → DocumentChange → Type 0
 IsFitDocumentChange r document_change.BeginGroup = r.document.history.depth < r.session.limits.depth
 IsFitDocumentChange r (document_change.AddMarker line number) = (line < line_total r) × (number ≤ 31) × (r.document.next_handle + 1 ≤ r.session.limits.handles + 1)
 IsFitDocumentChange r (document_change.AddMarkers line mask) = (line < line_total r) × (mask < 2 ^ 32) × (r.document.next_handle + length (numbers_in mask) ≤ r.session.limits.handles + 1)
-IsFitDocumentChange r (document_change.DeleteMarker line number) = line < line_total r
+IsFitDocumentChange r (document_change.DeleteMarker line number) = (line < line_total r) × IsMarkerNumber number
+IsFitDocumentChange r (document_change.DeleteMarkers number) = IsMarkerNumber number
+IsFitDocumentChange r (document_change.DeleteHandle handle) = handle < r.document.next_handle
 IsFitDocumentChange r (document_change.SetLevel line level) = (line < line_total r) × (level < 2 ^ 31)
-IsFitDocumentChange r (document_change.SetState line state) = line < line_total r
+IsFitDocumentChange r (document_change.SetState line state) = (line < line_total r) × IsLineState state
 IsFitDocumentChange r (document_change.SetEndStyled place) = place ≤ size r
 IsFitDocumentChange r (document_change.StyleRun count style) = (r.document.end_styled + count ≤ size r) × (style ≤ 255)
 IsFitDocumentChange r (document_change.StyleBytes count) = (r.document.end_styled + count ≤ size r) × (count ≤ length r.message.text)
@@ -64,7 +76,9 @@ IsFitDocumentChange r other = Unit {0}
 abbrev pub IsFitViewChange : Request → ViewChange → Type 0
 IsFitViewChange r (view_change.Select anchor caret) = (anchor ≤ size r) × (caret ≤ size r)
 IsFitViewChange r (view_change.SetTarget start past) = (start ≤ size r) × (past ≤ size r)
+IsFitViewChange r (view_change.SetMask mask) = mask ≤ 0x7FFFFF
 IsFitViewChange r (view_change.SetIndicator indicator) = indicator < 32
+IsFitViewChange r (view_change.SetIndicatorValue value) = (0 < value) × (value < 2 ^ 31)
 IsFitViewChange r (view_change.ShowLines first past) = (first ≤ line_total r) × (past ≤ line_total r)
 IsFitViewChange r (view_change.HideLines first past) = (first ≤ line_total r) × (past ≤ line_total r)
 IsFitViewChange r (view_change.SetExpanded line on) = line < line_total r
@@ -98,10 +112,10 @@ IsFitPlan r (plan.ChangeView change value) = IsFitViewChange r change
 IsFitPlan r (plan.ChangeSession change value) = IsFitSessionChange r change
 IsFitPlan r other = Unit {0}
 
--- a plan that is no refusal is fit
+-- a plan that is no refusal is fit, and no refusal is for want of memory
 abbrev pub IsFitPlanned : Request → Planned → Type 0
 IsFitPlanned r (Ok what) = IsFitPlan r what
-IsFitPlanned r (Err refusal) = Unit {0}
+IsFitPlanned r (Err refusal) = refusal ≢ OutOfMemory
 
 -- the plan of each message to a sound session is fit
 abbrev pub PlansFit : Type 0

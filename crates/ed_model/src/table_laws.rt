@@ -1,5 +1,6 @@
 //! Laws of the message table: what a query, a message that takes no memory, and a refusal leave as it was.
 
+ghost use Rattle.ed_model.specs.FreePlans.{MarkedPlansAreFree};
 ghost use Rattle.ed_model.specs.TableLaws.{FreeMessagesHandOutNoText, FreeMessagesHaveNoNote, QueriesLeaveTheSession, RecordedFreeMessagesHaveOneNote, RefusedCommandsCanBeLeftOut, RefusedCommandsLeaveTheSession};
 
 /// A message marked as a query leaves the session, whatever is asked.
@@ -18,4 +19,9 @@ pub fn free_messages_are_silent()
 pub fn refusals_leave_the_session()
     ensures one { RefusedCommandsLeaveTheSession }
     ensures run { RefusedCommandsCanBeLeftOut }
+{}
+
+/// The plan of a message that is marked as taking no memory only answers, or makes a change that needs none.
+pub fn marked_plans_are_free()
+    ensures { MarkedPlansAreFree }
 {}
