@@ -25,3 +25,9 @@ pub record CanChangeSession (s : Session) (document view : ℕ) (text : List ℕ
   pub asked : IsAsked s document view request
   pub message : request.message.text ≡ text
   pub fit : IsFitSessionChange request change
+
+-- .. whatever its text is
+pub record CanChangeDocuments (s : Session) (document view : ℕ) (change : SessionChange) : Type 0 where
+  pub request : Request
+  pub asked : IsAsked s document view request
+  pub fit : IsFitSessionChange request change

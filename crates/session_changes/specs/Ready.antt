@@ -1,5 +1,5 @@
 -- What is made before a session changes, so that the change cannot fail.
-use Rattle.std.specs.Prelude.{◌≡◌, ℕ, ◌≤◌, ◌<◌, nat_lt, Bool, true, false, [], IfSome, vec_capacity, ⊥}
+use Rattle.std.specs.Prelude.{◌≡◌, ℕ, ◌≤◌, ◌<◌, nat_lt, Bool, true, false, [], IfSome, vec_capacity}
 use Rattle.ed_model.specs.declared.plan.SessionChange.{SessionChange}
 use Rattle.ed_model.specs.declared.plan.SessionChange.TheVariants as change
 use Rattle.ed_model.specs.Session.{Document, new_document}

@@ -4,6 +4,7 @@
 //! second makes the change, and cannot fail.
 #![tactic(auto)]
 
+mod moving;
 mod ready;
 mod sessions;
 mod views;
