@@ -28,7 +28,7 @@ use Rattle.scene.specs.Scenes.{views_of}
 use Rattle.message_plans.specs.Requested.{session_in, documents_in}
 use Rattle.message_plans.specs.declared.state.SessionState.{SessionState}
 use Rattle.session_changes.specs.Kept.{IsKept, DocumentsAreNamed}
-use Rattle.session_changes.specs.Asked.{IsAsked}
+use Rattle.session_changes.specs.Asked.{IsAsked, CanChangeSession, CanChangeDocuments}
 use Rattle.session_changes.specs.Clipboard.{copied, CanCopy}
 use Rattle.session_changes.specs.Folding.{HasFoldRoomAt, changed_at}
 use Rattle.session_changes.specs.Moving.{DocumentsRise, CanMove}
@@ -36,7 +36,7 @@ use Rattle.session_changes.specs.Ready.{IsReady, IsNewDocument, AwaitsView, IsHe
 use Rattle.session_changes.specs.declared.ready.SessionReady.{SessionReady}
 use Rattle.session_changes.specs.declared.ready.SessionReady.TheVariants as made
 use Rattle.session_changes.proofs.Finding.{document_in, id_of_document, own_at, holds_at, found_some, kept_as, for_replaced}
-use Rattle.session_changes.proofs.AskedLemmas.{view_found, on_document, document_found, kept_view, kept_document, stands, in_its_place}
+use Rattle.session_changes.proofs.AskedLemmas.{of_document, view_found, on_document, document_found, kept_view, kept_document, stands, in_its_place}
 use Rattle.session_changes.proofs.MovingLemmas.{ChangesAlike, living_left}
 
 pub when_ok : {A E : Type 0} (r : Result A E) (P Q : Type 0) → OnOk r P → (P → Q) → OnOk r Q
@@ -337,3 +337,34 @@ attached_old_so s new document view to r kept asked k at documents views next_do
     (in_its_place s document view r kept asked (attached_to k.document) refl ∙ ap (λ (x : Session). with_view (attached_to k.document r.view) x.views) asked.session)
     documents views next_document next_view clipboard limits
     ∙ ap (attached to r.view) (sym asked.session)
+
+pub for_some : {V : Type 0} (P : V → Type 0) (o : Option V) (v : V) → o ≡ Some v → P v → IfSome o P
+for_some P o v e h = subst (λ x. IfSome x P) (sym e) h
+
+pub some_of : {V : Type 0} (P : V → Type 0) (o : Option V) → IsSomeAnd o P → (v : V) × (o ≡ Some v)
+some_of P None h = absurd h
+some_of P (Some v) h = (v, refl)
+
+abbrev pub given_more : Document → Document
+given_more d = record d { held_by_callers = d.held_by_callers + 1 }
+
+pub can_copy_at : (s : SessionState) (document view : ℕ) (what : SessionChange) (bytes : Vec ℕ) (text : List ℕ) → IsKept s → CanChangeSession (session_in s) document view text what
+    → IsReady s.documents what (made.Clipboard bytes) → IsSomeAnd (value_at s.documents.entries document) (λ k. CanCopy what (length k.document.cells) (length text) (vec_capacity bytes))
+can_copy_at s document view what bytes text kept can ready =
+    of_document s document view can.request kept can.asked (λ k. CanCopy what (length k.document.cells) (length text) (vec_capacity bytes))
+    (λ k is. subst (λ (d : Document). CanCopy what (length d.cells) (length text) (vec_capacity bytes)) (sym is) (can_copy s.documents what bytes can.request text ready can.message can.fit))
+
+-- a document that awaits no view was made for a caller
+pub record IsCreation (documents : Entries Kept) (what : SessionChange) (k : Kept) : Type 0 where
+  pub options : ℕ
+  pub is : what ≡ change.Create options
+  pub held : IsHeld documents.next options k
+
+pub is_creation : (documents : Entries Kept) (what : SessionChange) (k : Kept) → (what ≡ change.AttachNew → ⊥) → IsReady documents what (made.NewDocument k) → IsCreation documents what k
+is_creation documents (change.Copy start count) k other ready = absurd ready
+is_creation documents (change.CopyText count) k other ready = absurd ready
+is_creation documents (change.Attach id) k other ready = absurd ready.0
+is_creation documents change.AttachNew k other ready = absurd (other refl)
+is_creation documents (change.Create options) k other ready = record { options = options; is = refl; held = ready.1 }
+is_creation documents (change.AddReference id) k other ready = absurd ready
+is_creation documents (change.Release id) k other ready = absurd ready

@@ -1,22 +1,10 @@
-use Rattle.std.proofs.Common.{rules, ◌≡◌, ◌+◌, ◌<◌, ◌^◌, [], map, length, vec_capacity, IfSome, IsSomeAnd, ℕ, ◌-◌, ◌*◌, ◌≤◌, ◌/◌, ◌%◌, Bool, true, false, nat_eq, nat_lt, List, ◌∷◌, ◌++◌, slice_index_or, slice_set, bit_and, bit_or, Fits, w8, w32, w64, Bor, MutBor}
-use Rattle.ed_model.specs.Session.{living, text_of}
-use Rattle.ed_model.specs.Requests.{Request}
-use Rattle.ed_model.specs.Changes.{session_changed, held_more, held_less}
-use Rattle.id_table.specs.Entries.{value_at}
-use Rattle.scene.specs.Scenes.{AreNamed}
-use Rattle.message_plans.specs.Requested.{session_in, documents_in}
-use Rattle.session_changes.specs.Kept.{IsKept, DocumentsAreNamed}
-use Rattle.session_changes.specs.Asked.{IsAsked, CanChangeSession, CanChangeDocuments}
-use Rattle.session_changes.specs.Clipboard.{copied, CanCopy}
-use Rattle.session_changes.specs.Moving.{DocumentsRise}
-use Rattle.session_changes.specs.Ready.{IsReady}
-use Rattle.session_changes.specs.declared.ready.SessionReady.TheVariants as made
+use Rattle.session_changes.proofs.SessionLemmas.{clipboard_so, can_copy_at}
 use Rattle.session_changes.proofs.sessions.change_clipboard.Goals as goal
 
--- src/sessions.rt:64:5
 pub copy-requires-clause-can : goal.copy-requires-clause-can
-copy-requires-clause-can c = ?
+copy-requires-clause-can c =
+    can_copy_at c.args.state.now c.args.document c.args.view c.args.change c.args.bytes c.args.text.now c.requires.kept c.requires.can c.requires.ready
 
--- src/sessions.rt:48:1
 pub returns-clause-changed : goal.returns-clause-changed
-returns-clause-changed c = ?
+returns-clause-changed c =
+    clipboard_so c.args.state.now c.args.document c.args.view c.args.text.now c.args.change c.args.bytes c.copy.new.bytes c.requires.kept c.requires.ready c.copy.ensures

@@ -1,30 +1,37 @@
-use Rattle.std.proofs.Common.{rules, ◌≡◌, ◌+◌, ◌<◌, ◌^◌, [], map, length, vec_capacity, IfSome, IsSomeAnd, ℕ, ◌-◌, ◌*◌, ◌≤◌, ◌/◌, ◌%◌, Bool, true, false, nat_eq, nat_lt, List, ◌∷◌, ◌++◌, slice_index_or, slice_set, bit_and, bit_or, Fits, w8, w32, w64, Bor, MutBor}
-use Rattle.ed_model.specs.Session.{living, text_of}
-use Rattle.ed_model.specs.Requests.{Request}
-use Rattle.ed_model.specs.Changes.{session_changed, held_more, held_less}
+use Rattle.std.proofs.Common.{sym, ap, ◌∙◌, ◌<◌, subst}
+use Rattle.ed_model.specs.PlansFit.{IsFitSessionChange}
+use Rattle.ed_model.specs.Changes.{session_changed}
 use Rattle.id_table.specs.Entries.{value_at}
-use Rattle.scene.specs.Scenes.{AreNamed}
-use Rattle.message_plans.specs.Requested.{session_in, documents_in}
-use Rattle.session_changes.specs.Kept.{IsKept, DocumentsAreNamed}
-use Rattle.session_changes.specs.Asked.{IsAsked, CanChangeSession, CanChangeDocuments}
-use Rattle.session_changes.specs.Clipboard.{copied, CanCopy}
-use Rattle.session_changes.specs.Moving.{DocumentsRise}
+use Rattle.document.specs.Kept.{Kept}
 use Rattle.session_changes.specs.Ready.{IsReady}
 use Rattle.session_changes.specs.declared.ready.SessionReady.TheVariants as made
+use Rattle.session_changes.proofs.SessionLemmas.{can_attach, few_flags, references_few, attached_old_so, some_of}
 use Rattle.session_changes.proofs.sessions.change_references.Goals as goal
 
--- src/sessions.rt:107:51
 pub attach-requires-clause-can : goal.attach-requires-clause-can
-attach-requires-clause-can c = ?
+attach-requires-clause-can c =
+    let can = c.requires.can in
+    let ready = subst (λ w. IsReady c.args.state.now.documents w made.Nothing) c.in-Attach.is c.requires.ready in
+    can_attach c.args.state.now c.args.document c.args.view c.in-Attach.to can.request c.requires.kept can.asked
+    (subst (IsFitSessionChange can.request) c.in-Attach.is can.fit) ready.1
 
--- src/sessions.rt:107:51
 pub attach-requires-clause-few : goal.attach-requires-clause-few
-attach-requires-clause-few c = ?
+attach-requires-clause-few c =
+    let can = c.requires.can in
+    few_flags c.args.state.now c.args.document c.args.view can.request c.requires.kept can.asked
 
--- src/sessions.rt:108:53
 pub hold-requires-clause-few : goal.hold-requires-clause-few
-hold-requires-clause-few c = ?
+hold-requires-clause-few c =
+    let can = c.requires.can in
+    references_few c.args.state.now can.request c.in-AddReference.document c.requires.kept can.asked.session (subst (IsFitSessionChange can.request) c.in-AddReference.is can.fit)
 
--- src/sessions.rt:97:1
 pub returns-in-Attach-clause-changed : goal.returns-in-Attach-clause-changed
-returns-in-Attach-clause-changed c = ?
+returns-in-Attach-clause-changed c = λ r asked.
+    let s = c.args.state.now in
+    let can = c.requires.can in
+    let ready = subst (λ w. IsReady s.documents w made.Nothing) c.in-Attach.is c.requires.ready in
+    let moves = can_attach s c.args.document c.args.view c.in-Attach.to can.request c.requires.kept can.asked (subst (IsFitSessionChange can.request) c.in-Attach.is can.fit) ready.1 in
+    let there = some_of (λ (k : Kept). 0 < k.spare.views) (value_at s.documents.entries c.in-Attach.to) moves.place in
+    let done = c.attach.ensures in
+    attached_old_so s c.attach.new.state c.args.document c.args.view c.in-Attach.to r c.requires.kept asked there.0 there.1 done.documents done.views done.next_document done.next_view done.clipboard done.limits
+    ∙ ap (session_changed r) (sym c.in-Attach.is)

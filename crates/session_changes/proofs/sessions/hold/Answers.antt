@@ -1,22 +1,16 @@
-use Rattle.std.proofs.Common.{rules, ◌≡◌, ◌+◌, ◌<◌, ◌^◌, [], map, length, vec_capacity, IfSome, IsSomeAnd, ℕ, ◌-◌, ◌*◌, ◌≤◌, ◌/◌, ◌%◌, Bool, true, false, nat_eq, nat_lt, List, ◌∷◌, ◌++◌, slice_index_or, slice_set, bit_and, bit_or, Fits, w8, w32, w64, Bor, MutBor}
-use Rattle.ed_model.specs.Session.{living, text_of}
-use Rattle.ed_model.specs.Requests.{Request}
-use Rattle.ed_model.specs.Changes.{session_changed, held_more, held_less}
-use Rattle.id_table.specs.Entries.{value_at}
-use Rattle.scene.specs.Scenes.{AreNamed}
-use Rattle.message_plans.specs.Requested.{session_in, documents_in}
-use Rattle.session_changes.specs.Kept.{IsKept, DocumentsAreNamed}
-use Rattle.session_changes.specs.Asked.{IsAsked, CanChangeSession, CanChangeDocuments}
-use Rattle.session_changes.specs.Clipboard.{copied, CanCopy}
-use Rattle.session_changes.specs.Moving.{DocumentsRise}
-use Rattle.session_changes.specs.Ready.{IsReady}
-use Rattle.session_changes.specs.declared.ready.SessionReady.TheVariants as made
+use Rattle.std.proofs.Common.{sym, ap, ◌∙◌}
+use Rattle.std.specs.Option.{option_copied_mut}
+use Rattle.document.specs.Kept.{Kept}
+use Rattle.session_changes.proofs.Finding.{document_in, id_of_document, changed, named_with}
+use Rattle.session_changes.proofs.SessionLemmas.{given_more}
 use Rattle.session_changes.proofs.sessions.hold.Goals as goal
 
--- src/sessions.rt:69:1
 pub returns-clause-documents : goal.returns-clause-documents
-returns-clause-documents c = ?
+returns-clause-documents c =
+    changed document_in id_of_document c.args.documents.now.entries c.args.document c.args.documents.now.next c.requires.named c.requires.rise c.in-Some.document.now c.hold.new.self
+    (sym c.get_mut.ensures.value ∙ ap option_copied_mut c.in-Some.is) given_more (ap document_in c.hold.ensures)
 
--- src/sessions.rt:69:1
 pub returns-clause-named : goal.returns-clause-named
-returns-clause-named c = ?
+returns-clause-named c =
+    named_with document_in id_of_document c.args.documents.now.entries c.args.document c.args.documents.now.next c.requires.named c.requires.rise c.in-Some.document.now c.hold.new.self
+    (sym c.get_mut.ensures.value ∙ ap option_copied_mut c.in-Some.is) (ap (λ (k : Kept). k.document.id) c.hold.ensures)

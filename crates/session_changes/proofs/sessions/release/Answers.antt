@@ -1,22 +1,13 @@
-use Rattle.std.proofs.Common.{rules, ◌≡◌, ◌+◌, ◌<◌, ◌^◌, [], map, length, vec_capacity, IfSome, IsSomeAnd, ℕ, ◌-◌, ◌*◌, ◌≤◌, ◌/◌, ◌%◌, Bool, true, false, nat_eq, nat_lt, List, ◌∷◌, ◌++◌, slice_index_or, slice_set, bit_and, bit_or, Fits, w8, w32, w64, Bor, MutBor}
-use Rattle.ed_model.specs.Session.{living, text_of}
-use Rattle.ed_model.specs.Requests.{Request}
-use Rattle.ed_model.specs.Changes.{session_changed, held_more, held_less}
-use Rattle.id_table.specs.Entries.{value_at}
-use Rattle.scene.specs.Scenes.{AreNamed}
-use Rattle.message_plans.specs.Requested.{session_in, documents_in}
-use Rattle.session_changes.specs.Kept.{IsKept, DocumentsAreNamed}
-use Rattle.session_changes.specs.Asked.{IsAsked, CanChangeSession, CanChangeDocuments}
-use Rattle.session_changes.specs.Clipboard.{copied, CanCopy}
-use Rattle.session_changes.specs.Moving.{DocumentsRise}
-use Rattle.session_changes.specs.Ready.{IsReady}
-use Rattle.session_changes.specs.declared.ready.SessionReady.TheVariants as made
+use Rattle.std.proofs.Common.{refl}
+use Rattle.document_table.specs.Leaving.{released}
+use Rattle.session_changes.proofs.MovingLemmas.{still_named_left}
+use Rattle.session_changes.proofs.SessionLemmas.{released_so}
 use Rattle.session_changes.proofs.sessions.release.Goals as goal
 
--- src/sessions.rt:84:1
 pub returns-clause-changed : goal.returns-clause-changed
-returns-clause-changed c = ?
+returns-clause-changed c =
+    released_so c.the_living_are_left.ensures c.args.state.now c.args.document c.release.new.self c.requires.kept c.release.ensures.documents c.release.ensures.next
 
--- src/sessions.rt:84:1
 pub returns-clause-documents : goal.returns-clause-documents
-returns-clause-documents c = ?
+returns-clause-documents c =
+    still_named_left c.args.document released (λ d. refl) c.args.state.now.documents.entries c.release.new.self.entries c.requires.kept.documents c.release.ensures.documents
