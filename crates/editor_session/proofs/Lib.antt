@@ -1,5 +1,6 @@
 pub mod Finding
 pub mod KnownPlans
+pub mod Styled
 pub mod TableWay
 pub mod Stepping
 pub mod Replacing

@@ -89,6 +89,7 @@ attempt_needs r need e = rw e (record {
 
 counted_of_sum : (need : Need) (n b : ℕ) → IsCounted (need_sum need (record no_need { notes = note_room n b })) → IsCounted need
 counted_of_sum need n b c = record {
+  handed_out = c.handed_out;
   notes = less need.notes.notes n c.notes;
   note_bytes = less need.notes.bytes b c.note_bytes;
   text = less need.document.text 0 c.text;

@@ -20,7 +20,7 @@ use Rattle.ed_model.specs.Requests.{Request, size, text}
 use Rattle.ed_model.specs.Edits.{steps_of, source_bytes}
 use Rattle.ed_model.specs.SoundLaws.{IsSoundView, StandsOn, ListsItsViews}
 use Rattle.ed_model.specs.PlansFit.{IsFitPlan, IsFitSource, IsFitFollow}
-use Rattle.ed_model.specs.Performing.{Scene, scene_of, session_of, step_made, steps_made, edit_made, sealed_scene, followed, response}
+use Rattle.ed_model.specs.Performing.{Scene, scene_of, session_of, step_made, steps_made, edit_made, sealed_scene, followed, response, styled_text}
 use Rattle.ed_model.specs.Table.{table, performed, answered, with_recording, record_note}
 use Rattle.id_table.specs.Entries.{value_at}
 use Rattle.notify.specs.Gathered.{Gathered}
@@ -124,7 +124,7 @@ fits_within r (plan.Edit (edit.Replace start count from) value after) p fit = (f
 fits_within r (plan.Edit (edit.ConvertLineEnds to) value after) p fit = tt
 fits_within r (plan.Answer value) p fit = tt
 fits_within r (plan.HandOut value start count) p fit = tt
-fits_within r (plan.HandOutStyled start count) p fit = tt
+fits_within r (plan.HandOutStyled start count) p fit = fit
 fits_within r plan.Attempt p fit = tt
 fits_within r plan.Undo p fit = tt
 fits_within r plan.Redo p fit = tt
@@ -307,6 +307,19 @@ module _ (s : SessionState) (view : ℕ) (m : Message) (task : Task) (kept : IsK
       answered_so (session_in s) value bytes []
       (ap (performed asked) is ∙ ap (λ x. (x, response value (slice_range (text asked) start (start + count)) [])) session_is ∙ ap (λ b. (session_in s, response value b [])) (sym put))
       ∙ ap (λ xs. Ok (session_in s, response value bytes xs)) (sym told)
+
+  pub handed_out_styled : (start count : ℕ) → task.plan ≡ plan.HandOutStyled start count → (empty bytes : List ℕ) (none ns : List Notice) → empty ≡ [] → none ≡ [] → ns ≡ none ++ first_note task.is_recorded view m
+      → IfSome (value_at s.documents.entries task.document) (λ k. bytes ≡ empty ++ styled_text (slice_range k.document.cells start (start + count)))
+      → table table_so_far (session_in s) view m ≡ Ok (session_in s, response (pos (length bytes)) bytes ns)
+  handed_out_styled start count is empty bytes none ns e n first copied =
+      let put : bytes ≡ styled_text (slice_range asked.document.cells start (start + count)) =
+      of_kept (λ k. bytes ≡ empty ++ styled_text (slice_range k.document.cells start (start + count))) copied
+      ∙ ap (λ xs. xs ++ styled_text (slice_range kept_at.k.document.cells start (start + count))) e ∙ ap (λ (d : Document). styled_text (slice_range d.cells start (start + count))) kept_at.is in
+      let told : ns ≡ first_note task.is_recorded view m ++ [] = first ∙ ap (λ xs. xs ++ first_note task.is_recorded view m) n ∙ sym (append_nil (first_note task.is_recorded view m)) in
+      answered_so (session_in s) (pos (length bytes)) bytes []
+      (ap (performed asked) is ∙ ap (λ x. (x, response (pos (length (styled_text (slice_range asked.document.cells start (start + count))))) (styled_text (slice_range asked.document.cells start (start + count))) [])) session_is
+      ∙ ap (λ b. (session_in s, response (pos (length b)) b [])) (sym put))
+      ∙ ap (λ xs. Ok (session_in s, response (pos (length bytes)) bytes xs)) (sym told)
 
   pub attempt_room : task.plan ≡ plan.Attempt → IsEnough asked task.plan task.is_recorded task.need → (room : ℕ) → task.need.notes.notes ≤ room + notes_if task.is_recorded
       → IsSomeAnd (value_at s.documents.entries task.document) (λ k. length (watching (views_of s.views.entries) k.document) ≤ room)

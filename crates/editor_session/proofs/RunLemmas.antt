@@ -1,17 +1,16 @@
--- What a run makes of a message that is refused.
+-- What a run makes of a command that is refused.
 use Rattle.std.proofs.Common.{◌≡◌, ◌⊎◌, ◌↔◌, ℕ, pos, refl, ap, sym, ◌∙◌, inl, inr, Some, None, Ok, Err, List, [], ◌∷◌, ◌++◌, take, drop, zero, suc, ◌+◌, slice_get, arith, IfOk, OnOk, IsErr, true, false}
 use Rattle.std.specs.Prelude.{Result}
 use Rattle.std.specs.declared.alloc.AllocError.{AllocError}
-use Rattle.ed_types.specs.declared.message.Message.{Message}
 use Rattle.ed_types.specs.declared.refusal.Refusal.{Refusal}
 use Rattle.ed_types.specs.declared.refusal.Refusal.TheVariants.{OutOfMemory}
 use Rattle.ed_types.specs.declared.script.Command.{Command}
-use Rattle.ed_types.specs.declared.script.Command.TheVariants.{OpenView, SendMessage}
+use Rattle.ed_types.specs.declared.script.Command.TheVariants.{OpenView}
 use Rattle.ed_types.specs.declared.script.Outcome.{Outcome}
 use Rattle.ed_types.specs.declared.script.Outcome.TheVariants.{Refused}
 use Rattle.ed_types.specs.Notices.{Response}
 use Rattle.ed_model.specs.Session.{Session}
-use Rattle.ed_model.specs.Table.{table, opened}
+use Rattle.ed_model.specs.Table.{opened}
 use Rattle.ed_model.specs.Run.{Running, outcomes, run_to, after_command, after_message, after_opening}
 use Rattle.message_plans.specs.TableSoFar.{table_so_far}
 use Rattle.editor_session.specs.Answers.{AnswersBy}
@@ -20,31 +19,31 @@ pub opened_state : (files : List (List ℕ)) (run : Running) (new : Session) (id
     record { session = new; value = Some (pos id) } ≡ (after_command table_so_far files OpenView run).0
 opened_state files run new id e = ap (λ o. (after_opening run.session o).0) (sym e)
 
--- a refusal that did not end the run is one of the table, and left the session
-went_on : (run : Running) (view : ℕ) (m : Message) (session : Session) (refusal : Refusal) (result : Result Outcome AllocError) (Claim : Result Outcome AllocError → Type 0) →
-    ((e : AllocError) → Claim (Err e)) → ((o : Outcome) → table table_so_far run.session view m ≡ Err refusal → session ≡ run.session → result ≡ Ok o → Claim (Ok o)) →
-    AnswersBy {R = Response} (table table_so_far run.session view m) run.session session (Err refusal) → (IsErr result ↔ (refusal ≡ OutOfMemory)) → Claim result
-went_on run view m session refusal (Err e) Claim failed passed answer memory = failed e
-went_on run view m session refusal (Ok o) Claim failed passed answer memory = go answer.1
+-- a refusal that did not end the run is one that is said, and left the session
+went_on : (says : Result (Session × Response) Refusal) (old session : Session) (refusal : Refusal) (result : Result Outcome AllocError) (Claim : Result Outcome AllocError → Type 0) →
+    ((e : AllocError) → Claim (Err e)) → ((o : Outcome) → says ≡ Err refusal → session ≡ old → result ≡ Ok o → Claim (Ok o)) →
+    AnswersBy {R = Response} says old session (Err refusal) → (IsErr result ↔ (refusal ≡ OutOfMemory)) → Claim result
+went_on says old session refusal (Err e) Claim failed passed answer memory = failed e
+went_on says old session refusal (Ok o) Claim failed passed answer memory = go answer.1
   where
-    go : (refusal ≡ OutOfMemory) ⊎ (table table_so_far run.session view m ≡ Err refusal) → Claim (Ok o)
+    go : (refusal ≡ OutOfMemory) ⊎ (says ≡ Err refusal) → Claim (Ok o)
     go (inl e) = let bad : false ≡ true = memory.1 e in absurd (cc)
     go (inr e) = passed o e answer.0 refl
 
-pub refused_state : (files : List (List ℕ)) (run new : Running) (view : ℕ) (m : Message) (session : Session) (refusal : Refusal) (result : Result Outcome AllocError) →
-    AnswersBy {R = Response} (table table_so_far run.session view m) run.session session (Err refusal) → (IsErr result ↔ (refusal ≡ OutOfMemory)) →
-    OnOk result (new ≡ record { session = session; value = None }) → OnOk result (new ≡ (after_command table_so_far files (SendMessage view m) run).0)
-refused_state files run new view m session refusal result answer memory state =
-    went_on run view m session refusal result (λ r. OnOk r (new ≡ record { session = session; value = None }) → OnOk r (new ≡ (after_command table_so_far files (SendMessage view m) run).0))
+pub refused_state : (run new : Running) (says : Result (Session × Response) Refusal) (session : Session) (refusal : Refusal) (result : Result Outcome AllocError) →
+    AnswersBy {R = Response} says run.session session (Err refusal) → (IsErr result ↔ (refusal ≡ OutOfMemory)) →
+    OnOk result (new ≡ record { session = session; value = None }) → OnOk result (new ≡ (after_message run.session says).0)
+refused_state run new says session refusal result answer memory state =
+    went_on says run.session session refusal result (λ r. OnOk r (new ≡ record { session = session; value = None }) → OnOk r (new ≡ (after_message run.session says).0))
     (λ e state. tt)
     (λ o refused same is state. state ∙ ap (λ s. record { session = s; value = None }) same ∙ ap (λ t. (after_message run.session t).0) (sym refused))
     answer memory state
 
-pub refused_outcome : (files : List (List ℕ)) (run : Running) (view : ℕ) (m : Message) (session : Session) (refusal : Refusal) (result : Result Outcome AllocError) →
-    AnswersBy {R = Response} (table table_so_far run.session view m) run.session session (Err refusal) → (IsErr result ↔ (refusal ≡ OutOfMemory)) →
-    IfOk result (λ o. o ≡ Refused refusal) → IfOk result (λ o. o ≡ (after_command table_so_far files (SendMessage view m) run).1)
-refused_outcome files run view m session refusal result answer memory outcome =
-    went_on run view m session refusal result (λ r. IfOk r (λ o. o ≡ Refused refusal) → IfOk r (λ o. o ≡ (after_command table_so_far files (SendMessage view m) run).1))
+pub refused_outcome : (run : Running) (says : Result (Session × Response) Refusal) (session : Session) (refusal : Refusal) (result : Result Outcome AllocError) →
+    AnswersBy {R = Response} says run.session session (Err refusal) → (IsErr result ↔ (refusal ≡ OutOfMemory)) →
+    IfOk result (λ o. o ≡ Refused refusal) → IfOk result (λ o. o ≡ (after_message run.session says).1)
+refused_outcome run says session refusal result answer memory outcome =
+    went_on says run.session session refusal result (λ r. IfOk r (λ o. o ≡ Refused refusal) → IfOk r (λ o. o ≡ (after_message run.session says).1))
     (λ e outcome. tt)
     (λ o refused same is outcome. outcome ∙ ap (λ t. (after_message run.session t).1) (sym refused))
     answer memory outcome

@@ -16,9 +16,10 @@ use Rattle.ed_model.specs.Table.{table, table_from_view, table_from_kind, table_
 use Rattle.message_plans.specs.TableSoFar.{table_so_far}
 use Rattle.editor_session.proofs.Finding.{id_of_view_at}
 use Rattle.editor_session.specs.declared.find.Task.{Task}
-use Rattle.editor_session.specs.Plans.{needs_no_memory, planned_without_memory, is_free, is_free_request, is_free_from_document, is_free_if_known, is_free_from_kind, is_free_from_view, is_marked_free, is_recorded_by, MarkedMessagesAreFree}
+use Rattle.editor_session.specs.Plans.{is_performed, needs_no_memory, planned_without_memory, is_free, is_free_request, is_free_from_document, is_free_if_known, is_free_from_kind, is_free_from_view, is_marked_free, is_recorded_by, MarkedMessagesAreFree}
 use Rattle.editor_session.specs.Tasks.{known_kind, IsFound, IsTask}
-use Rattle.editor_session.proofs.KnownPlans.{known_plan, IsKnownPlan, is_answer}
+use Rattle.editor_session.proofs.KnownPlans.{known_plan, IsPerformed}
+use Rattle.ed_model.specs.FreePlans.{IsFreePlan, IsFreePlanned, MarkedPlansAreFree}
 
 pub no_view : (s : Session) (id : ℕ) (m : Message) → view_at s.views id ≡ None → table table_so_far s id m ≡ Err NoSuchView
 no_view s id m none = ap (table_from_view table_so_far s m) none
@@ -71,37 +72,6 @@ is_found s id m v kind d sound found known there =
       answer = to_document s id m v kind found known ∙ ap (table_from_document s v kind m) there;
     }
 
--- The table never refuses for want of memory.
-
-plan_refuses : (kind : Kind) (r : Request) (refusal : Refusal) → table_so_far kind ≡ true → answered kind r (plan_of kind r) ≡ Err refusal → refusal ≢ OutOfMemory
-plan_refuses kind r refusal known e = go (plan_of kind r) (known_plan kind r known) e
-  where
-    go : (p : Planned) → IsKnownPlan (marks_of kind).n p → answered kind r p ≡ Err refusal → refusal ≢ OutOfMemory
-    go (Ok what) h e = absurd (cc)
-    go (Err other) h e = let same : other ≡ refusal = cc in subst (λ x. x ≢ OutOfMemory) same h
-
-pub refuses : (s : Session) (view : ℕ) (m : Message) (refusal : Refusal) → table table_so_far s view m ≡ Err refusal → refusal ≢ OutOfMemory
-refuses s view m refusal e = from_view (view_at s.views view) e
-  where
-    is_not : (t : Result (Session × Response) Refusal) (other : Refusal) → t ≡ Err other → t ≡ Err refusal → other ≢ OutOfMemory → refusal ≢ OutOfMemory
-    is_not t other x e h = let same : other ≡ refusal = cc in subst (λ x. x ≢ OutOfMemory) same h
-
-    from_document : (v : View) (kind : Kind) (o : Option Document) → table_so_far kind ≡ true → table_from_document s v kind m o ≡ Err refusal → refusal ≢ OutOfMemory
-    from_document v kind None known e = is_not (Err NoSuchDocument) NoSuchDocument refl e (λ x. absurd (cc))
-    from_document v kind (Some d) known e = plan_refuses kind (request s v d m) refusal known e
-
-    if_known : (v : View) (kind : Kind) (b : Bool) → table_so_far kind ≡ b → table_if_known b s v kind m ≡ Err refusal → refusal ≢ OutOfMemory
-    if_known v kind true known e = from_document v kind (document_at s.documents v.document) known e
-    if_known v kind false known e = is_not (Err UnknownMessage) UnknownMessage refl e (λ x. absurd (cc))
-
-    from_kind : (v : View) (kind : Option Kind) → table_from_kind table_so_far s v m kind ≡ Err refusal → refusal ≢ OutOfMemory
-    from_kind v None e = is_not (Err UnknownMessage) UnknownMessage refl e (λ x. absurd (cc))
-    from_kind v (Some kind) e = if_known v kind (table_so_far kind) refl e
-
-    from_view : (o : Option View) → table_from_view table_so_far s m o ≡ Err refusal → refusal ≢ OutOfMemory
-    from_view None e = is_not (Err NoSuchView) NoSuchView refl e (λ x. absurd (cc))
-    from_view (Some v) e = from_kind v (kind_of m.number) e
-
 -- Messages that need no memory.
 
 both_true : (a b : Bool) → (a && b) ≡ true → (a ≡ true) × (b ≡ true)
@@ -124,30 +94,30 @@ free_task s view m task t free =
     let parts = both_true (planned_without_memory r (plan_of t.kind r)) (not (r.view.records && (marks_of t.kind).r)) (sym is ∙ free) in
     (subst (λ p. planned_without_memory r p ≡ true) t.planned parts.0, t.recorded ∙ not_true (r.view.records && (marks_of t.kind).r) parts.1)
 
-answer_needs_none : (r : Request) (what : Plan) → is_answer what ≡ true → needs_no_memory r what ≡ true
-answer_needs_none r (plan.Answer value) h = refl
-answer_needs_none r (plan.HandOut value start count) h = absurd (cc)
-answer_needs_none r (plan.HandOutStyled start count) h = absurd (cc)
-answer_needs_none r (plan.Edit change value after) h = absurd (cc)
-answer_needs_none r plan.Attempt h = absurd (cc)
-answer_needs_none r plan.Undo h = absurd (cc)
-answer_needs_none r plan.Redo h = absurd (cc)
-answer_needs_none r (plan.ChangeDocument change value) h = absurd (cc)
-answer_needs_none r (plan.ChangeView change value) h = absurd (cc)
-answer_needs_none r (plan.ChangeSession change value) h = absurd (cc)
+free_needs_none : (r : Request) (what : Plan) → is_performed what ≡ true → IsFreePlan what → needs_no_memory r what ≡ true
+free_needs_none r (plan.Answer value) p h = refl
+free_needs_none r (plan.HandOut value start count) p h = absurd h
+free_needs_none r (plan.HandOutStyled start count) p h = absurd h
+free_needs_none r (plan.Edit change value after) p h = absurd h
+free_needs_none r plan.Attempt p h = absurd h
+free_needs_none r plan.Undo p h = absurd h
+free_needs_none r plan.Redo p h = absurd h
+free_needs_none r (plan.ChangeDocument change value) p h = absurd (cc)
+free_needs_none r (plan.ChangeView change value) p h = absurd (cc)
+free_needs_none r (plan.ChangeSession change value) p h = absurd (cc)
 
-pub marked_are_free : MarkedMessagesAreFree
-marked_are_free s view m marked unrecorded = from_view (view_at s.views view) marked unrecorded
+pub marked_are_free : MarkedPlansAreFree → MarkedMessagesAreFree
+marked_are_free law s view m marked unrecorded = from_view (view_at s.views view) marked unrecorded
   where
-    of_plan : (r : Request) (kind : Kind) (p : Planned) → IsKnownPlan (marks_of kind).n p → (marks_of kind).n ≡ true → planned_without_memory r p ≡ true
-    of_plan r kind (Ok what) h n = answer_needs_none r what (h.1 n)
-    of_plan r kind (Err refusal) h n = refl
+    of_plan : (r : Request) (p : Planned) → IsPerformed p → IsFreePlanned p → planned_without_memory r p ≡ true
+    of_plan r (Ok what) p h = free_needs_none r what p h
+    of_plan r (Err refusal) p h = refl
 
     from_document : (v : View) (kind : Kind) (o : Option Document) → table_so_far kind ≡ true → (marks_of kind).n ≡ true → (v.records && (marks_of kind).r) ≡ false → is_free_from_document s v kind m o ≡ true
     from_document v kind None known n r = refl
     from_document v kind (Some d) known n r =
         let q = request s v d m in
-        rw (of_plan q kind (plan_of kind q) (known_plan kind q known) n, r) refl
+        rw (of_plan q (plan_of kind q) (known_plan kind q known) (law kind q n), r) refl
 
     if_known : (v : View) (kind : Kind) (b : Bool) → table_so_far kind ≡ b → (marks_of kind).n ≡ true → (v.records && (marks_of kind).r) ≡ false → is_free_if_known b s v kind m ≡ true
     if_known v kind true known n r = from_document v kind (document_at s.documents v.document) known n r

@@ -35,6 +35,7 @@ stored_bytes source.LineEnd text clipboard end = line_end_bytes end
 -- the ranges of a plan lie in texts of these lengths: the document's, and the message's
 abbrev pub IsWithin : Plan → ℕ → ℕ → Type 0
 IsWithin (plan.Edit (edit.Replace start count from) value after) size text = (start + count ≤ size) × IsStoredIn from text
+IsWithin (plan.HandOutStyled start count) size text = start + count ≤ size
 IsWithin other size text = Unit {0}
 
 -- a document, the views and the notes have room for a replacement

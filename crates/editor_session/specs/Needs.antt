@@ -1,5 +1,5 @@
 -- What a message needs of memory.
-use Rattle.std.specs.Prelude.{◌≡◌, ℕ, ◌+◌, ◌≤◌, ◌<◌, ◌^◌, ◌-◌, Bool, true, false, List, [], ◌∷◌, length}
+use Rattle.std.specs.Prelude.{◌≡◌, ℕ, ◌+◌, ◌≤◌, ◌<◌, ◌^◌, ◌-◌, ◌*◌, Bool, true, false, List, [], ◌∷◌, length}
 use Rattle.ed_model.specs.declared.plan.LineEndTypes.{LineEndTypes}
 use Rattle.ed_model.specs.declared.plan.Follow.{Follow}
 use Rattle.ed_model.specs.declared.plan.Follow.TheVariants as follow
@@ -54,6 +54,7 @@ pub record IsAtLeast (room need : DocumentRoom) : Type 0 where
 
 -- no amount is the greatest that can be asked for, at which sums stop
 pub record IsCounted (need : Need) : Type 0 where
+  pub handed_out : need.text < 2 ^ 64 - 1
   pub notes : need.notes.notes < 2 ^ 64 - 1
   pub note_bytes : need.notes.bytes < 2 ^ 64 - 1
   pub text : need.document.text < 2 ^ 64 - 1
@@ -77,6 +78,7 @@ clipboard_need other = 0
 
 abbrev pub text_of_plan : Plan → ℕ
 text_of_plan (plan.HandOut value start count) = count
+text_of_plan (plan.HandOutStyled start count) = 2 * count
 text_of_plan other = 0
 
 abbrev pub clipboard_of_plan : Plan → ℕ

@@ -17,7 +17,7 @@ use Rattle.ed_model.specs.Edits.{steps_of, has_steps}
 use Rattle.ed_model.specs.Table.{request, plan_of}
 use Rattle.message_plans.specs.TableSoFar.{table_so_far}
 
--- The plans that are performed so far: answers, texts handed out, edits that replace bytes by others that stand somewhere, and
+-- The plans that are performed so far: answers, texts handed out with their styles or without, edits that replace bytes by others that stand somewhere, and
 -- attempts.
 
 abbrev pub is_stored : Source → Bool
@@ -31,6 +31,7 @@ is_replacement (edit.ConvertLineEnds to) = false
 abbrev pub is_performed : Plan → Bool
 is_performed (plan.Answer value) = true
 is_performed (plan.HandOut value start count) = true
+is_performed (plan.HandOutStyled start count) = true
 is_performed (plan.Edit change value after) = is_replacement change
 is_performed plan.Attempt = true
 is_performed other = false
@@ -45,6 +46,7 @@ takes_nothing_along other = true
 abbrev pub needs_no_memory : Request → Plan → Bool
 needs_no_memory r (plan.Answer value) = true
 needs_no_memory r (plan.HandOut value start count) = count == 0
+needs_no_memory r (plan.HandOutStyled start count) = count == 0
 needs_no_memory r (plan.Edit change value after) = not (has_steps (steps_of r change)) && takes_nothing_along after
 needs_no_memory r other = false
 

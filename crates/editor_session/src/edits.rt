@@ -14,6 +14,7 @@ ghost use Rattle.editor_session.specs.Needs.{room_of_steps, notes_for, bytes_for
 ghost use Rattle.editor_session.specs.Edits.{CanEdit, Edits};
 ghost use Rattle.editor_session.specs.Edited.{IsStoredIn, stored_bytes, taken_along, CanTake, followed_views, followed_clipboard, CanReplace, Replaces};
 
+use crate::handing_out::copy_bytes;
 use document::{Document, TextStep};
 use document_table::DocumentTable;
 use ed_model::{Follow, LineEnd, Source};
@@ -157,26 +158,6 @@ pub(crate) fn line_end_in(documents: &DocumentTable, document: u32) -> LineEnd
         unreachable!()
     };
     document.typed_line_end()
-}
-
-/// Copies bytes of the document of an id, for which there is room.
-pub(crate) fn copy_bytes(
-    documents: &DocumentTable,
-    document: u32,
-    start: usize,
-    count: usize,
-    target: &mut Vec<u8>,
-)
-    requires range { IsSomeAnd (value_at documents.now.entries document) (λ k. start + count ≤ length k.document.cells) }
-    requires room { vec_len target.old + count ≤ vec_capacity target.old }
-    ensures { IfSome (value_at documents.now.entries document) (λ k. target.new.items ≡ target.old.items ++ slice_range (text_of k.document) start (start + count)) }
-{
-    let Some(document) = documents.get(document) else {
-        unreachable!()
-    };
-    let Ok(()) = document.append_text_to(start, count, target) else {
-        unreachable!()
-    };
 }
 
 /// Copies what an edit takes to the clipboard, as it stands before the edit.

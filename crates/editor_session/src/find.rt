@@ -1,6 +1,7 @@
 //! From a message to what is to be done for it: its view, its document and its plan.
 
-ghost use Rattle.std.specs.Prelude.{◌≡◌, ◌+◌, ◌≤◌, length, slice_range, Ok, Err, IfOk, IfErr};
+ghost use Rattle.std.specs.Prelude.{◌≡◌, ◌≢◌, ◌+◌, ◌≤◌, length, slice_range, Ok, Err, IfOk, IfErr};
+ghost use Rattle.ed_types.specs.declared.refusal.Refusal.TheVariants.{OutOfMemory};
 ghost use Rattle.ed_types.specs.Messages.{kind_of};
 ghost use Rattle.ed_model.specs.Session.{text_of};
 ghost use Rattle.ed_model.specs.Table.{table};
@@ -54,6 +55,7 @@ fn find<'a>(
     requires kept { IsKept state.now }
     ensures found { IfOk result (λ found. IsFound (session_in state.now) view (message_with number w l text.now) found.0 found.1) }
     ensures refused { IfErr result (λ refusal. table table_so_far (session_in state.now) view (message_with number w l text.now) ≡ Err refusal) }
+    ensures memory { IfErr result (λ refusal. refusal ≢ OutOfMemory) }
 {
     let Some(view) = state.views.get(view) else {
         return Err(Refusal::NoSuchView);
@@ -89,8 +91,9 @@ pub(crate) fn find_task(
     requires kept { IsKept state.now }
     ensures found { IfOk result (λ task. IsTask (session_in state.now) view (message_with number w l text.now) task) }
     ensures refused { IfErr result (λ refusal. table table_so_far (session_in state.now) view (message_with number w l text.now) ≡ Err refusal) }
+    ensures memory { IfErr result (λ refusal. refusal ≢ OutOfMemory) }
 {
-    // The law that a plan's numbers are in range.
+    // The law that a plan's numbers are in range, and that no refusal is for want of memory.
     plans_are_fit();
     let (kind, request) = find(state, view, number, w, l, text)?;
     let plan = plan_of(kind, &request)?;

@@ -7,6 +7,7 @@
 
 mod edits;
 mod find;
+mod handing_out;
 mod laws;
 mod lending;
 mod need;

@@ -72,7 +72,8 @@ impl Need {
         ensures counted { result ≡ true → IsCounted self.now }
         ensures none { self.now ≡ no_need → result ≡ true }
     {
-        self.notes.notes < usize::MAX
+        self.text < usize::MAX
+            && self.notes.notes < usize::MAX
             && self.notes.bytes < usize::MAX
             && self.document.text < usize::MAX
             && self.document.lines < usize::MAX
@@ -171,6 +172,10 @@ fn plan_need(state: &SessionState, document: &Document, text: &[u8], plan: Plan)
     match plan {
         Plan::HandOut { count, .. } => Need {
             text: count,
+            ..Need::none()
+        },
+        Plan::HandOutStyled { count, .. } => Need {
+            text: count.saturating_mul(2),
             ..Need::none()
         },
         Plan::Edit {

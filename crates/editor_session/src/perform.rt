@@ -15,8 +15,9 @@ ghost use Rattle.editor_session.specs.Tasks.{IsTask, recording, first_note};
 ghost use Rattle.editor_session.specs.Needs.{IsCounted};
 ghost use Rattle.editor_session.specs.Prepared.{IsPrepared};
 
-use crate::edits::{Replacement, copy_bytes, edit};
+use crate::edits::{Replacement, edit};
 use crate::find::Task;
+use crate::handing_out::{copy_bytes, copy_styled};
 use crate::prepare::Prepared;
 use ed_model::{Edit, Plan};
 use ed_types::{Bytes, Reply};
@@ -98,6 +99,16 @@ pub(crate) fn perform(
                 &mut handed_out,
             );
             notes.finish(value, Bytes::new(handed_out))
+        }
+        Plan::HandOutStyled { start, count } => {
+            copy_styled(
+                &state.documents,
+                task.document,
+                start,
+                count,
+                &mut handed_out,
+            );
+            notes.finish(handed_out.len() as i64, Bytes::new(handed_out))
         }
         Plan::Edit {
             edit: Edit::Replace {

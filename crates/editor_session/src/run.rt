@@ -6,10 +6,10 @@ ghost use Rattle.ed_types.specs.declared.script.Outcome.TheVariants.{Refused};
 ghost use Rattle.ed_model.specs.Session.{view_at};
 ghost use Rattle.ed_model.specs.Run.{starting, after_command, outcomes, run_to, loaded, file_at};
 ghost use Rattle.message_plans.specs.TableSoFar.{table_so_far};
-ghost use Rattle.editor_session.specs.Answers.{StopsWithin};
+ghost use Rattle.editor_session.specs.Answers.{AnswersBy, StopsWithin};
 
 use crate::session::Session;
-use ed_types::{Bytes, Command, Outcome, Refusal};
+use ed_types::{Bytes, Command, Kind, Outcome, Refusal, Reply};
 use std::alloc::{AllocError, Global};
 use std::marker::Model;
 
@@ -65,10 +65,10 @@ impl Run {
                 Ok(()) => Ok(self.done(0, Outcome::Closed)),
                 Err(refusal) => self.refused(refusal),
             },
-            Command::LoadFile { view, file } => {
-                let refusal = self.load(files, *view, *file);
-                self.refused(refusal)
-            }
+            Command::LoadFile { view, file } => match self.load(files, *view, *file) {
+                Ok(reply) => Ok(self.done(reply.value(), Outcome::Replied(reply))),
+                Err(refusal) => self.refused(refusal),
+            },
             Command::SendMessage { view, message } => match self.session.send(*view, message) {
                 Ok(reply) => Ok(self.done(reply.value(), Outcome::Replied(reply))),
                 Err(refusal) => self.refused(refusal),
@@ -126,16 +126,23 @@ impl Run {
         Ok(Outcome::Refused(refusal))
     }
 
-    /// Why a file is not loaded: loading sets the text, and there is no such message yet.
-    fn load(&self, files: &[Bytes], view: u32, file: u32) -> Refusal
-        ensures { loaded table_so_far self.now.session view (view_at self.now.session.views view) (file_at files.now file) ≡ Err result }
+    /// Sets the text of a view's document to that of a file.
+    ///
+    /// # Errors
+    ///
+    /// `NoSuchView`, then `BadArgument` where there is no such file; else those of the message that sets the text.
+    fn load(&mut self, files: &[Bytes], view: u32, file: u32) -> Result<Reply, Refusal>
+        ensures answer { AnswersBy (loaded table_so_far self.old.session view (view_at self.old.session.views view) (file_at files.now file)) self.old.session self.new.session result }
+        ensures value { self.new.value ≡ self.old.value }
     {
         if !self.session.has_view(view) {
-            return Refusal::NoSuchView;
+            return Err(Refusal::NoSuchView);
         }
         if file == 0 || file as usize > files.len() {
-            return Refusal::BadArgument;
+            return Err(Refusal::BadArgument);
         }
-        Refusal::UnknownMessage
+        let text = files[file as usize - 1].as_slice();
+        self.session
+            .send_lent(view, Kind::SetText.number(), 0, 0, text)
     }
 }

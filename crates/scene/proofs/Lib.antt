@@ -6,3 +6,9 @@ pub mod KindLemmas
 pub mod NotesOfSteps
 pub mod StepScenes
 pub mod NeedLemmas
+pub mod ChangeNotes
+pub mod ChangeSteps
+pub mod PerformedSoFar
+pub mod NeededSoFar
+pub mod LatestStep
+pub mod Regrouped

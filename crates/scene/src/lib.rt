@@ -8,11 +8,16 @@
 mod laws;
 mod moving;
 mod need;
+mod performing;
+mod regrouping;
 mod step_notes;
 mod steps;
 mod telling;
+mod undoing;
 
 pub use laws::needs_are_enough;
 pub use need::{NoteRoom, leaving_need, note_need};
+pub use regrouping::regroup;
 pub use steps::{StepBits, make_step, step_heard};
 pub use telling::{Audience, NoteText, attempt, count_hearers, count_watchers, tell};
+pub use undoing::{HistoryNeed, caret_after, history_need, perform_history};

@@ -1,7 +1,6 @@
 use Rattle.std.proofs.Common.{rules, length, ◌≡◌, to_z, of_z, w64, refl, ap, subst, Ok}
 use Rattle.ed_model.specs.PlansFit.{IsFitPlanned}
 use Rattle.ed_model.specs.Table.{plan_of}
-use Rattle.ed_types.specs.Messages.{marks_of}
 use Rattle.message_plans.specs.Requested.{session_in}
 use Rattle.editor_session.specs.Answers.{message_with}
 use Rattle.editor_session.specs.Tasks.{IsFound}
@@ -10,7 +9,7 @@ use Rattle.ed_model.specs.Session.{Document}
 use Rattle.editor_session.specs.Needs.{IsAbout}
 use Rattle.editor_session.specs.Edited.{IsWithin}
 use Rattle.editor_session.proofs.Performing.{fits_within}
-use Rattle.editor_session.proofs.KnownPlans.{known_plan, IsKnownPlan}
+use Rattle.editor_session.proofs.KnownPlans.{known_plan, IsPerformed}
 use Rattle.editor_session.proofs.find.find_task.Goals as goal
 
 -- src/find.rt:101:15
@@ -19,7 +18,7 @@ task_need-requires-clause-performed c =
     let r = c.in_ok-kind.request in
     let kind = c.in_ok-kind.kind in
     let planned : plan_of kind r ≡ Ok c.in_ok-plan.plan = search rules in
-    (subst (IsKnownPlan (marks_of kind).n) planned (known_plan kind r c.in_ok-kind.ensures.found.known)).0
+    subst IsPerformed planned (known_plan kind r c.in_ok-kind.ensures.found.known)
 
 -- src/find.rt:101:15
 pub task_need-requires-clause-within : goal.task_need-requires-clause-within
@@ -28,7 +27,7 @@ task_need-requires-clause-within c =
     let kind = c.in_ok-kind.kind in
     let planned : plan_of kind r ≡ Ok c.in_ok-plan.plan = search rules in
     let fit = subst (IsFitPlanned r) planned (c.plans_are_fit.ensures.in_range kind r c.in_ok-kind.ensures.found.sound) in
-    let performed = (subst (IsKnownPlan (marks_of kind).n) planned (known_plan kind r c.in_ok-kind.ensures.found.known)).0 in
+    let performed = subst IsPerformed planned (known_plan kind r c.in_ok-kind.ensures.found.known) in
     let document : r.document ≡ c.request.inside.document.now.document = search rules in
     subst (λ (d : Document). IsWithin c.in_ok-plan.plan (length d.cells) (length c.args.text.now)) document
     (subst (λ text. IsWithin c.in_ok-plan.plan (length r.document.cells) (length text)) (ap (λ (m : Message). m.text) c.in_ok-kind.ensures.found.message) (fits_within r c.in_ok-plan.plan performed fit))
@@ -51,7 +50,7 @@ returns-clause-found c =
       view_id = refl;
       document_id = search rules;
       recorded = search rules;
-      performed = (subst (IsKnownPlan (marks_of kind).n) planned (known_plan kind r c.in_ok-kind.ensures.found.known)).0;
+      performed = subst IsPerformed planned (known_plan kind r c.in_ok-kind.ensures.found.known);
       fit = subst (IsFitPlanned r) planned (c.plans_are_fit.ensures.in_range kind r c.in_ok-kind.ensures.found.sound);
       enough = (c.task_need.ensures.enough r about).enough;
       at_most = (c.task_need.ensures.enough r about).at_most;

@@ -1,4 +1,4 @@
-use Rattle.std.proofs.Common.{rules, to_z, of_z, w64, ◌≡◌, ◌≤◌, pos, [], ◌++◌, refl, ap, ◌∙◌, subst, arith}
+use Rattle.std.proofs.Common.{rules, length, ◌*◌, to_z, of_z, w64, ◌≡◌, ◌≤◌, pos, [], ◌++◌, refl, ap, ◌∙◌, subst, arith}
 use Rattle.std.specs.Prelude.{vec_len, vec_capacity}
 use Rattle.ed_model.specs.Performing.{response}
 use Rattle.ed_model.specs.declared.plan.Plan.TheVariants as plan
@@ -9,7 +9,7 @@ use Rattle.editor_session.specs.Tasks.{first_note}
 use Rattle.editor_session.specs.Needs.{text_of_plan}
 use Rattle.editor_session.specs.Edits.{CanEdit, Edits}
 use Rattle.editor_session.specs.declared.edits.Replacement.{Replacement}
-use Rattle.editor_session.proofs.Performing.{range_of, fit_of, for_kept, of_kept, of_room, can_edit, edit_answered, room_left, attempt_room, handed_out, attempted}
+use Rattle.editor_session.proofs.Performing.{range_of, fit_of, for_kept, of_kept, of_room, can_edit, edit_answered, room_left, attempt_room, handed_out, handed_out_styled, attempted}
 use Rattle.editor_session.proofs.perform.perform.Goals as goal
 
 pub copy_bytes-requires-clause-range : goal.copy_bytes-requires-clause-range
@@ -26,6 +26,32 @@ copy_bytes-requires-clause-room c =
     let there : a.task.now.need.text ≤ vec_capacity a.prepared.text = c.requires.prepared.text_room in
     let none : vec_len a.prepared.text ≡ 0 = search rules in
     omega (arith, n, there, none)
+
+pub copy_styled-requires-clause-range : goal.copy_styled-requires-clause-range
+copy_styled-requires-clause-range c =
+    let a = c.args in
+    let m = message_with a.number a.w a.l a.text.now in
+    let t = c.requires.task in
+    range_of a.state.now a.task.now.view m a.task.now c.requires.kept t c.in-HandOutStyled.start c.in-HandOutStyled.count (fit_of a.state.now a.task.now.view m a.task.now c.requires.kept t _ c.in-HandOutStyled.is)
+
+pub copy_styled-requires-clause-room : goal.copy_styled-requires-clause-room
+copy_styled-requires-clause-room c =
+    let a = c.args in
+    let n : a.task.now.need.text ≡ 2 * c.in-HandOutStyled.count = (c.requires.task.enough c.requires.counted).text_there ∙ ap text_of_plan c.in-HandOutStyled.is in
+    let there : a.task.now.need.text ≤ vec_capacity a.prepared.text = c.requires.prepared.text_room in
+    let none : vec_len a.prepared.text ≡ 0 = search rules in
+    omega (arith, n, there, none)
+
+pub returns-in-HandOutStyled-clause-answer : goal.returns-in-HandOutStyled-clause-answer
+returns-in-HandOutStyled-clause-answer c =
+    let a = c.args in
+    let m = message_with a.number a.w a.l a.text.now in
+    let p = c.in-HandOutStyled in
+    let same : message_with a.number (to_z w64 (of_z w64 a.w)) (to_z w64 (of_z w64 a.l)) a.text.now ≡ m = search rules in
+    let first : c.record.new.notes.notes ≡ a.prepared.notes.notes ++ first_note a.task.now.is_recorded a.task.now.view m = subst (λ x. c.record.new.notes.notes ≡ a.prepared.notes.notes ++ first_note a.task.now.is_recorded a.task.now.view x) same c.record.ensures.notes in
+    let reply : c.finish-in-HandOutStyled.result ≡ response (pos (length c.copy_styled.new.target.items)) c.copy_styled.new.target.items c.record.new.notes.notes = search rules in
+    rw reply (handed_out_styled a.state.now a.task.now.view m a.task.now c.requires.kept c.requires.task p.start p.count p.is a.prepared.text.items c.copy_styled.new.target.items a.prepared.notes.notes c.record.new.notes.notes
+    c.requires.prepared.text c.requires.prepared.notes first c.copy_styled.ensures)
 
 pub edit-requires-clause-can : goal.edit-requires-clause-can
 edit-requires-clause-can c =

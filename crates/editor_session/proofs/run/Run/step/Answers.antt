@@ -1,6 +1,10 @@
 use Rattle.std.proofs.Common.{rules, ◌≡◌, Some, None, Ok, Err, pos, OnOk, ◌∙◌}
-use Rattle.ed_types.specs.declared.script.Command.TheVariants.{OpenView, SendMessage}
+use Rattle.std.specs.Prelude.{Result}
+use Rattle.ed_types.specs.declared.script.Command.TheVariants.{OpenView, SendMessage, LoadFile}
+use Rattle.ed_types.specs.declared.refusal.Refusal.{Refusal}
 use Rattle.ed_types.specs.Notices.{Response}
+use Rattle.ed_model.specs.Session.{Session, view_at}
+use Rattle.ed_model.specs.Run.{loaded, file_at}
 use Rattle.ed_model.specs.Table.{table, opened}
 use Rattle.message_plans.specs.TableSoFar.{table_so_far}
 use Rattle.editor_session.specs.Answers.{AnswersBy}
@@ -19,14 +23,16 @@ returns-in-Err-send-clause-state c =
     let p = c.in-SendMessage in
     let run = c.args.self.now in
     let command : c.args.command.now ≡ SendMessage p.view p.message = search rules in
-    let answer : AnswersBy {R = Response} (table table_so_far run.session p.view p.message) run.session c.send.new.self (Err c.in-Err-send.refusal) = search rules in
+    let says = table table_so_far run.session p.view p.message in
+    let answer : AnswersBy {R = Response} says run.session c.send.new.self (Err c.in-Err-send.refusal) = search rules in
     let state : OnOk c.refused-in-Err-send.result (c.refused-in-Err-send.new.self ≡ record { session = c.send.new.self; value = None }) = search rules in
-    rw command (refused_state c.args.files.now run c.refused-in-Err-send.new.self p.view p.message c.send.new.self c.in-Err-send.refusal c.refused-in-Err-send.result answer c.refused-in-Err-send.ensures.memory state)
+    rw command (refused_state run c.refused-in-Err-send.new.self says c.send.new.self c.in-Err-send.refusal c.refused-in-Err-send.result answer c.refused-in-Err-send.ensures.memory state)
 
 pub returns-in-Err-send-clause-outcome : goal.returns-in-Err-send-clause-outcome
 returns-in-Err-send-clause-outcome c =
     let p = c.in-SendMessage in
     let run = c.args.self.now in
     let command : c.args.command.now ≡ SendMessage p.view p.message = search rules in
-    let answer : AnswersBy {R = Response} (table table_so_far run.session p.view p.message) run.session c.send.new.self (Err c.in-Err-send.refusal) = search rules in
-    rw command (refused_outcome c.args.files.now run p.view p.message c.send.new.self c.in-Err-send.refusal c.refused-in-Err-send.result answer c.refused-in-Err-send.ensures.memory c.refused-in-Err-send.ensures.outcome)
+    let says = table table_so_far run.session p.view p.message in
+    let answer : AnswersBy {R = Response} says run.session c.send.new.self (Err c.in-Err-send.refusal) = search rules in
+    rw command (refused_outcome run says c.send.new.self c.in-Err-send.refusal c.refused-in-Err-send.result answer c.refused-in-Err-send.ensures.memory c.refused-in-Err-send.ensures.outcome)

@@ -4,15 +4,13 @@ use Rattle.message_plans.specs.Requested.{session_in}
 use Rattle.editor_session.specs.Answers.{message_with}
 use Rattle.editor_session.specs.Plans.{is_free}
 use Rattle.editor_session.specs.Tasks.{IsTask}
-use Rattle.editor_session.proofs.TableWay.{refuses, free_task}
+use Rattle.editor_session.proofs.TableWay.{free_task}
 use Rattle.editor_session.proofs.Width.{wide_enough}
 use Rattle.editor_session.proofs.Keeping.{kept_with, kept_after_message}
 use Rattle.editor_session.proofs.session.Session.send_lent.Goals as goal
 
 pub returns-in-Err-clause-free : goal.returns-in-Err-clause-free
-returns-in-Err-clause-free c free =
-    let a = c.args in
-    refuses (session_in c.self.inside.state) a.view (message_with a.number (to_z w64 (of_z w64 a.w)) (to_z w64 (of_z w64 a.l)) a.text.now) c.in-Err.refusal c.in-Err.ensures.refused
+returns-in-Err-clause-free c free = c.in-Err.ensures.memory
 
 pub prepare-requires-clause-wide : goal.prepare-requires-clause-wide
 prepare-requires-clause-wide c =
