@@ -6,3 +6,5 @@ pub mod KindLemmas
 pub mod NotesOfSteps
 pub mod StepScenes
 pub mod NeedLemmas
+pub mod StepsInTurn
+pub mod ConversionNeeds

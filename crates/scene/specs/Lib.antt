@@ -3,3 +3,4 @@ pub mod Hearing
 pub mod Following
 pub mod Needs
 pub mod StepNotes
+pub mod Conversion

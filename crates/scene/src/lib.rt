@@ -5,6 +5,7 @@
 //! hears. All room is made before, so that a step cannot fail.
 #![tactic(auto)]
 
+mod conversion;
 mod laws;
 mod moving;
 mod need;
@@ -12,6 +13,7 @@ mod step_notes;
 mod steps;
 mod telling;
 
+pub use conversion::{ConversionNeed, conversion_need, convert};
 pub use laws::needs_are_enough;
 pub use need::{NoteRoom, leaving_need, note_need};
 pub use steps::{StepBits, make_step, step_heard};
