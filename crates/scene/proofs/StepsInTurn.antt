@@ -1,5 +1,5 @@
 -- Steps in turn, out of the room that was made for all of them.
-use Rattle.std.proofs.Common.{zero, suc, ◌≡◌, ◌≢◌, ℕ, ◌+◌, ◌-◌, ◌<◌, ◌≤◌, ◌==◌, Bool, true, false, cond, List, [], ◌∷◌, ◌++◌, length, take, drop, refl, ap, sym, ◌∙◌, subst, arith, slice_range}
+use Rattle.std.proofs.Common.{zero, suc, ◌≡◌, ℕ, ◌+◌, ◌<◌, ◌≤◌, ◌==◌, Bool, true, false, cond, List, [], ◌∷◌, ◌++◌, length, take, drop, refl, ap, sym, ◌∙◌, subst, arith, slice_range}
 use Rattle.std.proofs.lemmas.Bool.{lt-ltb, le-ltb}
 use Rattle.std.proofs.lemmas.List.{length-append, length-map, length-take, length-drop, map-append, take-map, drop-map}
 use Rattle.ed_model.specs.declared.plan.LineEnd.{LineEnd}
@@ -8,7 +8,7 @@ use Rattle.ed_model.specs.Text.{Cell, bytes_of, plain_cells}
 use Rattle.ed_model.specs.Steps.{Step, Insert, Delete, step_bytes, edited, edited_cells}
 use Rattle.ed_model.specs.LineEnds.{after_steps, conversion_steps, unwanted_from}
 use Rattle.ed_model.specs.History.{History, Transaction, Change, TextStep, appended, sealed_outside_groups, with_last_sealed}
-use Rattle.ed_model.specs.Session.{Document, View, text_of, watching}
+use Rattle.ed_model.specs.Session.{Document, text_of, watching}
 use Rattle.ed_model.specs.Performing.{Scene, step_made, steps_made, edit_made, sealed_scene}
 use Rattle.document.specs.declared.room.DocumentRoom.{DocumentRoom}
 use Rattle.document.specs.declared.text_step.TextStep.TheVariants as lent
@@ -181,11 +181,11 @@ same_bytes law (s ∷ steps) scene = (law (s ∷ steps) scene).1
 
 pub can_when_sealed : SealingNeedsTheSame → (steps : List Step) (k k' : Kept) (v : Entries KeptView) (n : Gathered) → k' ≡ sealed_kept k → CanMakeSteps steps k v n → CanMakeSteps steps k' v n
 can_when_sealed law steps k k' v n e can = subst (λ x. CanMakeSteps steps x v n) (sym e) (record {
-      watched = watched_with_history k.document (sealed_outside_groups k.document.history) v can.watched;
-      room = (can.room.0, λ on. can.room.1 (sym (sealed_collects k.document.history) ∙ on));
-      notes_there = subst (λ m. m ≤ n.note_room) (sym (same_notes law steps (scene_in k.document v.entries n.notes))) can.notes_there;
-      texts_there = subst (λ m. m ≤ n.text_room) (sym (same_bytes law steps (scene_in k.document v.entries n.notes))) can.texts_there;
-    })
+  watched = watched_with_history k.document (sealed_outside_groups k.document.history) v can.watched;
+  room = (can.room.0, λ on. can.room.1 (sym (sealed_collects k.document.history) ∙ on));
+  notes_there = subst (λ m. m ≤ n.note_room) (sym (same_notes law steps (scene_in k.document v.entries n.notes))) can.notes_there;
+  texts_there = subst (λ m. m ≤ n.text_room) (sym (same_bytes law steps (scene_in k.document v.entries n.notes))) can.texts_there;
+})
 
 pub watched_when_sealed : (k k' : Kept) (v : Entries KeptView) → k' ≡ sealed_kept k → IsWatched k.document v → IsWatched k'.document v
 watched_when_sealed k k' v e w = subst (λ x. IsWatched x.document v) (sym e) (watched_with_history k.document (sealed_outside_groups k.document.history) v w)

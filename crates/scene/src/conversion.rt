@@ -103,12 +103,7 @@ fn take_unwanted(
 }
 
 // Makes all steps, one after the other.
-fn make_all(
-    document: &mut Document,
-    views: &mut IdTable<View>,
-    notes: &mut NoteList,
-    to: LineEnd,
-)
+fn make_all(document: &mut Document, views: &mut IdTable<View>, notes: &mut NoteList, to: LineEnd)
     requires { CanMakeSteps (conversion_steps to (text_of document.old.document)) document.old views.old notes.old }
     ensures scene { scene_in document.new.document views.new.entries notes.new.notes ≡ steps_made false (conversion_steps to (text_of document.old.document)) (scene_in document.old.document views.old.entries notes.old.notes) }
     ensures watched { IsWatched document.new.document views.new }
@@ -226,11 +221,7 @@ fn need_of_deletions(document: &Document, views: &IdTable<View>, to: LineEnd) ->
 }
 
 /// Returns what a conversion to this kind of line end needs: nothing, if it has no step.
-pub fn conversion_need(
-    document: &Document,
-    views: &IdTable<View>,
-    to: LineEnd,
-) -> ConversionNeed
+pub fn conversion_need(document: &Document, views: &IdTable<View>, to: LineEnd) -> ConversionNeed
     requires named { AreNamed views.now.entries }
     ensures notes { result.notes ≡ capped_notes (notes_for (conversion_steps to (text_of document.now.document)) (scene_in document.now.document views.now.entries [])) (bytes_for (conversion_steps to (text_of document.now.document)) (scene_in document.now.document views.now.entries [])) }
     ensures document { result.document ≡ capped_room (room_of_steps document.now.document.line_end_types (conversion_steps to (text_of document.now.document))) }

@@ -1,4 +1,4 @@
-use Rattle.std.proofs.Common.{◌+◌, ap, sym, ◌∙◌, length, slice_range, arith, length-append}
+use Rattle.std.proofs.Common.{◌+◌, ap, sym, ◌∙◌, length, slice_range}
 use Rattle.ed_model.specs.Session.{text_of}
 use Rattle.scene.specs.Scenes.{watchers}
 use Rattle.scene.specs.Conversion.{capped_room, deletions_of, room_of_many}
