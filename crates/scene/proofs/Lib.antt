@@ -12,3 +12,5 @@ pub mod PerformedSoFar
 pub mod NeededSoFar
 pub mod LatestStep
 pub mod Regrouped
+pub mod StepsInTurn
+pub mod ConversionNeeds

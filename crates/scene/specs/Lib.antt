@@ -6,3 +6,4 @@ pub mod StepNotes
 pub mod Undoing
 pub mod Turns
 pub mod Performed
+pub mod Conversion

@@ -5,6 +5,7 @@
 //! hears. All room is made before, so that a step cannot fail.
 #![tactic(auto)]
 
+mod conversion;
 mod laws;
 mod moving;
 mod need;
@@ -15,6 +16,7 @@ mod steps;
 mod telling;
 mod undoing;
 
+pub use conversion::{ConversionNeed, conversion_need, convert};
 pub use laws::needs_are_enough;
 pub use need::{NoteRoom, leaving_need, note_need};
 pub use regrouping::regroup;
