@@ -1,6 +1,7 @@
 -- Sessions, and results.
 use Rattle.std.proofs.Common.{◌≡◌, ◌≢◌, ℕ, ◌+◌, ◌-◌, ◌<◌, ◌≤◌, ◌==◌, ◌^◌, Bool, true, false, cond, List, [], ◌∷◌, ◌++◌, map, length, refl, ap, sym, ◌∙◌, subst, arith, Option, Some, None, option_map, Ok, Err, OnOk, IfSome, IsSomeAnd, ◌&&◌}
-use Rattle.std.specs.Prelude.{Result, Vec, vec_capacity, filter, find, nat_le, nat_lt, if◌then◌else◌}
+use Rattle.std.specs.Global.{Vec}
+use Rattle.std.specs.Prelude.{Result, vec_capacity, filter, find, nat_le, nat_lt, if◌then◌else◌}
 use Rattle.std.specs.List.{AllByRecursion, range_with_len}
 use Rattle.std.proofs.lemmas.Bool.{eq-eqb, ne_eqb}
 use Rattle.std.proofs.lemmas.Bool.Decides.{nat_tests}
@@ -138,9 +139,9 @@ pub references_few : (s : SessionState) (r : Request) (id : ℕ) → IsKept s �
     → IsSomeAnd (value_at s.documents.entries id) (λ k. k.document.held_by_callers + 1 < 2 ^ 32)
 references_few s r id kept is fit =
     let d = fit.0 in
-    let at : document_at (session_in s).documents id ≡ Some d = ap (λ (x : Session). document_at x.documents id) (sym is) ∙ fit.1.0 in
+    let at : document_at (session_in s).documents id ≡ Some d = ap (λ (x : Session). document_at x.documents id) (sym is) ∙ fit.1 in
     let there = kept_as document_in id_of_document s.documents.entries id d kept.documents at in
-    let few : references d < s.limits.refs = subst (λ (x : Session). references d < x.limits.refs) is fit.1.1 in
+    let few : references d < s.limits.refs = subst (λ (x : Session). references d < x.limits.refs) is fit.2 in
     let held : there.value.document.held_by_callers ≡ d.held_by_callers = ap (λ (x : Document). x.held_by_callers) there.is in
     let less : there.value.document.held_by_callers + 1 < 2 ^ 32 = omega (arith, few, held_few s.limits kept.limits, held) in
     subst (λ o. IsSomeAnd o (λ k. k.document.held_by_callers + 1 < 2 ^ 32)) (sym there.there) less
@@ -180,8 +181,8 @@ none_listed views v view document [] found other all = tt
 none_listed views v view document (id ∷ ids) found other all = (
   (λ e. (let listed = all.0 in
       let w = listed.0 in
-      let at : view_at views id ≡ Some w = listed.1.0 in
-      let on : w.document ≡ document = listed.1.1 in
+      let at : view_at views id ≡ Some w = listed.1 in
+      let on : w.document ≡ document = listed.2 in
       let here : view_at views id ≡ Some v = ap (view_at views) e ∙ found in
       let same : w ≡ v = cc in
       other (sym on ∙ ap (λ (x : View). x.document) same))),
@@ -204,7 +205,7 @@ pub can_attach : (s : SessionState) (document view to : ℕ) (r : Request) → I
     → IfSome (value_at s.documents.entries to) (λ k. 0 < k.spare.views) → CanMove s.documents document view to
 can_attach s document view to r kept asked fit place =
     let d = fit.0 in
-    let at : document_at (session_in s).documents to ≡ Some d = ap (λ (x : Session). document_at x.documents to) (sym asked.session) ∙ fit.1.0 in
+    let at : document_at (session_in s).documents to ≡ Some d = ap (λ (x : Session). document_at x.documents to) (sym asked.session) ∙ fit.1 in
     let there = kept_as document_in id_of_document s.documents.entries to d kept.documents at in
     record {
       named = kept.documents;
