@@ -15,14 +15,12 @@ use Rattle.document.specs.Kept.{Kept, document_room, no_room, HasRoom}
 use Rattle.scene.specs.declared.need.NoteRoom.{NoteRoom}
 use Rattle.scene.specs.Scenes.{scene_in, IsWatched}
 use Rattle.scene.specs.Needs.{note_room, notes_needed, bytes_needed}
+pub use Rattle.scene.specs.Undoing.{both_rooms, capped, capped_room, capped_notes}
 
 -- what a step needs of its document
 abbrev pub room_of_step : LineEndTypes → Step → DocumentRoom
 room_of_step types (Insert place bytes) = document_room (length bytes) (lines_for_insertion types bytes) 1 1 (length bytes)
 room_of_step types (Delete place bytes) = document_room 0 lines_for_deletion 0 1 (length bytes)
-
-abbrev pub both_rooms : DocumentRoom → DocumentRoom → DocumentRoom
-both_rooms a b = document_room (a.text + b.text) (a.lines + b.lines) (a.insertions + b.insertions) (a.steps + b.steps) (a.bytes + b.bytes)
 
 -- and steps in turn
 abbrev pub room_of_steps : LineEndTypes → List Step → DocumentRoom
@@ -37,16 +35,6 @@ notes_for (step ∷ steps) scene = notes_needed scene (step ∷ steps)
 abbrev pub bytes_for : List Step → Scene → ℕ
 bytes_for [] scene = 0
 bytes_for (step ∷ steps) scene = bytes_needed scene (step ∷ steps)
-
--- an amount, or the greatest that can be asked for
-abbrev pub capped : ℕ → ℕ
-capped amount = min amount (2 ^ 64 - 1)
-
-abbrev pub capped_room : DocumentRoom → DocumentRoom
-capped_room need = document_room (capped need.text) (capped need.lines) (capped need.insertions) (capped need.steps) (capped need.bytes)
-
-abbrev pub capped_notes : ℕ → ℕ → NoteRoom
-capped_notes notes bytes = note_room (capped notes) (capped bytes)
 
 -- there is room for the steps
 pub record CanMakeSteps (steps : List Step) (k : Kept) (views : Entries KeptView) (notes : Gathered) : Type 0 where
