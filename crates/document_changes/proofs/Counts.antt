@@ -74,7 +74,6 @@ none_added line numbers d h none =
 
 -- A marker that goes by its handle.
 
-
 kept_all : (handle : ℕ) (ms : List Marker) → length (filter (λ (m : Marker). m.handle == handle) ms) ≡ 0
     → length (filter (λ (m : Marker). not (m.handle == handle)) ms) ≡ length ms
 kept_all handle [] h = refl

@@ -1,16 +1,17 @@
 -- What a change needs: notes, and room in its document.
-use Rattle.std.specs.Prelude.{◌≡◌, ◌≤◌, ◌<◌, ℕ, Bool, true, false, List, length, bit_or, Some}
+use Rattle.std.specs.Prelude.{◌≡◌, ◌≤◌, ◌<◌, ◌+◌, max, ℕ, Bool, true, false, List, length, bit_or, Some}
 use Rattle.ed_model.specs.declared.plan.DocumentChange.{DocumentChange}
 use Rattle.ed_model.specs.declared.plan.DocumentChange.TheVariants as change
 use Rattle.ed_model.specs.History.{History}
 use Rattle.ed_model.specs.LinePlans.{numbers_in}
 use Rattle.ed_model.specs.Notes as notes
-use Rattle.ed_model.specs.Session.{View, text_of}
+use Rattle.ed_model.specs.Session.{View, Document, text_of}
 use Rattle.line_index.specs.declared.edit.LineEdit.{LineEdit}
 use Rattle.line_index.specs.Edits.{fresh_lines}
 use Rattle.line_index.specs.Settings.{edits_of_setting}
 use Rattle.document.specs.Changes.{CanStyle, container_need}
-use Rattle.document.specs.Kept.{Kept, HasHistoryRoom}
+use Rattle.document.specs.declared.room.DocumentRoom.{DocumentRoom}
+use Rattle.document.specs.Kept.{Kept, ChangeRoom, HasHistoryRoom, document_room, no_room}
 use Rattle.scene.specs.Hearing.{hearers}
 use Rattle.scene.specs.Needs.{leaving_count}
 
@@ -45,6 +46,23 @@ IsReady k (change.StyleRun count style) edits = CanStyle k
 IsReady k (change.StyleBytes count) edits = CanStyle k
 IsReady k (change.FillIndicator indicator start count value) edits = k.spare.fill ≡ Some indicator
 IsReady k other edits = Unit {0}
+
+-- How much room for steps it needs; and what else there is room for once there is enough for it, where styles are stored or not.
+
+abbrev pub room_for : Document → DocumentChange → DocumentRoom
+room_for d (change.SetLineEndTypes to) = document_room 0 (fresh_lines (edits_of_setting d.line_end_types to (text_of d))) 0 0 0
+room_for d (change.AppendContainer token coalesce) = container_need
+room_for d other = no_room
+
+abbrev pub spare_for : DocumentChange → Bool → ChangeRoom → ChangeRoom
+spare_for (change.AddMarker line number) styles s = record s { markers = max s.markers 1 }
+spare_for (change.AddMarkers line mask) styles s = record s { markers = max s.markers (length (numbers_in mask)) }
+spare_for (change.SetLevel line level) styles s = record s { levels = max s.levels (line + 1) }
+spare_for (change.SetState line state) styles s = record s { states = max s.states (line + 1) }
+spare_for (change.StyleRun count style) styles s = record s { styles = styles }
+spare_for (change.StyleBytes count) styles s = record s { styles = styles }
+spare_for (change.FillIndicator indicator start count value) styles s = record s { fill = Some indicator }
+spare_for other styles s = s
 
 -- whether it needs room in its document
 abbrev pub needs_room : DocumentChange → Bool

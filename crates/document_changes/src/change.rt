@@ -10,7 +10,9 @@ ghost use Rattle.document_changes.specs.Fit.{IsFitChange, bytes_read};
 ghost use Rattle.document_changes.specs.Needs.{IsReady, notes_of_change};
 
 use crate::history_changes::{append_container, change_quietly, set_save_point};
-use crate::marker_changes::{add_marker, add_markers, delete_handle, delete_marker, delete_markers};
+use crate::marker_changes::{
+    add_marker, add_markers, delete_handle, delete_marker, delete_markers,
+};
 use crate::ready::ChangeReady;
 use crate::row_changes::{set_level, set_state};
 use crate::style_changes::{fill_indicator, need_style, style_bytes, style_run};

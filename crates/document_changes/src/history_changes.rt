@@ -56,11 +56,7 @@ pub(crate) fn change_quietly(document: &mut Document, change: DocumentChange)
 }
 
 /// Makes this the save point, and tells each view so. There must be room for as many notes.
-pub(crate) fn set_save_point(
-    document: &mut Document,
-    views: &IdTable<View>,
-    notes: &mut NoteList,
-)
+pub(crate) fn set_save_point(document: &mut Document, views: &IdTable<View>, notes: &mut NoteList)
     requires watched { IsWatched document.old.document views.now }
     requires room { length (watchers document.old.document views.now) ≤ notes.old.note_room }
     ensures { (text : List ℕ) (sender : ℕ) → IsChanged text change.SetSavePoint sender document.old.document document.new.document views.now views.now notes.old notes.new }

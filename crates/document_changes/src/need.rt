@@ -4,7 +4,9 @@ ghost use Rattle.std.specs.Prelude.{◌≡◌};
 ghost use Rattle.scene.specs.Scenes.{watchers, AreNamed};
 ghost use Rattle.document_changes.specs.Needs.{notes_of_change};
 
-use crate::telling::{CHANGE_FOLD, CHANGE_INDICATOR, CHANGE_LINE_STATE, CHANGE_MARKER, CHANGE_STYLE};
+use crate::telling::{
+    CHANGE_FOLD, CHANGE_INDICATOR, CHANGE_LINE_STATE, CHANGE_MARKER, CHANGE_STYLE,
+};
 use document::Document;
 use ed_model::DocumentChange;
 use ed_view::View;
@@ -12,11 +14,7 @@ use id_table::IdTable;
 use scene::{count_hearers, count_watchers, leaving_need};
 
 /// Returns how many notes a change of the document tells at most. They share no text.
-pub fn change_note_need(
-    document: &Document,
-    views: &IdTable<View>,
-    change: DocumentChange,
-) -> usize
+pub fn change_note_need(document: &Document, views: &IdTable<View>, change: DocumentChange) -> usize
     requires named { AreNamed views.now.entries }
     ensures { result ≡ notes_of_change change document.now.document.history (watchers document.now.document views.now) }
 {

@@ -1,10 +1,10 @@
 //! Room for a change in its document.
 
-ghost use Rattle.std.specs.Prelude.{◌≡◌, [], false, IfOk, IsOk, OnOk};
+ghost use Rattle.std.specs.Prelude.{◌≡◌, [], false, IfOk, IsOk, OnOk, OnErr};
 ghost use Rattle.ed_model.specs.declared.plan.DocumentChange.TheVariants as change;
-ghost use Rattle.document.specs.Kept.{TakesRoom, no_room};
+ghost use Rattle.document.specs.Kept.{IsAtMost, TakesRoom, no_room};
 ghost use Rattle.document_changes.specs.Fit.{IsFitChange};
-ghost use Rattle.document_changes.specs.Needs.{IsReady, is_of_types, needs_room};
+ghost use Rattle.document_changes.specs.Needs.{IsReady, is_of_types, needs_room, room_for, spare_for};
 
 use document::{Document, DocumentRoom, count_numbers};
 use ed_model::{DocumentChange, LineEndTypes};
@@ -36,6 +36,9 @@ fn reserve_types(
     ensures same { document.new.document ≡ document.old.document }
     ensures ready { IfOk result (λ ready. IsReady document.new (change.SetLineEndTypes types) ready) }
     ensures room_stays { TakesRoom document.old.room document.new.room no_room }
+    ensures at_most { IsAtMost document.new.room document.old.room (room_for document.old.document (change.SetLineEndTypes types)) }
+    ensures spare { OnOk result (document.new.spare ≡ spare_for (change.SetLineEndTypes types) document.new.spare.styles document.old.spare) }
+    ensures err { OnErr result (document.new.spare ≡ document.old.spare) }
 {
     let _ = document.len(); // it says that lines are few
     let edits = document.line_type_edits(alloc, types)?;
@@ -51,6 +54,9 @@ fn reserve_other(document: &mut Document, change: DocumentChange) -> Result<(), 
     ensures ready { OnOk result (IsReady document.new change []) }
     ensures free { needs_room change ≡ false → IsOk result × (document.new ≡ document.old) }
     ensures room_stays { TakesRoom document.old.room document.new.room no_room }
+    ensures at_most { IsAtMost document.new.room document.old.room (room_for document.old.document change) }
+    ensures spare { OnOk result (document.new.spare ≡ spare_for change document.new.spare.styles document.old.spare) }
+    ensures err { OnErr result (document.new.spare ≡ document.old.spare) }
 {
     let _ = document.len(); // it says that no text grows too long
     let _ = document.line_count(); // and that lines are few
@@ -87,6 +93,9 @@ pub fn reserve_change(
     ensures ready { IfOk result (λ ready. IsReady document.new change ready) }
     ensures free { needs_room change ≡ false → IsOk result × (document.new ≡ document.old) }
     ensures room_stays { TakesRoom document.old.room document.new.room no_room }
+    ensures at_most { IsAtMost document.new.room document.old.room (room_for document.old.document change) }
+    ensures spare { OnOk result (document.new.spare ≡ spare_for change document.new.spare.styles document.old.spare) }
+    ensures err { OnErr result (document.new.spare ≡ document.old.spare) }
 {
     if let DocumentChange::SetLineEndTypes { to } = change {
         return reserve_types(alloc, document, to);

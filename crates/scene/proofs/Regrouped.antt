@@ -178,7 +178,7 @@ module _ (d : Document) (to : LineEndTypes) where
       followed_through nowhere setting d.views 0 table.next vs w.rise
       ∙ map_all (through nowhere setting d.views) changed vs
       (all_pairs (λ v. view_at vs v.id ≡ Some v) (StandsIfOn d) (λ v. through nowhere setting d.views v ≡ changed v) vs (λ v found stand. each v found stand (v.document == d.id) refl)
-          (each_found 0 table.next vs w.rise) w.stand)
+      (each_found 0 table.next vs w.rise) w.stand)
     where
       each : (v : View) → view_at (views_of table.entries) v.id ≡ Some v → StandsIfOn d v → (b : Bool) → (v.document == d.id) ≡ b
           → through nowhere setting d.views v ≡ cond b (regrouped_view v) v

@@ -22,10 +22,10 @@ pub returns-in-SetSavePoint : goal.returns-in-SetSavePoint
 returns-in-SetSavePoint c = rw c.in-SetSavePoint.is (c.set_save_point.ensures c.args.text.now c.args.sender)
 
 pub returns-in-AppendContainer : goal.returns-in-AppendContainer
-returns-in-AppendContainer c = 
+returns-in-AppendContainer c =
     let fits : SFits w64 c.in-AppendContainer.token = search rules in
     rw c.in-AppendContainer.is (subst (λ (z : ℤ). IsChanged c.args.text.now (change.AppendContainer z c.in-AppendContainer.coalesce) c.args.sender c.args.document.now.document c.append_container.new.document.document c.args.views.now c.args.views.now c.args.notes.now c.append_container.new.notes)
-        (to_z-of_z w64 c.in-AppendContainer.token fits) (c.append_container.ensures c.args.text.now c.args.sender))
+    (to_z-of_z w64 c.in-AppendContainer.token fits) (c.append_container.ensures c.args.text.now c.args.sender))
 
 pub returns-in-AddMarker : goal.returns-in-AddMarker
 returns-in-AddMarker c = rw c.in-AddMarker.is (c.add_marker.ensures c.args.text.now c.args.sender)
@@ -46,10 +46,10 @@ pub returns-in-SetLevel : goal.returns-in-SetLevel
 returns-in-SetLevel c = rw c.in-SetLevel.is (c.set_level.ensures c.args.text.now c.args.sender)
 
 pub returns-in-SetState : goal.returns-in-SetState
-returns-in-SetState c = 
+returns-in-SetState c =
     let fits : SFits w64 c.in-SetState.state = search rules in
     rw c.in-SetState.is (subst (λ (z : ℤ). IsChanged c.args.text.now (change.SetState c.in-SetState.line z) c.args.sender c.args.document.now.document c.set_state.new.document.document c.args.views.now c.args.views.now c.args.notes.now c.set_state.new.notes)
-        (to_z-of_z w64 c.in-SetState.state fits) (c.set_state.ensures c.args.text.now c.args.sender))
+    (to_z-of_z w64 c.in-SetState.state fits) (c.set_state.ensures c.args.text.now c.args.sender))
 
 pub returns-in-StyleRun : goal.returns-in-StyleRun
 returns-in-StyleRun c = rw c.in-StyleRun.is (c.style_run.ensures c.args.text.now c.args.sender)

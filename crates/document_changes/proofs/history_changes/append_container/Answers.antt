@@ -21,8 +21,8 @@ returns-then-is_left c = λ text sender.
     ∙ ap (λ (z : ℤ). changed_document text (change.AppendContainer z c.args.coalesce) d) (to_z-of_z w64 c.args.token c.ranges.token) in
     is_changed text (change.AppendContainer c.args.token c.args.coalesce) sender d _ c.args.views.now c.args.notes.now _ refl c.requires.watched made
     (λ v _. subst (λ (ts : List Notice). AreTold ts c.args.notes.now c.tell_all.new.notes)
-        (sym (choose_true (d.history.collecting && at_save_point d.history) (told views (blank save_point_left)) [] (sym c.leaves_save_point-is_left.ensures ∙ c.if-is_left.true)))
-        (rw made at c.tell_all.ensures))
+    (sym (choose_true (d.history.collecting && at_save_point d.history) (told views (blank save_point_left)) [] (sym c.leaves_save_point-is_left.ensures ∙ c.if-is_left.true)))
+    (rw made at c.tell_all.ensures))
 
 pub returns-else-is_left : goal.returns-else-is_left
 returns-else-is_left c = λ text sender.
@@ -32,5 +32,5 @@ returns-else-is_left c = λ text sender.
     ∙ ap (λ (z : ℤ). changed_document text (change.AppendContainer z c.args.coalesce) d) (to_z-of_z w64 c.args.token c.ranges.token) in
     is_changed text (change.AppendContainer c.args.token c.args.coalesce) sender d _ c.args.views.now c.args.notes.now _ refl c.requires.watched made
     (λ v _. subst (λ (ts : List Notice). AreTold ts c.args.notes.now c.args.notes.now)
-        (sym (choose_false (d.history.collecting && at_save_point d.history) (told views (blank save_point_left)) [] (sym c.leaves_save_point-is_left.ensures ∙ c.if-is_left.false)))
-        (told_nothing c.args.notes.now))
+    (sym (choose_false (d.history.collecting && at_save_point d.history) (told views (blank save_point_left)) [] (sym c.leaves_save_point-is_left.ensures ∙ c.if-is_left.false)))
+    (told_nothing c.args.notes.now))

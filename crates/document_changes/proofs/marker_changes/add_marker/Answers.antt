@@ -16,5 +16,5 @@ returns c = λ text sender.
     let numbers = c.args.number ∷ [] in
     is_changed text (change.AddMarker c.args.line c.args.number) sender d _ c.args.views.now c.args.notes.now _ refl c.requires.watched made
     (λ v _. rw made (subst (λ (ts : List Notice). AreTold ts c.args.notes.now c.tell_markers.new.notes)
-        (marker_told c.args.line d (with_new_markers c.args.line numbers d) (watchers d c.args.views.now) (some_added c.args.line numbers d within (omega arith)))
-        (rw made at c.tell_markers.ensures)))
+    (marker_told c.args.line d (with_new_markers c.args.line numbers d) (watchers d c.args.views.now) (some_added c.args.line numbers d within (omega arith)))
+    (rw made at c.tell_markers.ensures)))

@@ -20,8 +20,8 @@ returns-then-count_numbers-gt0 c = λ text sender.
     let some = c.if-count_numbers-gt0.true in
     is_changed text (change.AddMarkers c.args.line c.args.mask) sender d _ c.args.views.now c.args.notes.now _ refl c.requires.watched made
     (λ v _. rw made (subst (λ (ts : List Notice). AreTold ts c.args.notes.now c.tell_markers.new.notes)
-        (marker_told c.args.line d (with_new_markers c.args.line numbers d) (watchers d c.args.views.now) (some_added c.args.line numbers d within (omega arith)))
-        (rw made at c.tell_markers.ensures)))
+    (marker_told c.args.line d (with_new_markers c.args.line numbers d) (watchers d c.args.views.now) (some_added c.args.line numbers d within (omega arith)))
+    (rw made at c.tell_markers.ensures)))
 
 pub returns-else-count_numbers-gt0 : goal.returns-else-count_numbers-gt0
 returns-else-count_numbers-gt0 c = λ text sender.
@@ -33,5 +33,5 @@ returns-else-count_numbers-gt0 c = λ text sender.
     let none = c.if-count_numbers-gt0.false in
     is_changed text (change.AddMarkers c.args.line c.args.mask) sender d _ c.args.views.now c.args.notes.now _ refl c.requires.watched made
     (λ v _. rw made (subst (λ (ts : List Notice). AreTold ts c.args.notes.now c.args.notes.now)
-        (marker_untold c.args.line d (with_new_markers c.args.line numbers d) (watchers d c.args.views.now) (none_added c.args.line numbers d within (omega arith)))
-        (told_nothing c.args.notes.now)))
+    (marker_untold c.args.line d (with_new_markers c.args.line numbers d) (watchers d c.args.views.now) (none_added c.args.line numbers d within (omega arith)))
+    (told_nothing c.args.notes.now)))

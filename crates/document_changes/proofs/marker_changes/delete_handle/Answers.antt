@@ -33,8 +33,8 @@ returns-in-Some c = λ text sender.
     let line = line_with_handle c.args.handle 0 d.rows in
     is_changed text what sender d _ c.args.views.now c.args.notes.now _ refl c.requires.watched made
     (λ v _. rw made (subst (λ (ts : List Notice). AreTold ts c.args.notes.now c.tell_markers.new.notes)
-        (ap (λ l. heard views (marker_notice d l)) (sym left.1) ∙ marker_told line d new views left.0)
-        (rw made at c.tell_markers.ensures)))
+    (ap (λ l. heard views (marker_notice d l)) (sym left.1) ∙ marker_told line d new views left.0)
+    (rw made at c.tell_markers.ensures)))
 
 pub returns-in_default : goal.returns-in_default
 returns-in_default c = λ text sender.
@@ -46,5 +46,5 @@ returns-in_default c = λ text sender.
     let none = left_none _ _ (rw made at (sym c.delete_handle.ensures.line ∙ c.in_default.is)) in
     is_changed text what sender d _ c.args.views.now c.args.notes.now _ refl c.requires.watched made
     (λ v _. rw made (subst (λ (ts : List Notice). AreTold ts c.args.notes.now c.args.notes.now)
-        (marker_untold (line_with_handle c.args.handle 0 d.rows) d new views none)
-        (told_nothing c.args.notes.now)))
+    (marker_untold (line_with_handle c.args.handle 0 d.rows) d new views none)
+    (told_nothing c.args.notes.now)))

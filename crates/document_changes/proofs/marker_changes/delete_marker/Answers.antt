@@ -17,8 +17,8 @@ returns-then-delete_marker c = λ text sender.
     let went = rw made at (sym c.delete_marker.ensures.went ∙ c.if-delete_marker.true) in
     is_changed text what sender d _ c.args.views.now c.args.notes.now _ refl c.requires.watched made
     (λ v _. rw made (subst (λ (ts : List Notice). AreTold ts c.args.notes.now c.tell_markers.new.notes)
-        (marker_told c.args.line d (changed_document [] what d) (watchers d c.args.views.now) (not_true _ went))
-        (rw made at c.tell_markers.ensures)))
+    (marker_told c.args.line d (changed_document [] what d) (watchers d c.args.views.now) (not_true _ went))
+    (rw made at c.tell_markers.ensures)))
 
 pub returns-else-delete_marker : goal.returns-else-delete_marker
 returns-else-delete_marker c = λ text sender.
@@ -28,5 +28,5 @@ returns-else-delete_marker c = λ text sender.
     let went = rw made at (sym c.delete_marker.ensures.went ∙ c.if-delete_marker.false) in
     is_changed text what sender d _ c.args.views.now c.args.notes.now _ refl c.requires.watched made
     (λ v _. rw made (subst (λ (ts : List Notice). AreTold ts c.args.notes.now c.args.notes.now)
-        (marker_untold c.args.line d (changed_document [] what d) (watchers d c.args.views.now) (not_false _ went))
-        (told_nothing c.args.notes.now)))
+    (marker_untold c.args.line d (changed_document [] what d) (watchers d c.args.views.now) (not_false _ went))
+    (told_nothing c.args.notes.now)))

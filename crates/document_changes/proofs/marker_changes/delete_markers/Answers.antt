@@ -25,8 +25,8 @@ returns-then-delete_markers c = λ text sender.
     ap (λ (m : Notice). record m { line = negsuc 0 }) (c.change_note-note.ensures.note []) in
     is_changed text what sender d _ c.args.views.now c.args.notes.now _ refl c.requires.watched made
     (λ v _. rw made (subst (λ (ts : List Notice). AreTold ts c.args.notes.now c.tell_heard.new.notes)
-        (ap (λ (m : Notice). heard views m) is ∙ sym (choose_false (marker_count d.rows == marker_count new.rows) [] (heard views n) (not_true _ went)))
-        (rw made at c.tell_heard.ensures)))
+    (ap (λ (m : Notice). heard views m) is ∙ sym (choose_false (marker_count d.rows == marker_count new.rows) [] (heard views n) (not_true _ went)))
+    (rw made at c.tell_heard.ensures)))
 
 pub returns-else-delete_markers : goal.returns-else-delete_markers
 returns-else-delete_markers c = λ text sender.
@@ -39,5 +39,5 @@ returns-else-delete_markers c = λ text sender.
     let n = let m = change_note change_marker in record m { line = negsuc 0 } in
     is_changed text what sender d _ c.args.views.now c.args.notes.now _ refl c.requires.watched made
     (λ v _. rw made (subst (λ (ts : List Notice). AreTold ts c.args.notes.now c.args.notes.now)
-        (sym (choose_true (marker_count d.rows == marker_count new.rows) [] (heard views n) (not_false _ went)))
-        (told_nothing c.args.notes.now)))
+    (sym (choose_true (marker_count d.rows == marker_count new.rows) [] (heard views n) (not_false _ went)))
+    (told_nothing c.args.notes.now)))

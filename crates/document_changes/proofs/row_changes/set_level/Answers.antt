@@ -33,8 +33,8 @@ returns-then-before-level c = λ text sender.
     ∙ ap (λ (m : Notice). record m { now = pos c.args.level; prev = pos old }) (c.line_note-note.ensures.note []) in
     is_changed text (change.SetLevel c.args.line c.args.level) sender d _ c.args.views.now c.args.notes.now _ refl c.requires.watched made
     (λ v _. subst (λ (ts : List Notice). AreTold ts c.args.notes.now c.tell_heard.new.notes)
-        (ap (λ (m : Notice). heard views m) is ∙ sym (choose_false (old == c.args.level) [] (heard views n) other))
-        (rw made at c.tell_heard.ensures))
+    (ap (λ (m : Notice). heard views m) is ∙ sym (choose_false (old == c.args.level) [] (heard views n) other))
+    (rw made at c.tell_heard.ensures))
 
 pub returns-else-before-level : goal.returns-else-before-level
 returns-else-before-level c = λ text sender.
@@ -46,5 +46,5 @@ returns-else-before-level c = λ text sender.
     let n = let m = line_note change_fold c.args.line in record m { now = pos c.args.level; prev = pos old } in
     is_changed text (change.SetLevel c.args.line c.args.level) sender d _ c.args.views.now c.args.notes.now _ refl c.requires.watched made
     (λ v _. subst (λ (ts : List Notice). AreTold ts c.args.notes.now c.args.notes.now)
-        (sym (choose_true (old == c.args.level) [] (heard views n) same))
-        (told_nothing c.args.notes.now))
+    (sym (choose_true (old == c.args.level) [] (heard views n) same))
+    (told_nothing c.args.notes.now))

@@ -29,8 +29,8 @@ returns-then-before-state c = λ text sender.
     let n = line_note change_line_state c.args.line in
     is_changed text (change.SetState c.args.line c.args.state) sender d _ c.args.views.now c.args.notes.now _ refl c.requires.watched made
     (λ v _. subst (λ (ts : List Notice). AreTold ts c.args.notes.now c.tell_heard.new.notes)
-        (ap (λ (m : Notice). heard views m) (c.line_note-note.ensures.note []) ∙ sym (choose_false (is_same old c.args.state) [] (heard views n) other))
-        (rw made at c.tell_heard.ensures))
+    (ap (λ (m : Notice). heard views m) (c.line_note-note.ensures.note []) ∙ sym (choose_false (is_same old c.args.state) [] (heard views n) other))
+    (rw made at c.tell_heard.ensures))
 
 pub returns-else-before-state : goal.returns-else-before-state
 returns-else-before-state c = λ text sender.
@@ -46,5 +46,5 @@ returns-else-before-state c = λ text sender.
     let n = line_note change_line_state c.args.line in
     is_changed text (change.SetState c.args.line c.args.state) sender d _ c.args.views.now c.args.notes.now _ refl c.requires.watched made
     (λ v _. subst (λ (ts : List Notice). AreTold ts c.args.notes.now c.args.notes.now)
-        (sym (choose_true (is_same old c.args.state) [] (heard views n) same))
-        (told_nothing c.args.notes.now))
+    (sym (choose_true (is_same old c.args.state) [] (heard views n) same))
+    (told_nothing c.args.notes.now))

@@ -26,4 +26,4 @@ returns c = λ text sender.
     let made = c.fill-changed.ensures.document in
     is_changed text (change.FillIndicator c.args.indicator c.args.start c.args.count c.args.value) sender d _ c.args.views.now c.args.notes.now _ refl c.requires.watched made
     (λ v _. subst (λ (o : Option _). AreTold (range_notes change_indicator o (watchers d c.args.views.now)) c.args.notes.now c.tell_range.new.notes) c.fill-changed.ensures.changed
-        (rw made at (c.tell_range.ensures change_indicator refl)))
+    (rw made at (c.tell_range.ensures change_indicator refl)))

@@ -25,4 +25,4 @@ returns c = λ sender.
     let made = ap (λ (k : Kept). k.document) c.style_bytes-changed.ensures.document ∙ ap (λ ss. styled ss d) (take_own (take c.args.count c.args.text.now)) in
     is_changed c.args.text.now (change.StyleBytes c.args.count) sender d _ c.args.views.now c.args.notes.now _ refl c.requires.watched made
     (λ v _. subst (λ (o : Option _). AreTold (range_notes change_style o (watchers d c.args.views.now)) c.args.notes.now c.tell_range.new.notes) c.style_bytes-changed.ensures.changed
-        (rw made at (c.tell_range.ensures change_style refl)))
+    (rw made at (c.tell_range.ensures change_style refl)))

@@ -25,4 +25,4 @@ returns c = λ text sender.
     let made = ap (λ (k : Kept). k.document) c.style_run-changed.ensures.document in
     is_changed text (change.StyleRun c.args.count c.args.style) sender d _ c.args.views.now c.args.notes.now _ refl c.requires.watched made
     (λ v _. subst (λ (o : Option _). AreTold (range_notes change_style o (watchers d c.args.views.now)) c.args.notes.now c.tell_range.new.notes) c.style_run-changed.ensures.changed
-        (rw made at (c.tell_range.ensures change_style refl)))
+    (rw made at (c.tell_range.ensures change_style refl)))

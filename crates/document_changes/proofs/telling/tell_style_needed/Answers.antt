@@ -15,5 +15,5 @@ returns c = λ v same.
     told_one (with_text (record b { view = c.args.sender; position = to_z w64 c.args.end }) []) (let n = blank style_needed in record n { view = v.id; position = pos c.args.end })
     c.args.notes.now c.put_bare.new.self c.put_bare.ensures c.requires.room
     (ap (λ (z : ℤ). with_text (record b { view = c.args.sender; position = z }) []) p
-        ∙ ap (λ (k : ℕ). with_text (record b { view = k; position = pos c.args.end }) []) (sym same)
-        ∙ ap (λ (n : Notice). record n { view = v.id; position = pos c.args.end }) (c.blank-note.ensures []))
+    ∙ ap (λ (k : ℕ). with_text (record b { view = k; position = pos c.args.end }) []) (sym same)
+    ∙ ap (λ (n : Notice). record n { view = v.id; position = pos c.args.end }) (c.blank-note.ensures []))
