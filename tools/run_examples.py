@@ -28,26 +28,35 @@ def standing():
     return {int(it) for it in dots}, {int(it) for it in rows}
 
 
+SETTEXT = 2181
+
+
 def stands(script, known, listed):
-    """Whether the script sends only messages that stand, or that are in no table, and loads no file."""
+    """Whether the script sends only messages that stand, or that are in no table; to load a file is to set the text."""
     numbers = {int(it) for it in re.findall(rb"(?m)^send \d+ (\d+) ", script)}
-    return not (numbers & listed) - known and b"\nload " not in script
+    if b"\nload " in script:
+        numbers.add(SETTEXT)
+    return not (numbers & listed) - known
 
 
 def wanted():
+    """The scripts, each with the files that it loads, in order."""
     known, listed = standing()
-    for file in sorted(os.listdir(EXAMPLES)):
-        if file.endswith(".sci") and stands(read(EXAMPLES, file), known, listed):
-            yield file
+    names = sorted(os.listdir(EXAMPLES))
+    for script in names:
+        if script.endswith(".sci") and stands(read(EXAMPLES, script), known, listed):
+            loaded = [it for it in names if it.startswith(script[:-4] + ".file")]
+            yield script, sorted(loaded, key=lambda it: int(it.rpartition(".file")[2]))
 
 
 def write():
     os.makedirs(DATA, exist_ok=True)
     for file in os.listdir(DATA):
         os.remove(os.path.join(DATA, file))
-    for file in wanted():
-        with open(os.path.join(DATA, file), "wb") as out:
-            out.write(read(EXAMPLES, file))
+    for script, loaded in wanted():
+        for file in (script, *loaded):
+            with open(os.path.join(DATA, file), "wb") as out:
+                out.write(read(EXAMPLES, file))
 
 
 def main():
@@ -57,19 +66,20 @@ def main():
     programs = [it for it in programs if os.path.exists(it)]
     if not programs:
         sys.exit("sci_console was not built")
-    files, passed, failed = list(wanted()), 0, 0
+    scripts, passed, failed = list(wanted()), 0, 0
+    files = sorted(it for script, loaded in scripts for it in (script, *loaded))
     if sorted(os.listdir(DATA)) != files or any(read(DATA, it) != read(EXAMPLES, it) for it in files):
         sys.exit("crates/sci_console/data is not what stands of examples/: tools/run_examples.py --write brings it there")
-    for file in files:
-        printed = read(EXAMPLES, file[:-4] + ".out")
+    for script, loaded in scripts:
+        printed = read(EXAMPLES, script[:-4] + ".out")
         status = 4 if re.search(rb"(?m)^- ", printed) else 0
         for program in programs:
-            ran = subprocess.run([program, "run", file], capture_output=True, cwd=DATA)
+            ran = subprocess.run([program, "run", script, *loaded], capture_output=True, cwd=DATA)
             if (ran.stdout, ran.returncode) == (printed, status):
                 passed += 1
             else:
                 failed += 1
-                print("FAILED  %s by %s" % (file, os.path.basename(program)))
+                print("FAILED  %s by %s" % (script, os.path.basename(program)))
     print("examples: %d passed, %d failed" % (passed, failed))
     sys.exit(1 if failed or not passed else 0)
 

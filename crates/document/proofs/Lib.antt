@@ -3,3 +3,8 @@ pub mod LineSteps
 pub mod PieceLemmas
 pub mod CarrySteps
 pub mod SteppedParts
+pub mod LentSteps
+pub mod StyledCells
+pub mod MarkerLines
+pub mod TypeSettings
+pub mod MarkerNumbers

@@ -4,3 +4,5 @@ pub mod TextSteps
 pub mod Places
 pub mod Parts
 pub mod Lends
+pub mod Undoing
+pub mod Changes

@@ -5,7 +5,8 @@ use Rattle.ed_model.specs.Text.{Cell, bytes_of}
 use Rattle.ed_model.specs.Lines.{line_count}
 use Rattle.ed_model.specs.Rows.{rows_together}
 use Rattle.ed_model.specs.Carry.{carried_by}
-use Rattle.ed_model.specs.Steps.{Step, edited}
+use Rattle.ed_model.specs.Steps.{Step, edited, edited_cells}
+use Rattle.ed_model.specs.Indicators.{indicators_after}
 use Rattle.ed_model.specs.MergeLaws.{end_of}
 use Rattle.ed_model.specs.Session.{Document}
 use Rattle.line_index.specs.declared.change.LineChange.{LineChange}
@@ -15,6 +16,7 @@ use Rattle.ed_model.specs.declared.plan.LineEndTypes.{LineEndTypes}
 use Rattle.line_index.specs.Index.{Index, IsIndexOf}
 use Rattle.line_rows.specs.Kept.{KeptRows}
 use Rattle.document.specs.Kept.{Kept, ChangeRoom, document_room, bound_of}
+use Rattle.document.specs.declared.room.DocumentRoom.{DocumentRoom}
 use Rattle.document.specs.Places.{LinesOf, IndicatorsOf}
 use Rattle.document.specs.declared.kept.Document.TheInside.{Inside}
 
@@ -92,3 +94,39 @@ pub record AreCarried (old new : KeptRows) (types : LineEndTypes) (step : Step) 
 pub record HasLinesOf (types : LineEndTypes) (cells : List Cell) (lines : Index) : Type 0 where
   pub types_are : lines.types ≡ types
   pub index : IsIndexOf (bytes_of cells) lines
+
+-- The parts that a step of the text changes, with `room` more bytes of text.
+pub record TextParts : Type 0 where
+  pub cells : List Cell
+  pub room : ℕ
+  pub lines : LinesOf
+  pub rows : KeptRows
+  pub indicators : IndicatorsOf
+
+abbrev pub text_parts : List Cell → ℕ → LinesOf → KeptRows → IndicatorsOf → TextParts
+text_parts cells room lines rows indicators = record { cells = cells; room = room; lines = lines; rows = rows; indicators = indicators }
+
+-- they are those of a document with these options
+abbrev pub AreTogether : ℕ → TextParts → Type 0
+AreTogether options p = ArePartsOf p.cells p.room options p.lines p.rows p.indicators
+
+-- they are those of some document
+pub record AreOfOne (p : TextParts) : Type 0 where
+  pub options : ℕ
+  pub are : AreTogether options p
+
+-- there is room for the step
+pub record CanTake (p : TextParts) (need : DocumentRoom) : Type 0 where
+  pub text : need.text ≤ p.room
+  pub lines : need.lines ≤ p.rows.room.lines
+  pub insertions : need.insertions ≤ p.indicators.decorated.room
+
+-- the parts after the step, for which no more room was taken than it needs
+pub record AreStepped (old new : TextParts) (step : Step) (need : DocumentRoom) : Type 0 where
+  pub together : (options : ℕ) → AreTogether options old → AreTogether options new
+  pub cells : new.cells ≡ edited_cells step old.cells
+  pub types : new.lines.index.types ≡ old.lines.index.types
+  pub rows : AreCarried old.rows new.rows old.lines.index.types step (bytes_of old.cells)
+  pub values : new.indicators.decorated.values ≡ indicators_after step old.indicators.decorated.values
+  pub text_left : old.room ≤ new.room + need.text
+  pub insertions_left : old.indicators.decorated.room ≤ new.indicators.decorated.room + need.insertions

@@ -1,6 +1,6 @@
 //! Changes of a document that need no memory, and its views.
 
-ghost use Rattle.std.specs.Prelude.{◌≡◌, ◌≤◌, ◌<◌, ◌+◌, ◌-◌, ◌^◌, ◌∷◌, ◌++◌, [], length, min, OnOk, OnErr, IsOk, max};
+ghost use Rattle.std.specs.Prelude.{◌≡◌, ◌≤◌, ◌<◌, ◌+◌, ◌-◌, ◌^◌, ◌∷◌, ◌++◌, [], length, min, OnOk, OnErr, IsOk, max, vec_len, vec_capacity};
 ghost use Rattle.ed_model.specs.History.{sealed_outside_groups, saved, group_begun, group_ended, emptied, collecting_set};
 ghost use Rattle.ed_model.specs.Session.{without, left_by};
 
@@ -120,6 +120,7 @@ impl Document {
         ensures document { self.new.document ≡ left_by view self.old.document }
         ensures room { self.new.room ≡ self.old.room }
         ensures spare { self.new.spare ≡ record self.old.spare { views = self.new.spare.views } }
+        ensures room_stays { self.old.spare.views ≤ self.new.spare.views }
     {
         leave(&mut self.views, view);
     }
@@ -127,7 +128,8 @@ impl Document {
 
 // Takes every copy of the view out of the list.
 fn leave(views: &mut Vec<u32>, view: u32)
-    ensures { views.new.items ≡ without view views.old.items }
+    ensures items { views.new.items ≡ without view views.old.items }
+    ensures room_stays { vec_capacity views.old - vec_len views.old ≤ vec_capacity views.new - vec_len views.new }
 {
     views.retain(|id| *id != view);
 }

@@ -8,13 +8,20 @@
 mod changes;
 mod kept;
 mod line_queries;
+mod making;
 mod pieces;
 mod places;
 mod room;
+mod row_changes;
 mod stepping;
+mod style_changes;
 mod text_step;
+mod type_changes;
+mod undoing;
 
 pub use kept::Document;
 pub use places::{Indicators, Lines};
 pub use room::DocumentRoom;
+pub use row_changes::count_numbers;
 pub use text_step::TextStep;
+pub use undoing::{ChangeOutline, Direction};

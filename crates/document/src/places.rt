@@ -1,20 +1,21 @@
 //! Line starts and indicators of a text whose places are kept as 32 bits, or as 64 where the text may be large.
 
-ghost use Rattle.std.specs.Prelude.{◌≡◌, ◌↔◌, IsTrue, pos, ℕ, List, take, drop, ◌<◌, ◌≤◌, ◌+◌, ◌^◌, ◌++◌, [], length, max, replicate, slice_index, IfOk, OnOk, OnErr, IsOk, None};
-ghost use Rattle.ed_model.specs.Lines.{line_of, end_of_line};
+ghost use Rattle.std.specs.Prelude.{◌≡◌, ◌↔◌, IsTrue, pos, ℕ, List, take, drop, ◌<◌, ◌≤◌, ◌+◌, ◌^◌, ◌++◌, [], length, max, replicate, slice_index, slice_set, IfOk, OnOk, OnErr, IsOk, Some, None};
+ghost use Rattle.ed_model.specs.Lines.{line_count, line_of, end_of_line};
 ghost use Rattle.std.specs.List.{AllByRecursion};
 ghost use Rattle.ed_model.specs.TextPlans.{at_place};
 ghost use Rattle.ed_model.specs.Steps.{Insert, Delete, edited};
-ghost use Rattle.ed_model.specs.Indicators.{indicators_after};
+ghost use Rattle.ed_model.specs.Indicators.{changed_range, filled, indicators_after};
 ghost use Rattle.line_index.specs.Index.{IsIndexOf, IsInsertion, IsDeletion, WasInserted, WasDeleted};
 ghost use Rattle.line_index.specs.Change.{change_about, change_since, lines_about};
+ghost use Rattle.line_index.specs.Settings.{edits_of_setting};
 ghost use Rattle.line_index.specs.StepEdits.{SmallLines};
 ghost use Rattle.document.specs.Kept.{bound_of};
 ghost use Rattle.decorations.specs.Decorated.{decorated, values_of, IsClear, run_about, mask_of};
 
 use decorations::Decorations;
 use ed_model::LineEndTypes;
-use line_index::{LineChange, LineIndex, LinesAbout};
+use line_index::{LineChange, LineEdit, LineIndex, LinesAbout};
 use partitioning::Probes;
 use std::alloc::{AllocError, Global};
 use std::marker::Model;
@@ -190,6 +191,41 @@ impl Lines {
         }
     }
 
+    /// As `LineIndex::edits_for_types` of line_index.
+    pub(crate) fn edits_for_types(
+        &self,
+        alloc: Global,
+        types: LineEndTypes,
+        before: &[u8],
+        after: &[u8],
+    ) -> Result<Vec<LineEdit>, AllocError>
+        requires text { IsIndexOf (before.now ++ after.now) self.now.index }
+        requires short { self.now.index.length < 2 ^ 63 }
+        ensures edits { IfOk result (λ edits. edits.items ≡ edits_of_setting self.now.index.types types (before.now ++ after.now)) }
+        ensures free { edits_of_setting self.now.index.types types (before.now ++ after.now) ≡ [] → IsOk result }
+    {
+        match &self.kept {
+            LinesByWidth::Small(lines) => lines.edits_for_types(alloc, types, before, after),
+            LinesByWidth::Large(lines) => lines.edits_for_types(alloc, types, before, after),
+        }
+    }
+
+    /// As `LineIndex::set_types` of line_index.
+    pub(crate) fn set_types(&mut self, types: LineEndTypes, before: &[u8], after: &[u8])
+        requires text { IsIndexOf (before.now ++ after.now) self.old.index }
+        requires room { line_count types (before.now ++ after.now) ≤ length self.old.index.starts + self.old.index.room }
+        requires short { self.old.index.length < 2 ^ 63 }
+        ensures width { self.new.is_large ≡ self.old.is_large }
+        ensures types { self.new.index.types ≡ types }
+        ensures index { IsIndexOf (before.now ++ after.now) self.new.index }
+        ensures room { self.new.index.room + length self.new.index.starts ≡ self.old.index.room + length self.old.index.starts }
+    {
+        match &mut self.kept {
+            LinesByWidth::Small(lines) => lines.set_types(types, before, after),
+            LinesByWidth::Large(lines) => lines.set_types(types, before, after),
+        }
+    }
+
     /// As `LineIndex::lines_about` of line_index.
     pub(crate) fn lines_about(&self, place: usize, end: usize) -> LinesAbout
         ensures about { result ≡ lines_about place end self.now.index.starts }
@@ -346,6 +382,47 @@ impl Indicators {
         match &mut self.kept {
             IndicatorsByWidth::Small(indicators) => indicators.delete(place, count),
             IndicatorsByWidth::Large(indicators) => indicators.delete(place, count),
+        }
+    }
+
+    /// As `Decorations::reserve_fill` of decorations.
+    ///
+    /// # Errors
+    ///
+    /// `AllocError` where memory is refused. All is then as it was.
+    pub(crate) fn reserve_fill(&mut self, indicator: usize) -> Result<(), AllocError>
+        requires { indicator < 32 }
+        ensures ok { OnOk result (self.new ≡ record self.old { decorated = record self.old.decorated { ready = Some indicator } }) }
+        ensures room_is_there { self.old.decorated.ready ≡ Some indicator → IsOk result × (self.new ≡ self.old) }
+        ensures err { OnErr result (self.new ≡ self.old) }
+    {
+        match &mut self.kept {
+            IndicatorsByWidth::Small(indicators) => indicators.reserve_fill(indicator),
+            IndicatorsByWidth::Large(indicators) => indicators.reserve_fill(indicator),
+        }
+    }
+
+    /// As `Decorations::fill` of decorations.
+    pub(crate) fn fill(
+        &mut self,
+        indicator: usize,
+        start: usize,
+        count: usize,
+        value: u32,
+    ) -> Option<(usize, usize)>
+        requires indicator { indicator < 32 }
+        requires within { start + count ≤ self.old.decorated.length }
+        requires room { self.old.decorated.ready ≡ Some indicator }
+        ensures values { self.new ≡ record self.old { decorated = record self.old.decorated { values = slice_set self.old.decorated.values indicator (filled start count value (values_of self.old.decorated.values indicator)); ready = None } } }
+        ensures changed { result ≡ changed_range (values_of self.old.decorated.values indicator) (filled start count value (values_of self.old.decorated.values indicator)) }
+    {
+        match &mut self.kept {
+            IndicatorsByWidth::Small(indicators) => {
+                indicators.fill(indicator, start, count, value)
+            }
+            IndicatorsByWidth::Large(indicators) => {
+                indicators.fill(indicator, start, count, value)
+            }
         }
     }
 }

@@ -2,6 +2,7 @@
 
 ghost use Rattle.std.specs.Prelude.{◌≡◌};
 ghost use Rattle.document.specs.Kept.{no_room, room_sum};
+ghost use Rattle.document.specs.Changes.{container_need};
 
 /// How much more fits into a document without taking memory, or how much steps need.
 #[derive(Clone, Copy, Debug, PartialEq, Eq)]
@@ -28,6 +29,19 @@ impl DocumentRoom {
             lines: 0,
             insertions: 0,
             steps: 0,
+            bytes: 0,
+        }
+    }
+
+    /// What a container's step needs, which has no bytes.
+    pub fn of_container_step() -> Self
+        ensures { result ≡ container_need }
+    {
+        DocumentRoom {
+            text: 0,
+            lines: 0,
+            insertions: 0,
+            steps: 1,
             bytes: 0,
         }
     }

@@ -1,19 +1,18 @@
 //! Steps of a document's text, and their room.
 
-ghost use Rattle.std.specs.Prelude.{◌≡◌, ℕ, true, slice_range, ◌≤◌, ◌<◌, ◌+◌, length, OnOk, OnErr, IsOk};
+ghost use Rattle.std.specs.Prelude.{◌≡◌, ℕ, true, ◌≤◌, ◌<◌, ◌+◌, length, OnOk, OnErr, IsOk};
 ghost use Rattle.ed_model.specs.History.{TextStep as Text, appended, begins_transaction};
 ghost use Rattle.ed_model.specs.Session.{text_of};
 ghost use Rattle.ed_model.specs.Performing.{document_after};
 ghost use Rattle.line_index.specs.StepEdits.{SmallLines, change_of};
-ghost use Rattle.document.specs.Kept.{HasRoom, HasTextRoom, HasHistoryRoom, TakesRoom, IsAtMost, FitsWidth, no_room, document_room, text_part, history_part};
-ghost use Rattle.ed_model.specs.Steps.{Insert, Delete};
+ghost use Rattle.document.specs.Kept.{HasRoom, HasTextRoom, HasHistoryRoom, TakesRoom, IsAtMost, FitsWidth, no_room, text_part, history_part};
 ghost use Rattle.undo_history.specs.Kept.{HasRoom as HasStepRoom};
 ghost use Rattle.undo_history.specs.Steps.{step_of};
 ghost use Rattle.line_index.specs.RoomLaws.{lines_for_insertion, lines_for_deletion};
 ghost use Rattle.document.specs.TextSteps.{step_in, IsStepOn, need_of};
 
 use crate::kept::Document;
-use crate::pieces::{carry_rows, put_in, take_out};
+use crate::making::make_step;
 use crate::room::DocumentRoom;
 use crate::text_step::TextStep;
 use line_index::{LineChange, lines_for_deletion, lines_for_insertion};
@@ -94,42 +93,6 @@ impl Document {
         Ok(())
     }
 
-    // Puts bytes in.
-    fn insert(&mut self, place: usize, bytes: &[u8]) -> LineChange
-        requires fits { place ≤ length self.old.document.cells }
-        requires text_room { length bytes.now ≤ self.old.room.text }
-        requires line_room { lines_for_insertion self.old.document.line_end_types bytes.now ≤ self.old.room.lines }
-        requires insertion_room { 0 < self.old.room.insertions }
-        ensures document { self.new.document ≡ document_after (Insert place bytes.now) self.old.document }
-        ensures room_left { TakesRoom self.old.room self.new.room (document_room (length bytes.now) (lines_for_insertion self.old.document.line_end_types bytes.now) 1 0 0) }
-        ensures lines { result ≡ change_of self.old.document.line_end_types (Insert place bytes.now) (text_of self.old.document) }
-        ensures small { SmallLines result.old_lines × SmallLines result.new_lines }
-        ensures views { self.new.spare.views ≡ self.old.spare.views }
-    {
-        let change = put_in(&mut self.cells, &mut self.lines, place, bytes);
-        carry_rows(&mut self.rows, &change);
-        self.indicators.insert(place, bytes.len());
-        self.end_styled = self.end_styled.min(place);
-        change
-    }
-
-    // Takes bytes out.
-    fn delete(&mut self, place: usize, count: usize) -> LineChange
-        requires fits { place + count ≤ length self.old.document.cells }
-        requires line_room { lines_for_deletion ≤ self.old.room.lines }
-        ensures document { self.new.document ≡ document_after (Delete place (slice_range (text_of self.old.document) place (place + count))) self.old.document }
-        ensures room_left { TakesRoom self.old.room self.new.room (document_room 0 lines_for_deletion 0 0 0) }
-        ensures lines { result ≡ change_of self.old.document.line_end_types (Delete place (slice_range (text_of self.old.document) place (place + count))) (text_of self.old.document) }
-        ensures small { SmallLines result.old_lines × SmallLines result.new_lines }
-        ensures views { self.new.spare.views ≡ self.old.spare.views }
-    {
-        let change = take_out(&mut self.cells, &mut self.lines, place, count);
-        carry_rows(&mut self.rows, &change);
-        self.indicators.delete(place, count);
-        self.end_styled = self.end_styled.min(place);
-        change
-    }
-
     /// Makes a step of the text. The cells, the line starts, the rows, the indicators and how far it is styled go with it. Returns
     /// what became of the lines. The history is left alone. There must be room for all but the history.
     pub fn step(&mut self, step: TextStep) -> LineChange
@@ -141,10 +104,14 @@ impl Document {
         ensures small { SmallLines result.old_lines × SmallLines result.new_lines }
         ensures views { self.new.spare.views ≡ self.old.spare.views }
     {
-        match step {
-            TextStep::Insert { place, bytes } => self.insert(place, bytes),
-            TextStep::Delete { place, count } => self.delete(place, count),
-        }
+        self.end_styled = self.end_styled.min(step.place());
+        make_step(
+            &mut self.cells,
+            &mut self.lines,
+            &mut self.rows,
+            &mut self.indicators,
+            step,
+        )
     }
 
     /// Appends a step to the history, before it is made; `later` says that it is a later step of its message. Answers whether it

@@ -6,3 +6,5 @@ mod ListedLengths
 mod WholeTexts
 mod Pieces
 mod ListedLines
+mod Recorded
+mod Adding

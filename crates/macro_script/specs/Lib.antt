@@ -7,3 +7,4 @@ pub mod Lines
 pub mod Scripts
 pub mod Appending
 pub mod Notes
+pub mod Recorded

@@ -4,6 +4,7 @@ ghost use Rattle.std.specs.Prelude.{◌≡◌, ◌+◌, ◌≤◌, length, SomeI
 ghost use Rattle.std.specs.List.{AllByRecursion};
 ghost use Rattle.ed_model.specs.Spelling.{spelled, spelled_int, spelled_bytes, is_64_bits};
 ghost use Rattle.ed_model.specs.Listing.{listed_command, FitsTypes};
+ghost use Rattle.macro_script.specs.Recorded.{sending};
 
 use crate::lines::LINE_LIMIT;
 use crate::spelled::spell_byte;
@@ -51,6 +52,19 @@ fn within_limit(len: usize) -> Option<usize>
     if len > LINE_LIMIT { None } else { Some(len) }
 }
 
+/// The length of the listed line that sends a message, unless it passes the limit.
+pub fn send_len(view: u32, number: u32, w: i64, l: i64, text: &[u8]) -> Option<usize>
+    ensures typed { FitsTypes (sending view (record { number = number; w = w; l = l; text = text.now })) }
+    ensures len { SomeIff result (length (listed_command (sending view (record { number = number; w = w; l = l; text = text.now }))) ≤ 65536) (length (listed_command (sending view (record { number = number; w = w; l = l; text = text.now })))) }
+{
+    let ids = id_len(view) + id_len(number);
+    let arguments = number_len(w) + number_len(l);
+    match text_len(text) {
+        Some(len) => within_limit(4 + ids + arguments + 3 + len),
+        None => None,
+    }
+}
+
 /// The length of a command's listed line, unless it passes the limit.
 pub fn line_len(command: &Command) -> Option<usize>
     ensures typed { FitsTypes command.now }
@@ -65,12 +79,7 @@ pub fn line_len(command: &Command) -> Option<usize>
         }
         Command::SendMessage { view, message } => {
             let text = message.text.as_slice();
-            let ids = id_len(*view) + id_len(message.number);
-            let arguments = number_len(message.w) + number_len(message.l);
-            match text_len(text) {
-                Some(len) => within_limit(4 + ids + arguments + 3 + len),
-                None => None,
-            }
+            send_len(*view, message.number, message.w, message.l, text)
         }
         Command::Expect { value } => within_limit(6 + number_len(*value)),
     }

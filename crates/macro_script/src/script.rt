@@ -4,9 +4,10 @@ ghost use Rattle.std.specs.Prelude.{◌≡◌, ◌⊎◌, ◌↔◌, ◌++◌, �
 ghost use Rattle.ed_types.specs.declared.script.ScriptFault.TheVariants.{TooLong, OutOfMemory};
 ghost use Rattle.ed_model.specs.Listing.{keeps_limits, listing};
 ghost use Rattle.ed_model.specs.ScriptLaws.{IsScript};
+ghost use Rattle.macro_script.specs.Recorded.{sending};
 ghost use Rattle.macro_script.specs.Scripts.{IsProper};
 
-use crate::lengths::line_len;
+use crate::lengths::{line_len, send_len};
 use ed_types::{Command, ScriptFault};
 use std::alloc::Global;
 use std::marker::Model;
@@ -68,6 +69,16 @@ impl Script {
         ensures within { IsScript 2 self.now }
     {
         self.commands.as_slice()
+    }
+
+    /// Whether the script with one message more, sent to the view, keeps the limits. Takes no memory.
+    pub(crate) fn fits_send(&self, view: u32, number: u32, w: i64, l: i64, text: &[u8]) -> bool
+        ensures { result ≡ keeps_limits (self.now ++ sending view (record { number = number; w = w; l = l; text = text.now }) ∷ []) }
+    {
+        match send_len(view, number, w, l, text) {
+            Some(len) => len < SCRIPT_LIMIT - self.listed,
+            None => false,
+        }
     }
 
     /// Adds a command at the end. `TooLong` where its line or the whole would pass its limit in the listing; then, and where memory

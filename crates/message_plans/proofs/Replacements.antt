@@ -1,17 +1,19 @@
 -- What the plan of a replacement is: by the lengths of what goes and of what comes alone.
-use Rattle.std.proofs.Common.{◌≡◌, ℕ, suc, ◌+◌, ◌-◌, ◌≤◌, ◌==◌, ◌||◌, ◌&&◌, nat_le, Bool, true, false, List, [], ◌∷◌, ◌++◌, length, refl, ap, sym, ◌∙◌, arith, slice_range, length-take, length-drop}
+use Rattle.std.proofs.Common.{◌≡◌, ℕ, ℤ, suc, ◌+◌, ◌-◌, ◌≤◌, ◌<◌, ◌==◌, ◌||◌, ◌&&◌, nat_le, Bool, true, false, List, [], ◌∷◌, ◌++◌, length, refl, ap, sym, ◌∙◌, arith, slice_range, length-take, length-drop}
 use Rattle.std.proofs.lemmas.List.{length-map}
 use Rattle.std.proofs.lemmas.Bool.Decides.{nat_tests}
-use Rattle.std.proofs.Math.Bool.{and-true}
+use Rattle.std.proofs.Math.Bool.{and-true, and-false}
 use Rattle.std.specs.Prelude.{nat_lt}
 use Rattle.ed_model.specs.declared.plan.Source.{Source}
 use Rattle.ed_model.specs.declared.plan.Edit.TheVariants as edit
 use Rattle.ed_model.specs.declared.plan.Plan.{Plan}
+use Rattle.ed_model.specs.declared.plan.Plan.TheVariants as plan
+use Rattle.ed_model.specs.declared.plan.Follow.{Follow}
 use Rattle.ed_model.specs.Text.{Cell}
 use Rattle.ed_model.specs.Steps.{deletion, insertion}
 use Rattle.ed_model.specs.Session.{limit_of}
 use Rattle.ed_model.specs.Requests.{Request, text, size}
-use Rattle.ed_model.specs.Edits.{stays_within, has_steps, edit_of_steps, source_bytes, steps_of}
+use Rattle.ed_model.specs.Edits.{stays_within, has_steps, edit_of_steps, source_bytes, steps_of, edit_plan}
 use Rattle.message_plans.specs.Replacing.{edit_if, keeps_limit}
 
 length-slice : (xs : List ℕ) (start count : ℕ) → start + count ≤ length xs → length (slice_range xs start (start + count)) ≡ count
@@ -67,3 +69,21 @@ replacement_decided r start count from added done kept_out within range is out_i
     ap (λ out. edit_if out within done) out_is
     ∙ ap (λ keeps. edit_if (r.document.read_only && (nat_lt 0 count || nat_lt 0 added)) keeps done) within_is
     ∙ replacement_planned r start count from added done range is
+
+beyond : (limit n start count added : ℕ) → start + count ≤ n → 0 < added → limit < start + added → keeps_limit limit n count added ≡ false
+beyond limit n start count added within some far =
+    let none : (added == 0) ≡ false = grind (arith, nat_tests) in
+    let more : nat_le (n - count + added) limit ≡ false = grind (arith, nat_tests) in
+    rw none (rw more (and-false (count == 0 || nat_le (n - count) limit)))
+
+-- what would follow an edit that passes the limit does not matter
+pub passed_over : (r : Request) (start count : ℕ) (from : Source) (added : ℕ) (value : ℤ) (one other : Follow) → start + count ≤ size r → added ≡ length (source_bytes r from)
+    → 0 < added → limit_of r.session.limits r.document < start + added → edit_plan r (edit.Replace start count from) value one ≡ edit_plan r (edit.Replace start count from) value other
+passed_over r start count from added value one other within is some far =
+    let change = edit.Replace start count from in
+    let out = r.document.read_only && (nat_lt 0 count || nat_lt 0 added) in
+    let over = beyond (limit_of r.session.limits r.document) (size r) start count added within some far in
+    sym (replacement_planned r start count from added (plan.Edit change value one) within is)
+    ∙ ap (λ fits. edit_if out fits (plan.Edit change value one)) over
+    ∙ ap (λ fits. edit_if out fits (plan.Edit change value other)) (sym over)
+    ∙ replacement_planned r start count from added (plan.Edit change value other) within is

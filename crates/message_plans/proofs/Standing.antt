@@ -9,7 +9,7 @@ use Rattle.ed_model.specs.Text.{Cell}
 use Rattle.std.proofs.lemmas.List.{length-map}
 use Rattle.ed_model.specs.PlansFit.{IsSoundRequest}
 
-found_all : {X : Type 0} (P : X → Type 0) (test : X → Bool) (xs : List X) (x : X) → AllByRecursion P xs → find test xs ≡ Some x → P x
+pub found_all : {X : Type 0} (P : X → Type 0) (test : X → Bool) (xs : List X) (x : X) → AllByRecursion P xs → find test xs ≡ Some x → P x
 found_all P test [] x all e = absurd (cc)
 found_all {X} P test (y ∷ ys) x all e = go (test y) refl e (λ e. found_all P test ys x all.1 e)
   where
@@ -26,10 +26,11 @@ stands r s =
 pub caret_in_text : (r : Request) → IsSoundRequest r → r.view.caret ≤ size r
 caret_in_text r s = (stands r s).caret
 
+pub document_sound : (r : Request) → IsSoundRequest r → IsSoundDocument r.session.limits r.document
+document_sound r s = found_all (IsSoundDocument r.session.limits) (λ (d : Document). d.id == r.view.document) r.session.documents r.document s.sound.documents s.document
+
 pub styled_in_text : (r : Request) → IsSoundRequest r → r.document.end_styled ≤ size r
-styled_in_text r s =
-    let d : IsSoundDocument r.session.limits r.document = found_all (IsSoundDocument r.session.limits) (λ (d : Document). d.id == r.view.document) r.session.documents r.document s.sound.documents s.document in
-    d.styled
+styled_in_text r s = (document_sound r s).styled
 
 pub anchor_in_text : (r : Request) → IsSoundRequest r → r.view.anchor ≤ size r
 anchor_in_text r s = (stands r s).anchor

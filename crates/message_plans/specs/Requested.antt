@@ -1,5 +1,6 @@
 -- What a session keeps, and a request to it, as the model has them.
-use Rattle.std.specs.Prelude.{◌≡◌, List, map, All}
+use Rattle.std.specs.Prelude.{◌≡◌, List, map}
+use Rattle.std.specs.List.{AllByRecursion}
 use Rattle.ed_model.specs.Session.{Session, Document, View}
 use Rattle.document.specs.Kept.{Kept}
 use Rattle.ed_view.specs.Kept.{KeptView}
@@ -24,7 +25,9 @@ session_in s = record {
   limits = s.limits;
 }
 
--- each entry's id is its value's own
-pub record AreNamed (s : SessionState) : Type 0 where
-  pub documents : All (λ (e : Entry Kept). e.id ≡ e.value.document.id) s.documents.entries
-  pub views : All (λ (e : Entry KeptView). e.id ≡ e.value.view.id) s.views.entries
+abbrev pub document_of : Kept → Document
+document_of k = k.document
+
+-- each document is kept under its own id
+abbrev pub DocumentsAreNamed : SessionState → Type 0
+DocumentsAreNamed s = AllByRecursion (λ (e : Entry Kept). e.id ≡ e.value.document.id) s.documents.entries

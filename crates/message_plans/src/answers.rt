@@ -1,8 +1,9 @@
 //! Plans that answer a value, hand out text, or make one change and answer 0.
 
-ghost use Rattle.std.specs.Prelude.{◌≡◌, ◌<◌, ◌^◌};
+ghost use Rattle.std.specs.Prelude.{◌≡◌, ◌<◌, ◌^◌, IfSome};
 ghost use Rattle.ed_model.specs.Numbers.{flag};
 ghost use Rattle.ed_model.specs.Requests.{answer, answer_number, change_document, change_session, change_view};
+ghost use Rattle.ed_model.specs.LinePlans.{line_or_none};
 ghost use Rattle.ed_model.specs.TextPlans.{hand_out};
 
 use ed_model::{DocumentChange, Plan, Planned, SessionChange, ViewChange};
@@ -20,6 +21,17 @@ pub(crate) fn answer_number(number: usize) -> Planned
     ensures { result ≡ answer_number number }
 {
     answer(number as i64)
+}
+
+/// Answers a line, or -1 for none, and does nothing.
+pub(crate) fn answer_line(line: Option<usize>) -> Planned
+    requires { IfSome line (λ line. line < 2 ^ 63) }
+    ensures { result ≡ answer (line_or_none line) }
+{
+    match line {
+        Some(line) => answer_number(line),
+        None => answer(-1),
+    }
 }
 
 /// Answers 1 for yes and 0 for no, and does nothing.

@@ -1,7 +1,7 @@
 //! Arguments of messages: numbers and flags.
 
 ghost use Rattle.std.specs.Prelude.{◌≡◌, ◌≤◌, ◌<◌, IfSome};
-ghost use Rattle.ed_model.specs.Numbers.{clamped, is_minus_one, is_on, line_among, some_or_all, within};
+ghost use Rattle.ed_model.specs.Numbers.{at_least_zero, clamped, is_minus_one, is_on, line_among, low_bits, some_or_all, within};
 
 /// The argument as a number from `low` to `high`, if it is one.
 pub(crate) fn within(low: usize, high: usize, argument: i64) -> Option<usize>
@@ -56,15 +56,29 @@ pub(crate) fn is_on(argument: i64) -> bool
     argument != 0
 }
 
-/// The argument as the number of a marker, or as all of them for -1.
-pub(crate) fn marker_or_all(argument: i64) -> Option<Option<u32>>
-    ensures { result ≡ some_or_all 31 argument }
+/// The argument as a number from 0 to `high`, or as all of them, which is none, for -1.
+pub(crate) fn some_or_all(high: u32, argument: i64) -> Option<Option<u32>>
+    ensures { result ≡ some_or_all high argument }
 {
     if is_minus_one(argument) {
         return Some(None);
     }
-    match within(0, 31, argument) {
+    match within(0, high as usize, argument) {
         Some(number) => Some(Some(number as u32)),
         None => None,
     }
+}
+
+/// The argument, or 0 for a negative one.
+pub(crate) fn at_least_zero(argument: i64) -> usize
+    ensures { result ≡ at_least_zero argument }
+{
+    if argument < 0 { 0 } else { argument as usize }
+}
+
+/// The low 32 bits of the argument, those of a negative one by its two's complement.
+pub(crate) fn low_bits(argument: i64) -> u32
+    ensures { result ≡ low_bits argument }
+{
+    (argument.cast_unsigned() % (1 << 32)) as u32
 }

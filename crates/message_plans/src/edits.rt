@@ -1,16 +1,18 @@
 //! Edits: the plans of messages that change the text.
 
-ghost use Rattle.std.specs.Prelude.{◌≡◌, ◌≤◌, ◌<◌, ◌+◌, ◌^◌, ◌&&◌, ◌||◌, nat_lt, length};
+ghost use Rattle.std.specs.Prelude.{◌≡◌, ◌≤◌, ◌+◌, ◌&&◌, ◌||◌, nat_le, nat_lt, length, pos};
 ghost use Rattle.ed_model.specs.Session.{limit_of};
 ghost use Rattle.message_plans.specs.Replacing.{edit_if, keeps_limit};
-ghost use Rattle.ed_model.specs.declared.plan.Edit.TheVariants.{Replace};
+ghost use Rattle.ed_model.specs.declared.plan.Edit.TheVariants.{ConvertLineEnds, Replace};
+ghost use Rattle.ed_model.specs.declared.plan.Follow.TheVariants as Follows;
 ghost use Rattle.ed_model.specs.declared.plan.Source.TheVariants.{MessageText, Nothing};
 ghost use Rattle.ed_model.specs.Requests.{size};
 ghost use Rattle.ed_model.specs.Edits.{edit_plan, replace_and_go, replace_plan, source_bytes};
 
 use crate::request::Request;
-use ed_model::{Edit, Follow, Plan, Planned, Source};
+use ed_model::{Edit, Follow, LineEnd, Plan, Planned, Source};
 use ed_types::Refusal;
+use line_ends::{conversion_stays_within, has_conversion};
 
 /// Bytes that go, and bytes that come in their place.
 #[derive(Clone, Copy, Debug, PartialEq, Eq)]
@@ -58,15 +60,21 @@ fn is_kept_out(r: &Request, count: usize, added: usize) -> bool
     r.document.is_read_only() && (count > 0 || added > 0)
 }
 
+/// Whether so many bytes more keep within a limit.
+fn fits(left: usize, added: usize, limit: u64) -> bool
+    ensures { result ≡ nat_le (left + added) limit }
+{
+    left as u64 <= limit && added as u64 <= limit - left as u64
+}
+
 /// Whether neither a deletion of `count` bytes nor an insertion of `added` bytes behind it takes the text past its limit.
 fn keeps_limit(r: &Request, count: usize, added: usize) -> bool
     requires range { count ≤ size r.now }
-    requires small { added < 2 ^ 63 }
     ensures { result ≡ keeps_limit (limit_of r.now.session.limits r.now.document) (size r.now) count added }
 {
     let limit = r.limit();
     let left = r.size() - count;
-    (count == 0 || left as u64 <= limit) && (added == 0 || left as u64 + added as u64 <= limit)
+    (count == 0 || left as u64 <= limit) && (added == 0 || fits(left, added, limit))
 }
 
 /// What an edit comes to, kept out or not, and within the limit or not.
@@ -97,7 +105,6 @@ pub(crate) fn edit_plan(
 ) -> Planned
     requires range { replacement.start + replacement.count ≤ size r.now }
     requires added { replacement.added ≡ length (source_bytes r.now replacement.source) }
-    requires small { replacement.added < 2 ^ 63 }
     ensures { result ≡ edit_plan r.now (Replace replacement.start replacement.count replacement.source) value follow }
 {
     let Replacement {
@@ -126,7 +133,6 @@ pub(crate) fn edit_plan(
 pub(crate) fn replace_plan(r: &Request, replacement: Replacement) -> Planned
     requires range { replacement.start + replacement.count ≤ size r.now }
     requires added { replacement.added ≡ length (source_bytes r.now replacement.source) }
-    requires small { replacement.added < 2 ^ 63 }
     ensures { result ≡ replace_plan r.now replacement.start replacement.count replacement.source }
 {
     edit_plan(r, replacement, 0, Follow::Nothing)
@@ -136,10 +142,29 @@ pub(crate) fn replace_plan(r: &Request, replacement: Replacement) -> Planned
 pub(crate) fn replace_and_go(r: &Request, replacement: Replacement) -> Planned
     requires range { replacement.start + replacement.count ≤ size r.now }
     requires added { replacement.added ≡ length (source_bytes r.now replacement.source) }
-    requires small { replacement.added < 2 ^ 63 }
     ensures { result ≡ replace_and_go r.now replacement.start replacement.count replacement.source }
 {
-    prove!(replacement.start <= r.size());
-    let place = replacement.start + replacement.added;
-    edit_plan(r, replacement, 0, Follow::Caret { place })
+    prove!(r.limit() <= u64::MAX);
+    match replacement.start.checked_add(replacement.added) {
+        Some(place) => edit_plan(r, replacement, 0, Follow::Caret { place }),
+        // Such a text passes every limit, so that nothing follows.
+        None => edit_plan(r, replacement, 0, Follow::Nothing),
+    }
+}
+
+/// The plan of turning the line ends of the whole text into one kind, which answers 0 and is followed by nothing.
+#[tactic(auto, using(crate::proofs::Standing::length_text))]
+pub(crate) fn conversion_plan(r: &Request, to: LineEnd) -> Planned
+    ensures { result ≡ edit_plan r.now (ConvertLineEnds to) (pos 0) Follows.Nothing }
+{
+    let (first, second) = r.document.halves();
+    edit_if(
+        r.document.is_read_only() && has_conversion(first, second, to),
+        conversion_stays_within(first, second, to, r.limit()),
+        Plan::Edit {
+            edit: Edit::ConvertLineEnds { to },
+            value: 0,
+            follow: Follow::Nothing,
+        },
+    )
 }

@@ -1,12 +1,14 @@
 //! Plans of the messages on line ends, markers and line states.
 
-ghost use Rattle.std.specs.Prelude.{◌≡◌, ◌≤◌};
-ghost use Rattle.ed_model.specs.LinePlans.{get_eol_mode, get_line_state, line_end_kind, line_end_number, marker_delete, marker_delete_all, set_eol_mode, set_line_state};
+ghost use Rattle.std.specs.Prelude.{◌≡◌, ◌≤◌, ◌<◌, ◌^◌, length, IfSome};
+ghost use Rattle.ed_model.specs.PlansFit.{IsSoundRequest};
+ghost use Rattle.ed_model.specs.LinePlans.{convert_eols, get_eol_mode, get_line_state, has_handles, line_end_kind, line_end_number, line_of_handle, marker_add, marker_add_set, marker_delete, marker_delete_all, marker_delete_handle, marker_get, marker_line_from_handle, marker_next, marker_previous, numbers_in, set_eol_mode, set_line_state};
 
-use crate::answers::{answer, answer_number, change_document};
-use crate::arguments::{line_among, marker_or_all, within};
+use crate::answers::{answer, answer_line, answer_number, change_document};
+use crate::arguments::{at_least_zero, line_among, low_bits, some_or_all, within};
+use crate::edits::conversion_plan;
 use crate::request::Request;
-use ed_model::{DocumentChange, LineEnd, Planned};
+use ed_model::{DocumentChange, LineEnd, Plan, Planned};
 use ed_types::Refusal;
 
 /// The number of a kind of line end.
@@ -52,11 +54,84 @@ pub(crate) fn set_eol_mode(r: &Request) -> Planned
     }
 }
 
+/// CONVERTEOLS: all line ends of the text are turned into the kind that `w` names.
+pub(crate) fn convert_eols(r: &Request) -> Planned
+    ensures { result ≡ convert_eols r.now }
+{
+    match within(0, 2, r.message.w) {
+        Some(mode) => conversion_plan(r, line_end_kind(mode)),
+        None => Err(Refusal::BadArgument),
+    }
+}
+
+/// Whether so many handles of markers are left.
+fn has_handles(r: &Request, count: u32) -> bool
+    ensures { result ≡ has_handles r.now count }
+{
+    let next = u64::from(r.document.rows().next_handle()) + u64::from(count);
+    next.saturating_sub(1) <= r.session.limits.handles
+}
+
+/// MARKERADD: a marker with number `l` on line `w`. Answers its handle.
+pub(crate) fn marker_add(r: &Request) -> Planned
+    ensures { result ≡ marker_add r.now }
+{
+    let Some(number) = within(0, 31, r.message.l) else {
+        return Err(Refusal::BadArgument);
+    };
+    let Some(line) = line_among(r.line_total(), r.message.w) else {
+        return answer(-1);
+    };
+    if !has_handles(r, 1) {
+        return Err(Refusal::TooMany);
+    }
+    Ok(Plan::ChangeDocument {
+        change: DocumentChange::AddMarker {
+            line,
+            number: number as u32,
+        },
+        value: i64::from(r.document.rows().next_handle()),
+    })
+}
+
+/// How many numbers of markers a mask has a bit of.
+#[tactic(auto, using(crate::proofs::Masks::ones_are_numbers))]
+fn count_numbers(mask: u32) -> u32
+    ensures { result ≡ length (numbers_in mask) }
+{
+    mask.count_ones()
+}
+
+/// Whether a handle is left for each number of a mask.
+fn has_handles_for(r: &Request, mask: u32) -> bool
+    ensures { result ≡ has_handles r.now (length (numbers_in mask)) }
+{
+    has_handles(r, count_numbers(mask))
+}
+
+/// MARKERADDSET: a marker on line `w` for each bit of `l`.
+pub(crate) fn marker_add_set(r: &Request) -> Planned
+    ensures { result ≡ marker_add_set r.now }
+{
+    let Some(mask) = within(0, u32::MAX as usize, r.message.l) else {
+        return Err(Refusal::BadArgument);
+    };
+    let Some(line) = line_among(r.line_total(), r.message.w) else {
+        return answer(0);
+    };
+    let mask = mask as u32;
+    if has_handles_for(r, mask) {
+        change_document(DocumentChange::AddMarkers { line, mask })
+    } else {
+        Err(Refusal::TooMany)
+    }
+}
+
 /// MARKERDELETE: the first marker with number `l` on line `w` goes, or all of the line for -1.
 pub(crate) fn marker_delete(r: &Request) -> Planned
     ensures { result ≡ marker_delete r.now }
 {
-    let Some(number) = marker_or_all(r.message.l) else {
+    let Some(number) = some_or_all(31, r.message.l) else {
         return Err(Refusal::BadArgument);
     };
     match line_among(r.line_total(), r.message.w) {
@@ -69,9 +144,73 @@ pub(crate) fn marker_delete(r: &Request) -> Planned
 pub(crate) fn marker_delete_all(r: &Request) -> Planned
     ensures { result ≡ marker_delete_all r.now }
 {
-    match marker_or_all(r.message.w) {
+    match some_or_all(31, r.message.w) {
         Some(number) => change_document(DocumentChange::DeleteMarkers { number }),
         None => Err(Refusal::BadArgument),
+    }
+}
+
+/// MARKERGET: the mask of line `w`, with a bit for each number that a marker there has.
+pub(crate) fn marker_get(r: &Request) -> Planned
+    ensures { result ≡ marker_get r.now }
+{
+    match line_among(r.line_total(), r.message.w) {
+        Some(line) => answer(i64::from(r.document.rows().mask(line))),
+        None => answer(0),
+    }
+}
+
+/// MARKERNEXT: the first line, from `w` on, whose mask has a bit in common with the low 32 bits of `l`.
+#[tactic(auto, using(crate::proofs::Ranges::next_bounded))]
+pub(crate) fn marker_next(r: &Request) -> Planned
+    ensures { result ≡ marker_next r.now }
+{
+    let from = at_least_zero(r.message.w);
+    answer_line(r.rows().next(from, low_bits(r.message.l)))
+}
+
+/// MARKERPREVIOUS: the last such line, up to and with `w`.
+#[tactic(auto, using(crate::proofs::Ranges::previous_bounded))]
+pub(crate) fn marker_previous(r: &Request) -> Planned
+    ensures { result ≡ marker_previous r.now }
+{
+    if r.message.w < 0 {
+        return answer(-1);
+    }
+    let from = r.message.w as usize;
+    answer_line(r.rows().previous(from, low_bits(r.message.l)))
+}
+
+/// The line of the marker with the handle in `w`.
+#[tactic(auto, using(crate::proofs::Handles::no_handle, crate::proofs::Ranges::next_bounded))]
+fn line_of_handle(r: &Request) -> Option<usize>
+    requires { IsSoundRequest r.now }
+    ensures line { result ≡ line_of_handle r.now }
+    ensures bounded { IfSome result (λ line. line < 2 ^ 63) }
+{
+    let rows = r.rows();
+    // A marker's handle is below the next one.
+    let handle = within(0, rows.next_handle() as usize, r.message.w)?;
+    rows.line_of_handle(handle as u32)
+}
+
+/// MARKERLINEFROMHANDLE: the line of the marker with handle `w`.
+pub(crate) fn marker_line_from_handle(r: &Request) -> Planned
+    requires { IsSoundRequest r.now }
+    ensures { result ≡ marker_line_from_handle r.now }
+{
+    answer_line(line_of_handle(r))
+}
+
+/// MARKERDELETEHANDLE: the marker with handle `w` goes.
+pub(crate) fn marker_delete_handle(r: &Request) -> Planned
+    requires { IsSoundRequest r.now }
+    ensures { result ≡ marker_delete_handle r.now }
+{
+    let handle = at_least_zero(r.message.w) as u64;
+    match line_of_handle(r) {
+        Some(_) => change_document(DocumentChange::DeleteHandle { handle }),
+        None => answer(0),
     }
 }
 

@@ -1,6 +1,6 @@
 //! The plan of each message.
 
-ghost use Rattle.std.specs.Prelude.{◌≡◌, true};
+ghost use Rattle.std.specs.Prelude.{◌≡◌};
 ghost use Rattle.ed_model.specs.PlansFit.{IsSoundRequest};
 ghost use Rattle.ed_model.specs.Table.{plan_of};
 ghost use Rattle.message_plans.specs.TableSoFar.{table_so_far};
@@ -87,7 +87,6 @@ pub fn table_so_far(kind: Kind) -> bool
 ///
 /// The first refusal that holds of the message, as the model's table has it.
 pub fn plan_of(kind: Kind, r: &Request) -> Planned
-    requires known { table_so_far kind ≡ true }
     requires sound { IsSoundRequest r.now }
     ensures { result ≡ plan_of kind r.now }
 {
@@ -210,6 +209,30 @@ pub fn plan_of(kind: Kind, r: &Request) -> Planned
         Kind::GetAllLinesVisible => folding_plans::get_all_lines_visible(r),
         Kind::GetFoldExpanded => folding_plans::get_fold_expanded(r),
         Kind::GetStyleAt => style_plans::get_style_at(r),
-        _ => unreachable!(),
+        Kind::MarkerAdd => line_plans::marker_add(r),
+        Kind::MarkerAddSet => line_plans::marker_add_set(r),
+        Kind::MarkerGet => line_plans::marker_get(r),
+        Kind::MarkerNext => line_plans::marker_next(r),
+        Kind::MarkerPrevious => line_plans::marker_previous(r),
+        Kind::MarkerLineFromHandle => line_plans::marker_line_from_handle(r),
+        Kind::MarkerDeleteHandle => line_plans::marker_delete_handle(r),
+        Kind::GetLastChild => folding_plans::get_last_child(r),
+        Kind::GetFoldParent => folding_plans::get_fold_parent(r),
+        Kind::FoldLine => folding_plans::fold_line(r),
+        Kind::ToggleFold => folding_plans::toggle_fold(r),
+        Kind::VisibleFromDocLine => folding_plans::visible_from_doc_line(r),
+        Kind::DocLineFromVisible => folding_plans::doc_line_from_visible(r),
+        Kind::IndicatorAllOnFor => style_plans::indicator_all_on_for(r),
+        Kind::IndicatorValueAt => style_plans::indicator_value_at(r),
+        Kind::IndicatorStart => style_plans::indicator_start(r),
+        Kind::IndicatorEnd => style_plans::indicator_end(r),
+        Kind::SetDocPointer => session_plans::set_doc_pointer(r),
+        Kind::CreateDocument => session_plans::create_document(r),
+        Kind::AddRefDocument => session_plans::add_ref_document(r),
+        Kind::ReleaseDocument => session_plans::release_document(r),
+        Kind::SetSearchFlags => target_plans::set_search_flags(r),
+        Kind::SearchInTarget => target_plans::search_in_target(r),
+        Kind::ConvertEols => line_plans::convert_eols(r),
+        Kind::Paste => selection_plans::paste(r),
     }
 }

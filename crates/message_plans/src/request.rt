@@ -1,15 +1,21 @@
 //! `Request`: a message on its way, with all that its plan reads.
 
-ghost use Rattle.std.specs.Prelude.{◌≡◌, ◌≤◌, ◌<◌, ◌^◌, length, slice_get, Some};
+ghost use Rattle.std.specs.Prelude.{◌≡◌, ◌≤◌, ◌<◌, ◌^◌, length, option_copied, option_map, slice_get, Some};
 ghost use Rattle.ed_model.specs.Session.{limit_of, lines_in};
 ghost use Rattle.ed_model.specs.PlansFit.{IsSoundRequest};
+ghost use Rattle.ed_model.specs.SessionPlans.{document_named};
+ghost use Rattle.message_plans.specs.Requested.{document_of};
 ghost use Rattle.ed_model.specs.Requests.{size, text, line_total, line_at, selection_end, selection_start, target_greatest, target_least};
 ghost use Rattle.ed_model.specs.Characters.{cut_after, cut_before};
+ghost use Rattle.ed_model.specs.FoldingPlans.{levels};
 ghost use Rattle.ed_model.specs.TextPlans.{line_start, line_past, line_end};
 
+use crate::arguments::within;
 use crate::state::SessionState;
+use contraction::Levels;
 use document::Document;
 use ed_view::View;
+use line_rows::LineRows;
 use std::marker::Model;
 
 /// A message as it was sent, with its text lent.
@@ -33,7 +39,8 @@ impl<'a> Model for SentMessage<'a> {
     ghost view = { λ m. record { number = m.number; w = m.w; l = m.l; text = m.text.now } };
 }
 
-/// A message to a view: the session, the view, its document and the message, all lent. Contracts see the model's request.
+/// A message to a view: the session, the view, its document and the message, all lent. Contracts see the model's request. The
+/// session keeps each document under its own id.
 #[derive(Drop)]
 pub struct Request<'a> {
     /// What the session keeps.
@@ -52,7 +59,11 @@ impl<'a> Model for Request<'a> {
 
     ghost Value = { ModelRequest };
 
+    ghost use Rattle.message_plans.specs.Requested.{DocumentsAreNamed};
+
     ghost view = { λ r. record { session = session_in r.session.now; view = r.view.now.view; document = r.document.now.document; message = r.message } };
+
+    ghost invariant = { λ r. DocumentsAreNamed r.session.now };
 }
 
 // What plans read of a request, in the words of the model's `Requests`.
@@ -239,6 +250,40 @@ impl<'a> Request<'a> {
         ensures bounded { result < 2 ^ 62 }
     {
         self.target_start().max(self.target_end())
+    }
+
+    /// The rows of all lines.
+    pub(crate) fn rows(&self) -> &LineRows
+        ensures rows { result.now.rows ≡ self.now.document.rows }
+        ensures next_handle { result.now.next_handle ≡ self.now.document.next_handle }
+        ensures lines { length self.now.document.rows ≡ line_total self.now }
+        ensures bounded { length self.now.document.rows < 2 ^ 63 }
+    {
+        let rows = self.document.rows();
+        prove!(rows.count() <= 1 << 62);
+        rows
+    }
+
+    /// The fold levels of all lines.
+    pub(crate) fn levels(&self) -> Levels<'_>
+        ensures levels { result ≡ levels self.now }
+        ensures lines { length (levels self.now) ≡ line_total self.now }
+    {
+        let levels = self.document.rows().levels();
+        let (first, second) = levels.stored();
+        Levels::new(first, second, levels.count())
+    }
+
+    /// The document whose id the argument is, if there is one.
+    #[tactic(auto, using(crate::proofs::Named::named, crate::proofs::Named::not_named))]
+    pub(crate) fn document_named(&self, argument: i64) -> Option<&Document>
+        requires { IsSoundRequest self.now }
+        ensures { option_map document_of (option_copied result) ≡ document_named self.now.session argument }
+    {
+        let documents = &self.session.documents;
+        // The ids of all documents are below the next one.
+        let id = within(0, documents.next() as usize, argument)?;
+        documents.get(id as u32)
     }
 
     /// How many bytes the document may have.

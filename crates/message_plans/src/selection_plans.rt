@@ -1,9 +1,11 @@
 //! Plans of the messages on the selection and the clipboard.
 
-ghost use Rattle.std.specs.Prelude.{◌≡◌, ◌≤◌, ◌+◌};
+ghost use Rattle.std.specs.Prelude.{◌≡◌, ◌≤◌, ◌+◌, length};
+ghost use Rattle.ed_model.specs.declared.plan.Source.TheVariants.{Clipboard};
+ghost use Rattle.ed_model.specs.Edits.{source_bytes};
 ghost use Rattle.ed_model.specs.Requests.{selection_start, size};
 ghost use Rattle.ed_model.specs.PlansFit.{IsSoundRequest};
-ghost use Rattle.ed_model.specs.SelectionPlans.{can_paste, clear, copy, copy_range, copy_text, cut, get_anchor, get_current_pos, get_paste_convert_endings, get_sel_text, get_selection_empty, get_selection_end, get_selection_start, go_to, go_to_line, go_to_pos, replace_sel, select, select_all, selected, set_anchor, set_current_pos, set_paste_convert_endings, set_sel, set_selection_end, set_selection_start};
+ghost use Rattle.ed_model.specs.SelectionPlans.{can_paste, clear, copy, copy_range, copy_text, cut, get_anchor, get_current_pos, get_paste_convert_endings, get_sel_text, get_selection_empty, get_selection_end, get_selection_start, go_to, go_to_line, go_to_pos, paste, replace_sel, select, select_all, selected, set_anchor, set_current_pos, set_paste_convert_endings, set_sel, set_selection_end, set_selection_start};
 
 use crate::answers::{answer, answer_flag, answer_number, change_session, change_view, hand_out};
 use crate::arguments::{clamped, is_on, within};
@@ -12,6 +14,7 @@ use crate::request::Request;
 use crate::text_plans::past_argument;
 use ed_model::{Follow, Planned, SessionChange, Source, ViewChange};
 use ed_types::Refusal;
+use line_ends::converted_len;
 
 /// Puts anchor and caret there.
 pub(crate) fn select(anchor: usize, caret: usize) -> Planned
@@ -204,6 +207,36 @@ pub(crate) fn copy(r: &Request) -> Planned
         return answer(0);
     }
     change_session(SessionChange::Copy { start, count })
+}
+
+/// How many bytes the clipboard pastes, where line ends are turned into those of the document or are not.
+fn pasted_length(r: &Request, convert: bool) -> usize
+    ensures { result ≡ length (source_bytes r.now (Clipboard convert)) }
+{
+    let clipboard = &r.session.clipboard;
+    if convert {
+        converted_len(clipboard, r.document.typed_line_end())
+    } else {
+        clipboard.len()
+    }
+}
+
+/// PASTE: what the clipboard has in the place of the selection, with the document's line ends where the view turns them.
+pub(crate) fn paste(r: &Request) -> Planned
+    requires { IsSoundRequest r.now }
+    ensures { result ≡ paste r.now }
+{
+    if r.session.clipboard.is_empty() {
+        return answer(0);
+    }
+    let convert = r.view.converts_pastes();
+    let replacement = Replacement {
+        start: r.selection_start(),
+        count: selected(r),
+        source: Source::Clipboard { convert },
+        added: pasted_length(r, convert),
+    };
+    replace_and_go(r, replacement)
 }
 
 /// CLEAR: deletes the selection, or else from the caret up to the next cut between characters.

@@ -1,14 +1,16 @@
 //! Plans of the messages on documents, masks and recording.
 
-ghost use Rattle.std.specs.Prelude.{◌≡◌};
+ghost use Rattle.std.specs.Prelude.{◌≡◌, ℕ, Err, IfOk, IfErr};
+ghost use Rattle.ed_model.specs.PlansFit.{IsSoundRequest};
+ghost use Rattle.ed_model.specs.declared.plan.SessionChange.{SessionChange};
 ghost use Rattle.ed_model.specs.declared.plan.ViewChange.TheVariants.{SetRecording};
-ghost use Rattle.ed_model.specs.Requests.{change_view};
-ghost use Rattle.ed_model.specs.SessionPlans.{get_doc_pointer, get_document_options, get_line_end_types, get_mod_event_mask, set_line_end_types_allowed, set_mod_event_mask, types_number};
+ghost use Rattle.ed_model.specs.Requests.{change_session, change_view};
+ghost use Rattle.ed_model.specs.SessionPlans.{add_ref_document, create_document, document_named, document_options, get_doc_pointer, get_document_options, get_line_end_types, get_mod_event_mask, has_document_ids, release_document, set_doc_pointer, set_line_end_types_allowed, set_mod_event_mask, types_number, with_reference};
 
-use crate::answers::{answer, answer_number, change_document, change_view};
+use crate::answers::{answer, answer_number, change_document, change_session, change_view};
 use crate::arguments::within;
 use crate::request::Request;
-use ed_model::{DocumentChange, LineEndTypes, Planned, ViewChange};
+use ed_model::{DocumentChange, LineEndTypes, Plan, Planned, SessionChange, ViewChange};
 use ed_types::Refusal;
 
 // All kinds of change that a mask can name.
@@ -19,6 +21,107 @@ pub(crate) fn get_doc_pointer(r: &Request) -> Planned
     ensures { result ≡ get_doc_pointer r.now }
 {
     answer(i64::from(r.view.document()))
+}
+
+/// Whether one more document can be made.
+fn has_document_ids(r: &Request) -> bool
+    ensures { result ≡ has_document_ids r.now.session }
+{
+    u64::from(r.session.documents.next()) <= r.session.limits.ids
+}
+
+/// The id of the document that `l` names, to which one more reference is made.
+///
+/// # Errors
+///
+/// `NoSuchDocument` where there is none, `TooMany` where it has as many references as it may.
+fn to_be_referred_to(r: &Request) -> Result<u32, Refusal>
+    requires { IsSoundRequest r.now }
+    ensures id { IfOk result (λ id. (change : ℕ → SessionChange) → with_reference r.now (document_named r.now.session r.now.message.l) change ≡ change_session (change id)) }
+    ensures refused { IfErr result (λ refusal. (change : ℕ → SessionChange) → with_reference r.now (document_named r.now.session r.now.message.l) change ≡ Err refusal) }
+{
+    let Some(document) = r.document_named(r.message.l) else {
+        return Err(Refusal::NoSuchDocument);
+    };
+    let references = document.views().len() as u64 + u64::from(document.held_by_callers());
+    if references < r.session.limits.refs {
+        Ok(document.id())
+    } else {
+        Err(Refusal::TooMany)
+    }
+}
+
+/// SETDOCPOINTER: the view attaches to the document with id `l`, or to a new one for 0.
+pub(crate) fn set_doc_pointer(r: &Request) -> Planned
+    requires { IsSoundRequest r.now }
+    ensures { result ≡ set_doc_pointer r.now }
+{
+    if r.message.l != 0 {
+        let document = to_be_referred_to(r)?;
+        return change_session(SessionChange::Attach { document });
+    }
+    if has_document_ids(r) {
+        change_session(SessionChange::AttachNew)
+    } else {
+        Err(Refusal::TooMany)
+    }
+}
+
+/// The argument as options of a document: that it keeps no styles (0x1), and that it is for large texts (0x100).
+fn document_options(argument: i64) -> Option<u32>
+    ensures { result ≡ document_options argument }
+{
+    let options = within(0, 0x101, argument)?;
+    if options == 0 || options == 0x1 || options == 0x100 || options == 0x101 {
+        Some(options as u32)
+    } else {
+        None
+    }
+}
+
+/// CREATEDOCUMENT: a new document with options `l`, which the caller holds. `w` is not read, but not negative. Answers its id.
+pub(crate) fn create_document(r: &Request) -> Planned
+    ensures { result ≡ create_document r.now }
+{
+    if r.message.w < 0 {
+        return Err(Refusal::BadArgument);
+    }
+    let Some(options) = document_options(r.message.l) else {
+        return Err(Refusal::BadArgument);
+    };
+    if !has_document_ids(r) {
+        return Err(Refusal::TooMany);
+    }
+    Ok(Plan::ChangeSession {
+        change: SessionChange::Create { options },
+        value: i64::from(r.session.documents.next()),
+    })
+}
+
+/// ADDREFDOCUMENT: the caller holds one more reference to the document with id `l`.
+pub(crate) fn add_ref_document(r: &Request) -> Planned
+    requires { IsSoundRequest r.now }
+    ensures { result ≡ add_ref_document r.now }
+{
+    let document = to_be_referred_to(r)?;
+    change_session(SessionChange::AddReference { document })
+}
+
+/// RELEASEDOCUMENT: the caller gives back a reference of its own to the document with id `l`.
+pub(crate) fn release_document(r: &Request) -> Planned
+    requires { IsSoundRequest r.now }
+    ensures { result ≡ release_document r.now }
+{
+    let Some(document) = r.document_named(r.message.l) else {
+        return Err(Refusal::NoSuchDocument);
+    };
+    if document.held_by_callers() > 0 {
+        change_session(SessionChange::Release {
+            document: document.id(),
+        })
+    } else {
+        Err(Refusal::NoSuchDocument)
+    }
 }
 
 /// GETDOCUMENTOPTIONS: the options that the document was made with.

@@ -1,8 +1,8 @@
 //! Plans of the messages on styles and indicators.
 
-ghost use Rattle.std.specs.Prelude.{◌≡◌};
+ghost use Rattle.std.specs.Prelude.{◌≡◌, ◌<◌, ◌^◌};
 ghost use Rattle.ed_model.specs.PlansFit.{IsSoundRequest};
-ghost use Rattle.ed_model.specs.StylePlans.{colourise, fill_indicator, get_end_styled, get_indicator_current, get_indicator_value, get_style_at, get_styled_text, indicator_clear_range, indicator_fill_range, set_indicator_current, set_indicator_value, set_styling, set_styling_ex, start_styling, styles, unstyled};
+ghost use Rattle.ed_model.specs.StylePlans.{colourise, fill_indicator, get_end_styled, get_indicator_current, get_indicator_value, get_style_at, get_styled_text, indicator_all_on_for, indicator_clear_range, indicator_end, indicator_fill_range, indicator_start, indicator_value_at, run_end_at, run_past, run_start, set_indicator_current, set_indicator_value, set_styling, set_styling_ex, start_styling, styles, unstyled, values_of};
 ghost use Rattle.ed_model.specs.TextPlans.{at_place};
 
 use crate::answers::{answer, answer_number, change_document, change_view};
@@ -188,4 +188,78 @@ pub(crate) fn indicator_clear_range(r: &Request) -> Planned
     ensures { result ≡ indicator_clear_range r.now }
 {
     fill_indicator(r, 0)
+}
+
+/// INDICATORALLONFOR: bit `k` for each indicator `k` that is not 0 at place `w`.
+#[tactic(auto, using(crate::proofs::Runs::none_outside, crate::proofs::Runs::all_on))]
+pub(crate) fn indicator_all_on_for(r: &Request) -> Planned
+    ensures { result ≡ indicator_all_on_for r.now }
+{
+    if r.message.w < 0 {
+        return answer(0);
+    }
+    let place = r.message.w as usize;
+    answer(i64::from(r.document.indicators().mask_at(place)))
+}
+
+/// The value of an indicator at a place that may be outside the text; 0 there.
+fn value_at(r: &Request, indicator: usize, argument: i64) -> u32
+    requires { indicator < 32 }
+    ensures { result ≡ at_place (values_of r.now indicator) argument }
+{
+    if argument < 0 {
+        return 0;
+    }
+    r.document.indicators().value(indicator, argument as usize)
+}
+
+/// INDICATORVALUEAT: the value of indicator `w` at place `l`.
+pub(crate) fn indicator_value_at(r: &Request) -> Planned
+    ensures { result ≡ indicator_value_at r.now }
+{
+    match within(0, 31, r.message.w) {
+        Some(indicator) => answer(i64::from(value_at(r, indicator, r.message.l))),
+        None => Err(Refusal::BadArgument),
+    }
+}
+
+/// Where the longest range of one value of an indicator starts that holds a place, and where it is past; both 0 for a place
+/// outside the text.
+fn run_at(r: &Request, indicator: usize, argument: i64) -> (usize, usize)
+    requires { indicator < 32 }
+    ensures start { result.0 ≡ run_end_at run_start (values_of r.now indicator) argument }
+    ensures past { result.1 ≡ run_end_at run_past (values_of r.now indicator) argument }
+    ensures bounded { (result.0 < 2 ^ 63) × (result.1 < 2 ^ 63) }
+{
+    if argument < 0 {
+        return (0, 0);
+    }
+    let place = argument as usize;
+    let indicators = r.document.indicators();
+    prove!(indicators.length() == r.size());
+    if place < r.size() {
+        indicators.run(indicator, place)
+    } else {
+        (0, 0)
+    }
+}
+
+/// INDICATORSTART: where the range of one value of indicator `w` starts that holds place `l`.
+pub(crate) fn indicator_start(r: &Request) -> Planned
+    ensures { result ≡ indicator_start r.now }
+{
+    match within(0, 31, r.message.w) {
+        Some(indicator) => answer_number(run_at(r, indicator, r.message.l).0),
+        None => Err(Refusal::BadArgument),
+    }
+}
+
+/// INDICATOREND: where that range is past.
+pub(crate) fn indicator_end(r: &Request) -> Planned
+    ensures { result ≡ indicator_end r.now }
+{
+    match within(0, 31, r.message.w) {
+        Some(indicator) => answer_number(run_at(r, indicator, r.message.l).1),
+        None => Err(Refusal::BadArgument),
+    }
 }

@@ -1,15 +1,23 @@
 //! Plans of the messages on the target.
 
-ghost use Rattle.std.specs.Prelude.{◌≡◌, ◌≤◌, IfSome};
+ghost use Rattle.std.specs.Prelude.{◌≡◌, ◌≤◌, ◌<◌, ◌+◌, ◌^◌, length, IfSome};
 ghost use Rattle.ed_model.specs.PlansFit.{IsSoundRequest};
-ghost use Rattle.ed_model.specs.TargetPlans.{get_search_flags, get_target_end, get_target_start, get_target_text, replace_target, replacement_length, set_target, set_target_end, set_target_range, set_target_start, target_from_selection, target_whole_document};
+ghost use Rattle.ed_model.specs.Requests.{text};
+ghost use Rattle.ed_model.specs.Matches.{match_in};
+ghost use Rattle.ed_model.specs.TargetPlans.{found_target, get_search_flags, get_target_end, get_target_start, get_target_text, replace_target, replacement_length, search_flags, search_in_target, set_search_flags, set_target, set_target_end, set_target_range, set_target_start, target_from_selection, target_whole_document};
 
 use crate::answers::{answer, answer_number, change_view, hand_out};
 use crate::arguments::{clamped, is_minus_one, within};
 use crate::edits::{Replacement, edit_plan};
 use crate::request::Request;
-use ed_model::{Follow, Planned, Source, ViewChange};
+use ed_model::{Follow, Plan, Planned, Source, ViewChange};
 use ed_types::Refusal;
+use target_search::SearchFlags;
+
+// All flags that a search may have.
+const SEARCH_FLAGS: u32 = SearchFlags::WHOLE_WORD
+    | SearchFlags::MATCH_CASE
+    | SearchFlags::WORD_START;
 
 /// The target goes from there to there.
 fn set_target(start: usize, end: usize) -> Planned
@@ -77,6 +85,71 @@ pub(crate) fn get_target_text(r: &Request) -> Planned
     ensures { result ≡ get_target_text r.now }
 {
     hand_out(r.target_least(), r.target_greatest())
+}
+
+/// The argument as flags of a search, if it is made of whole word, match case and word start.
+#[tactic(auto, using(crate::proofs::Searching::flags_among))]
+fn search_flags(argument: i64) -> Option<u32>
+    ensures { result ≡ search_flags argument }
+{
+    let flags = within(0, SEARCH_FLAGS as usize, argument)? as u32;
+    if flags & SEARCH_FLAGS == flags {
+        Some(flags)
+    } else {
+        None
+    }
+}
+
+/// SETSEARCHFLAGS: how the target is searched from now on.
+pub(crate) fn set_search_flags(r: &Request) -> Planned
+    ensures { result ≡ set_search_flags r.now }
+{
+    match search_flags(r.message.w) {
+        Some(flags) => change_view(ViewChange::SetSearchFlags { flags }),
+        None => Err(Refusal::BadArgument),
+    }
+}
+
+/// Where a pattern stands in the target, as the view searches.
+#[tactic(auto, using(crate::proofs::Standing::length_text))]
+fn find_in_target(r: &Request, pattern: &[u8]) -> Option<usize>
+    requires { IsSoundRequest r.now }
+    ensures place { result ≡ match_in r.now.view.search_flags (text r.now) pattern.now r.now.view.target_start r.now.view.target_end }
+    ensures bounded { IfSome result (λ place. place + length pattern.now < 2 ^ 62) }
+{
+    let (first, second) = r.document.halves();
+    let flags = SearchFlags::new(r.view.search_flags());
+    let (start, end) = (r.target_start(), r.target_end());
+    target_search::find(flags, first, second, pattern, start, end)
+}
+
+/// The target becomes a match of `count` bytes, where one is found. Answers where it starts, or -1.
+fn found_target(count: usize, found: Option<usize>) -> Planned
+    requires { IfSome found (λ place. place + count < 2 ^ 63) }
+    ensures { result ≡ found_target count found }
+{
+    match found {
+        Some(start) => Ok(Plan::ChangeView {
+            change: ViewChange::SetTarget {
+                start,
+                end: start + count,
+            },
+            value: start as i64,
+        }),
+        None => answer(-1),
+    }
+}
+
+/// SEARCHINTARGET: the target becomes the match of the first `w` bytes of the message's text in it. Answers where it starts, or -1
+/// where there is none.
+pub(crate) fn search_in_target(r: &Request) -> Planned
+    requires { IsSoundRequest r.now }
+    ensures { result ≡ search_in_target r.now }
+{
+    match within(0, r.message.text.len(), r.message.w) {
+        Some(count) => found_target(count, find_in_target(r, &r.message.text[..count])),
+        None => Err(Refusal::BadArgument),
+    }
 }
 
 /// GETSEARCHFLAGS: how the target is searched.

@@ -2,14 +2,14 @@
 use Rattle.std.proofs.Common.{◌≡◌, ℕ, ◌+◌, ◌<◌, ◌≤◌, Bool, true, false, cond, List, [], ◌∷◌, map, length, refl, ap, sym, ◌∙◌, subst, arith}
 use Rattle.std.specs.Prelude.{◌==◌, not, filter, bit_and, bit_or, ℤ}
 use Rattle.std.specs.Int.Bits.{and_zero_l}
-use Rattle.std.proofs.lemmas.Nat.{and_assoc, and_or_self, or_comm}
+use Rattle.std.proofs.lemmas.Nat.{and_assoc, and_comm, and_or_self, and_or_apart, or_comm}
 use Rattle.std.proofs.lemmas.Bool.{eqb-true, eqb-false, eq-eqb, ne_eqb}
 use Rattle.ed_types.specs.Notices.{Notice}
 use Rattle.ed_types.specs.declared.reply.Note.{Note}
 use Rattle.ed_model.specs.Numbers.{meets}
 use Rattle.ed_types.specs.Heard.{with_text}
 use Rattle.ed_model.specs.Steps.{Step, Insert, Delete, step_bytes}
-use Rattle.ed_model.specs.Notes.{told, heard, before_note, after_note}
+use Rattle.ed_model.specs.Notes.{told, heard, before_note, after_note, insert_text, delete_text}
 use Rattle.document.specs.declared.text_step.TextStep.{TextStep}
 use Rattle.document.specs.declared.text_step.TextStep.TheVariants.{Insert as put_in, Delete as take_out}
 use Rattle.document.specs.TextSteps.{step_in}
@@ -37,6 +37,21 @@ meets_right m a b h = go (bit_and m (bit_or b a) == 0) refl
 
 pub meets_left : (m a b : ℕ) → meets m a ≡ true → meets m (bit_or a b) ≡ true
 meets_left m a b h = subst (λ k. meets m k ≡ true) (or_comm b a) (meets_right m a b h)
+
+-- what meets two kinds together meets one of them
+pub meets_either : (m a b c : ℕ) → (meets m a ≡ true → meets m c ≡ true) → (meets m b ≡ true → meets m c ≡ true) → meets m (bit_or a b) ≡ true → meets m c ≡ true
+meets_either m a b c left right h = go (bit_and m b == 0) refl
+  where
+    go : (x : Bool) → (bit_and m b == 0) ≡ x → meets m c ≡ true
+    go true t =
+        let none : bit_and b m ≡ 0 = and_comm b m ∙ eqb-true (bit_and m b) 0 t in
+        let same : bit_and m (bit_or a b) ≡ bit_and m a = and_comm m (bit_or a b) ∙ and_or_apart m a b none ∙ and_comm a m in
+        left (ap (λ x. not (x == 0)) (sym same) ∙ h)
+    go false t = right (ap not t)
+
+-- more of one of the kinds is more of both
+pub meets_more : (m a b c : ℕ) → (meets m b ≡ true → meets m c ≡ true) → meets m (bit_or a b) ≡ true → meets m (bit_or a c) ≡ true
+meets_more m a b c more = meets_either m a b (bit_or a c) (meets_left m a c) (λ h. meets_right m c a (more h))
 
 -- the views that hear a kind hear more kinds too
 pub hearers_more : (a b : ℕ) (views : List View) → ((m : ℕ) → meets m a ≡ true → meets m b ≡ true) → hearers a views ≤ hearers b views
@@ -79,6 +94,11 @@ with_right_text : (step : TextStep) (text : List ℕ) (note : Note) (shared : Li
 with_right_text (put_in p bytes) text note shared n e same = ap (with_text note) same ∙ e
 with_right_text (take_out p count) text note shared n e same = e
 
+-- more bits make more of its kind
+pub after_more : (bits all : ℕ) (s : Step) (m : ℕ) → (meets m bits ≡ true → meets m all ≡ true) → meets m (after_kind bits s) ≡ true → meets m (after_kind all s) ≡ true
+after_more bits all (Insert p bytes) m more h = meets_more m insert_text bits all more h
+after_more bits all (Delete p bytes) m more h = meets_more m delete_text bits all more h
+
 pub told_before : (views : List View) (step : TextStep) (text : List ℕ) (note : Note) (shared : List ℕ) (before after : ℕ)
     → with_text note (text_before (step_in step text)) ≡ before_note before (step_in step text)
     → (0 < hearers (step_kinds before after (step_in step text)) views → shared ≡ step_bytes (step_in step text))
@@ -98,4 +118,17 @@ told_after views s note shared before after lines is some =
     let n = after_note after lines s in
     let more : hearers n.kind views ≤ hearers (step_kinds before after s) views =
     hearers_more n.kind (step_kinds before after s) views (λ m h. meets_right m (after_kind after s) (before_kind before s) (rw (after_kind_is after lines s) at h)) in
+    told_as_heard views note Shared shared n (ap (λ (x : Notice). x.kind) is) (λ some_hear. ap (with_text note) (some (omega arith)) ∙ is)
+
+-- the same where the bits of the note are among those that were asked for
+pub told_after_more : (views : List View) (s : Step) (note : Note) (shared : List ℕ) (before all after : ℕ) (lines : ℤ)
+    → ((m : ℕ) → meets m after ≡ true → meets m all ≡ true)
+    → with_text note (step_bytes s) ≡ after_note after lines s
+    → (0 < hearers (step_kinds before all s) views → shared ≡ step_bytes s)
+    → told (audience_of Hearers note.kind views) (with_note_text Shared note shared) ≡ heard views (after_note after lines s)
+told_after_more views s note shared before all after lines more is some =
+    let n = after_note after lines s in
+    let le : hearers n.kind views ≤ hearers (step_kinds before all s) views =
+    hearers_more n.kind (step_kinds before all s) views
+    (λ m h. meets_right m (after_kind all s) (before_kind before s) (after_more after all s m (more m) (rw (after_kind_is after lines s) at h))) in
     told_as_heard views note Shared shared n (ap (λ (x : Notice). x.kind) is) (λ some_hear. ap (with_text note) (some (omega arith)) ∙ is)

@@ -6,3 +6,11 @@ pub mod KindLemmas
 pub mod NotesOfSteps
 pub mod StepScenes
 pub mod NeedLemmas
+pub mod ChangeNotes
+pub mod ChangeSteps
+pub mod PerformedSoFar
+pub mod NeededSoFar
+pub mod LatestStep
+pub mod Regrouped
+pub mod StepsInTurn
+pub mod ConversionNeeds

@@ -68,7 +68,7 @@ cons_after : (f : View → View) (o : Option View) (vs : List View) → cons_opt
 cons_after f None vs = refl
 cons_after f (Some v) vs = refl
 
-watch_after : (s : Step) (d : Document) (vs : List View) (ids : List ℕ) → filter_map (view_at (map (view_after s d) vs)) ids ≡ map (view_after s d) (filter_map (view_at vs) ids)
+pub watch_after : (s : Step) (d : Document) (vs : List View) (ids : List ℕ) → filter_map (view_at (map (view_after s d) vs)) ids ≡ map (view_after s d) (filter_map (view_at vs) ids)
 watch_after s d vs [] = refl
 watch_after s d vs (id ∷ ids) =
     ap (λ o. cons_option o (filter_map (view_at (map (view_after s d) vs)) ids)) (found_after s d vs id)
@@ -87,7 +87,7 @@ hear_after k s d (v ∷ vs) =
     go true rest = ap (λ n. suc n) rest
     go false rest = rest
 
-hear_same : (k : ℕ) (s : Step) (d : Document) (vs : List View) → hearers k (filter_map (view_at (map (view_after s d) vs)) d.views) ≡ hearers k (filter_map (view_at vs) d.views)
+pub hear_same : (k : ℕ) (s : Step) (d : Document) (vs : List View) → hearers k (filter_map (view_at (map (view_after s d) vs)) d.views) ≡ hearers k (filter_map (view_at vs) d.views)
 hear_same k s d vs = ap (hearers k) (watch_after s d vs d.views) ∙ hear_after k s d (filter_map (view_at vs) d.views)
 
 notes_same : (s : Step) (d : Document) (vs : List View) (steps : List Step)
@@ -170,7 +170,7 @@ notes_enough later step steps scene =
     let same = notes_same step d scene.views steps in
     omega arith
 
-shared_more : (a b : ℕ) (views : List View) (n : ℕ) → ((m : ℕ) → meets m a ≡ true → meets m b ≡ true) → bytes_shared a views n ≤ bytes_shared b views n
+pub shared_more : (a b : ℕ) (views : List View) (n : ℕ) → ((m : ℕ) → meets m a ≡ true → meets m b ≡ true) → bytes_shared a views n ≤ bytes_shared b views n
 shared_more a b views n more = go (nat_lt 0 (hearers a views)) refl
   where
     go : (c : Bool) → nat_lt 0 (hearers a views) ≡ c → cond c n 0 ≤ bytes_shared b views n

@@ -3,3 +3,7 @@ pub mod Hearing
 pub mod Following
 pub mod Needs
 pub mod StepNotes
+pub mod Undoing
+pub mod Turns
+pub mod Performed
+pub mod Conversion

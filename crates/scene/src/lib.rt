@@ -5,14 +5,21 @@
 //! hears. All room is made before, so that a step cannot fail.
 #![tactic(auto)]
 
+mod conversion;
 mod laws;
 mod moving;
 mod need;
+mod performing;
+mod regrouping;
 mod step_notes;
 mod steps;
 mod telling;
+mod undoing;
 
+pub use conversion::{ConversionNeed, conversion_need, convert};
 pub use laws::needs_are_enough;
 pub use need::{NoteRoom, leaving_need, note_need};
+pub use regrouping::regroup;
 pub use steps::{StepBits, make_step, step_heard};
 pub use telling::{Audience, NoteText, attempt, count_hearers, count_watchers, tell};
+pub use undoing::{HistoryNeed, caret_after, history_need, perform_history};

@@ -1,10 +1,11 @@
 //! What steps need of a list of notes.
 
-ghost use Rattle.std.specs.Prelude.{◌≡◌, length};
+ghost use Rattle.std.specs.Prelude.{◌≡◌, ◌*◌, length};
 ghost use Rattle.ed_model.specs.Session.{text_of};
 ghost use Rattle.document.specs.Kept.{amount_sum};
 ghost use Rattle.document.specs.TextSteps.{step_in, IsStepOn};
 ghost use Rattle.scene.specs.Scenes.{watchers, AreNamed};
+ghost use Rattle.scene.specs.Hearing.{hearers, bytes_shared};
 ghost use Rattle.scene.specs.Needs.{note_room, leaving_count, notes_of_step, bytes_of_step};
 
 use crate::step_notes::{PERFORMED_USER, START_ACTION, count_of, kind_after, kind_before};
@@ -54,6 +55,24 @@ pub fn leaving_need(document: &Document, views: &IdTable<View>) -> usize
     0
 }
 
+/// What a step of the text needs, if it is told of before it and after it under these kinds, and so many bytes come or go.
+pub(crate) fn told_need(
+    document: &Document,
+    views: &IdTable<View>,
+    kinds: u32,
+    count: usize,
+) -> NoteRoom
+    requires named { AreNamed views.now.entries }
+    ensures notes { result.notes ≡ 2 * hearers kinds (watchers document.now.document views.now) }
+    ensures bytes { result.bytes ≡ bytes_shared kinds (watchers document.now.document views.now) count }
+{
+    let hearers = count_hearers(document, views, kinds);
+    NoteRoom {
+        notes: 2 * hearers,
+        bytes: if hearers > 0 { count } else { 0 },
+    }
+}
+
 /// Returns what a step of a message needs at most, but for the notes that the save point is left: nothing where no view
 /// that watches hears it.
 pub fn note_need(document: &Document, views: &IdTable<View>, step: TextStep) -> NoteRoom
@@ -63,9 +82,5 @@ pub fn note_need(document: &Document, views: &IdTable<View>, step: TextStep) -> 
     ensures bytes { result.bytes ≡ bytes_of_step (watchers document.now.document views.now) (step_in step.entry (text_of document.now.document)) }
 {
     let kinds = kind_before(PERFORMED_USER, step) | kind_after(PERFORMED_USER | START_ACTION, step);
-    let hearers = count_hearers(document, views, kinds);
-    NoteRoom {
-        notes: 2 * hearers,
-        bytes: if hearers > 0 { count_of(step) } else { 0 },
-    }
+    told_need(document, views, kinds, count_of(step))
 }

@@ -18,16 +18,16 @@ use notify::{NoteList, blank};
 use selection::Movement;
 
 /// SCN_MODIFIED
-const MODIFIED: u32 = 2008;
+pub(crate) const MODIFIED: u32 = 2008;
 
 // Bits of its kind, SC_MOD_ and SC_ left out.
-const INSERT_TEXT: u32 = 0x1;
+pub(crate) const INSERT_TEXT: u32 = 0x1;
 
-const DELETE_TEXT: u32 = 0x2;
+pub(crate) const DELETE_TEXT: u32 = 0x2;
 
-const BEFORE_INSERT: u32 = 0x400;
+pub(crate) const BEFORE_INSERT: u32 = 0x400;
 
-const BEFORE_DELETE: u32 = 0x800;
+pub(crate) const BEFORE_DELETE: u32 = 0x800;
 
 pub(crate) const PERFORMED_USER: u32 = 0x10;
 

@@ -27,7 +27,7 @@ use line_index::edits_of_steps;
 use notify::{NoteList, blank};
 
 /// SCN_SAVEPOINTLEFT
-const SAVE_POINT_LEFT: u32 = 2003;
+pub(crate) const SAVE_POINT_LEFT: u32 = 2003;
 
 /// The bits of a step's notes that say who makes it, and as which of several.
 #[derive(Clone, Copy, Debug, PartialEq, Eq)]

@@ -1,7 +1,4 @@
 use Rattle.document.proofs.kept.Document.step.Goals as goal
 
-pub returns-in-Insert-clause-lines : goal.returns-in-Insert-clause-lines
-returns-in-Insert-clause-lines c = rw c.in-Insert.is c.insert.ensures.lines
-
-pub returns-in-Delete-clause-lines : goal.returns-in-Delete-clause-lines
-returns-in-Delete-clause-lines c = rw c.in-Delete.is c.delete.ensures.lines
+pub returns-clause-lines : goal.returns-clause-lines
+returns-clause-lines c = rw (← c.self.view_is) c.make_step.ensures.lines

@@ -1,0 +1,26 @@
+-- Steps that are lent from the history.
+use Rattle.std.proofs.Common.{◌≡◌, ℕ, List, Option, Some, IsSomeAnd, refl, subst}
+use Rattle.ed_model.specs.History.{Change, TextStep}
+use Rattle.ed_model.specs.InverseLaws.{Fits}
+use Rattle.ed_model.specs.Session.{text_of}
+use Rattle.ed_model.specs.Steps.{Step, Insert, Delete}
+use Rattle.document.specs.declared.text_step.TextStep.{TextStep as Lent}
+use Rattle.document.specs.declared.text_step.TextStep.TheVariants as lent
+use Rattle.document.specs.Kept.{Kept}
+use Rattle.document.specs.TextSteps.{step_in}
+use Rattle.document.specs.Undoing.{CanMake, IsLentOf}
+
+-- it is the step of the change, if that one fits the text
+step_of_lent : (step : Lent) (made : Step) (text : List ℕ) → IsLentOf (Some step) (TextStep made) → Fits made text → step_in step text ≡ made
+step_of_lent (lent.Insert place bytes) (Insert p bs) text is fits = rw (is.0, is.1) refl
+step_of_lent (lent.Insert place bytes) (Delete p bs) text is fits = elim is [ ]
+step_of_lent (lent.Delete place count) (Insert p bs) text is fits = elim is [ ]
+step_of_lent (lent.Delete place count) (Delete p bs) text is fits = rw (is.0, is.1, fits.1) refl
+
+-- the same of the change that stands at a place
+pub lent_step :
+    (k : Kept) (at : Option Change) (step : Lent) (made : Step) → IsSomeAnd at (CanMake k) → IsSomeAnd at (IsLentOf (Some step)) → at ≡ Some (TextStep made)
+    → step_in step (text_of k.document) ≡ made
+lent_step k at step made can is there =
+    let fits : CanMake k (TextStep made) = subst (λ o. IsSomeAnd o (CanMake k)) there can in
+    step_of_lent step made (text_of k.document) (subst (λ o. IsSomeAnd o (IsLentOf (Some step))) there is) fits.0

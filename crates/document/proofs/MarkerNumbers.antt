@@ -1,0 +1,99 @@
+-- The numbers of a mask, one after the other, and markers with them.
+use Rattle.std.proofs.Common.{◌≡◌, ◌≢◌, ◌≤◌, ◌<◌, ℕ, zero, suc, ◌+◌, ◌-◌, ◌/◌, ◌%◌, ◌^◌, cond, List, [], ◌∷◌, ◌++◌, length, filter, refl, ap, ◌∙◌, arith, append_assoc}
+use Rattle.std.specs.List.{range_with_len}
+use Rattle.std.specs.Prelude.{slice_set}
+use Rattle.std.proofs.lemmas.Bool.{eq-eqb, ne_eqb}
+use Rattle.std.proofs.lemmas.List.{set-get_or, get_or-set_same, append-nil}
+use Rattle.ed_model.specs.Numbers.{has_bit}
+use Rattle.ed_model.specs.LinePlans.{numbers_in}
+use Rattle.ed_model.specs.Rows.{Marker, Row, fresh_row}
+use Rattle.ed_model.specs.Changes.{with_markers, new_markers, with_new_markers}
+use Rattle.line_rows.specs.Kept.{KeptRows, RowRoom, kept_rows, row_at}
+use Rattle.document.specs.Changes.{numbers_of, with_more_markers}
+use Rattle.document.specs.Kept.{ChangeRoom}
+use Rattle.document.specs.Parts.{document_in, spare_in}
+use Rattle.document.specs.declared.kept.Document.TheInside.{Inside}
+
+-- those from a number on
+unfoldable pub numbers_from : ℕ → ℕ → List ℕ
+numbers_from mask number = filter (has_bit mask) (range_with_len number (32 - number))
+
+pub from_the_first : (mask : ℕ) → numbers_from mask 0 ≡ numbers_of mask
+unfolding numbers_from numbers_of
+from_the_first mask = refl
+
+pub numbers_are : (mask : ℕ) → numbers_of mask ≡ numbers_in mask
+unfolding numbers_of
+numbers_are mask = refl
+
+next_numbers : (mask number : ℕ) → number < 32 → numbers_from mask number ≡ cond (has_bit mask number) (number ∷ numbers_from mask (number + 1)) (numbers_from mask (number + 1))
+unfolding numbers_from
+next_numbers mask number below =
+    let left : 32 - number ≡ suc (32 - (number + 1)) = omega arith in
+    rw left refl
+
+pub next_is_in : (mask number : ℕ) → number < 32 → (mask / 2 ^ number) % 2 ≡ 1 → numbers_from mask number ≡ number ∷ numbers_from mask (number + 1)
+next_is_in mask number below e =
+    next_numbers mask number below
+    ∙ ap (λ b. cond b (number ∷ numbers_from mask (number + 1)) (numbers_from mask (number + 1))) (eq-eqb ((mask / 2 ^ number) % 2) 1 e)
+
+pub next_is_out : (mask number : ℕ) → number < 32 → (mask / 2 ^ number) % 2 ≢ 1 → numbers_from mask number ≡ numbers_from mask (number + 1)
+next_is_out mask number below e =
+    next_numbers mask number below
+    ∙ ap (λ b. cond b (number ∷ numbers_from mask (number + 1)) (numbers_from mask (number + 1))) (ne_eqb ((mask / 2 ^ number) % 2) 1 e)
+
+pub none_from_the_end : (mask number : ℕ) → 32 ≤ number → numbers_from mask number ≡ []
+unfolding numbers_from
+none_from_the_end mask number past =
+    let left : 32 - number ≡ 0 = omega arith in
+    rw left refl
+
+set_twice : (rows : List Row) (line : ℕ) (a b : Row) → slice_set (slice_set rows line a) line b ≡ slice_set rows line b
+set_twice [] line a b = refl
+set_twice (row ∷ rows) zero a b = refl
+set_twice (row ∷ rows) (suc line) a b = ap (λ rest. row ∷ rest) (set_twice rows line a b)
+
+-- one marker and then others
+pub one_more : (line number : ℕ) (numbers : List ℕ) (k : KeptRows) → line < length k.rows → with_more_markers line numbers (with_more_markers line (number ∷ []) k) ≡ with_more_markers line (number ∷ numbers) k
+one_more line number numbers k within =
+    let row : Row = row_at k.rows line in
+    let marker : Marker = record { handle = k.next_handle; number = number } in
+    let more : Row = record row { markers = row.markers ++ marker ∷ [] } in
+    let rows : List Row = slice_set k.rows line more in
+    let others : List Marker = new_markers (k.next_handle + 1) numbers in
+    let room : RowRoom = k.room in
+    let there : row_at rows line ≡ more = get_or-set_same k.rows line more fresh_row within in
+    let rows_are : with_markers line ((row_at rows line).markers ++ others) rows ≡ with_markers line (row.markers ++ marker ∷ others) k.rows =
+    ap (λ (r : Row). slice_set rows line (record r { markers = r.markers ++ others })) there ∙ set_twice k.rows line more (record row { markers = (row.markers ++ marker ∷ []) ++ others })
+    ∙ ap (λ (ms : List Marker). slice_set k.rows line (record row { markers = ms })) (append_assoc row.markers (marker ∷ []) others) in
+    let handle : (k.next_handle + 1) + length numbers ≡ k.next_handle + suc (length numbers) = omega arith in
+    let markers : (room.markers - 1) - length numbers ≡ room.markers - suc (length numbers) = omega arith in
+    ap (λ (rs : List Row). kept_rows rs ((k.next_handle + 1) + length numbers) (record room { markers = (room.markers - 1) - length numbers })) rows_are
+    ∙ ap (λ n. kept_rows (with_markers line (row.markers ++ marker ∷ others) k.rows) n (record room { markers = (room.markers - 1) - length numbers })) handle
+    ∙ ap (λ n. kept_rows (with_markers line (row.markers ++ marker ∷ others) k.rows) (k.next_handle + suc (length numbers)) (record room { markers = n })) markers
+
+-- none
+pub none_more : (line : ℕ) (k : KeptRows) → with_more_markers line [] k ≡ k
+none_more line k =
+    let row : Row = row_at k.rows line in
+    let room : RowRoom = k.room in
+    let rows_are : with_markers line (row.markers ++ []) k.rows ≡ k.rows =
+    ap (λ (ms : List Marker). slice_set k.rows line (record row { markers = ms })) (append-nil row.markers) ∙ set-get_or k.rows line fresh_row in
+    let handle : k.next_handle + 0 ≡ k.next_handle = omega arith in
+    let markers : room.markers - 0 ≡ room.markers = omega arith in
+    ap (λ (rs : List Row). kept_rows rs (k.next_handle + 0) (record room { markers = room.markers - 0 })) rows_are
+    ∙ ap (λ n. kept_rows k.rows n (record room { markers = room.markers - 0 })) handle
+    ∙ ap (λ n. kept_rows k.rows k.next_handle (record room { markers = n })) markers
+
+-- the document with them, and its room
+
+pub document_with_markers : (d : Inside) (line mask : ℕ) (rows : KeptRows) → rows ≡ with_more_markers line (numbers_of mask) d.rows → document_in (record d { rows = rows }) ≡ with_new_markers line (numbers_in mask) (document_in d)
+document_with_markers d line mask rows is =
+    ap (λ (new : KeptRows). document_in (record d { rows = new })) is ∙ ap (λ ns. with_new_markers line ns (document_in d)) (numbers_are mask)
+
+abbrev pub less_room : ChangeRoom → ℕ → ChangeRoom
+less_room room count = record room { markers = room.markers - count }
+
+pub spare_with_markers : (d : Inside) (line mask : ℕ) (rows : KeptRows) → rows ≡ with_more_markers line (numbers_of mask) d.rows → spare_in (record d { rows = rows }) ≡ less_room (spare_in d) (length (numbers_in mask))
+spare_with_markers d line mask rows is =
+    ap (λ (new : KeptRows). spare_in (record d { rows = new })) is ∙ ap (λ ns. less_room (spare_in d) (length ns)) (numbers_are mask)

@@ -1,0 +1,52 @@
+-- Other line ends that count: the rows go with the lines, and there is room for those that come.
+use Rattle.std.proofs.Common.{◌≡◌, ◌+◌, ℕ, List, length, refl, ap, sym, ◌∙◌, arith}
+use Rattle.ed_model.specs.declared.plan.LineEndTypes.{LineEndTypes}
+use Rattle.ed_model.specs.Text.{Cell, bytes_of}
+use Rattle.ed_model.specs.Lines.{line_count}
+use Rattle.ed_model.specs.Rows.{Row, rows_together}
+use Rattle.ed_model.specs.Carry.{regrouped}
+use Rattle.ed_model.specs.CarryLaws.{RegroupingLeavesARowForEachLine}
+use Rattle.ed_model.specs.MergeLaws.{JoinsRows}
+use Rattle.line_index.specs.declared.edit.LineEdit.{LineEdit}
+use Rattle.line_index.specs.Edits.{after_edits, fresh_lines}
+use Rattle.line_index.specs.Index.{IsIndexOf}
+use Rattle.line_index.specs.Settings.{edits_of_setting, SettingsBringAll, SettingsCarryRows}
+use Rattle.line_rows.specs.Kept.{KeptRows}
+use Rattle.document.specs.Places.{LinesOf, IndicatorsOf}
+use Rattle.document.specs.Parts.{ArePartsOf}
+use Rattle.document.proofs.LineSteps.{lines_of_index}
+
+-- there is a row for each line of the text
+pub rows_of_lines :
+    (cells : List Cell) (room options : ℕ) (lines : LinesOf) (rows : KeptRows) (indicators : IndicatorsOf) → ArePartsOf cells room options lines rows indicators
+    → length rows.rows ≡ line_count lines.index.types (bytes_of cells)
+rows_of_lines cells room options lines rows indicators parts = parts.row_count ∙ lines_of_index lines.index.types (bytes_of cells) lines.index parts.indexed refl
+
+-- the rows carried by the edits are those that the model regroups
+pub rows_regrouped :
+    (types to : LineEndTypes) (text : List ℕ) (rows new : List Row) (edits : List LineEdit) → SettingsCarryRows Row → JoinsRows rows_together → length rows ≡ line_count types text
+    → edits ≡ edits_of_setting types to text → new ≡ after_edits rows_together edits rows → new ≡ regrouped rows_together types to text rows
+rows_regrouped types to text rows new edits carry joins count told is =
+    is ∙ ap (λ (es : List LineEdit). after_edits rows_together es rows) told ∙ sym (carry rows_together joins types to text rows count)
+
+-- the parts afterwards
+pub parts_retyped :
+    (to : LineEndTypes) (cells : List Cell) (room options : ℕ) (lines new_lines : LinesOf) (rows new_rows : KeptRows) (indicators : IndicatorsOf) (edits : List LineEdit)
+    → ArePartsOf cells room options lines rows indicators → RegroupingLeavesARowForEachLine Row → SettingsBringAll → edits ≡ edits_of_setting lines.index.types to (bytes_of cells)
+    → new_rows.rows ≡ regrouped rows_together lines.index.types to (bytes_of cells) rows.rows → new_rows.room.lines + fresh_lines edits ≡ rows.room.lines
+    → new_lines.index.types ≡ to → IsIndexOf (bytes_of cells) new_lines.index → new_lines.is_large ≡ lines.is_large
+    → new_lines.index.room + length new_lines.index.starts ≡ lines.index.room + length lines.index.starts
+    → ArePartsOf cells room options new_lines new_rows indicators
+parts_retyped to cells room options lines new_lines rows new_rows indicators edits parts each all told regroups fresh types index width sum =
+    let text : List ℕ = bytes_of cells in
+    let before : length lines.index.starts ≡ line_count lines.index.types text = lines_of_index lines.index.types text lines.index parts.indexed refl in
+    let after : length new_lines.index.starts ≡ line_count to text = lines_of_index to text new_lines.index index types in
+    record {
+      indexed = index;
+      row_count = ap length regroups ∙ each rows_together lines.index.types to text rows.rows ∙ sym after;
+      row_room = omega (arith, before, after, sum, fresh, parts.row_room, ap fresh_lines told, all lines.index.types to text);
+      indicator_count = parts.indicator_count;
+      line_width = width ∙ parts.line_width;
+      indicator_width = parts.indicator_width;
+      fits = parts.fits;
+    }

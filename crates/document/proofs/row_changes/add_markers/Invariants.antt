@@ -1,0 +1,14 @@
+use Rattle.std.proofs.Common.{◌≡◌, ◌≤◌, ◌<◌, ◌+◌, ◌^◌, length}
+use Rattle.document.specs.Changes.{numbers_of, with_more_markers}
+use Rattle.document.proofs.MarkerNumbers.{numbers_from}
+use Rattle.document.proofs.row_changes.add_markers.Given as goal
+
+abbrev pub invariant-adding : goal.invariant-adding
+invariant-adding l =
+    record {
+      all : with_more_markers l.line (numbers_from l.mask l.number) l.rows ≡ with_more_markers l.line (numbers_of l.mask) l.initial.rows;
+      line : l.line < length l.rows.rows;
+      room : length (numbers_from l.mask l.number) ≤ l.rows.room.markers;
+      handles : l.rows.next_handle + length (numbers_from l.mask l.number) < 2 ^ 32;
+      within : l.number ≤ 32;
+    }

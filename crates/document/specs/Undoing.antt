@@ -1,0 +1,61 @@
+-- What undo and redo perform, and what each of their changes needs.
+use Rattle.std.specs.Prelude.{◌≡◌, ℕ, List, [], length, Option, Some, None}
+use Rattle.ed_model.specs.declared.plan.LineEndTypes.{LineEndTypes}
+use Rattle.ed_model.specs.Steps as model
+use Rattle.ed_model.specs.History.{History, Change, TextStep, ContainerStep, undo_changes, redo_changes, undone, redone}
+use Rattle.ed_model.specs.InverseLaws.{Fits}
+use Rattle.ed_model.specs.Session.{text_of}
+use Rattle.line_index.specs.RoomLaws.{lines_for_insertion, lines_for_deletion}
+use Rattle.document.specs.declared.room.DocumentRoom.{DocumentRoom}
+use Rattle.document.specs.declared.undoing.Direction.{Direction}
+use Rattle.document.specs.declared.undoing.Direction.TheVariants.{Undo, Redo}
+use Rattle.document.specs.declared.undoing.ChangeOutline.{ChangeOutline}
+use Rattle.document.specs.declared.undoing.ChangeOutline.TheVariants.{Insert, Delete, Container}
+use Rattle.document.specs.declared.text_step.TextStep.{TextStep as Lent}
+use Rattle.document.specs.declared.text_step.TextStep.TheVariants as lent
+use Rattle.document.specs.Kept.{Kept, HasTextRoom, document_room, no_room}
+
+-- the changes that it performs, in their order
+abbrev pub changes_of : Direction → History → List Change
+changes_of Undo h = undo_changes h
+changes_of Redo h = redo_changes h
+
+-- the history afterwards
+abbrev pub history_behind : Direction → History → History
+history_behind Undo h = undone h
+history_behind Redo h = redone h
+
+-- a change, its bytes told by their number
+abbrev pub outline_of : Change → ChangeOutline
+outline_of (TextStep (model.Insert place bytes)) = Insert place (length bytes)
+outline_of (TextStep (model.Delete place bytes)) = Delete place (length bytes)
+outline_of (ContainerStep token coalesce) = Container token
+
+-- the bytes that it puts in or takes out
+abbrev pub bytes_in : Change → List ℕ
+bytes_in (TextStep step) = model.step_bytes step
+bytes_in (ContainerStep token coalesce) = []
+
+-- the room that a step needs, without one in the history
+abbrev pub room_of_step : LineEndTypes → model.Step → DocumentRoom
+room_of_step types (model.Insert place bytes) = document_room (length bytes) (lines_for_insertion types bytes) 1 0 0
+room_of_step types (model.Delete place bytes) = document_room 0 lines_for_deletion 0 0 0
+
+abbrev pub room_of_change : LineEndTypes → Change → DocumentRoom
+room_of_change types (TextStep step) = room_of_step types step
+room_of_change types (ContainerStep token coalesce) = no_room
+
+-- it is a step of the document's text, for which there is room
+abbrev pub CanMake : Kept → Change → Type 0
+CanMake k (TextStep step) = Fits step (text_of k.document) × HasTextRoom k (room_of_step k.document.line_end_types step)
+CanMake k (ContainerStep token coalesce) = ⊥
+
+-- the step lends the bytes that the change puts in, and tells those that it takes out by their number; none is a container's
+abbrev pub IsLentOf : Option Lent → Change → Type 0
+IsLentOf (Some (lent.Insert place bytes)) (TextStep (model.Insert p bs)) = (place ≡ p) × (bytes.now ≡ bs)
+IsLentOf (Some (lent.Insert place bytes)) (TextStep (model.Delete p bs)) = ⊥
+IsLentOf (Some (lent.Delete place count)) (TextStep (model.Insert p bs)) = ⊥
+IsLentOf (Some (lent.Delete place count)) (TextStep (model.Delete p bs)) = (place ≡ p) × (count ≡ length bs)
+IsLentOf (Some step) (ContainerStep token coalesce) = ⊥
+IsLentOf None (TextStep step) = ⊥
+IsLentOf None (ContainerStep token coalesce) = Unit {0}

@@ -1,0 +1,82 @@
+//! A step made on the parts of a document that it changes: the text, its lines, their rows and the indicators.
+
+ghost use Rattle.std.specs.Prelude.{◌≡◌, ◌≤◌, ◌+◌, length, slice_range};
+ghost use Rattle.ed_model.specs.Text.{bytes_of};
+ghost use Rattle.ed_model.specs.Steps.{Insert, Delete};
+ghost use Rattle.line_index.specs.RoomLaws.{lines_for_insertion, lines_for_deletion};
+ghost use Rattle.line_index.specs.StepEdits.{SmallLines, change_of};
+ghost use Rattle.document.specs.Kept.{document_room, text_part};
+ghost use Rattle.document.specs.Parts.{text_parts, AreOfOne, CanTake, AreStepped};
+ghost use Rattle.document.specs.TextSteps.{step_in, IsStepOn, need_of};
+
+use crate::pieces::{carry_rows, put_in, take_out};
+use crate::places::{Indicators, Lines};
+use crate::text_step::TextStep;
+use cell_buffer::Cells;
+use line_index::LineChange;
+use line_rows::LineRows;
+
+// Puts bytes in.
+fn insert(
+    cells: &mut Cells,
+    lines: &mut Lines,
+    rows: &mut LineRows,
+    indicators: &mut Indicators,
+    place: usize,
+    bytes: &[u8],
+) -> LineChange
+    requires parts { AreOfOne (text_parts cells.old.cells cells.old.room lines.old rows.old indicators.old) }
+    requires fits { place ≤ length cells.old.cells }
+    requires room { CanTake (text_parts cells.old.cells cells.old.room lines.old rows.old indicators.old) (document_room (length bytes.now) (lines_for_insertion lines.old.index.types bytes.now) 1 0 0) }
+    ensures stepped { AreStepped (text_parts cells.old.cells cells.old.room lines.old rows.old indicators.old) (text_parts cells.new.cells cells.new.room lines.new rows.new indicators.new) (Insert place bytes.now) (document_room (length bytes.now) (lines_for_insertion lines.old.index.types bytes.now) 1 0 0) }
+    ensures lines { result ≡ change_of lines.old.index.types (Insert place bytes.now) (bytes_of cells.old.cells) }
+    ensures small { SmallLines result.old_lines × SmallLines result.new_lines }
+{
+    let change = put_in(cells, lines, place, bytes);
+    carry_rows(rows, &change);
+    indicators.insert(place, bytes.len());
+    change
+}
+
+// Takes bytes out.
+fn delete(
+    cells: &mut Cells,
+    lines: &mut Lines,
+    rows: &mut LineRows,
+    indicators: &mut Indicators,
+    place: usize,
+    count: usize,
+) -> LineChange
+    requires parts { AreOfOne (text_parts cells.old.cells cells.old.room lines.old rows.old indicators.old) }
+    requires fits { place + count ≤ length cells.old.cells }
+    requires room { CanTake (text_parts cells.old.cells cells.old.room lines.old rows.old indicators.old) (document_room 0 lines_for_deletion 0 0 0) }
+    ensures stepped { AreStepped (text_parts cells.old.cells cells.old.room lines.old rows.old indicators.old) (text_parts cells.new.cells cells.new.room lines.new rows.new indicators.new) (Delete place (slice_range (bytes_of cells.old.cells) place (place + count))) (document_room 0 lines_for_deletion 0 0 0) }
+    ensures lines { result ≡ change_of lines.old.index.types (Delete place (slice_range (bytes_of cells.old.cells) place (place + count))) (bytes_of cells.old.cells) }
+    ensures small { SmallLines result.old_lines × SmallLines result.new_lines }
+{
+    let change = take_out(cells, lines, place, count);
+    carry_rows(rows, &change);
+    indicators.delete(place, count);
+    change
+}
+
+/// Makes a step, and returns what became of the lines. There must be room for it.
+pub(crate) fn make_step(
+    cells: &mut Cells,
+    lines: &mut Lines,
+    rows: &mut LineRows,
+    indicators: &mut Indicators,
+    step: TextStep,
+) -> LineChange
+    requires parts { AreOfOne (text_parts cells.old.cells cells.old.room lines.old rows.old indicators.old) }
+    requires fits { IsStepOn step (length cells.old.cells) }
+    requires room { CanTake (text_parts cells.old.cells cells.old.room lines.old rows.old indicators.old) (text_part (need_of lines.old.index.types step)) }
+    ensures stepped { AreStepped (text_parts cells.old.cells cells.old.room lines.old rows.old indicators.old) (text_parts cells.new.cells cells.new.room lines.new rows.new indicators.new) (step_in step.entry (bytes_of cells.old.cells)) (text_part (need_of lines.old.index.types step.entry)) }
+    ensures lines { result ≡ change_of lines.old.index.types (step_in step.entry (bytes_of cells.old.cells)) (bytes_of cells.old.cells) }
+    ensures small { SmallLines result.old_lines × SmallLines result.new_lines }
+{
+    match step {
+        TextStep::Insert { place, bytes } => insert(cells, lines, rows, indicators, place, bytes),
+        TextStep::Delete { place, count } => delete(cells, lines, rows, indicators, place, count),
+    }
+}

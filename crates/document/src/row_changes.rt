@@ -1,0 +1,163 @@
+//! Changes of the rows of a document's lines: markers, fold levels and line states. Lines are counted from 0.
+
+ghost use Rattle.std.specs.Prelude.{◌≡◌, ◌≤◌, ◌<◌, ◌+◌, ◌-◌, ◌^◌, [], length, max, OnOk, OnErr, IsOk};
+ghost use Rattle.ed_model.specs.declared.plan.DocumentChange.TheVariants.{AddMarker, AddMarkers, DeleteMarker, DeleteMarkers, DeleteHandle, SetLevel, SetState};
+ghost use Rattle.ed_model.specs.Changes.{changed_document, document_row, marker_count};
+ghost use Rattle.ed_model.specs.LinePlans.{numbers_in};
+ghost use Rattle.ed_model.specs.Session.{lines_in};
+ghost use Rattle.document.specs.Changes.{line_it_left, markers_changed, numbers_of, with_more_markers};
+
+use crate::kept::Document;
+use line_rows::LineRows;
+use std::alloc::AllocError;
+
+/// How many markers a mask has a bit for.
+pub fn count_numbers(mask: u32) -> usize
+    ensures count { result ≡ length (numbers_in mask) }
+    ensures few { result ≤ 32 }
+{
+    let mut count = 0;
+    'counting: for number in 0..32u32 {
+        if (mask >> number) % 2 == 1 {
+            count += 1;
+        }
+    }
+    count
+}
+
+// Puts a marker for each bit of a mask behind those of a line.
+fn add_markers(rows: &mut LineRows, line: usize, mask: u32)
+    requires line { line < length rows.old.rows }
+    requires room { length (numbers_of mask) ≤ rows.old.room.markers }
+    requires handles { rows.old.next_handle + length (numbers_of mask) < 2 ^ 32 }
+    ensures { rows.new ≡ with_more_markers line (numbers_of mask) rows.old }
+{
+    'adding: for number in 0..32u32 {
+        if (mask >> number) % 2 == 1 {
+            rows.add_reserved(line, number);
+        }
+    }
+}
+
+impl Document {
+    /// Makes room for `count` more markers.
+    ///
+    /// # Errors
+    ///
+    /// `AllocError` where memory is refused; the document is then as it was.
+    pub fn reserve_markers(&mut self, count: usize) -> Result<(), AllocError>
+        ensures ok { OnOk result (self.new ≡ record self.old { spare = record self.old.spare { markers = max self.old.spare.markers count } }) }
+        ensures room_is_there { count ≤ self.old.spare.markers → IsOk result × (self.new ≡ self.old) }
+        ensures err { OnErr result (self.new ≡ self.old) }
+    {
+        self.rows.reserve_markers(count)
+    }
+
+    /// Puts a marker with a number behind those of a line, and returns its handle. There must be room for it.
+    pub fn add_marker_reserved(&mut self, line: usize, number: u32) -> u32
+        requires line { line < lines_in self.old.document }
+        requires number { number < 32 }
+        requires room { 0 < self.old.spare.markers }
+        requires handles { self.old.document.next_handle < 2 ^ 32 - 1 }
+        ensures handle { result ≡ self.old.document.next_handle }
+        ensures document { self.new.document ≡ changed_document [] (AddMarker line number) self.old.document }
+        ensures room { self.new.room ≡ self.old.room }
+        ensures spare { self.new.spare ≡ record self.old.spare { markers = self.old.spare.markers - 1 } }
+    {
+        self.rows.add_reserved(line, number)
+    }
+
+    /// Puts a marker for each bit of a mask behind those of a line, that of the lowest bit first. There must be room for them.
+    pub fn add_markers_reserved(&mut self, line: usize, mask: u32)
+        requires line { line < lines_in self.old.document }
+        requires room { length (numbers_in mask) ≤ self.old.spare.markers }
+        requires handles { self.old.document.next_handle + length (numbers_in mask) < 2 ^ 32 }
+        ensures document { self.new.document ≡ changed_document [] (AddMarkers line mask) self.old.document }
+        ensures room { self.new.room ≡ self.old.room }
+        ensures spare { self.new.spare ≡ record self.old.spare { markers = self.old.spare.markers - length (numbers_in mask) } }
+    {
+        add_markers(&mut self.rows, line, mask);
+    }
+
+    /// Takes a line's first marker with a number away, or all of its markers where no number is named. Their room comes back.
+    /// Returns whether there was one.
+    pub fn delete_marker(&mut self, line: usize, number: Option<u32>) -> bool
+        requires { line < lines_in self.old.document }
+        ensures went { result ≡ markers_changed self.old.document.rows self.new.document.rows }
+        ensures document { self.new.document ≡ changed_document [] (DeleteMarker line number) self.old.document }
+        ensures room { self.new.room ≡ self.old.room }
+        ensures spare { self.new.spare ≡ record self.old.spare { markers = self.new.spare.markers } }
+        ensures marker_room { self.new.spare.markers + marker_count self.new.document.rows ≡ self.old.spare.markers + marker_count self.old.document.rows }
+    {
+        self.rows.delete(line, number)
+    }
+
+    /// Takes all markers with a number away, or all markers where none is named. Their room comes back. Returns whether there
+    /// was one.
+    pub fn delete_markers(&mut self, number: Option<u32>) -> bool
+        ensures went { result ≡ markers_changed self.old.document.rows self.new.document.rows }
+        ensures document { self.new.document ≡ changed_document [] (DeleteMarkers number) self.old.document }
+        ensures room { self.new.room ≡ self.old.room }
+        ensures spare { self.new.spare ≡ record self.old.spare { markers = self.new.spare.markers } }
+        ensures marker_room { self.new.spare.markers + marker_count self.new.document.rows ≡ self.old.spare.markers + marker_count self.old.document.rows }
+    {
+        self.rows.delete_all(number)
+    }
+
+    /// Takes the marker with a handle away, and returns its line, or `None` where no marker has it. Its room comes back.
+    pub fn delete_handle(&mut self, handle: u32) -> Option<usize>
+        ensures line { result ≡ line_it_left handle self.old.document.rows self.new.document.rows }
+        ensures document { self.new.document ≡ changed_document [] (DeleteHandle handle) self.old.document }
+        ensures room { self.new.room ≡ self.old.room }
+        ensures spare { self.new.spare ≡ record self.old.spare { markers = self.new.spare.markers } }
+        ensures marker_room { self.new.spare.markers + marker_count self.new.document.rows ≡ self.old.spare.markers + marker_count self.old.document.rows }
+    {
+        self.rows.delete_handle(handle)
+    }
+
+    /// Makes room for the fold levels of the first `count` lines.
+    ///
+    /// # Errors
+    ///
+    /// `AllocError` where memory is refused; the document is then as it was.
+    pub fn reserve_levels(&mut self, count: usize) -> Result<(), AllocError>
+        ensures ok { OnOk result (self.new ≡ record self.old { spare = record self.old.spare { levels = max self.old.spare.levels count } }) }
+        ensures room_is_there { count ≤ self.old.spare.levels → IsOk result × (self.new ≡ self.old) }
+        ensures err { OnErr result (self.new ≡ self.old) }
+    {
+        self.rows.reserve_levels(count)
+    }
+
+    /// Sets the fold level of a line, for which there must be room. Returns the one before.
+    pub fn set_level(&mut self, line: usize, level: u32) -> u32
+        requires line { line < lines_in self.old.document }
+        requires room { line < self.old.spare.levels }
+        ensures before { result ≡ (document_row self.old.document line).level }
+        ensures document { self.new ≡ record self.old { document = changed_document [] (SetLevel line level) self.old.document } }
+    {
+        self.rows.set_level(line, level)
+    }
+
+    /// Makes room for the states of the first `count` lines.
+    ///
+    /// # Errors
+    ///
+    /// `AllocError` where memory is refused; the document is then as it was.
+    pub fn reserve_states(&mut self, count: usize) -> Result<(), AllocError>
+        ensures ok { OnOk result (self.new ≡ record self.old { spare = record self.old.spare { states = max self.old.spare.states count } }) }
+        ensures room_is_there { count ≤ self.old.spare.states → IsOk result × (self.new ≡ self.old) }
+        ensures err { OnErr result (self.new ≡ self.old) }
+    {
+        self.rows.reserve_states(count)
+    }
+
+    /// Sets the state of a line, for which there must be room. Returns the one before.
+    pub fn set_state(&mut self, line: usize, state: i32) -> i32
+        requires line { line < lines_in self.old.document }
+        requires room { line < self.old.spare.states }
+        ensures before { result ≡ (document_row self.old.document line).state }
+        ensures document { self.new ≡ record self.old { document = changed_document [] (SetState line state) self.old.document } }
+    {
+        self.rows.set_state(line, state)
+    }
+}

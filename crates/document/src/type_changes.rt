@@ -1,0 +1,85 @@
+//! Which line ends of a document count, and a container's own steps.
+
+ghost use Rattle.std.specs.Prelude.{◌≡◌, ◌≤◌, ◌+◌, ◌-◌, [], length, OnOk, IsOk, IfOk};
+ghost use Rattle.ed_model.specs.declared.plan.DocumentChange.TheVariants.{AppendContainer, SetLineEndTypes};
+ghost use Rattle.ed_model.specs.Changes.{changed_document};
+ghost use Rattle.ed_model.specs.Session.{lines_in, text_of};
+ghost use Rattle.line_index.specs.Edits.{fresh_lines};
+ghost use Rattle.line_index.specs.Settings.{edits_of_setting};
+ghost use Rattle.document.specs.Kept.{HasHistoryRoom, IsAtMost, TakesRoom, document_room, no_room};
+ghost use Rattle.document.specs.Changes.{container_need};
+
+use crate::kept::Document;
+use crate::room::DocumentRoom;
+use ed_model::{LineEndTypes, rows_match_lines, rows_that_meet};
+use line_index::{LineEdit, edits_of_settings};
+use std::alloc::{AllocError, Global};
+
+impl Document {
+    /// What becomes of its lines if these line ends count from now on, as edits. Reads the text once.
+    ///
+    /// # Errors
+    ///
+    /// `AllocError` where the memory for the edits is refused. No edits need none.
+    pub fn line_type_edits(
+        &self,
+        alloc: Global,
+        types: LineEndTypes,
+    ) -> Result<Vec<LineEdit>, AllocError>
+        ensures edits { IfOk result (λ edits. edits.items ≡ edits_of_setting self.now.document.line_end_types types (text_of self.now.document)) }
+        ensures few { IfOk result (λ edits. lines_in self.now.document + fresh_lines edits.items ≤ length self.now.document.cells + 1) }
+        ensures free { edits_of_setting self.now.document.line_end_types types (text_of self.now.document) ≡ [] → IsOk result }
+    {
+        edits_of_settings();
+        let (before, after) = self.cells.halves();
+        self.lines.edits_for_types(alloc, types, before, after)
+    }
+
+    /// Makes room for `lines` more lines.
+    ///
+    /// # Errors
+    ///
+    /// `AllocError` where memory is refused; the document is then as it was.
+    pub fn reserve_lines(&mut self, lines: usize) -> Result<(), AllocError>
+        ensures same { self.new.document ≡ self.old.document }
+        ensures spare { self.new.spare ≡ self.old.spare }
+        ensures ok { OnOk result (lines ≤ self.new.room.lines) }
+        ensures room_is_there { lines ≤ self.old.room.lines → IsOk result }
+        ensures room_stays { TakesRoom self.old.room self.new.room no_room }
+        ensures at_most { IsAtMost self.new.room self.old.room (document_room 0 lines 0 0 0) }
+    {
+        let Ok(()) = self.lines.reserve(lines) else {
+            return Err(AllocError);
+        };
+        self.rows.reserve(lines)
+    }
+
+    /// Lets these line ends count from now on. The rows go with the lines by `edits`, which are what becomes of them, and for
+    /// whose fresh lines there must be room. The flags that views keep of the lines are theirs to carry.
+    pub fn set_line_end_types(&mut self, types: LineEndTypes, edits: &[LineEdit])
+        requires edits { edits.now ≡ edits_of_setting self.old.document.line_end_types types (text_of self.old.document) }
+        requires room { fresh_lines edits.now ≤ self.old.room.lines }
+        ensures document { self.new.document ≡ changed_document [] (SetLineEndTypes types) self.old.document }
+        ensures room { self.new.room ≡ record self.old.room { lines = self.old.room.lines - fresh_lines edits.now } }
+        ensures spare { self.new.spare ≡ record self.old.spare { markers = self.new.spare.markers } }
+        ensures marker_room { self.old.spare.markers ≤ self.new.spare.markers }
+    {
+        edits_of_settings();
+        rows_that_meet();
+        rows_match_lines();
+        let (before, after) = self.cells.halves();
+        self.lines.set_types(types, before, after);
+        self.rows.carry(edits);
+    }
+
+    /// Appends a container's own step to the history, known by its token; one that does not coalesce is sealed outside groups.
+    /// There must be room for it in the history.
+    pub fn append_container_reserved(&mut self, token: i64, coalesce: bool)
+        requires { HasHistoryRoom self.old container_need }
+        ensures document { self.new.document ≡ changed_document [] (AppendContainer token coalesce) self.old.document }
+        ensures room_left { TakesRoom self.old.room self.new.room container_need }
+        ensures spare { self.new.spare ≡ self.old.spare }
+    {
+        self.history.append_container_reserved(token, coalesce);
+    }
+}

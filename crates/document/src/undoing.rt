@@ -1,0 +1,192 @@
+//! Undo and redo of a document: their changes one by one, and the history behind them.
+
+ghost use Rattle.std.specs.Prelude.{◌≡◌, ◌<◌, ℕ, List, length, slice_get, Some, IsSomeAnd};
+ghost use Rattle.ed_model.specs.History.{TextStep as Text, inverse_change};
+ghost use Rattle.ed_model.specs.Performing.{document_after};
+ghost use Rattle.ed_model.specs.Session.{text_of};
+ghost use Rattle.ed_model.specs.Steps.{Step};
+ghost use Rattle.line_index.specs.StepEdits.{SmallLines, change_of as change_of_lines};
+ghost use Rattle.undo_history.specs.Records.{change_of, HasItsBytes};
+ghost use Rattle.document.specs.Kept.{TakesRoom};
+ghost use Rattle.document.specs.Undoing.{changes_of, history_behind, outline_of, bytes_in, room_of_step, room_of_change, CanMake, IsLentOf};
+
+use crate::kept::Document;
+use crate::making::make_step;
+use crate::room::DocumentRoom;
+use crate::text_step::TextStep;
+use line_index::LineChange;
+use undo_history::{ChangeKind, LentChange, StepKind, UndoHistory};
+
+/// Which of the two is performed.
+#[derive(Clone, Copy, Debug, PartialEq, Eq)]
+pub enum Direction {
+    /// The last transaction is taken back, its latest change first.
+    Undo,
+    /// The next transaction is made again, its changes in the order in which they were made.
+    Redo,
+}
+
+/// A change that undo or redo performs, without its bytes.
+#[derive(Clone, Copy, Debug, PartialEq, Eq)]
+pub enum ChangeOutline {
+    /// `count` bytes are put in at `place`, in bytes from the text's start.
+    Insert { place: usize, count: usize },
+    /// `count` bytes are taken out, from `place` on.
+    Delete { place: usize, count: usize },
+    /// A container's own step, known by its token.
+    Container { token: i64 },
+}
+
+// What takes a change of the kind back; a container's step is told of again.
+fn inverse(kind: ChangeKind) -> ChangeKind
+    ensures { (bytes : List ℕ) → change_of result bytes ≡ inverse_change (change_of kind bytes) }
+{
+    match kind {
+        ChangeKind::Text {
+            kind: StepKind::Insert,
+            place,
+        } => ChangeKind::Text {
+            kind: StepKind::Delete,
+            place,
+        },
+        ChangeKind::Text {
+            kind: StepKind::Delete,
+            place,
+        } => ChangeKind::Text {
+            kind: StepKind::Insert,
+            place,
+        },
+        ChangeKind::Container { .. } => kind,
+    }
+}
+
+// The change that is performed at `index`, its bytes lent from the history.
+fn change_at(history: &UndoHistory, direction: Direction, index: usize) -> LentChange
+    requires there { index < length (changes_of direction history.now.history) }
+    ensures change { slice_get (changes_of direction history.now.history) index ≡ Some (change_of result.kind result.bytes.now) }
+    ensures bytes { HasItsBytes result.kind result.bytes.now }
+{
+    match direction {
+        Direction::Undo => {
+            let change = history.change_to_undo(index);
+            LentChange {
+                kind: inverse(change.kind),
+                ..change
+            }
+        }
+        Direction::Redo => history.change_to_redo(index),
+    }
+}
+
+// The same as a step of the text; none where it is a container's.
+fn step_at(history: &UndoHistory, direction: Direction, index: usize) -> Option<TextStep>
+    requires there { index < length (changes_of direction history.now.history) }
+    ensures step { IsSomeAnd (slice_get (changes_of direction history.now.history) index) (IsLentOf result) }
+{
+    let change = change_at(history, direction, index);
+    match change.kind {
+        ChangeKind::Text {
+            kind: StepKind::Insert,
+            place,
+        } => Some(TextStep::Insert {
+            place,
+            bytes: change.bytes,
+        }),
+        ChangeKind::Text {
+            kind: StepKind::Delete,
+            place,
+        } => Some(TextStep::Delete {
+            place,
+            count: change.bytes.len(),
+        }),
+        ChangeKind::Container { .. } => None,
+    }
+}
+
+impl Document {
+    /// How many changes undo or redo performs: 0 where there is nothing to undo or redo.
+    pub fn change_count(&self, direction: Direction) -> usize
+        ensures { result ≡ length (changes_of direction self.now.document.history) }
+    {
+        match direction {
+            Direction::Undo => self.history.undo_len(),
+            Direction::Redo => self.history.redo_len(),
+        }
+    }
+
+    /// The change that undo or redo performs at `index`, counted in the order in which it does so, without its bytes.
+    pub fn change_outline(&self, direction: Direction, index: usize) -> ChangeOutline
+        requires there { index < length (changes_of direction self.now.document.history) }
+        ensures outline { IsSomeAnd (slice_get (changes_of direction self.now.document.history) index) (λ change. result ≡ outline_of change) }
+    {
+        let change = change_at(&self.history, direction, index);
+        let count = change.bytes.len();
+        match change.kind {
+            ChangeKind::Text {
+                kind: StepKind::Insert,
+                place,
+            } => ChangeOutline::Insert { place, count },
+            ChangeKind::Text {
+                kind: StepKind::Delete,
+                place,
+            } => ChangeOutline::Delete { place, count },
+            ChangeKind::Container { token, .. } => ChangeOutline::Container { token },
+        }
+    }
+
+    /// The bytes that this change puts in or takes out, lent; a container's step has none.
+    pub fn change_bytes(&self, direction: Direction, index: usize) -> &[u8]
+        requires there { index < length (changes_of direction self.now.document.history) }
+        ensures bytes { IsSomeAnd (slice_get (changes_of direction self.now.document.history) index) (λ change. result.now ≡ bytes_in change) }
+    {
+        change_at(&self.history, direction, index).bytes
+    }
+
+    /// The room that this change needs; none of it is in the history.
+    pub fn change_need(&self, direction: Direction, index: usize) -> DocumentRoom
+        requires there { index < length (changes_of direction self.now.document.history) }
+        ensures need { IsSomeAnd (slice_get (changes_of direction self.now.document.history) index) (λ change. result ≡ room_of_change self.now.document.line_end_types change) }
+    {
+        match step_at(&self.history, direction, index) {
+            Some(step) => DocumentRoom {
+                steps: 0,
+                bytes: 0,
+                ..self.step_need(step)
+            },
+            None => DocumentRoom::none(),
+        }
+    }
+
+    /// Makes this change, a step of the text, from the bytes that the history has. All but the history goes with it, as with
+    /// `step`. Returns what became of the lines. There must be room for it.
+    pub fn make_change(&mut self, direction: Direction, index: usize) -> LineChange
+        requires can { IsSomeAnd (slice_get (changes_of direction self.old.document.history) index) (CanMake self.old) }
+        ensures document { (step : Step) → slice_get (changes_of direction self.old.document.history) index ≡ Some (Text step) → self.new.document ≡ document_after step self.old.document }
+        ensures room_left { (step : Step) → slice_get (changes_of direction self.old.document.history) index ≡ Some (Text step) → TakesRoom self.old.room self.new.room (room_of_step self.old.document.line_end_types step) }
+        ensures lines { (step : Step) → slice_get (changes_of direction self.old.document.history) index ≡ Some (Text step) → result ≡ change_of_lines self.old.document.line_end_types step (text_of self.old.document) }
+        ensures small { SmallLines result.old_lines × SmallLines result.new_lines }
+        ensures views { self.new.spare.views ≡ self.old.spare.views }
+    {
+        let Some(step) = step_at(&self.history, direction, index) else {
+            unreachable!();
+        };
+        self.end_styled = self.end_styled.min(step.place());
+        make_step(
+            &mut self.cells,
+            &mut self.lines,
+            &mut self.rows,
+            &mut self.indicators,
+            step,
+        )
+    }
+
+    /// Takes the transaction that was undone or redone over to the other side of the history. Its changes are made before.
+    pub fn finish_history(&mut self, direction: Direction)
+        ensures { self.new ≡ record self.old { document = record self.old.document { history = history_behind direction self.old.document.history } } }
+    {
+        match direction {
+            Direction::Undo => self.history.undo(),
+            Direction::Redo => self.history.redo(),
+        }
+    }
+}

@@ -1,0 +1,5 @@
+pub mod Unmoved
+pub mod Told
+pub mod Counts
+pub mod Ranges
+pub mod States

@@ -1,0 +1,32 @@
+-- States of lines are the same or not.
+use Rattle.std.proofs.Common.{◌≡◌, ℕ, ◌≤◌, Bool, true, false, cond, List, [], refl, ap, sym, ◌∙◌, subst, arith}
+use Rattle.std.specs.Prelude.{ℤ, pos, negsuc, int_le, nat_le, ◌&&◌}
+use Rattle.core.specs.Bool.{passes}
+use Rattle.std.proofs.Math.Nat.{le_antisymm}
+use lib.Dec.{T, leb→le, le→leb}
+use Rattle.ed_model.specs.Changes.{is_same}
+
+passed : (b : Bool) → T b → b ≡ true
+passed true t = refl
+passed false t = absurd t
+
+int_le_self : (a : ℤ) → int_le a a ≡ true
+int_le_self (pos n) = passed (nat_le n n) (le→leb n n (omega arith))
+int_le_self (negsuc n) = passed (nat_le n n) (le→leb n n (omega arith))
+
+int_same : (a b : ℤ) → int_le a b ≡ true → int_le b a ≡ true → a ≡ b
+int_same (pos n) (pos m) h k = ap pos (le_antisymm (leb→le n m (passes (nat_le n m) h)) (leb→le m n (passes (nat_le m n) k)))
+int_same (pos n) (negsuc m) h k = absurd (cc)
+int_same (negsuc n) (pos m) h k = absurd (cc)
+int_same (negsuc n) (negsuc m) h k = ap negsuc (le_antisymm (leb→le n m (passes (nat_le n m) k)) (leb→le m n (passes (nat_le m n) h)))
+
+pub same_state : (a b : ℤ) → a ≡ b → is_same a b ≡ true
+same_state a b e = rw e (let h = int_le_self b in rw h refl)
+
+pub other_state : (a b : ℤ) → (a ≡ b → ⊥) → is_same a b ≡ false
+other_state a b ne = go (int_le a b) refl (int_le b a) refl
+  where
+    go : (p : Bool) → int_le a b ≡ p → (q : Bool) → int_le b a ≡ q → (p && q) ≡ false
+    go true h true k = absurd (ne (int_same a b h k))
+    go true h false k = refl
+    go false h q k = refl

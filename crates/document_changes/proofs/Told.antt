@@ -1,0 +1,62 @@
+-- What is told.
+use Rattle.std.proofs.Common.{◌≡◌, ℕ, ◌+◌, ◌-◌, ◌<◌, ◌≤◌, Bool, true, false, cond, List, [], ◌∷◌, ◌++◌, map, length, refl, ap, sym, ◌∙◌, subst, arith}
+use Rattle.std.specs.Prelude.{ℤ, pos, ◌==◌, not, ◌&&◌, filter, bit_or, int_le}
+use Rattle.std.proofs.lemmas.List.{append-nil, length-map}
+use Rattle.std.proofs.lemmas.Bool.{eqb-true, eqb-false, eq-eqb, ne_eqb}
+use Rattle.ed_types.specs.Notices.{Notice}
+use Rattle.ed_types.specs.Heard.{with_text}
+use Rattle.ed_types.specs.declared.reply.Note.{Note}
+use Rattle.ed_model.specs.declared.plan.DocumentChange.{DocumentChange}
+use Rattle.ed_model.specs.declared.plan.DocumentChange.TheVariants as change
+use Rattle.ed_model.specs.Session.{Document, View}
+use Rattle.ed_model.specs.Notes.{told, heard, blank}
+use Rattle.ed_model.specs.Changes.{changed_document, change_told}
+use Rattle.id_table.specs.Entries.{Entries}
+use Rattle.notify.specs.Gathered.{Gathered}
+use Rattle.ed_view.specs.Kept.{KeptView}
+use Rattle.scene.specs.Scenes.{watchers, IsWatched}
+use Rattle.document_changes.specs.Changed.{AreTold, IsChanged}
+use Rattle.document_changes.specs.Needs.{is_quiet, is_of_types}
+use Rattle.document_changes.proofs.Unmoved.{is_changed}
+
+-- nothing is told
+pub told_nothing : (notes : Gathered) → AreTold [] notes notes
+told_nothing notes = record { notes = sym (append-nil notes.notes); note_room = omega arith; text_room = refl }
+
+-- a note for each of some views
+pub told_each : (views : List View) (n : Notice) (old new : Gathered)
+    → new ≡ record old { notes = old.notes ++ told views n; note_room = old.note_room - length views } → length views ≤ old.note_room → AreTold (told views n) old new
+told_each views n old new e le =
+    let l : length (told views n) ≡ length views = length-map views (λ (v : View). record n { view = v.id }) in
+    rw e (record { notes = refl; note_room = omega arith; text_room = refl })
+
+-- the same, told by what the note is
+pub told_as : (views : List View) (n m : Notice) (old new : Gathered)
+    → new ≡ record old { notes = old.notes ++ told views n; note_room = old.note_room - length views } → length views ≤ old.note_room → n ≡ m → AreTold (told views m) old new
+told_as views n m old new e le same = subst (λ (x : Notice). AreTold (told views x) old new) same (told_each views n old new e le)
+
+-- one note, for one view
+pub told_one : (x n : Notice) (old new : Gathered) → new ≡ record old { notes = old.notes ++ x ∷ []; note_room = old.note_room - 1 } → 0 < old.note_room → x ≡ n
+    → AreTold (n ∷ []) old new
+told_one x n old new e le same = rw e (record { notes = ap (λ (y : Notice). old.notes ++ y ∷ []) same; note_room = omega arith; text_room = refl })
+
+-- a quiet change tells nothing
+pub quiet_told : (v : View) (views : List View) (old new : Document) (what : DocumentChange) → is_quiet what ≡ true → change_told v views old new what ≡ []
+quiet_told v views old new (change.SetReadOnly on) h = refl
+quiet_told v views old new (change.SetLineEnd to) h = refl
+quiet_told v views old new change.BeginGroup h = refl
+quiet_told v views old new change.EndGroup h = refl
+quiet_told v views old new change.ForgetHistory h = refl
+quiet_told v views old new (change.CollectUndo on) h = refl
+quiet_told v views old new (change.SetEndStyled place) h = refl
+quiet_told v views old new _ h = absurd (cc)
+
+quiet_lines : (what : DocumentChange) → is_quiet what ≡ true → is_of_types what ≡ false
+quiet_lines (change.SetLineEndTypes to) h = absurd (cc)
+quiet_lines _ h = refl
+
+pub changed_quietly : (text : List ℕ) (what : DocumentChange) (sender : ℕ) (old new : Document) (views : Entries KeptView) (notes : Gathered) → is_quiet what ≡ true
+    → IsWatched old views → new ≡ changed_document text what old → IsChanged text what sender old new views views notes notes
+changed_quietly text what sender old new views notes h w made =
+    is_changed text what sender old new views notes notes (quiet_lines what h) w made
+    (λ v _. rw (quiet_told v (watchers old views) old new what h) (told_nothing notes))

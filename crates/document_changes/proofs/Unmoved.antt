@@ -1,0 +1,112 @@
+-- Changes that leave the text, and the views where they are.
+use Rattle.std.proofs.Common.{◌≡◌, ℕ, Bool, true, false, List, [], ◌∷◌, ◌++◌, map, length, take, drop, replicate, refl, ap, sym, ◌∙◌, subst}
+use Rattle.std.specs.List.{AllByRecursion}
+use Rattle.std.proofs.lemmas.List.{map-append, length-map, take-append-drop}
+use Rattle.std.proofs.lemmas.Bool.{cond_both}
+use Rattle.ed_model.specs.declared.plan.DocumentChange.{DocumentChange}
+use Rattle.ed_model.specs.declared.plan.DocumentChange.TheVariants as change
+use Rattle.ed_model.specs.Text.{Cell, bytes_of}
+use Rattle.ed_model.specs.Lines.{line_count}
+use Rattle.ed_model.specs.Session.{Document, View, text_of, lines_in, keeps_no_styles}
+use Rattle.ed_model.specs.Changes.{changed_document, changed_lines, change_told, restyled, styled}
+use Rattle.ed_model.specs.SoundLaws.{StandsOn, IsViewOn, occurrences}
+use Rattle.id_table.specs.Entries.{Entries}
+use Rattle.notify.specs.Gathered.{Gathered}
+use Rattle.ed_view.specs.Kept.{KeptView}
+use Rattle.scene.specs.Scenes.{views_of, watchers, StandsIfOn, IsWatched}
+use Rattle.document_changes.specs.Changed.{AreTold, IsChanged}
+use Rattle.document_changes.specs.Needs.{is_quiet, is_of_types}
+
+-- what views stand on stays
+pub record KeepsPlaces (old new : Document) : Type 0 where
+  pub id : new.id ≡ old.id
+  pub views : new.views ≡ old.views
+  pub size : length new.cells ≡ length old.cells
+  pub lines : lines_in new ≡ lines_in old
+
+stands_again : (old new : Document) (v : View) → KeepsPlaces old new → StandsIfOn old v → StandsIfOn new v
+stands_again old new v same stand on =
+    let s = stand (on ∙ same.id) in
+    record {
+      anchor = rw same.size s.anchor;
+      caret = rw same.size s.caret;
+      target_start = rw same.size s.target_start;
+      target_end = rw same.size s.target_end;
+      lines = s.lines ∙ sym same.lines;
+      first_line = s.first_line;
+      indicator = s.indicator;
+      listed = ap (occurrences v.id) same.views ∙ s.listed;
+    }
+
+all_stand_again : (old new : Document) (vs : List View) → KeepsPlaces old new → AllByRecursion (StandsIfOn old) vs → AllByRecursion (StandsIfOn new) vs
+all_stand_again old new [] same all = tt
+all_stand_again old new (v ∷ vs) same all = (stands_again old new v same all.0, all_stand_again old new vs same all.1)
+
+pub watched_still : (old new : Document) (table : Entries KeptView) → KeepsPlaces old new → IsWatched old table → IsWatched new table
+watched_still old new table same w = record {
+  named = w.named;
+  rise = w.rise;
+  listed = rw (same.id, same.views) w.listed;
+  stand = all_stand_again old new (views_of table.entries) same w.stand;
+}
+
+-- Styles leave the text.
+
+restyled_bytes : (styles : List ℕ) (cells : List Cell) → bytes_of (restyled styles cells) ≡ bytes_of cells
+restyled_bytes [] cells = refl
+restyled_bytes (s ∷ ss) [] = refl
+restyled_bytes (s ∷ ss) (c ∷ cells) = ap (λ t. c.byte ∷ t) (restyled_bytes ss cells)
+
+styled_bytes : (new : List ℕ) (d : Document) → text_of (styled new d) ≡ text_of d
+styled_bytes new d =
+    cond_both (keeps_no_styles d) d.cells (take d.end_styled d.cells ++ restyled new (drop d.end_styled d.cells)) (λ cells. bytes_of cells ≡ bytes_of d.cells)
+    (λ _. refl)
+    (λ _. map-append (λ (c : Cell). c.byte) (take d.end_styled d.cells) (restyled new (drop d.end_styled d.cells))
+    ∙ ap (λ t. bytes_of (take d.end_styled d.cells) ++ t) (restyled_bytes new (drop d.end_styled d.cells))
+    ∙ sym (map-append (λ (c : Cell). c.byte) (take d.end_styled d.cells) (drop d.end_styled d.cells))
+    ∙ ap bytes_of (take-append-drop d.end_styled d.cells))
+
+length_text : (cells : List Cell) → length (bytes_of cells) ≡ length cells
+length_text cells = length-map cells (λ (c : Cell). c.byte)
+
+styled_places : (new : List ℕ) (d : Document) → KeepsPlaces d (styled new d)
+styled_places new d = record {
+  id = refl;
+  views = refl;
+  size = sym (length_text (styled new d).cells) ∙ ap length (styled_bytes new d) ∙ length_text d.cells;
+  lines = ap (line_count d.line_end_types) (styled_bytes new d);
+}
+
+pub keeps_places : (text : List ℕ) (what : DocumentChange) (d : Document) → is_of_types what ≡ false → KeepsPlaces d (changed_document text what d)
+keeps_places text (change.SetLineEndTypes to) d h = absurd (cc)
+keeps_places text (change.StyleRun count style) d h = styled_places (replicate count style) d
+keeps_places text (change.StyleBytes count) d h = styled_places (take count text) d
+keeps_places text _ d h = record { id = refl; views = refl; size = refl; lines = refl }
+
+-- Views stay.
+
+view_stays : (what : DocumentChange) (d : Document) (v : View) → is_of_types what ≡ false → changed_lines what d v ≡ v
+view_stays (change.SetLineEndTypes to) d v h = absurd (cc)
+view_stays _ d v h = refl
+
+pub views_stay : (what : DocumentChange) (d : Document) (vs : List View) → is_of_types what ≡ false → vs ≡ map (changed_lines what d) vs
+views_stay what d [] h = refl
+views_stay what d (v ∷ vs) h =
+    let a = view_stays what d v h in
+    let b = views_stay what d vs h in
+    cc
+
+-- the change was made, and is told as it is to be
+pub is_changed : (text : List ℕ) (what : DocumentChange) (sender : ℕ) (old new : Document) (views : Entries KeptView) (notes notes' : Gathered) → is_of_types what ≡ false
+    → IsWatched old views → new ≡ changed_document text what old
+    → ((v : View) → v.id ≡ sender → AreTold (change_told v (watchers old views) old new what) notes notes')
+    → IsChanged text what sender old new views views notes notes'
+is_changed text what sender old new views notes notes' h w made told = record {
+  document = made;
+  lines = views_stay what old (views_of views.entries) h;
+  told = told;
+  watched = rw made (watched_still old (changed_document text what old) views (keeps_places text what old h) w);
+  ids = refl;
+  next = refl;
+  room = refl;
+}

@@ -1,0 +1,43 @@
+use Rattle.std.proofs.Common.{◌≡◌, List, [], refl, sym, ap, ◌∙◌, subst}
+use Rattle.std.specs.Prelude.{◌==◌, negsuc}
+use Rattle.ed_types.specs.Notices.{Notice}
+use Rattle.ed_types.specs.Heard.{with_text}
+use Rattle.ed_model.specs.declared.plan.DocumentChange.TheVariants as change
+use Rattle.ed_model.specs.Changes.{changed_document, marker_count}
+use Rattle.ed_model.specs.Notes.{heard, change_note, change_marker}
+use Rattle.scene.specs.Scenes.{watchers}
+use Rattle.document_changes.specs.Changed.{AreTold}
+use Rattle.document_changes.proofs.Counts.{not_true, not_false, choose_true, choose_false}
+use Rattle.document_changes.proofs.Told.{told_nothing}
+use Rattle.document_changes.proofs.Unmoved.{is_changed}
+use Rattle.document_changes.proofs.marker_changes.delete_markers.Goals as goal
+
+pub returns-then-delete_markers : goal.returns-then-delete_markers
+returns-then-delete_markers c = λ text sender.
+    let d = c.args.document.now.document in
+    let what = change.DeleteMarkers c.args.number in
+    let new = changed_document [] what d in
+    let views = watchers d c.args.views.now in
+    let made = c.delete_markers.ensures.document in
+    let went = rw made at (sym c.delete_markers.ensures.went ∙ c.if-delete_markers.true) in
+    let n = let m = change_note change_marker in record m { line = negsuc 0 } in
+    let is : with_text (record c.change_note-note.result { line = negsuc 0 }) [] ≡ n =
+    ap (λ (m : Notice). record m { line = negsuc 0 }) (c.change_note-note.ensures.note []) in
+    is_changed text what sender d _ c.args.views.now c.args.notes.now _ refl c.requires.watched made
+    (λ v _. rw made (subst (λ (ts : List Notice). AreTold ts c.args.notes.now c.tell_heard.new.notes)
+        (ap (λ (m : Notice). heard views m) is ∙ sym (choose_false (marker_count d.rows == marker_count new.rows) [] (heard views n) (not_true _ went)))
+        (rw made at c.tell_heard.ensures)))
+
+pub returns-else-delete_markers : goal.returns-else-delete_markers
+returns-else-delete_markers c = λ text sender.
+    let d = c.args.document.now.document in
+    let what = change.DeleteMarkers c.args.number in
+    let new = changed_document [] what d in
+    let views = watchers d c.args.views.now in
+    let made = c.delete_markers.ensures.document in
+    let went = rw made at (sym c.delete_markers.ensures.went ∙ c.if-delete_markers.false) in
+    let n = let m = change_note change_marker in record m { line = negsuc 0 } in
+    is_changed text what sender d _ c.args.views.now c.args.notes.now _ refl c.requires.watched made
+    (λ v _. rw made (subst (λ (ts : List Notice). AreTold ts c.args.notes.now c.args.notes.now)
+        (sym (choose_true (marker_count d.rows == marker_count new.rows) [] (heard views n) (not_false _ went)))
+        (told_nothing c.args.notes.now)))

@@ -1,0 +1,13 @@
+use Rattle.std.proofs.Common.{◌≡◌, min, refl, ap, sym, ◌∙◌}
+use Rattle.ed_model.specs.declared.plan.DocumentChange.TheVariants as change
+use Rattle.ed_model.specs.Session.{Document}
+use Rattle.document.specs.Kept.{Kept}
+use Rattle.document_changes.proofs.Unmoved.{is_changed}
+use Rattle.document_changes.proofs.style_changes.need_style.Goals as goal
+
+pub returns : goal.returns
+returns c = λ text.
+    let d = c.args.document.now.document in
+    let made = ap (λ (k : Kept). k.document) c.set_end_styled.ensures ∙ ap (λ n. record d { end_styled = n }) (c.min.ensures ∙ ap (λ n. min n c.args.start) c.end_styled-styled.ensures) in
+    is_changed text (change.NeedStyle c.args.start c.args.end) c.args.sender d _ c.args.views.now c.args.notes.now _ refl c.requires.watched made
+    (λ v same. c.tell_style_needed.ensures v same)

@@ -1,0 +1,21 @@
+use Rattle.std.proofs.Common.{◌≡◌}
+use Rattle.ed_model.specs.declared.plan.DocumentChange.TheVariants as change
+use Rattle.ed_model.specs.Carry.{regrouped}
+use Rattle.ed_model.specs.Rows.{rows_together}
+use Rattle.ed_model.specs.Session.{text_of}
+use Rattle.document_changes.proofs.Told.{told_nothing}
+use Rattle.document_changes.proofs.type_changes.set_line_end_types.Goals as goal
+
+pub returns : goal.returns
+returns c = λ text sender notes.
+    let d = c.args.document.now.document in
+    let made = c.set_line_end_types.ensures.document in
+    record {
+      document = made;
+      lines = c.regroup.ensures.views;
+      told = λ v _. told_nothing notes;
+      watched = rw made (c.regroup.ensures.watched (regrouped rows_together d.line_end_types c.args.types (text_of d) d.rows));
+      ids = c.regroup.ensures.ids;
+      next = c.regroup.ensures.next;
+      room = c.regroup.ensures.room;
+    }

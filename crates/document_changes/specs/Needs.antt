@@ -1,0 +1,76 @@
+-- What a change needs: notes, and room in its document.
+use Rattle.std.specs.Prelude.{◌≡◌, ◌≤◌, ◌<◌, ℕ, Bool, true, false, List, length, bit_or, Some}
+use Rattle.ed_model.specs.declared.plan.DocumentChange.{DocumentChange}
+use Rattle.ed_model.specs.declared.plan.DocumentChange.TheVariants as change
+use Rattle.ed_model.specs.History.{History}
+use Rattle.ed_model.specs.LinePlans.{numbers_in}
+use Rattle.ed_model.specs.Notes as notes
+use Rattle.ed_model.specs.Session.{View, text_of}
+use Rattle.line_index.specs.declared.edit.LineEdit.{LineEdit}
+use Rattle.line_index.specs.Edits.{fresh_lines}
+use Rattle.line_index.specs.Settings.{edits_of_setting}
+use Rattle.document.specs.Changes.{CanStyle, container_need}
+use Rattle.document.specs.Kept.{Kept, HasHistoryRoom}
+use Rattle.scene.specs.Hearing.{hearers}
+use Rattle.scene.specs.Needs.{leaving_count}
+
+-- how many notes it tells at most, where these views watch
+abbrev pub notes_of_change : DocumentChange → History → List View → ℕ
+notes_of_change change.SetSavePoint h views = length views
+notes_of_change (change.AppendContainer token coalesce) h views = leaving_count views h
+notes_of_change (change.AddMarker line number) h views = hearers notes.change_marker views
+notes_of_change (change.AddMarkers line mask) h views = hearers notes.change_marker views
+notes_of_change (change.DeleteMarker line number) h views = hearers notes.change_marker views
+notes_of_change (change.DeleteMarkers number) h views = hearers notes.change_marker views
+notes_of_change (change.DeleteHandle handle) h views = hearers notes.change_marker views
+notes_of_change (change.SetLevel line level) h views = hearers notes.change_fold views
+notes_of_change (change.SetState line state) h views = hearers notes.change_line_state views
+notes_of_change (change.StyleRun count style) h views = hearers (bit_or notes.change_style notes.performed_user) views
+notes_of_change (change.StyleBytes count) h views = hearers (bit_or notes.change_style notes.performed_user) views
+notes_of_change (change.NeedStyle start past) h views = 1
+notes_of_change (change.FillIndicator indicator start count value) h views = hearers (bit_or notes.change_indicator notes.performed_user) views
+notes_of_change other h views = 0
+
+-- The document has room for the change, so that it needs no memory; for other line ends with these edits, which are what becomes of
+-- the lines.
+abbrev pub IsReady : Kept → DocumentChange → List LineEdit → Type 0
+IsReady k (change.SetLineEndTypes to) edits =
+    (edits ≡ edits_of_setting k.document.line_end_types to (text_of k.document)) × (fresh_lines edits ≤ k.room.lines)
+IsReady k (change.AppendContainer token coalesce) edits = HasHistoryRoom k container_need
+IsReady k (change.AddMarker line number) edits = 0 < k.spare.markers
+IsReady k (change.AddMarkers line mask) edits = length (numbers_in mask) ≤ k.spare.markers
+IsReady k (change.SetLevel line level) edits = line < k.spare.levels
+IsReady k (change.SetState line state) edits = line < k.spare.states
+IsReady k (change.StyleRun count style) edits = CanStyle k
+IsReady k (change.StyleBytes count) edits = CanStyle k
+IsReady k (change.FillIndicator indicator start count value) edits = k.spare.fill ≡ Some indicator
+IsReady k other edits = Unit {0}
+
+-- whether it needs room in its document
+abbrev pub needs_room : DocumentChange → Bool
+needs_room (change.SetLineEndTypes to) = true
+needs_room (change.AppendContainer token coalesce) = true
+needs_room (change.AddMarker line number) = true
+needs_room (change.AddMarkers line mask) = true
+needs_room (change.SetLevel line level) = true
+needs_room (change.SetState line state) = true
+needs_room (change.StyleRun count style) = true
+needs_room (change.StyleBytes count) = true
+needs_room (change.FillIndicator indicator start count value) = true
+needs_room other = false
+
+-- whether no view is told of it, no line changes by it, and it needs no room
+abbrev pub is_quiet : DocumentChange → Bool
+is_quiet (change.SetReadOnly on) = true
+is_quiet (change.SetLineEnd to) = true
+is_quiet change.BeginGroup = true
+is_quiet change.EndGroup = true
+is_quiet change.ForgetHistory = true
+is_quiet (change.CollectUndo on) = true
+is_quiet (change.SetEndStyled place) = true
+is_quiet other = false
+
+-- whether it is one of which line ends count
+abbrev pub is_of_types : DocumentChange → Bool
+is_of_types (change.SetLineEndTypes to) = true
+is_of_types other = false

@@ -1,0 +1,120 @@
+//! A change, by its kind.
+
+ghost use Rattle.std.specs.Prelude.{◌≡◌, ◌≤◌, ◌+◌, ◌++◌, map, length};
+ghost use Rattle.ed_model.specs.Session.{View as ModelView};
+ghost use Rattle.ed_model.specs.Changes.{changed_document, changed_lines, change_told};
+ghost use Rattle.id_table.specs.Entries.{id_of};
+ghost use Rattle.scene.specs.Scenes.{views_of, watchers, IsWatched};
+ghost use Rattle.document_changes.specs.Changed.{IsChanged};
+ghost use Rattle.document_changes.specs.Fit.{IsFitChange, bytes_read};
+ghost use Rattle.document_changes.specs.Needs.{IsReady, notes_of_change};
+
+use crate::history_changes::{append_container, change_quietly, set_save_point};
+use crate::marker_changes::{add_marker, add_markers, delete_handle, delete_marker, delete_markers};
+use crate::ready::ChangeReady;
+use crate::row_changes::{set_level, set_state};
+use crate::style_changes::{fill_indicator, need_style, style_bytes, style_run};
+use crate::type_changes::set_line_end_types;
+use document::Document;
+use ed_model::DocumentChange;
+use ed_view::View;
+use id_table::IdTable;
+use line_index::LineEdit;
+use notify::NoteList;
+
+// Makes a change, for which there is room with these edits.
+fn perform(
+    document: &mut Document,
+    views: &mut IdTable<View>,
+    notes: &mut NoteList,
+    sender: u32,
+    text: &[u8],
+    change: DocumentChange,
+    edits: &[LineEdit],
+)
+    requires fits { IsFitChange document.old.document change }
+    requires text { bytes_read change ≤ length text.now }
+    requires ready { IsReady document.old change edits.now }
+    requires watched { IsWatched document.old.document views.old }
+    requires room { notes_of_change change document.old.document.history (watchers document.old.document views.old) ≤ notes.old.note_room }
+    ensures { IsChanged text.now change sender document.old.document document.new.document views.old views.new notes.old notes.new }
+{
+    match change {
+        DocumentChange::SetReadOnly { .. }
+        | DocumentChange::SetLineEnd { .. }
+        | DocumentChange::BeginGroup
+        | DocumentChange::EndGroup
+        | DocumentChange::ForgetHistory
+        | DocumentChange::CollectUndo { .. }
+        | DocumentChange::SetEndStyled { .. } => change_quietly(document, change),
+        DocumentChange::SetLineEndTypes { to } => set_line_end_types(document, views, to, edits),
+        DocumentChange::SetSavePoint => set_save_point(document, views, notes),
+        DocumentChange::AppendContainer { token, coalesce } => {
+            append_container(document, views, notes, token, coalesce)
+        }
+        DocumentChange::AddMarker { line, number } => {
+            add_marker(document, views, notes, line, number)
+        }
+        DocumentChange::AddMarkers { line, mask } => {
+            add_markers(document, views, notes, line, mask)
+        }
+        DocumentChange::DeleteMarker { line, number } => {
+            delete_marker(document, views, notes, line, number)
+        }
+        DocumentChange::DeleteMarkers { number } => delete_markers(document, views, notes, number),
+        DocumentChange::DeleteHandle { handle } => delete_handle(document, views, notes, handle),
+        DocumentChange::SetLevel { line, level } => set_level(document, views, notes, line, level),
+        DocumentChange::SetState { line, state } => set_state(document, views, notes, line, state),
+        DocumentChange::StyleRun { count, style } => {
+            style_run(document, views, notes, count, style)
+        }
+        DocumentChange::StyleBytes { count } => style_bytes(document, views, notes, text, count),
+        DocumentChange::NeedStyle { start, end } => {
+            need_style(document, views, notes, sender, start, end)
+        }
+        DocumentChange::FillIndicator {
+            indicator,
+            start,
+            count,
+            value,
+        } => fill_indicator(document, views, notes, indicator, start, count, value),
+    }
+}
+
+/// Makes a change of the document, and tells of it: the views that watch and hear it, or for a style that is needed the one
+/// whose id is `sender`. Their flags go with the lines where other line ends count. There must be room for the change and
+/// for its notes.
+pub fn change_document(
+    document: &mut Document,
+    views: &mut IdTable<View>,
+    notes: &mut NoteList,
+    sender: u32,
+    text: &[u8],
+    change: DocumentChange,
+    ready: ChangeReady,
+)
+    requires fits { IsFitChange document.old.document change }
+    requires text { bytes_read change ≤ length text.now }
+    requires ready { IsReady document.old change ready }
+    requires watched { IsWatched document.old.document views.old }
+    requires room { notes_of_change change document.old.document.history (watchers document.old.document views.old) ≤ notes.old.note_room }
+    ensures document { document.new.document ≡ changed_document text.now change document.old.document }
+    ensures views { views_of views.new.entries ≡ map (changed_lines change document.old.document) (views_of views.old.entries) }
+    ensures notes { (v : ModelView) → v.id ≡ sender → notes.new.notes ≡ notes.old.notes ++ change_told v (watchers document.old.document views.old) document.old.document document.new.document change }
+    ensures note_room_left { notes.new.note_room + length notes.new.notes ≡ notes.old.note_room + length notes.old.notes }
+    ensures text_room { notes.new.text_room ≡ notes.old.text_room }
+    ensures watched { IsWatched document.new.document views.new }
+    ensures ids { map id_of views.new.entries ≡ map id_of views.old.entries }
+    ensures next { views.new.next ≡ views.old.next }
+    ensures view_room { views.new.room ≡ views.old.room }
+{
+    perform(
+        document,
+        views,
+        notes,
+        sender,
+        text,
+        change,
+        ready.edits.as_slice(),
+    );
+}

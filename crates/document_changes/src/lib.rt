@@ -1,0 +1,19 @@
+//! Changes of a document that are no steps of its text, over the document, the views that watch it, and what they hear.
+//!
+//! A message that makes one asks `change_note_need` how many notes it tells at most, and makes room for them; then
+//! `reserve_change` makes room in the document; and `change_document` cannot fail.
+#![tactic(auto)]
+
+mod change;
+mod history_changes;
+mod marker_changes;
+mod need;
+mod ready;
+mod row_changes;
+mod style_changes;
+mod telling;
+mod type_changes;
+
+pub use change::change_document;
+pub use need::change_note_need;
+pub use ready::{ChangeReady, reserve_change};

@@ -1,0 +1,131 @@
+//! Markers come and go.
+
+ghost use Rattle.std.specs.Prelude.{◌≡◌, ◌≤◌, ◌<◌, ◌+◌, ◌-◌, ◌^◌, [], List, ℕ, length};
+ghost use Rattle.ed_model.specs.declared.plan.DocumentChange.TheVariants as change;
+ghost use Rattle.ed_model.specs.Changes.{marker_note};
+ghost use Rattle.ed_model.specs.LinePlans.{numbers_in};
+ghost use Rattle.ed_model.specs.Lines.{start_of_line};
+ghost use Rattle.ed_model.specs.Notes.{heard, change_marker};
+ghost use Rattle.ed_model.specs.Session.{lines_in, text_of};
+ghost use Rattle.scene.specs.Scenes.{watchers, AreNamed, IsWatched};
+ghost use Rattle.scene.specs.Hearing.{hearers};
+ghost use Rattle.document_changes.specs.Changed.{AreTold, IsChanged};
+ghost use Rattle.document_changes.specs.Lines.{marker_notice};
+
+use crate::telling::{CHANGE_MARKER, change_note, line_note, tell_heard};
+use document::{Document, count_numbers};
+use ed_view::View;
+use id_table::IdTable;
+use notify::NoteList;
+
+// Tells that the markers of a line changed.
+fn tell_markers(document: &Document, views: &IdTable<View>, notes: &mut NoteList, line: usize)
+    requires line { line < lines_in document.now.document }
+    requires named { AreNamed views.now.entries }
+    requires room { hearers change_marker (watchers document.now.document views.now) ≤ notes.old.note_room }
+    ensures { AreTold (heard (watchers document.now.document views.now) (marker_notice document.now.document line)) notes.old notes.new }
+{
+    let _ = document.line_count(); // it says that lines are few
+    let mut note = line_note(CHANGE_MARKER, line);
+    note.position = document.line_start(line) as i64;
+    tell_heard(document, views, notes, &note);
+}
+
+/// Puts a marker with a number behind those of a line, and tells of it.
+pub(crate) fn add_marker(
+    document: &mut Document,
+    views: &IdTable<View>,
+    notes: &mut NoteList,
+    line: usize,
+    number: u32,
+)
+    requires line { line < lines_in document.old.document }
+    requires number { number < 32 }
+    requires handles { document.old.document.next_handle + 1 < 2 ^ 32 }
+    requires ready { 0 < document.old.spare.markers }
+    requires watched { IsWatched document.old.document views.now }
+    requires room { hearers change_marker (watchers document.old.document views.now) ≤ notes.old.note_room }
+    ensures { (text : List ℕ) (sender : ℕ) → IsChanged text (change.AddMarker line number) sender document.old.document document.new.document views.now views.now notes.old notes.new }
+{
+    let _ = document.rows(); // it says that each line has one
+    document.add_marker_reserved(line, number);
+    tell_markers(document, views, notes, line);
+}
+
+/// Puts a marker for each bit of a mask behind those of a line, and tells of all by one note for each view, or of none by
+/// none.
+pub(crate) fn add_markers(
+    document: &mut Document,
+    views: &IdTable<View>,
+    notes: &mut NoteList,
+    line: usize,
+    mask: u32,
+)
+    requires line { line < lines_in document.old.document }
+    requires handles { document.old.document.next_handle + length (numbers_in mask) < 2 ^ 32 }
+    requires ready { length (numbers_in mask) ≤ document.old.spare.markers }
+    requires watched { IsWatched document.old.document views.now }
+    requires room { hearers change_marker (watchers document.old.document views.now) ≤ notes.old.note_room }
+    ensures { (text : List ℕ) (sender : ℕ) → IsChanged text (change.AddMarkers line mask) sender document.old.document document.new.document views.now views.now notes.old notes.new }
+{
+    let _ = document.rows(); // it says that each line has one
+    document.add_markers_reserved(line, mask);
+    if count_numbers(mask) > 0 {
+        tell_markers(document, views, notes, line);
+    }
+}
+
+/// Takes a line's first marker with a number away, or all of its markers where none is named, and tells of it if there was
+/// one.
+pub(crate) fn delete_marker(
+    document: &mut Document,
+    views: &IdTable<View>,
+    notes: &mut NoteList,
+    line: usize,
+    number: Option<u32>,
+)
+    requires line { line < lines_in document.old.document }
+    requires watched { IsWatched document.old.document views.now }
+    requires room { hearers change_marker (watchers document.old.document views.now) ≤ notes.old.note_room }
+    ensures { (text : List ℕ) (sender : ℕ) → IsChanged text (change.DeleteMarker line number) sender document.old.document document.new.document views.now views.now notes.old notes.new }
+{
+    if document.delete_marker(line, number) {
+        tell_markers(document, views, notes, line);
+    }
+}
+
+/// Takes all markers with a number away, or all where none is named, and tells of it, by a note of no line, if there was one.
+pub(crate) fn delete_markers(
+    document: &mut Document,
+    views: &IdTable<View>,
+    notes: &mut NoteList,
+    number: Option<u32>,
+)
+    requires watched { IsWatched document.old.document views.now }
+    requires room { hearers change_marker (watchers document.old.document views.now) ≤ notes.old.note_room }
+    ensures { (text : List ℕ) (sender : ℕ) → IsChanged text (change.DeleteMarkers number) sender document.old.document document.new.document views.now views.now notes.old notes.new }
+{
+    if document.delete_markers(number) {
+        let mut note = change_note(CHANGE_MARKER);
+        note.line = -1;
+        tell_heard(document, views, notes, &note);
+    }
+}
+
+/// Takes the marker with a handle away, and tells of it if there was one.
+pub(crate) fn delete_handle(
+    document: &mut Document,
+    views: &IdTable<View>,
+    notes: &mut NoteList,
+    handle: u64,
+)
+    requires handle { handle < document.old.document.next_handle }
+    requires watched { IsWatched document.old.document views.now }
+    requires room { hearers change_marker (watchers document.old.document views.now) ≤ notes.old.note_room }
+    ensures { (text : List ℕ) (sender : ℕ) → IsChanged text (change.DeleteHandle handle) sender document.old.document document.new.document views.now views.now notes.old notes.new }
+{
+    let _ = document.rows().next_handle(); // it says that the handle is small
+    if let Some(line) = document.delete_handle(handle as u32) {
+        tell_markers(document, views, notes, line);
+    }
+}

@@ -1,0 +1,47 @@
+//! How many notes a change tells at most.
+
+ghost use Rattle.std.specs.Prelude.{◌≡◌};
+ghost use Rattle.scene.specs.Scenes.{watchers, AreNamed};
+ghost use Rattle.document_changes.specs.Needs.{notes_of_change};
+
+use crate::telling::{CHANGE_FOLD, CHANGE_INDICATOR, CHANGE_LINE_STATE, CHANGE_MARKER, CHANGE_STYLE};
+use document::Document;
+use ed_model::DocumentChange;
+use ed_view::View;
+use id_table::IdTable;
+use scene::{count_hearers, count_watchers, leaving_need};
+
+/// Returns how many notes a change of the document tells at most. They share no text.
+pub fn change_note_need(
+    document: &Document,
+    views: &IdTable<View>,
+    change: DocumentChange,
+) -> usize
+    requires named { AreNamed views.now.entries }
+    ensures { result ≡ notes_of_change change document.now.document.history (watchers document.now.document views.now) }
+{
+    match change {
+        DocumentChange::SetSavePoint => count_watchers(document, views),
+        DocumentChange::AppendContainer { .. } => leaving_need(document, views),
+        DocumentChange::AddMarker { .. }
+        | DocumentChange::AddMarkers { .. }
+        | DocumentChange::DeleteMarker { .. }
+        | DocumentChange::DeleteMarkers { .. }
+        | DocumentChange::DeleteHandle { .. } => count_hearers(document, views, CHANGE_MARKER),
+        DocumentChange::SetLevel { .. } => count_hearers(document, views, CHANGE_FOLD),
+        DocumentChange::SetState { .. } => count_hearers(document, views, CHANGE_LINE_STATE),
+        DocumentChange::StyleRun { .. } | DocumentChange::StyleBytes { .. } => {
+            count_hearers(document, views, CHANGE_STYLE)
+        }
+        DocumentChange::NeedStyle { .. } => 1,
+        DocumentChange::FillIndicator { .. } => count_hearers(document, views, CHANGE_INDICATOR),
+        DocumentChange::SetReadOnly { .. }
+        | DocumentChange::SetLineEnd { .. }
+        | DocumentChange::SetLineEndTypes { .. }
+        | DocumentChange::BeginGroup
+        | DocumentChange::EndGroup
+        | DocumentChange::ForgetHistory
+        | DocumentChange::CollectUndo { .. }
+        | DocumentChange::SetEndStyled { .. } => 0,
+    }
+}

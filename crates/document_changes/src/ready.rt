@@ -1,0 +1,98 @@
+//! Room for a change in its document.
+
+ghost use Rattle.std.specs.Prelude.{◌≡◌, [], false, IfOk, IsOk, OnOk};
+ghost use Rattle.ed_model.specs.declared.plan.DocumentChange.TheVariants as change;
+ghost use Rattle.document.specs.Kept.{TakesRoom, no_room};
+ghost use Rattle.document_changes.specs.Fit.{IsFitChange};
+ghost use Rattle.document_changes.specs.Needs.{IsReady, is_of_types, needs_room};
+
+use document::{Document, DocumentRoom, count_numbers};
+use ed_model::{DocumentChange, LineEndTypes};
+use line_index::{LineEdit, fresh_lines};
+use std::alloc::{AllocError, Global};
+use std::marker::Model;
+
+/// That there is room for a change; for other line ends, with what becomes of the lines.
+#[derive(Drop)]
+pub struct ChangeReady {
+    pub(crate) edits: Vec<LineEdit>,
+}
+
+impl Model for ChangeReady {
+    ghost use Rattle.std.specs.Prelude.{List};
+    ghost use Rattle.line_index.specs.declared.edit.LineEdit.{LineEdit};
+
+    ghost Value = { List LineEdit };
+
+    ghost view = { λ r. r.edits.items };
+}
+
+// Makes room for the lines that come where these line ends count, and returns what becomes of all lines.
+fn reserve_types(
+    alloc: Global,
+    document: &mut Document,
+    types: LineEndTypes,
+) -> Result<ChangeReady, AllocError>
+    ensures same { document.new.document ≡ document.old.document }
+    ensures ready { IfOk result (λ ready. IsReady document.new (change.SetLineEndTypes types) ready) }
+    ensures room_stays { TakesRoom document.old.room document.new.room no_room }
+{
+    let _ = document.len(); // it says that lines are few
+    let edits = document.line_type_edits(alloc, types)?;
+    document.reserve_lines(fresh_lines(edits.as_slice()))?;
+    Ok(ChangeReady { edits })
+}
+
+// Makes room for any other change.
+fn reserve_other(document: &mut Document, change: DocumentChange) -> Result<(), AllocError>
+    requires fits { IsFitChange document.old.document change }
+    requires other { is_of_types change ≡ false }
+    ensures same { document.new.document ≡ document.old.document }
+    ensures ready { OnOk result (IsReady document.new change []) }
+    ensures free { needs_room change ≡ false → IsOk result × (document.new ≡ document.old) }
+    ensures room_stays { TakesRoom document.old.room document.new.room no_room }
+{
+    let _ = document.len(); // it says that no text grows too long
+    let _ = document.line_count(); // and that lines are few
+    match change {
+        DocumentChange::AppendContainer { .. } => {
+            document.reserve(DocumentRoom::of_container_step())
+        }
+        DocumentChange::AddMarker { .. } => document.reserve_markers(1),
+        DocumentChange::AddMarkers { mask, .. } => document.reserve_markers(count_numbers(mask)),
+        DocumentChange::SetLevel { line, .. } => document.reserve_levels(line + 1),
+        DocumentChange::SetState { line, .. } => document.reserve_states(line + 1),
+        DocumentChange::StyleRun { .. } | DocumentChange::StyleBytes { .. } => {
+            document.reserve_styles()
+        }
+        DocumentChange::FillIndicator { indicator, .. } => {
+            document.reserve_fill(indicator as usize)
+        }
+        _ => Ok(()),
+    }
+}
+
+/// Makes room in the document for a change. One that needs no room cannot fail.
+///
+/// # Errors
+///
+/// `AllocError` where memory is refused; the document is then as it was.
+pub fn reserve_change(
+    alloc: Global,
+    document: &mut Document,
+    change: DocumentChange,
+) -> Result<ChangeReady, AllocError>
+    requires fits { IsFitChange document.old.document change }
+    ensures same { document.new.document ≡ document.old.document }
+    ensures ready { IfOk result (λ ready. IsReady document.new change ready) }
+    ensures free { needs_room change ≡ false → IsOk result × (document.new ≡ document.old) }
+    ensures room_stays { TakesRoom document.old.room document.new.room no_room }
+{
+    if let DocumentChange::SetLineEndTypes { to } = change {
+        return reserve_types(alloc, document, to);
+    }
+    reserve_other(document, change)?;
+    Ok(ChangeReady {
+        edits: Vec::new(alloc),
+    })
+}

@@ -1,0 +1,71 @@
+//! Fold levels and states of lines change.
+
+ghost use Rattle.std.specs.Prelude.{◌≡◌, ◌≤◌, ◌<◌, ◌-◌, ◌^◌, true, pos, negsuc, int_le, List, ℕ};
+ghost use Rattle.ed_model.specs.declared.plan.DocumentChange.TheVariants as change;
+ghost use Rattle.ed_model.specs.Notes.{change_fold, change_line_state};
+ghost use Rattle.ed_model.specs.Session.{lines_in};
+ghost use Rattle.scene.specs.Scenes.{watchers, IsWatched};
+ghost use Rattle.scene.specs.Hearing.{hearers};
+ghost use Rattle.document_changes.specs.Changed.{IsChanged};
+
+use crate::telling::{CHANGE_FOLD, CHANGE_LINE_STATE, line_note, tell_heard};
+use document::Document;
+use ed_view::View;
+use id_table::IdTable;
+use notify::NoteList;
+
+/// Sets the fold level of a line, and tells of it if it was another.
+pub(crate) fn set_level(
+    document: &mut Document,
+    views: &IdTable<View>,
+    notes: &mut NoteList,
+    line: usize,
+    level: u32,
+)
+    requires line { line < lines_in document.old.document }
+    requires ready { line < document.old.spare.levels }
+    requires watched { IsWatched document.old.document views.now }
+    requires room { hearers change_fold (watchers document.old.document views.now) ≤ notes.old.note_room }
+    ensures { (text : List ℕ) (sender : ℕ) → IsChanged text (change.SetLevel line level) sender document.old.document document.new.document views.now views.now notes.old notes.new }
+{
+    let _ = document.line_count(); // it says that lines are few
+    let before = document.set_level(line, level);
+    if before != level {
+        let mut note = line_note(CHANGE_FOLD, line);
+        note.now = level as i64;
+        note.prev = before as i64;
+        tell_heard(document, views, notes, &note);
+    }
+}
+
+// A line's state as the number of 32 bits that it is.
+fn narrowed(state: i64) -> i32
+    requires { (int_le (negsuc (2 ^ 31 - 1)) state ≡ true) × (int_le state (pos (2 ^ 31 - 1)) ≡ true) }
+    ensures { result ≡ state }
+{
+    state as i32
+}
+
+/// Sets the state of a line, and tells of it if it was another.
+pub(crate) fn set_state(
+    document: &mut Document,
+    views: &IdTable<View>,
+    notes: &mut NoteList,
+    line: usize,
+    state: i64,
+)
+    requires line { line < lines_in document.old.document }
+    requires state { (int_le (negsuc (2 ^ 31 - 1)) state ≡ true) × (int_le state (pos (2 ^ 31 - 1)) ≡ true) }
+    requires ready { line < document.old.spare.states }
+    requires watched { IsWatched document.old.document views.now }
+    requires room { hearers change_line_state (watchers document.old.document views.now) ≤ notes.old.note_room }
+    ensures { (text : List ℕ) (sender : ℕ) → IsChanged text (change.SetState line state) sender document.old.document document.new.document views.now views.now notes.old notes.new }
+{
+    let _ = document.line_count(); // it says that lines are few
+    let state = narrowed(state);
+    let before = document.set_state(line, state);
+    if before != state {
+        let note = line_note(CHANGE_LINE_STATE, line);
+        tell_heard(document, views, notes, &note);
+    }
+}

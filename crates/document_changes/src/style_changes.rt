@@ -1,0 +1,119 @@
+//! Styles and indicators change, and styles are asked for.
+
+ghost use Rattle.std.specs.Prelude.{◌≡◌, ◌≤◌, ◌<◌, ◌+◌, ◌^◌, List, ℕ, length, bit_or, IfSome, Option, Some, option_copied};
+ghost use Rattle.ed_model.specs.declared.plan.DocumentChange.TheVariants as change;
+ghost use Rattle.ed_model.specs.Changes.{range_notes};
+ghost use Rattle.ed_model.specs.Notes.{change_style, change_indicator, performed_user};
+ghost use Rattle.document.specs.Changes.{CanStyle};
+ghost use Rattle.scene.specs.Scenes.{watchers, AreNamed, IsWatched};
+ghost use Rattle.scene.specs.Hearing.{hearers};
+ghost use Rattle.document_changes.specs.Changed.{AreTold, IsChanged};
+
+use crate::telling::{CHANGE_INDICATOR, CHANGE_STYLE, range_note, tell_heard, tell_style_needed};
+use document::Document;
+use ed_view::View;
+use id_table::IdTable;
+use notify::NoteList;
+
+// Tells that a range of bytes changed, if there is one.
+fn tell_range(
+    document: &Document,
+    views: &IdTable<View>,
+    notes: &mut NoteList,
+    kind: u32,
+    changed: Option<(usize, usize)>,
+)
+    requires small { IfSome changed (λ range. (range.0 < 2 ^ 63) × (range.1 < 2 ^ 63)) }
+    requires named { AreNamed views.now.entries }
+    requires room { hearers kind (watchers document.now.document views.now) ≤ notes.old.note_room }
+    ensures { (bits : ℕ) → kind ≡ bit_or bits performed_user → AreTold (range_notes bits changed (watchers document.now.document views.now)) notes.old notes.new }
+{
+    if let Some((start, count)) = changed {
+        let note = range_note(kind, start, count);
+        tell_heard(document, views, notes, &note);
+    }
+}
+
+/// Puts one style on the bytes from where the document is styled up to, moves that behind them, and tells of the range with
+/// all changed styles.
+pub(crate) fn style_run(
+    document: &mut Document,
+    views: &IdTable<View>,
+    notes: &mut NoteList,
+    count: usize,
+    style: u32,
+)
+    requires within { document.old.document.end_styled + count ≤ length document.old.document.cells }
+    requires style { style ≤ 255 }
+    requires ready { CanStyle document.old }
+    requires watched { IsWatched document.old.document views.now }
+    requires room { hearers (bit_or change_style performed_user) (watchers document.old.document views.now) ≤ notes.old.note_room }
+    ensures { (text : List ℕ) (sender : ℕ) → IsChanged text (change.StyleRun count style) sender document.old.document document.new.document views.now views.now notes.old notes.new }
+{
+    let _ = document.len(); // it says that ranges are small
+    let changed = document.style_run(count, style as u8);
+    tell_range(document, views, notes, CHANGE_STYLE, changed);
+}
+
+/// The same with the first `count` bytes of a text as styles.
+pub(crate) fn style_bytes(
+    document: &mut Document,
+    views: &IdTable<View>,
+    notes: &mut NoteList,
+    text: &[u8],
+    count: usize,
+)
+    requires within { document.old.document.end_styled + count ≤ length document.old.document.cells }
+    requires text { count ≤ length text.now }
+    requires ready { CanStyle document.old }
+    requires watched { IsWatched document.old.document views.now }
+    requires room { hearers (bit_or change_style performed_user) (watchers document.old.document views.now) ≤ notes.old.note_room }
+    ensures { (sender : ℕ) → IsChanged text.now (change.StyleBytes count) sender document.old.document document.new.document views.now views.now notes.old notes.new }
+{
+    let _ = document.len(); // it says that ranges are small
+    let changed = document.style_bytes(&text[..count]);
+    tell_range(document, views, notes, CHANGE_STYLE, changed);
+}
+
+/// The document counts as styled up to `start` at most, and the sending view is asked to style it up to `end`.
+pub(crate) fn need_style(
+    document: &mut Document,
+    views: &IdTable<View>,
+    notes: &mut NoteList,
+    sender: u32,
+    start: usize,
+    end: usize,
+)
+    requires end { end ≤ length document.old.document.cells }
+    requires watched { IsWatched document.old.document views.now }
+    requires room { 1 ≤ notes.old.note_room }
+    ensures { (text : List ℕ) → IsChanged text (change.NeedStyle start end) sender document.old.document document.new.document views.now views.now notes.old notes.new }
+{
+    let _ = document.len(); // it says that places are small
+    let styled = document.end_styled();
+    document.set_end_styled(styled.min(start));
+    tell_style_needed(notes, sender, end);
+}
+
+/// Sets an indicator to a value at some bytes, and tells of the range with all changed values.
+pub(crate) fn fill_indicator(
+    document: &mut Document,
+    views: &IdTable<View>,
+    notes: &mut NoteList,
+    indicator: u32,
+    start: usize,
+    count: usize,
+    value: u32,
+)
+    requires indicator { indicator < 32 }
+    requires within { start + count ≤ length document.old.document.cells }
+    requires ready { document.old.spare.fill ≡ Some indicator }
+    requires watched { IsWatched document.old.document views.now }
+    requires room { hearers (bit_or change_indicator performed_user) (watchers document.old.document views.now) ≤ notes.old.note_room }
+    ensures { (text : List ℕ) (sender : ℕ) → IsChanged text (change.FillIndicator indicator start count value) sender document.old.document document.new.document views.now views.now notes.old notes.new }
+{
+    let _ = document.len(); // it says that ranges are small
+    let _ = document.indicators().length(); // and that each byte has a value
+    let changed = document.fill(indicator as usize, start, count, value);
+    tell_range(document, views, notes, CHANGE_INDICATOR, changed);
+}

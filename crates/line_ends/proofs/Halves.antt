@@ -1,0 +1,71 @@
+-- Bytes of a text in two halves.
+use Rattle.std.proofs.Common.{◌≡◌, ℕ, ◌+◌, ◌-◌, ◌<◌, ◌≤◌, false, ◌==◌, drop, List, ◌++◌, length, get_or, slice_range, min, inl, inr, ap, ◌∙◌, arith, length-append}
+use Rattle.std.proofs.lemmas.Option.{slice_get_past, slice_get-get_or}
+use Rattle.std.proofs.lemmas.Bool.{cases_lt}
+use Rattle.std.proofs.lemmas.List.{length-take, length-drop, get_or-take, get_or-drop, get_or-append-add, get_or_append_left}
+use Rattle.ed_model.specs.Numbers.{is_number}
+use Rattle.ed_model.specs.Text.{stands}
+use Rattle.line_ends.specs.Conversion.{is_end}
+
+pub stands_at : (byte : ℕ) (xs : List ℕ) (p : ℕ) → p < length xs → stands byte xs p ≡ (get_or xs p 0 == byte)
+stands_at byte xs p h = ap (is_number byte) (slice_get-get_or xs p 0 h)
+
+pub stands_past : (byte : ℕ) (xs : List ℕ) (p : ℕ) → length xs ≤ p → stands byte xs p ≡ false
+stands_past byte xs p h = ap (is_number byte) (slice_get_past xs p h)
+
+-- in the first half
+pub stands_in_front : (byte : ℕ) (xs ys : List ℕ) (p : ℕ) → p < length xs → stands byte (xs ++ ys) p ≡ (get_or xs p 0 == byte)
+stands_in_front byte xs ys p h = stands_at byte (xs ++ ys) p (omega (arith, length-append xs ys)) ∙ ap (λ b. b == byte) (get_or_append_left xs ys 0 p h)
+
+-- in the second half
+pub stands_behind : (byte : ℕ) (xs ys : List ℕ) (p i : ℕ) → length xs ≤ p → i ≡ p - length xs → i < length ys → stands byte (xs ++ ys) p ≡ (get_or ys i 0 == byte)
+stands_behind byte xs ys p i h e l =
+    let at : p ≡ length xs + i = omega arith in
+    stands_at byte (xs ++ ys) p (omega (arith, length-append xs ys)) ∙ rw at (ap (λ b. b == byte) (get_or-append-add xs ys i 0))
+
+-- past the end
+pub stands_nowhere : (byte : ℕ) (xs ys : List ℕ) (p i : ℕ) → length xs ≤ p → i ≡ p - length xs → length ys ≤ i → stands byte (xs ++ ys) p ≡ false
+stands_nowhere byte xs ys p i h e l = stands_past byte (xs ++ ys) p (omega (arith, length-append xs ys))
+
+-- no CR or LF stands from one place up to another
+abbrev pub Quiet : List ℕ → ℕ → ℕ → Type 0
+Quiet text from to = (k : ℕ) → from ≤ k → k < to → is_end (get_or text k 0) ≡ false
+
+within_part : (xs : List ℕ) (from to k : ℕ) → k < length (slice_range xs from to) → (k < to - from) × (from + k < length xs)
+within_part xs from to k h =
+    let size : length (slice_range xs from to) ≡ min (to - from) (length xs - from) = simp (length-take, length-drop) in
+    (omega arith, omega arith)
+
+read_part : (xs : List ℕ) (from to k : ℕ) → k < length (slice_range xs from to) → get_or (slice_range xs from to) k 0 ≡ get_or xs (from + k) 0
+read_part xs from to k h = get_or-take (to - from) (drop from xs) k 0 (within_part xs from to k h).0 ∙ get_or-drop from xs k 0
+
+-- what stands in a part of one half stands in the text
+pub quiet_in_first : (xs ys : List ℕ) (from to c : ℕ) → c ≤ length (slice_range xs from to)
+    → ((k : ℕ) → k < c → is_end (get_or (slice_range xs from to) k 0) ≡ false) → Quiet (xs ++ ys) from (from + c)
+quiet_in_first xs ys from to c l quiet k a b =
+    let i : ℕ = k - from in
+    let e : k ≡ from + i = omega arith in
+    let w : i < length (slice_range xs from to) = omega arith in
+    rw (e, get_or_append_left xs ys 0 (from + i) (within_part xs from to i w).1, ← (read_part xs from to i w)) (quiet i (omega arith))
+
+pub quiet_in_second : (xs ys : List ℕ) (from to c place : ℕ) → place ≡ length xs + from → c ≤ length (slice_range ys from to)
+    → ((k : ℕ) → k < c → is_end (get_or (slice_range ys from to) k 0) ≡ false) → Quiet (xs ++ ys) place (place + c)
+quiet_in_second xs ys from to c place p l quiet k a b =
+    let i : ℕ = k - place in
+    let e : k ≡ length xs + (from + i) = omega arith in
+    let w : i < length (slice_range ys from to) = omega arith in
+    rw (e, get_or-append-add xs ys (from + i) 0, ← (read_part ys from to i w)) (quiet i (omega arith))
+
+-- what is left of the first, and a part of the second
+pub quiet_across : (xs ys : List ℕ) (from c d : ℕ) → from ≤ length xs → c ≤ length (slice_range xs from (length xs)) → length xs ≤ from + c
+    → ((k : ℕ) → k < c → is_end (get_or (slice_range xs from (length xs)) k 0) ≡ false)
+    → d ≤ length ys → ((k : ℕ) → k < d → is_end (get_or ys k 0) ≡ false)
+    → Quiet (xs ++ ys) from (length xs + d)
+quiet_across xs ys from c d f l e quiet m later k a b =
+    elim (cases_lt k (length xs)) [
+      | inl here ↦ quiet_in_first xs ys from (length xs) c l quiet k a (omega arith)
+      | inr past ↦
+          let i : ℕ = k - length xs in
+          let at : k ≡ length xs + i = omega arith in
+          rw (at, get_or-append-add xs ys i 0) (later i (omega arith))
+    ]

@@ -1,0 +1,88 @@
+//! Texts with their line ends turned, as they are pasted.
+
+ghost use Rattle.std.specs.Prelude.{◌≡◌, ◌+◌, ◌*◌, ◌<◌, ◌≤◌, ◌++◌, length, take, drop, vec_len, vec_capacity};
+ghost use Rattle.ed_model.specs.LineEnds.{converted};
+ghost use Rattle.line_ends.specs.Conversion.{end_bytes};
+
+use crate::reading::quiet_bytes;
+use ed_model::LineEnd;
+
+// The bytes in front of a text's first line end, and how many it has itself: none, if there is none.
+#[derive(Clone, Copy)]
+struct Piece {
+    quiet: usize,
+    end: usize,
+}
+
+// What comes in the place of a line end of so many bytes: nothing, if there is none.
+#[tactic(auto, using(crate::proofs::Pasted::some_end, crate::proofs::Pasted::no_end))]
+fn bytes_of_end(count: usize, to: LineEnd) -> &'static [u8]
+    ensures { result.now ≡ end_bytes count to }
+{
+    if count == 0 {
+        return &[];
+    }
+    match to {
+        LineEnd::CrLf => b"\r\n",
+        LineEnd::Cr => b"\r",
+        LineEnd::Lf => b"\n",
+    }
+}
+
+// The text's first piece; the others are those of the rest.
+fn next_piece(bytes: &[u8]) -> Piece
+    ensures within { result.quiet + result.end ≤ length bytes.now }
+    ensures on { 0 < length bytes.now → 0 < result.quiet + result.end }
+    ensures pieces { (to : LineEnd) → converted to bytes.now ≡ take result.quiet bytes.now ++ end_bytes result.end to ++ converted to (drop (result.quiet + result.end) bytes.now) }
+{
+    let quiet = quiet_bytes(bytes);
+    if quiet == bytes.len() {
+        return Piece { quiet, end: 0 };
+    }
+    let behind = quiet + 1;
+    if bytes[quiet] == b'\r' && behind < bytes.len() && bytes[behind] == b'\n' {
+        return Piece { quiet, end: 2 };
+    }
+    Piece { quiet, end: 1 }
+}
+
+/// How many bytes the text has once each line end is of this kind.
+pub fn converted_len(bytes: &[u8], to: LineEnd) -> usize
+    ensures length { result ≡ length (converted to bytes.now) }
+    ensures few { result ≤ 2 * length bytes.now }
+{
+    let mut length = 0;
+    let mut place = 0;
+    'pieces: while place < bytes.len() {
+        let piece = next_piece(&bytes[place..]);
+        length += piece.quiet + bytes_of_end(piece.end, to).len();
+        place += piece.quiet + piece.end;
+    }
+    length
+}
+
+/// Appends the text with each line end turned into this kind, for which there is room.
+pub fn convert_into(bytes: &[u8], to: LineEnd, target: &mut Vec<u8>)
+    requires { vec_len target.old + length (converted to bytes.now) ≤ vec_capacity target.old }
+    ensures { target.new.items ≡ target.old.items ++ converted to bytes.now }
+{
+    let mut place = 0;
+    'pieces: while place < bytes.len() {
+        let piece = next_piece(&bytes[place..]);
+        append(target, &bytes[place..place + piece.quiet]);
+        append(target, bytes_of_end(piece.end, to));
+        place += piece.quiet + piece.end;
+    }
+}
+
+// Appends bytes, for which there is room.
+fn append(target: &mut Vec<u8>, bytes: &[u8])
+    requires { vec_len target.old + length bytes.now ≤ vec_capacity target.old }
+    ensures items { target.new.items ≡ target.old.items ++ bytes.now }
+    ensures len { vec_len target.new ≡ vec_len target.old + length bytes.now }
+    ensures capacity { vec_capacity target.old ≤ vec_capacity target.new }
+{
+    let Ok(()) = target.extend_from_slice(bytes) else {
+        unreachable!()
+    };
+}

@@ -1,0 +1,44 @@
+-- What a view records, as a script.
+use Rattle.std.specs.Prelude.{◌≡◌, ◌≤◌, ◌<◌, slice_get, ℕ, ◌==◌, ◌&&◌, Bool, List, [], ◌∷◌, length, map, find, Option, Some, None}
+use Rattle.ed_types.specs.Notices.{Notice, Response}
+use Rattle.ed_types.specs.declared.message.Message.{Message}
+use Rattle.ed_types.specs.declared.script.Command.{Command}
+use Rattle.ed_types.specs.declared.script.Command.TheVariants.{SendMessage}
+use Rattle.ed_model.specs.Notes.{macro_record}
+use Rattle.ed_model.specs.Recording.{told_message, recorded_messages}
+
+-- what a recorder has: its view, and the commands so far
+pub record Recording : Type 0 where
+  pub view : ℕ
+  pub commands : List Command
+
+-- the command that sends the message to the view
+abbrev pub sending : ℕ → Message → Command
+sending view message = SendMessage view message
+
+-- whether the note tells the view that it records
+abbrev pub is_recording : ℕ → Notice → Bool
+is_recording view n = n.code == macro_record && n.view == view
+
+-- that note of a reply, which has one at most
+abbrev pub recording_note : ℕ → Response → Option Notice
+recording_note view reply = find (is_recording view) reply.notes
+
+-- where it stands among the reply's notes, if there is one
+abbrev pub IsPlaceOf : Option Notice → List Notice → Option ℕ → Type 0
+IsPlaceOf found notes None = found ≡ None
+IsPlaceOf found notes (Some place) = (place < length notes) × (slice_get notes place ≡ found)
+
+abbrev pub sends_for : ℕ → Option Notice → List Command
+sends_for view None = []
+sends_for view (Some n) = sending view (told_message n) ∷ []
+
+-- the command that the reply records for the view, if it records one
+abbrev pub recorded_sends : ℕ → Response → List Command
+recorded_sends view reply = sends_for view (recording_note view reply)
+
+-- it is all that the view recorded in the reply, where that is one message at most, as in each reply of a session
+abbrev pub RecordsAll : Type 0
+RecordsAll =
+    (view : ℕ) (reply : Response) → length (recorded_messages view (reply ∷ [])) ≤ 1
+    → map (sending view) (recorded_messages view (reply ∷ [])) ≡ recorded_sends view reply

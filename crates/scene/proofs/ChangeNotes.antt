@@ -1,0 +1,126 @@
+-- The notes of changes that undo or redo performs: no more than was told before.
+use Rattle.std.proofs.Common.{◌≡◌, ℕ, ◌+◌, ◌*◌, ◌<◌, ◌≤◌, Bool, true, false, cond, List, [], ◌∷◌, ◌++◌, map, length, refl, ap, sym, ◌∙◌, subst, arith, length-append}
+use Rattle.std.specs.Prelude.{ℤ, filter, filter_map, bit_or, nat_lt}
+use Rattle.std.proofs.lemmas.List.{length-map}
+use Rattle.ed_types.specs.Notices.{Notice}
+use Rattle.ed_model.specs.Numbers.{meets, growth}
+use Rattle.ed_model.specs.Steps.{Step, step_bytes}
+use Rattle.ed_model.specs.History.{Change, TextStep, ContainerStep}
+use Rattle.ed_model.specs.Notes as notes
+use Rattle.ed_model.specs.Notes.{told, heard, before_note, after_note}
+use Rattle.ed_model.specs.Session.{View, Document, view_at, watching, lines_in}
+use Rattle.ed_model.specs.Performing.{Scene, document_after, view_after, last_bits, container_note, change_performed}
+use Rattle.document.specs.declared.undoing.Direction.{Direction}
+use Rattle.document.specs.declared.undoing.Direction.TheVariants.{Undo, Redo}
+use Rattle.scene.specs.Hearing.{hearers, before_kind, after_kind, bytes_shared}
+use Rattle.scene.specs.Undoing.{bits_of, all_bits, performed_kinds, container_kinds, notes_of_change, bytes_of_change, notes_of_changes, bytes_of_changes}
+use Rattle.scene.proofs.ToldSoFar.{length_told}
+use Rattle.scene.proofs.KindLemmas.{meets_left, meets_right, meets_more, after_more, hearers_more, before_kind_is, after_kind_is}
+use Rattle.scene.proofs.NeedLemmas.{hear_same, watch_after}
+
+-- The bits of a note after a change are among all.
+
+abbrev pub bits_after : Direction → Bool → Bool → Bool → ℕ
+bits_after direction several last changed = bit_or (bit_or (bits_of direction) (notes.bit_if several notes.multi_step)) (last_bits last changed)
+
+pub bits_more : (direction : Direction) (several last changed : Bool) (m : ℕ) → meets m (bits_after direction several last changed) ≡ true
+    → meets m (all_bits (bits_of direction)) ≡ true
+bits_more Undo true true true m h = h
+bits_more Undo true true false m h = meets_left m 0x1A0 0x11A0 h
+bits_more Undo true false changed m h = meets_left m 0xA0 0x11A0 h
+bits_more Undo false true true m h = meets_left m 0x1120 0x11A0 h
+bits_more Undo false true false m h = meets_left m 0x120 0x11A0 h
+bits_more Undo false false changed m h = meets_left m 0x20 0x11A0 h
+bits_more Redo true true true m h = h
+bits_more Redo true true false m h = meets_left m 0x1C0 0x11C0 h
+bits_more Redo true false changed m h = meets_left m 0xC0 0x11C0 h
+bits_more Redo false true true m h = meets_left m 0x1140 0x11C0 h
+bits_more Redo false true false m h = meets_left m 0x140 0x11C0 h
+bits_more Redo false false changed m h = meets_left m 0x40 0x11C0 h
+
+-- Each note has no more hearers than the change.
+
+pub before_few : (who : ℕ) (s : Step) (views : List View) → length (heard views (before_note who s)) ≤ hearers (performed_kinds who s) views
+before_few who s views =
+    let n = before_note who s in
+    let l = length_told (filter (λ (v : View). meets v.mask n.kind) views) n in
+    let le : hearers n.kind views ≤ hearers (performed_kinds who s) views =
+    hearers_more n.kind (performed_kinds who s) views (λ m h. meets_left m (before_kind who s) (after_kind (all_bits who) s) (rw (before_kind_is who s) at h)) in
+    omega arith
+
+pub after_few : (who bits : ℕ) (lines : ℤ) (s : Step) (views : List View) → ((m : ℕ) → meets m bits ≡ true → meets m (all_bits who) ≡ true)
+    → length (heard views (after_note bits lines s)) ≤ hearers (performed_kinds who s) views
+after_few who bits lines s views more =
+    let n = after_note bits lines s in
+    let l = length_told (filter (λ (v : View). meets v.mask n.kind) views) n in
+    let le : hearers n.kind views ≤ hearers (performed_kinds who s) views =
+    hearers_more n.kind (performed_kinds who s) views
+    (λ m h. meets_right m (after_kind (all_bits who) s) (before_kind who s) (after_more bits (all_bits who) s m (more m) (rw (after_kind_is bits lines s) at h))) in
+    omega arith
+
+pub container_few : (who bits : ℕ) (token : ℤ) (views : List View) → ((m : ℕ) → meets m bits ≡ true → meets m (all_bits who) ≡ true)
+    → length (heard views (container_note bits token)) ≤ hearers (container_kinds who) views
+container_few who bits token views more =
+    let n = container_note bits token in
+    let l = length_told (filter (λ (v : View). meets v.mask n.kind) views) n in
+    let le : hearers n.kind views ≤ hearers (container_kinds who) views =
+    hearers_more n.kind (container_kinds who) views (λ m h. meets_more m notes.container bits (all_bits who) (more m) h) in
+    omega arith
+
+-- So many notes at most are put for a change.
+
+three_parts : (a b c : List Notice) → length (a ++ b ++ [] ++ c) ≡ length a + (length b + length c)
+three_parts a b c = simp length-append (omega arith)
+
+pub performed_few : (direction : Direction) (several last changed : Bool) (c : Change) (scene : Scene)
+    → length (change_performed (bits_of direction) (notes.bit_if several notes.multi_step) last changed c scene).notes
+    ≤ length scene.notes + notes_of_change (watching scene.views scene.document) (bits_of direction) c
+performed_few direction several last changed (TextStep s) scene =
+    let who = bits_of direction in
+    let bits = bits_after direction several last changed in
+    let W = watching scene.views scene.document in
+    let lines = growth (lines_in scene.document) (lines_in (document_after s scene.document)) in
+    let all = three_parts scene.notes (heard W (before_note who s)) (heard W (after_note bits lines s)) in
+    let b = before_few who s W in
+    let a = after_few who bits lines s W (bits_more direction several last changed) in
+    omega arith
+performed_few direction several last changed (ContainerStep token coalesce) scene =
+    let who = bits_of direction in
+    let bits = bits_after direction several last changed in
+    let W = watching scene.views scene.document in
+    let all : length (scene.notes ++ heard W (container_note bits token)) ≡ length scene.notes + length (heard W (container_note bits token)) =
+    length-append scene.notes (heard W (container_note bits token)) in
+    let c = container_few who bits token W (bits_more direction several last changed) in
+    omega arith
+
+-- Those that watch after a change hear as those that watched before.
+
+pub record HearAlike (a b : List View) : Type 0 where
+  pub hear : (k : ℕ) → hearers k a ≡ hearers k b
+  pub count : length a ≡ length b
+
+pub hear_alike_still : (who several : ℕ) (last changed : Bool) (c : Change) (scene : Scene)
+    → HearAlike (watching (change_performed who several last changed c scene).views (change_performed who several last changed c scene).document)
+    (watching scene.views scene.document)
+hear_alike_still who several last changed (TextStep s) scene =
+    let d = scene.document in record {
+      hear = λ k. hear_same k s d scene.views;
+      count = ap length (watch_after s d scene.views d.views) ∙ length-map (filter_map (view_at scene.views) d.views) (view_after s d);
+    }
+hear_alike_still who several last changed (ContainerStep token coalesce) scene = record { hear = λ k. refl; count = refl }
+
+note_alike : (who : ℕ) (c : Change) (a b : List View) → HearAlike a b → notes_of_change a who c ≡ notes_of_change b who c
+note_alike who (TextStep s) a b alike = ap (λ n. 2 * n) (alike.hear (performed_kinds who s))
+note_alike who (ContainerStep token coalesce) a b alike = alike.hear (container_kinds who)
+
+pub notes_alike : (who : ℕ) (cs : List Change) (a b : List View) → HearAlike a b → notes_of_changes a who cs ≡ notes_of_changes b who cs
+notes_alike who [] a b alike = refl
+notes_alike who (c ∷ cs) a b alike = let x = note_alike who c a b alike in let y = notes_alike who cs a b alike in rw (x, y) refl
+
+byte_alike : (who : ℕ) (c : Change) (a b : List View) → HearAlike a b → bytes_of_change a who c ≡ bytes_of_change b who c
+byte_alike who (TextStep s) a b alike = ap (λ n. cond (nat_lt 0 n) (length (step_bytes s)) 0) (alike.hear (performed_kinds who s))
+byte_alike who (ContainerStep token coalesce) a b alike = refl
+
+pub bytes_alike : (who : ℕ) (cs : List Change) (a b : List View) → HearAlike a b → bytes_of_changes a who cs ≡ bytes_of_changes b who cs
+bytes_alike who [] a b alike = refl
+bytes_alike who (c ∷ cs) a b alike = let x = byte_alike who c a b alike in let y = bytes_alike who cs a b alike in rw (x, y) refl

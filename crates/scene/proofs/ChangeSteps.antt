@@ -1,0 +1,139 @@
+-- The steps among changes that undo or redo performs, and the room that is left for them.
+use Rattle.std.proofs.Common.{◌≡◌, ℕ, suc, ◌+◌, ◌-◌, ◌^◌, ◌<◌, ◌≤◌, Bool, true, false, cond, List, [], ◌∷◌, ◌++◌, map, length, take, drop, get_or, refl, ap, sym, ◌∙◌, subst, arith, drop-cons, length-append}
+use Rattle.std.specs.Prelude.{slice_range, slice_get, min, Option, Some, None, IsSomeAnd}
+use Rattle.std.proofs.lemmas.List.{length-drop, length-take}
+use Rattle.std.proofs.lemmas.Option.{slice_get_within, get_or_from_slice_get}
+use Rattle.ed_model.specs.declared.plan.LineEndTypes.{LineEndTypes}
+use Rattle.ed_model.specs.Text.{Cell, bytes_of}
+use Rattle.ed_model.specs.Steps as model
+use Rattle.ed_model.specs.Steps.{Step, step_bytes, edited, edited_cells}
+use Rattle.ed_model.specs.StepLaws.{CellsFollowBytes}
+use Rattle.ed_model.specs.History.{Change, TextStep as Text, ContainerStep}
+use Rattle.ed_model.specs.InverseLaws.{Fits}
+use Rattle.ed_model.specs.Session.{Document, text_of}
+use Rattle.ed_model.specs.SoundLaws.{AreStepsOf}
+use Rattle.ed_model.specs.UndoPlans.{text_steps}
+use Rattle.ed_model.specs.Performing.{Scene, document_after, change_performed}
+use Rattle.document.specs.declared.text_step.TextStep.{TextStep}
+use Rattle.document.specs.declared.text_step.TextStep.TheVariants.{Insert, Delete}
+use Rattle.document.specs.declared.room.DocumentRoom.{DocumentRoom}
+use Rattle.document.specs.TextSteps.{step_in, IsStepOn}
+use Rattle.document.specs.Kept.{HasTextRoom, TakesRoom, no_room}
+use Rattle.document.specs.Undoing.{room_of_step, room_of_change}
+use Rattle.line_index.specs.RoomLaws.{lines_for_step}
+use Rattle.selection.specs.Positions.{movement_of, count_of}
+use Rattle.scene.specs.StepNotes.{IsSmallStep}
+use Rattle.scene.specs.Undoing.{room_of_changes, both_rooms}
+use Rattle.scene.specs.Turns.{ChangeFits}
+
+-- A step of a change.
+
+-- what there is is what holds of it
+pub some_has : {X : Type 0} (o : Option X) (P : X → Type 0) (x : X) → o ≡ Some x → IsSomeAnd o P → P x
+some_has o P x e h = subst (λ p. IsSomeAnd p P) e h
+
+pub is_some : {X : Type 0} (o : Option X) (P : X → Type 0) (x : X) → o ≡ Some x → P x → IsSomeAnd o P
+is_some o P x e h = subst (λ p. IsSomeAnd p P) (sym e) h
+
+pub some_same : {X : Type 0} (o : Option X) (x y : X) → o ≡ Some x → o ≡ Some y → x ≡ y
+some_same o x y a b = let e : Some x ≡ Some y = sym a ∙ b in cc
+
+length_part : (text : List ℕ) (p n : ℕ) → length (slice_range text p (p + n)) ≤ length text - p
+length_part text p n = simp (length-take, length-drop) (omega arith)
+
+-- the bytes that it deletes stand in the text
+pub deletes_within : (p : ℕ) (bytes text : List ℕ) → Fits (model.Delete p bytes) text → p + length bytes ≤ length text
+deletes_within p bytes text fits =
+    let n = length_part text p (length bytes) in
+    let e = ap length fits.1 in
+    let w : p ≤ length text = fits.0 in
+    omega arith
+
+-- a step by its place and bytes, or by its place and their number, is the change's step
+pub insertion_is : (p p' : ℕ) (bytes bytes' text : List ℕ) → p ≡ p' → bytes ≡ bytes' → Fits (model.Insert p' bytes') text
+    → (model.Insert p bytes ≡ model.Insert p' bytes') × (p ≤ length text)
+insertion_is p p' bytes bytes' text a b fits = (cc, subst (λ q. q ≤ length text) (sym a) fits)
+
+pub deletion_is : (p p' n : ℕ) (bytes' text : List ℕ) → p ≡ p' → n ≡ length bytes' → Fits (model.Delete p' bytes') text
+    → (model.Delete p (slice_range text p (p + n)) ≡ model.Delete p' bytes') × (p + n ≤ length text)
+deletion_is p p' n bytes' text a b fits =
+    let within = deletes_within p' bytes' text fits in
+    let e : slice_range text p (p + n) ≡ bytes' = rw (a, b) fits.1 in
+    (rw e (ap (λ q. model.Delete q bytes') a), omega arith)
+
+-- The changes that are left.
+
+pub drop_some : {X : Type 0} (xs : List X) (i : ℕ) (x : X) → slice_get xs i ≡ Some x → drop i xs ≡ x ∷ drop (i + 1) xs
+drop_some xs i x e =
+    let s : i + 1 ≡ suc i = omega arith in
+    rw s (drop-cons xs i x (slice_get_within xs i x e) ∙ ap (λ y. y ∷ drop (suc i) xs) (get_or_from_slice_get xs i x x e))
+
+-- the next change fits, and those behind it fit the text after it
+pub next_fits : (c : Change) (cs : List Change) (text : List ℕ) → AreStepsOf text (text_steps (c ∷ cs)) → ChangeFits c text
+next_fits (Text s) cs text all = all.0.0
+next_fits (ContainerStep token coalesce) cs text all = tt
+
+pub text_after : CellsFollowBytes → (s : Step) (d : Document) → text_of (document_after s d) ≡ edited s (text_of d)
+text_after law s d = law s d.cells
+
+pub steps_left : CellsFollowBytes → (who several : ℕ) (last changed : Bool) (c : Change) (cs : List Change) (scene : Scene)
+    → AreStepsOf (text_of scene.document) (text_steps (c ∷ cs))
+    → AreStepsOf (text_of (change_performed who several last changed c scene).document) (text_steps cs)
+steps_left law who several last changed (Text s) cs scene all = subst (λ text. AreStepsOf text (text_steps cs)) (sym (text_after law s scene.document)) all.1
+steps_left law who several last changed (ContainerStep token coalesce) cs scene all = all
+
+-- Room: what there was and what is still needed is no more than what there is and what was needed in all.
+pub record LeavesRoom (old now whole rest : DocumentRoom) : Type 0 where
+  pub text : old.text + rest.text ≤ now.text + whole.text
+  pub lines : old.lines + rest.lines ≤ now.lines + whole.lines
+  pub insertions : old.insertions + rest.insertions ≤ now.insertions + whole.insertions
+  pub steps : old.steps + rest.steps ≤ now.steps + whole.steps
+  pub bytes : old.bytes + rest.bytes ≤ now.bytes + whole.bytes
+
+pub leaves_all : (old whole : DocumentRoom) → LeavesRoom old old whole whole
+leaves_all old whole = record { text = omega arith; lines = omega arith; insertions = omega arith; steps = omega arith; bytes = omega arith }
+
+pub leaves_next : (old now new whole first rest : DocumentRoom) → LeavesRoom old now whole (both_rooms first rest) → TakesRoom now new first → LeavesRoom old new whole rest
+leaves_next old now new whole first rest so takes =
+    let a = so.text in
+    let b = so.lines in
+    let c = so.insertions in
+    let d = so.steps in
+    let e = so.bytes in
+    let a' = takes.text_left in
+    let b' = takes.lines_left in
+    let c' = takes.insertions_left in
+    let d' = takes.steps_left in
+    let e' = takes.bytes_left in
+    record { text = omega arith; lines = omega arith; insertions = omega arith; steps = omega arith; bytes = omega arith }
+
+pub leaves_none : (old now whole : DocumentRoom) → LeavesRoom old now whole no_room → TakesRoom old now whole
+leaves_none old now whole so =
+    let a = so.text in
+    let b = so.lines in
+    let c = so.insertions in
+    let d = so.steps in
+    let e = so.bytes in
+    record { text_left = omega arith; lines_left = omega arith; insertions_left = omega arith; steps_left = omega arith; bytes_left = omega arith }
+
+-- The numbers of a step that there is room for are small.
+
+pub small_change : (types : LineEndTypes) (step : TextStep) (s : Step) (text : List ℕ) (room : ℕ) → step_in step text ≡ s → IsStepOn step (length text)
+    → (room_of_step types s).text ≤ room → length text + room < 2 ^ 61 → IsSmallStep step
+small_change types (Insert p bytes) s text room e on put bound =
+    let n : length bytes.now ≤ room = subst (λ (x : Step). (room_of_step types x).text ≤ room) (sym e) put in
+    (omega arith, omega arith)
+small_change types (Delete p n) s text room e on put bound = (omega arith, omega arith)
+
+pub small_count : (types : LineEndTypes) (s : Step) (text : List ℕ) (room : ℕ) → Fits s text → (room_of_step types s).text ≤ room → length text + room < 2 ^ 61
+    → length text + count_of (movement_of s) < 2 ^ 64
+small_count types (model.Insert p bytes) text room fits put bound = omega arith
+small_count types (model.Delete p bytes) text room fits put bound = let w = deletes_within p bytes text fits in omega arith
+
+pub lines_of_room : (types : LineEndTypes) (s : Step) → (room_of_step types s).lines ≡ lines_for_step types s
+lines_of_room types (model.Insert p bytes) = refl
+lines_of_room types (model.Delete p bytes) = refl
+
+-- a place in a history has one step
+pub step_same : (o : Option Change) (s s' : Step) → o ≡ Some (Text s) → o ≡ Some (Text s') → s ≡ s'
+step_same o s s' a b = let e : Some (Text s) ≡ Some (Text s') = sym a ∙ b in cc

@@ -1,0 +1,211 @@
+-- What was performed of undo or redo, and what is still to be performed.
+use Rattle.std.proofs.Common.{◌≡◌, ℕ, ◌+◌, ◌-◌, ◌<◌, ◌≤◌, Bool, true, false, List, [], ◌∷◌, ◌++◌, map, length, drop, get_or, refl, ap, sym, ◌∙◌, subst, arith}
+use Rattle.std.specs.Prelude.{◌==◌, nat_lt, slice_get, if◌then◌else◌, Option, Some}
+use Rattle.std.proofs.lemmas.List.{length-drop}
+use Rattle.std.proofs.lemmas.Bool.{eq-eqb, ne_eqb}
+use Rattle.std.proofs.lemmas.Option.{slice_get-get_or}
+use Rattle.ed_types.specs.Notices.{Notice}
+use mathlib.Core.Bool.{beq}
+use Rattle.ed_model.specs.Notes.{bit_if, multi_step, told, blank, save_point_reached, save_point_left}
+use Rattle.ed_model.specs.StepLaws.{CellsFollowBytes}
+use Rattle.ed_model.specs.History.{History, Change, TextStep, ContainerStep}
+use Rattle.ed_model.specs.Session.{Document, View, text_of, watching}
+use Rattle.ed_model.specs.SoundLaws.{AreStepsOf}
+use Rattle.ed_model.specs.UndoPlans.{text_steps}
+use Rattle.ed_model.specs.Performing.{Scene, is_last, changes_lines, change_performed, changes_performed, save_point_change, with_history}
+use Rattle.id_table.specs.Entries.{Entry, Entries, id_of}
+use Rattle.notify.specs.Gathered.{Gathered}
+use Rattle.ed_view.specs.Kept.{KeptView}
+use Rattle.document.specs.declared.undoing.Direction.{Direction}
+use Rattle.document.specs.declared.room.DocumentRoom.{DocumentRoom}
+use Rattle.document.specs.Kept.{Kept, HasTextRoom, TakesRoom}
+use Rattle.document.specs.Undoing.{changes_of, room_of_change}
+use Rattle.scene.specs.declared.performing.Turn.{Turn}
+use Rattle.scene.specs.Scenes.{views_of, scene_in, watchers, IsWatched}
+use Rattle.scene.specs.Undoing.{bits_of, notes_of_change, notes_of_changes, bytes_of_changes, room_of_changes}
+use Rattle.scene.specs.Turns.{several_bits, CanPerform, IsPerformed}
+use Rattle.scene.specs.Performed.{CanPerformAll, AreAllPerformed}
+use Rattle.scene.proofs.ChangeNotes.{HearAlike, hear_alike_still, notes_alike, bytes_alike, performed_few}
+use Rattle.scene.proofs.ChangeSteps.{LeavesRoom, leaves_all, leaves_next, leaves_none, next_fits, steps_left}
+
+pub record IsPerformedSoFar (direction : Direction) (rest : List Change) (changed : Bool) (old : Kept) (views : Entries KeptView) (gathered : Gathered)
+    (now : Kept) (views' : Entries KeptView) (gathered' : Gathered) : Type 0 where
+  pub scene : changes_performed (bits_of direction) (bit_if (nat_lt 1 (length (changes_of direction old.document.history))) multi_step) changed rest
+      (scene_in now.document views'.entries gathered'.notes)
+      ≡ changes_performed (bits_of direction) (bit_if (nat_lt 1 (length (changes_of direction old.document.history))) multi_step) false
+      (changes_of direction old.document.history) (scene_in old.document views.entries gathered.notes)
+  pub watched : IsWatched now.document views'
+  pub history : now.document.history ≡ old.document.history
+  pub types : now.document.line_end_types ≡ old.document.line_end_types
+  pub steps : AreStepsOf (text_of now.document) (text_steps rest)
+  pub room : LeavesRoom old.room now.room (room_of_changes old.document.line_end_types (changes_of direction old.document.history))
+      (room_of_changes old.document.line_end_types rest)
+  pub notes : notes_of_changes (watchers now.document views') (bits_of direction) rest + length (watchers now.document views') ≤ gathered'.note_room
+  pub note_room : gathered'.note_room + length gathered'.notes ≡ gathered.note_room + length gathered.notes
+  pub text_room : gathered'.text_room + bytes_of_changes (watchers old.document views) (bits_of direction) (changes_of direction old.document.history)
+      ≡ gathered.text_room + bytes_of_changes (watchers now.document views') (bits_of direction) rest
+  pub ids : map id_of views'.entries ≡ map id_of views.entries
+  pub next : views'.next ≡ views.next
+  pub view_room : views'.room ≡ views.room
+
+pub performed_none : (direction : Direction) (old : Kept) (views : Entries KeptView) (gathered : Gathered) → CanPerformAll direction old views gathered
+    → IsPerformedSoFar direction (changes_of direction old.document.history) false old views gathered old views gathered
+performed_none direction old views gathered can = record {
+  scene = refl;
+  watched = can.watched;
+  history = refl;
+  types = refl;
+  steps = can.steps;
+  room = leaves_all old.room (room_of_changes old.document.line_end_types (changes_of direction old.document.history));
+  notes = can.notes;
+  note_room = refl;
+  text_room = refl;
+  ids = refl;
+  next = refl;
+  view_room = refl;
+}
+
+-- The change whose turn it is.
+
+pub there : {X : Type 0} (xs : List X) (i : ℕ) → i < length xs → (x : X) × (slice_get xs i ≡ Some x)
+there [] i h = absurd (omega arith)
+there (x ∷ xs) i h = (get_or (x ∷ xs) i x, slice_get-get_or (x ∷ xs) i x h)
+
+pub last_is : (cs : List Change) (i : ℕ) → i < length cs → (i + 1 == length cs) ≡ is_last (drop (i + 1) cs)
+last_is cs i h = go (drop (i + 1) cs) (length-drop (i + 1) cs)
+  where
+    go : (rest : List Change) → length rest ≡ length cs - (i + 1) → (i + 1 == length cs) ≡ is_last rest
+    go [] e = eq-eqb (i + 1) (length cs) (omega arith)
+    go (c ∷ rest) e = ne_eqb (i + 1) (length cs) (λ same. omega arith)
+
+module _ (turn : Turn) (c : Change) (rest after : List Change) (changed : Bool) (old now : Kept) (views views' : Entries KeptView) (gathered gathered' : Gathered)
+    (so : IsPerformedSoFar turn.direction rest changed old views gathered now views' gathered') (e : rest ≡ c ∷ after) where
+  pub next_can : CanPerformAll turn.direction old views gathered → slice_get (changes_of turn.direction old.document.history) turn.index ≡ Some c
+      → CanPerform turn now views' gathered' c
+  next_can can at =
+      let room = subst (λ cs. LeavesRoom old.room now.room (room_of_changes old.document.line_end_types (changes_of turn.direction old.document.history)) (room_of_changes old.document.line_end_types cs)) e so.room in
+      let notes = subst (λ cs. notes_of_changes (watchers now.document views') (bits_of turn.direction) cs + length (watchers now.document views') ≤ gathered'.note_room) e so.notes in
+      let texts = so.text_room ∙ ap (λ cs. gathered.text_room + bytes_of_changes (watchers now.document views') (bits_of turn.direction) cs) e in
+      let there = can.texts in
+      let text = room.text in
+      let lines = room.lines in
+      let insertions = room.insertions in
+      let a = can.room.0 in
+      let b = can.room.1 in
+      let d = can.room.2 in
+      record {
+        at = subst (λ h. slice_get (changes_of turn.direction h) turn.index ≡ Some c) (sym so.history) at;
+        fits = next_fits c after (text_of now.document) (subst (λ cs. AreStepsOf (text_of now.document) (text_steps cs)) e so.steps);
+        room = subst (λ types. HasTextRoom now (room_of_change types c)) (sym so.types) (omega arith, omega arith, omega arith);
+        watched = so.watched;
+        notes = omega arith;
+        texts = omega arith;
+      }
+
+  module _ (changed' : Bool) (new : Kept) (views'' : Entries KeptView) (gathered'' : Gathered) (law : CellsFollowBytes) (several : turn.several ≡ nat_lt 1 (length (changes_of turn.direction old.document.history))) (last : turn.last ≡ is_last after)
+      (p : IsPerformed turn changed changed' now views' gathered' new views'' gathered'' c) where
+    abbrev before : Scene
+    before = scene_in now.document views'.entries gathered'.notes
+
+    abbrev performed : Scene
+    performed = change_performed (bits_of turn.direction) (several_bits turn) turn.last changed' c before
+
+    history_still : (c : Change) (who bits : ℕ) (last changed : Bool) (scene : Scene) → (change_performed who bits last changed c scene).document.history ≡ scene.document.history
+    history_still (TextStep s) who bits last changed scene = refl
+    history_still (ContainerStep token coalesce) who bits last changed scene = refl
+
+    types_still : (c : Change) (who bits : ℕ) (last changed : Bool) (scene : Scene)
+        → (change_performed who bits last changed c scene).document.line_end_types ≡ scene.document.line_end_types
+    types_still (TextStep s) who bits last changed scene = refl
+    types_still (ContainerStep token coalesce) who bits last changed scene = refl
+
+    alike : HearAlike (watchers new.document views'') (watchers now.document views')
+    alike = subst (λ (s : Scene). HearAlike (watching s.views s.document) (watchers now.document views')) (sym p.scene)
+        (hear_alike_still (bits_of turn.direction) (several_bits turn) turn.last changed' c before)
+
+    scene_next : changes_performed (bits_of turn.direction) (bit_if (nat_lt 1 (length (changes_of turn.direction old.document.history))) multi_step) changed' after
+        (scene_in new.document views''.entries gathered''.notes)
+        ≡ changes_performed (bits_of turn.direction) (bit_if (nat_lt 1 (length (changes_of turn.direction old.document.history))) multi_step) changed rest before
+    scene_next =
+        let who = bits_of turn.direction in
+        let bits = bit_if (nat_lt 1 (length (changes_of turn.direction old.document.history))) multi_step in
+        ap (changes_performed who bits changed' after) p.scene
+        ∙ ap (λ b. changes_performed who bits changed' after (change_performed who (bit_if b multi_step) turn.last changed' c before)) several
+        ∙ ap (λ b. changes_performed who bits changed' after (change_performed who bits b changed' c before)) last
+        ∙ ap (λ b. changes_performed who bits b after (change_performed who bits (is_last after) b c before)) p.lines
+        ∙ ap (λ cs. changes_performed who bits changed cs before) (sym e)
+
+    pub performed_next : IsPerformedSoFar turn.direction after changed' old views gathered new views'' gathered''
+    performed_next =
+        let who = bits_of turn.direction in
+        let all = changes_of turn.direction old.document.history in
+        let W = watchers now.document views' in
+        let types = old.document.line_end_types in
+        let document : new.document ≡ performed.document = ap (λ (s : Scene). s.document) p.scene in
+        let told : length gathered''.notes ≡ length performed.notes = ap (λ (s : Scene). length s.notes) p.scene in
+        let few = performed_few turn.direction turn.several turn.last changed' c before in
+        let notes = subst (λ cs. notes_of_changes W who cs + length W ≤ gathered'.note_room) e so.notes in
+        let texts = so.text_room ∙ ap (λ cs. gathered.text_room + bytes_of_changes W who cs) e in
+        let room = p.note_room in
+        let text_room = p.text_room in
+        let same_notes = notes_alike who after (watchers new.document views'') W alike in
+        let same_bytes = bytes_alike who after (watchers new.document views'') W alike in
+        let count = alike.count in
+        record {
+          scene = scene_next ∙ so.scene;
+          watched = p.watched;
+          history = ap (λ (d : Document). d.history) document ∙ history_still c who (several_bits turn) turn.last changed' before ∙ so.history;
+          types = ap (λ (d : Document). d.line_end_types) document ∙ types_still c who (several_bits turn) turn.last changed' before ∙ so.types;
+          steps = subst (λ (d : Document). AreStepsOf (text_of d) (text_steps after)) (sym document)
+              (steps_left law who (several_bits turn) turn.last changed' c after before (subst (λ cs. AreStepsOf (text_of now.document) (text_steps cs)) e so.steps));
+          room = leaves_next old.room now.room new.room (room_of_changes types all) (room_of_change types c) (room_of_changes types after)
+              (subst (λ cs. LeavesRoom old.room now.room (room_of_changes types all) (room_of_changes types cs)) e so.room)
+              (subst (λ t. TakesRoom now.room new.room (room_of_change t c)) so.types p.room);
+          notes = omega arith;
+          note_room = p.note_room ∙ so.note_room;
+          text_room = omega arith;
+          ids = p.ids ∙ so.ids;
+          next = p.next ∙ so.next;
+          view_room = p.view_room ∙ so.view_room;
+        }
+
+pub performed_all : (direction : Direction) (rest : List Change) (changed : Bool) (old now : Kept) (views views' : Entries KeptView) (gathered gathered' : Gathered)
+    → IsPerformedSoFar direction rest changed old views gathered now views' gathered' → rest ≡ [] → AreAllPerformed direction old views gathered now views' gathered'
+performed_all direction rest changed old now views views' gathered gathered' so e =
+    let who = bits_of direction in
+    let all = changes_of direction old.document.history in
+    let bits = bit_if (nat_lt 1 (length all)) multi_step in
+    let notes = subst (λ cs. notes_of_changes (watchers now.document views') who cs + length (watchers now.document views') ≤ gathered'.note_room) e so.notes in
+    let texts = so.text_room ∙ ap (λ cs. gathered.text_room + bytes_of_changes (watchers now.document views') who cs) e in
+    record {
+      scene = ap (λ cs. changes_performed who bits changed cs (scene_in now.document views'.entries gathered'.notes)) (sym e) ∙ so.scene;
+      history = so.history;
+      watched = so.watched;
+      room = leaves_none old.room now.room (room_of_changes old.document.line_end_types all)
+          (subst (λ cs. LeavesRoom old.room now.room (room_of_changes old.document.line_end_types all) (room_of_changes old.document.line_end_types cs)) e so.room);
+      left = omega arith;
+      note_room = so.note_room;
+      text_room = omega arith;
+      ids = so.ids;
+      next = so.next;
+      view_room = so.view_room;
+    }
+
+-- The history behind them, and the save point.
+
+pub finished : (new : History) (d : Document) (entries : List (Entry KeptView)) (ns : List Notice) (was is : Bool) (done : Scene) → scene_in d entries ns ≡ done
+    → scene_in (record d { history = new }) entries (ns ++ save_point_change (watching (views_of entries) d) was is)
+    ≡ with_history new (record done { notes = done.notes ++ save_point_change (watching done.views done.document) was is })
+finished new d entries ns was is done e =
+    ap (λ (s : Scene). with_history new (record s { notes = s.notes ++ save_point_change (watching s.views s.document) was is })) e
+
+-- it changed, and this is how
+pub reached : (views : List View) (was is : Bool) → beq was is ≡ false → is ≡ true → save_point_change views was is ≡ told views (blank save_point_reached)
+reached views true true h e = absurd (cc)
+reached views false true h e = refl
+reached views was false h e = absurd (cc)
+
+pub left : (views : List View) (was is : Bool) → beq was is ≡ false → is ≡ false → save_point_change views was is ≡ told views (blank save_point_left)
+left views true false h e = refl
+left views false false h e = absurd (cc)
+left views was true h e = absurd (cc)

@@ -1,0 +1,31 @@
+use Rattle.std.proofs.Common.{[], ap, ◌∙◌, false}
+use Rattle.ed_model.specs.LineEnds.{missing_from}
+use Rattle.ed_model.specs.Session.{text_of}
+use Rattle.document.specs.declared.room.DocumentRoom.{DocumentRoom}
+use Rattle.document.specs.Kept.{amount_sum, room_sum}
+use Rattle.scene.specs.declared.need.NoteRoom.{NoteRoom}
+use Rattle.scene.specs.Scenes.{scene_in}
+use Rattle.scene.specs.Needs.{note_room}
+use Rattle.scene.specs.Conversion.{capped_room, deletions_of, room_of_steps}
+use Rattle.scene.proofs.ConversionNeeds.{both_needs, both_notes}
+use Rattle.scene.proofs.conversion.conversion_need.Goals as goal
+
+pub returns-clause-notes : goal.returns-clause-notes
+returns-clause-notes c =
+    let d = c.args.document.now.document in
+    let insertions = c.need_of_insertions-insertions in
+    let deletions = c.need_of_deletions-deletions in
+    c.plus-2.ensures ∙ ap (λ (r : NoteRoom). note_room (amount_sum r.notes c.notes_of_leaving.result) (amount_sum r.bytes 0)) c.plus.ensures
+    ∙ both_notes (scene_in d c.args.views.now.entries []) (missing_from 0 false c.args.to (text_of d)) (deletions_of c.args.to (text_of d)) c.notes_of_leaving.result
+    insertions.result.notes deletions.result.notes c.notes_of_leaving.ensures insertions.ensures.notes deletions.ensures.notes
+
+pub returns-clause-document : goal.returns-clause-document
+returns-clause-document c =
+    let d = c.args.document.now.document in
+    let insertions = c.need_of_insertions-insertions in
+    let deletions = c.need_of_deletions-deletions in
+    let puts = missing_from 0 false c.args.to (text_of d) in
+    let takes = deletions_of c.args.to (text_of d) in
+    c.plus-3.ensures ∙ ap (λ (r : DocumentRoom). room_sum r deletions.result.document) insertions.ensures.document
+    ∙ ap (λ (r : DocumentRoom). room_sum (capped_room (room_of_steps d.line_end_types puts)) r) deletions.ensures.document
+    ∙ both_needs d.line_end_types puts takes

@@ -1,0 +1,37 @@
+use Rattle.ed_model.specs.Session.{text_of}
+use Rattle.scene.specs.Scenes.{scene_in}
+use Rattle.scene.proofs.StepsInTurn.{first_notes, first_bytes, text_after, put_of, puts_behind, put_next, put_made, fewer_puts}
+use Rattle.scene.proofs.conversion.put_missing.Goals as goal
+
+pub make_step-requires-clause-notes : goal.make_step-requires-clause-notes
+make_step-requires-clause-notes c =
+    let a = c.args in
+    let p = c.putting in
+    let left = put_next a.to p.place c.in-Some.found c.in-Some.byte p.later a.document.now p.document a.views.now p.views a.notes.now p.notes p.invariant c.in-Some.ensures in
+    first_notes c.needs_are_enough.ensures.notes p.later (put_of c.in-Some.found c.in-Some.byte) (puts_behind a.to c.in-Some.found c.in-Some.byte a.document.now p.document)
+    (scene_in p.document.document p.views.entries p.notes.notes) p.notes.note_room left.can.notes_there
+
+pub make_step-requires-clause-texts : goal.make_step-requires-clause-texts
+make_step-requires-clause-texts c =
+    let a = c.args in
+    let p = c.putting in
+    let left = put_next a.to p.place c.in-Some.found c.in-Some.byte p.later a.document.now p.document a.views.now p.views a.notes.now p.notes p.invariant c.in-Some.ensures in
+    first_bytes c.needs_are_enough.ensures.bytes p.later (put_of c.in-Some.found c.in-Some.byte) (puts_behind a.to c.in-Some.found c.in-Some.byte a.document.now p.document)
+    (scene_in p.document.document p.views.entries p.notes.notes) p.notes.text_room left.can.texts_there
+
+pub putting-smaller : goal.putting-smaller
+putting-smaller c =
+    let a = c.args in
+    let p = c.putting in
+    let n = c.make_step.new in
+    fewer_puts a.to p.place c.in-Some.found c.in-Some.byte (text_of p.document.document) (text_of n.document.document) c.in-Some.ensures
+    (text_after p.later (put_of c.in-Some.found c.in-Some.byte) (scene_in p.document.document p.views.entries p.notes.notes) (scene_in n.document.document n.views.entries n.notes.notes) c.make_step.ensures.scene)
+
+pub putting-preserved : goal.putting-preserved
+putting-preserved c =
+    let a = c.args in
+    let p = c.putting in
+    let n = c.make_step.new in
+    let e = c.make_step.ensures in
+    put_made c.needs_are_enough.ensures.notes c.needs_are_enough.ensures.bytes a.to p.place c.in-Some.found c.in-Some.byte p.later a.document.now p.document n.document
+    a.views.now p.views n.views a.notes.now p.notes n.notes p.invariant c.in-Some.ensures e.scene e.watched e.room_left e.note_room_left e.text_room_left e.next

@@ -1,0 +1,41 @@
+use Rattle.ed_model.specs.Session.{text_of}
+use Rattle.ed_model.specs.Steps.{edited}
+use Rattle.line_ends.specs.Conversion.{unwanted_in}
+use Rattle.scene.specs.Scenes.{scene_in}
+use Rattle.scene.proofs.StepsInTurn.{first_notes, first_bytes, text_after, take_of, take_next, take_made, fewer_takes}
+use Rattle.scene.proofs.conversion.take_unwanted.Goals as goal
+
+pub make_step-requires-clause-notes : goal.make_step-requires-clause-notes
+make_step-requires-clause-notes c =
+    let a = c.args in
+    let p = c.taking in
+    let s = take_of c.in-Some.found p.document in
+    let left = take_next a.to p.place c.in-Some.found p.later a.later a.document.now p.document a.views.now p.views a.notes.now p.notes p.invariant c.in-Some.ensures in
+    first_notes c.needs_are_enough.ensures.notes p.later s (unwanted_in a.to (edited s (text_of p.document.document)) c.in-Some.found)
+    (scene_in p.document.document p.views.entries p.notes.notes) p.notes.note_room left.can.notes_there
+
+pub make_step-requires-clause-texts : goal.make_step-requires-clause-texts
+make_step-requires-clause-texts c =
+    let a = c.args in
+    let p = c.taking in
+    let s = take_of c.in-Some.found p.document in
+    let left = take_next a.to p.place c.in-Some.found p.later a.later a.document.now p.document a.views.now p.views a.notes.now p.notes p.invariant c.in-Some.ensures in
+    first_bytes c.needs_are_enough.ensures.bytes p.later s (unwanted_in a.to (edited s (text_of p.document.document)) c.in-Some.found)
+    (scene_in p.document.document p.views.entries p.notes.notes) p.notes.text_room left.can.texts_there
+
+pub taking-smaller : goal.taking-smaller
+taking-smaller c =
+    let a = c.args in
+    let p = c.taking in
+    let n = c.make_step.new in
+    fewer_takes a.to p.place c.in-Some.found p.document (text_of n.document.document) c.in-Some.ensures
+    (text_after p.later (take_of c.in-Some.found p.document) (scene_in p.document.document p.views.entries p.notes.notes) (scene_in n.document.document n.views.entries n.notes.notes) c.make_step.ensures.scene)
+
+pub taking-preserved : goal.taking-preserved
+taking-preserved c =
+    let a = c.args in
+    let p = c.taking in
+    let n = c.make_step.new in
+    let e = c.make_step.ensures in
+    take_made c.needs_are_enough.ensures.notes c.needs_are_enough.ensures.bytes a.to p.place c.in-Some.found p.later a.later a.document.now p.document n.document
+    a.views.now p.views n.views a.notes.now p.notes n.notes p.invariant c.in-Some.ensures e.scene e.watched e.room_left e.note_room_left e.text_room_left e.next

@@ -1,0 +1,24 @@
+use Rattle.std.proofs.Common.{◌≡◌, ◌∙◌, arith, sym, ap, subst}
+use Rattle.scene.specs.Following.{followed_at, CanFollowInTurn}
+use Rattle.scene.specs.Scenes.{views_of}
+use Rattle.scene.proofs.Regrouped.{nowhere, regrouped_can_all, regrouped_views, regrouped_watched}
+use Rattle.scene.proofs.regrouping.regroup.Goals as goal
+
+pub follow-requires-clause-can : goal.follow-requires-clause-can
+follow-requires-clause-can c =
+    let d = c.args.document.now.document in
+    let laws = c.edits_of_settings.ensures in
+    let small = c.len.ensures.small in
+    rw (c.views.ensures, c.requires.edits) (regrouped_can_all d c.args.types c.args.views.now laws.fit laws.few (omega arith) c.requires.watched)
+
+pub returns-clause-views : goal.returns-clause-views
+returns-clause-views c =
+    let d = c.args.document.now.document in
+    rw (c.views.ensures, c.requires.edits) at c.follow.ensures.views ∙ regrouped_views d c.args.types c.args.views.now c.requires.watched c.rows_that_meet.ensures.flags c.edits_of_settings.ensures.flags
+
+pub returns-clause-watched : goal.returns-clause-watched
+returns-clause-watched c = λ rows.
+    let d = c.args.document.now.document in
+    let laws = c.edits_of_settings.ensures in
+    let views = rw (c.views.ensures, c.requires.edits) at c.follow.ensures.views ∙ regrouped_views d c.args.types c.args.views.now c.requires.watched c.rows_that_meet.ensures.flags laws.flags in
+    regrouped_watched d c.args.types rows c.args.views.now c.follow.new.views c.rows_that_meet.ensures.flags laws.flags c.rows_match_lines.ensures.flags_regrouped c.requires.watched views c.follow.ensures.named c.follow.ensures.next

@@ -1,0 +1,34 @@
+use Rattle.std.proofs.Common.{◌≡◌, ◌+◌, ◌<◌, drop, length, sym, ap, ◌∙◌, arith}
+use Rattle.std.proofs.lemmas.List.{drop_all}
+use Rattle.document.specs.Undoing.{changes_of}
+use Rattle.scene.specs.Scenes.{watchers}
+use Rattle.scene.specs.Undoing.{bits_of}
+use Rattle.scene.proofs.ChangeSteps.{drop_some, some_has}
+use Rattle.scene.proofs.PerformedSoFar.{there}
+use Rattle.scene.proofs.NeededSoFar.{needed_none, needed_next, needed_notes, needed_room}
+use Rattle.scene.proofs.undoing.history_need.Goals as goal
+
+pub loop-index-preserved : goal.loop-index-preserved
+loop-index-preserved c =
+    let d = c.args.document.now.document in
+    let all = changes_of c.args.direction d.history in
+    let i = c.loop-index.index in
+    let count = c.change_count-index-end.ensures in
+    let next = there all i (omega arith) in
+    let N = c.change_note_need-notes.ensures next.0 next.1 in
+    let D = some_has _ _ next.0 next.1 c.change_need.ensures.need in
+    rw (c.plus.ensures, c.plus-in-loop-index.ensures, N, D) (needed_next (watchers d c.args.views.now) (bits_of c.args.direction) d.line_end_types next.0 (drop i all) (drop (i + 1) all) all
+    c.loop-index.need c.loop-index.invariant (drop_some all i next.0 next.1))
+
+pub returns : goal.returns
+returns c =
+    let d = c.args.document.now.document in
+    let all = changes_of c.args.direction d.history in
+    let count = c.change_count-index-end.ensures in
+    let none = drop_all c.loop-index.index all (omega arith) in
+    let W = watchers d c.args.views.now in
+    let who = bits_of c.args.direction in
+    record {
+      notes = needed_notes W who d.line_end_types (drop c.loop-index.index all) all c.loop-index.need c.loop-index.invariant none;
+      document = needed_room W who d.line_end_types (drop c.loop-index.index all) all c.loop-index.need c.loop-index.invariant none;
+    }

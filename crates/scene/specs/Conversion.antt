@@ -1,0 +1,71 @@
+-- Turning the line ends of a document's text into one kind: what the steps need, and how far they are made.
+use Rattle.std.specs.Prelude.{◌≡◌, ℕ, ◌+◌, ◌-◌, ◌*◌, ◌^◌, ◌≤◌, min, Bool, false, List, [], ◌∷◌, length}
+use Rattle.ed_model.specs.declared.plan.LineEnd.{LineEnd}
+use Rattle.ed_model.specs.declared.plan.LineEndTypes.{LineEndTypes}
+use Rattle.ed_model.specs.Steps.{Step, Insert, Delete}
+use Rattle.ed_model.specs.LineEnds.{unwanted_from}
+use Rattle.ed_model.specs.Performing.{Scene, steps_made}
+use Rattle.line_index.specs.RoomLaws.{lines_for_insertion, lines_for_deletion}
+use Rattle.line_ends.specs.Conversion.{completed}
+use Rattle.id_table.specs.Entries.{Entries}
+use Rattle.ed_view.specs.Kept.{KeptView}
+use Rattle.notify.specs.Gathered.{Gathered}
+use Rattle.document.specs.declared.room.DocumentRoom.{DocumentRoom}
+use Rattle.document.specs.Kept.{Kept, document_room, no_room, HasRoom}
+use Rattle.scene.specs.declared.need.NoteRoom.{NoteRoom}
+use Rattle.scene.specs.Scenes.{scene_in, IsWatched}
+use Rattle.scene.specs.Needs.{note_room, notes_needed, bytes_needed}
+
+-- what a step needs of its document
+abbrev pub room_of_step : LineEndTypes → Step → DocumentRoom
+room_of_step types (Insert place bytes) = document_room (length bytes) (lines_for_insertion types bytes) 1 1 (length bytes)
+room_of_step types (Delete place bytes) = document_room 0 lines_for_deletion 0 1 (length bytes)
+
+abbrev pub both_rooms : DocumentRoom → DocumentRoom → DocumentRoom
+both_rooms a b = document_room (a.text + b.text) (a.lines + b.lines) (a.insertions + b.insertions) (a.steps + b.steps) (a.bytes + b.bytes)
+
+-- and steps in turn
+abbrev pub room_of_steps : LineEndTypes → List Step → DocumentRoom
+room_of_steps types [] = no_room
+room_of_steps types (step ∷ steps) = both_rooms (room_of_step types step) (room_of_steps types steps)
+
+-- the notes and the bytes that steps of a message need; none, where there is no step
+abbrev pub notes_for : List Step → Scene → ℕ
+notes_for [] scene = 0
+notes_for (step ∷ steps) scene = notes_needed scene (step ∷ steps)
+
+abbrev pub bytes_for : List Step → Scene → ℕ
+bytes_for [] scene = 0
+bytes_for (step ∷ steps) scene = bytes_needed scene (step ∷ steps)
+
+-- an amount, or the greatest that can be asked for
+abbrev pub capped : ℕ → ℕ
+capped amount = min amount (2 ^ 64 - 1)
+
+abbrev pub capped_room : DocumentRoom → DocumentRoom
+capped_room need = document_room (capped need.text) (capped need.lines) (capped need.insertions) (capped need.steps) (capped need.bytes)
+
+abbrev pub capped_notes : ℕ → ℕ → NoteRoom
+capped_notes notes bytes = note_room (capped notes) (capped bytes)
+
+-- there is room for the steps
+pub record CanMakeSteps (steps : List Step) (k : Kept) (views : Entries KeptView) (notes : Gathered) : Type 0 where
+  pub watched : IsWatched k.document views
+  pub room : HasRoom k (room_of_steps k.document.line_end_types steps)
+  pub notes_there : notes_for steps (scene_in k.document views.entries notes.notes) ≤ notes.note_room
+  pub texts_there : bytes_for steps (scene_in k.document views.entries notes.notes) ≤ notes.text_room
+
+-- of the steps on the old scene, those of `rest` are left to be made on the new one, and there is room for them; of both is told
+-- whether the first of them is a later one of its message
+pub record AreLeft (rest : List Step) (later : Bool) (steps : List Step) (was_later : Bool) (before after : Kept) (views views' : Entries KeptView) (notes notes' : Gathered) : Type 0 where
+  pub scene : steps_made later rest (scene_in after.document views'.entries notes'.notes) ≡ steps_made was_later steps (scene_in before.document views.entries notes.notes)
+  pub can : CanMakeSteps rest after views' notes'
+  pub next : views'.next ≡ views.next
+
+-- the deletions of a conversion
+abbrev pub deletions_of : LineEnd → List ℕ → List Step
+deletions_of to text = unwanted_from 0 false to (completed to text)
+
+-- the same room for each of so many steps
+abbrev pub room_of_many : ℕ → DocumentRoom → DocumentRoom
+room_of_many count need = document_room (need.text * count) (need.lines * count) (need.insertions * count) (need.steps * count) (need.bytes * count)

@@ -1,0 +1,40 @@
+-- All changes of undo or redo, one after the other.
+use Rattle.std.specs.Prelude.{◌≡◌, ◌+◌, ◌≤◌, nat_lt, false, length, map}
+use Rattle.ed_model.specs.Session.{text_of}
+use Rattle.ed_model.specs.SoundLaws.{AreStepsOf}
+use Rattle.ed_model.specs.UndoPlans.{text_steps}
+use Rattle.ed_model.specs.Notes.{bit_if, multi_step}
+use Rattle.ed_model.specs.Performing.{changes_performed}
+use Rattle.id_table.specs.Entries.{Entries, id_of}
+use Rattle.notify.specs.Gathered.{Gathered}
+use Rattle.ed_view.specs.Kept.{KeptView}
+use Rattle.document.specs.declared.undoing.Direction.{Direction}
+use Rattle.document.specs.Kept.{Kept, HasTextRoom, TakesRoom}
+use Rattle.document.specs.Undoing.{changes_of}
+use Rattle.scene.specs.Scenes.{scene_in, watchers, IsWatched}
+use Rattle.scene.specs.Undoing.{bits_of, bytes_of_changes, notes_of_history, room_of_changes}
+
+-- they are steps of the text one after another, and there is room for them and for the notes that tell of the save point
+pub record CanPerformAll (direction : Direction) (k : Kept) (views : Entries KeptView) (gathered : Gathered) : Type 0 where
+  pub steps : AreStepsOf (text_of k.document) (text_steps (changes_of direction k.document.history))
+  pub room : HasTextRoom k (room_of_changes k.document.line_end_types (changes_of direction k.document.history))
+  pub watched : IsWatched k.document views
+  pub notes : notes_of_history (watchers k.document views) (bits_of direction) (changes_of direction k.document.history) ≤ gathered.note_room
+  pub texts : bytes_of_changes (watchers k.document views) (bits_of direction) (changes_of direction k.document.history) ≤ gathered.text_room
+
+-- they are performed, the history is as it was, and there is room for the notes that tell of the save point
+pub record AreAllPerformed (direction : Direction) (k : Kept) (views : Entries KeptView) (gathered : Gathered)
+    (k' : Kept) (views' : Entries KeptView) (gathered' : Gathered) : Type 0 where
+  pub scene : scene_in k'.document views'.entries gathered'.notes
+      ≡ changes_performed (bits_of direction) (bit_if (nat_lt 1 (length (changes_of direction k.document.history))) multi_step) false
+      (changes_of direction k.document.history) (scene_in k.document views.entries gathered.notes)
+  pub history : k'.document.history ≡ k.document.history
+  pub watched : IsWatched k'.document views'
+  pub room : TakesRoom k.room k'.room (room_of_changes k.document.line_end_types (changes_of direction k.document.history))
+  pub left : length (watchers k'.document views') ≤ gathered'.note_room
+  pub note_room : gathered'.note_room + length gathered'.notes ≡ gathered.note_room + length gathered.notes
+  pub text_room : gathered'.text_room + bytes_of_changes (watchers k.document views) (bits_of direction) (changes_of direction k.document.history)
+      ≡ gathered.text_room
+  pub ids : map id_of views'.entries ≡ map id_of views.entries
+  pub next : views'.next ≡ views.next
+  pub view_room : views'.room ≡ views.room

@@ -1,0 +1,69 @@
+-- One change of those that undo or redo performs.
+use Rattle.std.specs.Prelude.{◌≡◌, ℕ, ◌+◌, ◌<◌, ◌≤◌, ◌++◌, ◌==◌, nat_lt, Bool, true, if◌then◌else◌, List, length, map, slice_get, bit_or, Option, Some}
+use Rattle.ed_model.specs.Steps.{Step, step_bytes}
+use Rattle.ed_model.specs.History.{History, Change, TextStep, ContainerStep}
+use Rattle.ed_model.specs.InverseLaws.{Fits}
+use Rattle.ed_model.specs.Session.{View, text_of}
+use Rattle.ed_model.specs.Notes.{bit_if, multi_step, heard, before_note}
+use Rattle.ed_model.specs.Performing.{last_bits, changes_lines, change_performed}
+use Rattle.id_table.specs.Entries.{Entries, id_of}
+use Rattle.notify.specs.Gathered.{Gathered}
+use Rattle.ed_view.specs.Kept.{KeptView}
+use Rattle.document.specs.declared.undoing.Direction.{Direction}
+use Rattle.document.specs.Kept.{Kept, HasTextRoom, TakesRoom}
+use Rattle.document.specs.Undoing.{changes_of, room_of_change}
+use Rattle.scene.specs.declared.performing.Turn.{Turn}
+use Rattle.scene.specs.Scenes.{scene_in, watchers, IsWatched}
+use Rattle.scene.specs.Undoing.{bits_of, performed_kinds, notes_of_change, bytes_of_change}
+use Rattle.scene.specs.Hearing.{hearers}
+
+-- the change whose turn it is
+abbrev pub change_at : Turn → History → Option Change
+change_at turn h = slice_get (changes_of turn.direction h) turn.index
+
+-- the turn of the change at an index, of so many
+abbrev pub turn_of : Direction → ℕ → ℕ → Turn
+turn_of direction index count = record { direction = direction; index = index; several = nat_lt 1 count; last = index + 1 == count }
+
+-- a step of the text fits it
+abbrev pub ChangeFits : Change → List ℕ → Type 0
+ChangeFits (TextStep step) text = Fits step text
+ChangeFits (ContainerStep token coalesce) text = Unit {0}
+
+-- the bit that there are several changes
+abbrev pub several_bits : Turn → ℕ
+several_bits turn = bit_if turn.several multi_step
+
+-- the bits of the note after the change, if by then the number of lines is changed or not
+abbrev pub bits_behind : Turn → Bool → ℕ
+bits_behind turn lines_changed = bit_or (bit_or (bits_of turn.direction) (several_bits turn)) (last_bits turn.last lines_changed)
+
+-- there is room for the change whose turn it is, and it fits
+pub record CanPerform (turn : Turn) (k : Kept) (views : Entries KeptView) (gathered : Gathered) (change : Change) : Type 0 where
+  pub at : change_at turn k.document.history ≡ Some change
+  pub fits : ChangeFits change (text_of k.document)
+  pub room : HasTextRoom k (room_of_change k.document.line_end_types change)
+  pub watched : IsWatched k.document views
+  pub notes : notes_of_change (watchers k.document views) (bits_of turn.direction) change ≤ gathered.note_room
+  pub texts : bytes_of_change (watchers k.document views) (bits_of turn.direction) change ≤ gathered.text_room
+
+-- it is performed; `changed` says whether by now the number of lines is changed
+pub record IsPerformed (turn : Turn) (lines_changed changed : Bool) (k : Kept) (views : Entries KeptView) (gathered : Gathered)
+    (k' : Kept) (views' : Entries KeptView) (gathered' : Gathered) (change : Change) : Type 0 where
+  pub lines : changed ≡ (if lines_changed then true else changes_lines change k.document)
+  pub scene : scene_in k'.document views'.entries gathered'.notes
+      ≡ change_performed (bits_of turn.direction) (several_bits turn) turn.last changed change (scene_in k.document views.entries gathered.notes)
+  pub watched : IsWatched k'.document views'
+  pub room : TakesRoom k.room k'.room (room_of_change k.document.line_end_types change)
+  pub note_room : gathered'.note_room + length gathered'.notes ≡ gathered.note_room + length gathered.notes
+  pub text_room : gathered'.text_room + bytes_of_change (watchers k.document views) (bits_of turn.direction) change ≡ gathered.text_room
+  pub ids : map id_of views'.entries ≡ map id_of views.entries
+  pub next : views'.next ≡ views.next
+  pub view_room : views'.room ≡ views.room
+
+-- the views that hear it are told of the step before it is made, and its bytes are shared if any hears of it
+pub record IsToldBefore (who : ℕ) (views : List View) (old new : Gathered) (step : Step) : Type 0 where
+  pub notes : new.notes ≡ old.notes ++ heard views (before_note who step)
+  pub note_room : new.note_room + length (heard views (before_note who step)) ≡ old.note_room
+  pub text_room : new.text_room + bytes_of_change views who (TextStep step) ≡ old.text_room
+  pub shared : 0 < hearers (performed_kinds who step) views → new.shared ≡ step_bytes step

@@ -1,0 +1,83 @@
+-- Undo and redo: the bits of their notes, and what they need.
+use Rattle.std.specs.Prelude.{◌≡◌, ℕ, ◌+◌, ◌-◌, ◌*◌, ◌^◌, ◌≤◌, min, Bool, true, if◌then◌else◌, List, [], ◌∷◌, length, map, slice_get, bit_or, Option, Some, None}
+use Rattle.ed_model.specs.declared.plan.LineEndTypes.{LineEndTypes}
+use Rattle.ed_model.specs.Steps.{Step, step_bytes}
+use Rattle.ed_model.specs.History.{History, Change, TextStep, ContainerStep}
+use Rattle.ed_model.specs.InverseLaws.{Fits}
+use Rattle.ed_model.specs.Session.{Document, View, text_of}
+use Rattle.ed_model.specs.Notes as notes
+use Rattle.ed_model.specs.Performing.{last_bits, place_behind, changes_lines, change_performed}
+use Rattle.id_table.specs.Entries.{Entries, id_of}
+use Rattle.notify.specs.Gathered.{Gathered}
+use Rattle.ed_view.specs.Kept.{KeptView}
+use Rattle.document.specs.declared.undoing.Direction.{Direction}
+use Rattle.document.specs.declared.undoing.Direction.TheVariants.{Undo, Redo}
+use Rattle.document.specs.declared.room.DocumentRoom.{DocumentRoom}
+use Rattle.document.specs.Kept.{Kept, document_room, no_room, HasTextRoom, TakesRoom}
+use Rattle.document.specs.Undoing.{changes_of, room_of_change}
+use Rattle.scene.specs.declared.need.NoteRoom.{NoteRoom}
+use Rattle.scene.specs.declared.performing.Turn.{Turn}
+use Rattle.scene.specs.Scenes.{scene_in, watchers, IsWatched}
+use Rattle.scene.specs.Hearing.{step_kinds, hearers, bytes_shared}
+use Rattle.scene.specs.Needs.{note_room}
+
+-- the bit that says which of the two is performed
+abbrev pub bits_of : Direction → ℕ
+bits_of Undo = notes.performed_undo
+bits_of Redo = notes.performed_redo
+
+-- all bits that the note after a change may have of which change it is
+abbrev pub all_bits : ℕ → ℕ
+all_bits who = bit_or (bit_or who notes.multi_step) (last_bits true true)
+
+-- each kind that a change may be told under
+abbrev pub performed_kinds : ℕ → Step → ℕ
+performed_kinds who step = step_kinds who (all_bits who) step
+
+abbrev pub container_kinds : ℕ → ℕ
+container_kinds who = bit_or notes.container (all_bits who)
+
+-- Needs of one change, performed with the bit, and of changes in turn.
+
+abbrev pub notes_of_change : List View → ℕ → Change → ℕ
+notes_of_change views who (TextStep step) = 2 * hearers (performed_kinds who step) views
+notes_of_change views who (ContainerStep token coalesce) = hearers (container_kinds who) views
+
+abbrev pub bytes_of_change : List View → ℕ → Change → ℕ
+bytes_of_change views who (TextStep step) = bytes_shared (performed_kinds who step) views (length (step_bytes step))
+bytes_of_change views who (ContainerStep token coalesce) = 0
+
+abbrev pub notes_of_changes : List View → ℕ → List Change → ℕ
+notes_of_changes views who [] = 0
+notes_of_changes views who (c ∷ cs) = notes_of_change views who c + notes_of_changes views who cs
+
+abbrev pub bytes_of_changes : List View → ℕ → List Change → ℕ
+bytes_of_changes views who [] = 0
+bytes_of_changes views who (c ∷ cs) = bytes_of_change views who c + bytes_of_changes views who cs
+
+abbrev pub both_rooms : DocumentRoom → DocumentRoom → DocumentRoom
+both_rooms a b =
+    document_room (a.text + b.text) (a.lines + b.lines) (a.insertions + b.insertions) (a.steps + b.steps) (a.bytes + b.bytes)
+
+abbrev pub room_of_changes : LineEndTypes → List Change → DocumentRoom
+room_of_changes types [] = no_room
+room_of_changes types (c ∷ cs) = both_rooms (room_of_change types c) (room_of_changes types cs)
+
+-- with the notes that the save point is reached or left
+abbrev pub notes_of_history : List View → ℕ → List Change → ℕ
+notes_of_history views who cs = notes_of_changes views who cs + length views
+
+-- an amount, or the greatest that can be asked for
+abbrev pub capped : ℕ → ℕ
+capped amount = min amount (2 ^ 64 - 1)
+
+abbrev pub capped_room : DocumentRoom → DocumentRoom
+capped_room need = document_room (capped need.text) (capped need.lines) (capped need.insertions) (capped need.steps) (capped need.bytes)
+
+abbrev pub capped_notes : ℕ → ℕ → NoteRoom
+capped_notes notes bytes = note_room (capped notes) (capped bytes)
+
+-- where the caret goes, by the latest step of the text, if there is one
+abbrev pub place_behind_any : Option Step → Option ℕ
+place_behind_any None = None
+place_behind_any (Some step) = Some (place_behind step)

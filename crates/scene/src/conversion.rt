@@ -1,0 +1,239 @@
+//! The line ends of a document's text turned into one kind: a step for each byte that comes or goes.
+
+ghost use Rattle.std.specs.Prelude.{◌≡◌, ◌≤◌, ◌<◌, ◌+◌, ◌*◌, ◌^◌, [], false, if◌then◌else◌, nat_lt, length, MatchOption};
+ghost use Rattle.ed_model.specs.LineEnds.{conversion_steps, missing_from, unwanted_from};
+ghost use Rattle.ed_model.specs.Session.{text_of};
+ghost use Rattle.ed_model.specs.Performing.{edit_made, steps_made};
+ghost use Rattle.document.specs.TextSteps.{step_in, need_of, IsStepOn};
+ghost use Rattle.line_ends.specs.Conversion.{IsNextMissing, IsNextUnwanted, completed, missing_in, unwanted_in};
+ghost use Rattle.scene.specs.Scenes.{scene_in, watchers, AreNamed, IsWatched};
+ghost use Rattle.scene.specs.Needs.{leaving_count, notes_of_step, bytes_of_step, notes_of_steps, bytes_of_steps};
+ghost use Rattle.scene.specs.Conversion.{AreLeft, CanMakeSteps, bytes_for, capped_notes, capped_room, deletions_of, notes_for, room_of_many, room_of_steps};
+
+use crate::laws::needs_are_enough;
+use crate::need::{NoteRoom, leaving_need, note_need};
+use crate::steps::make_step;
+use document::{Document, DocumentRoom, TextStep};
+use ed_model::LineEnd;
+use ed_view::View;
+use id_table::IdTable;
+use line_ends::{count_missing, count_unwanted, next_missing, next_unwanted};
+use notify::NoteList;
+
+/// How much memory a conversion of line ends needs. An amount past the greatest `usize` is that one, which is never there.
+#[derive(Clone, Copy, Debug, PartialEq, Eq)]
+pub struct ConversionNeed {
+    /// Notes, and the bytes of texts that they share.
+    pub notes: NoteRoom,
+    /// Room in the document.
+    pub document: DocumentRoom,
+}
+
+// The first byte that is missing from the place on, and where.
+fn missing_behind(document: &Document, from: usize, to: LineEnd) -> Option<(usize, u8)>
+    requires { from ≤ length document.now.document.cells }
+    ensures { MatchOption result (missing_in to (text_of document.now.document) from ≡ []) (λ found. IsNextMissing to (text_of document.now.document) from found.0 found.1) }
+{
+    let (first, second) = document.halves();
+    next_missing(first, second, from, to)
+}
+
+// Where the first unwanted byte stands from the place on.
+fn unwanted_behind(document: &Document, from: usize, to: LineEnd) -> Option<usize>
+    requires { from ≤ length document.now.document.cells }
+    ensures { MatchOption result (unwanted_in to (text_of document.now.document) from ≡ []) (λ place. IsNextUnwanted to (text_of document.now.document) from place) }
+{
+    let (first, second) = document.halves();
+    next_unwanted(first, second, from, to)
+}
+
+// Puts in what is missing, and answers whether that was something.
+fn put_missing(
+    document: &mut Document,
+    views: &mut IdTable<View>,
+    notes: &mut NoteList,
+    to: LineEnd,
+) -> bool
+    requires { CanMakeSteps (conversion_steps to (text_of document.old.document)) document.old views.old notes.old }
+    ensures left { AreLeft (deletions_of to (text_of document.old.document)) result (conversion_steps to (text_of document.old.document)) false document.old document.new views.old views.new notes.old notes.new }
+    ensures text { text_of document.new.document ≡ completed to (text_of document.old.document) }
+{
+    // The law that what was reserved is enough for each step in its turn.
+    needs_are_enough();
+    let mut later = false;
+    let mut place = 0;
+    'putting: while let Some((found, byte)) = missing_behind(document, place, to) {
+        let _ = document.len(); // it says that no place runs out of numbers
+        let step = TextStep::Insert {
+            place: found,
+            bytes: &[byte],
+        };
+        make_step(document, views, notes, later, step);
+        later = true;
+        place = found + 1;
+    }
+    later
+}
+
+// Deletes what is unwanted; `later` says whether steps of the message came before.
+fn take_unwanted(
+    document: &mut Document,
+    views: &mut IdTable<View>,
+    notes: &mut NoteList,
+    to: LineEnd,
+    mut later: bool,
+)
+    requires { CanMakeSteps (unwanted_from 0 false to (text_of document.old.document)) document.old views.old notes.old }
+    ensures scene { scene_in document.new.document views.new.entries notes.new.notes ≡ steps_made later (unwanted_from 0 false to (text_of document.old.document)) (scene_in document.old.document views.old.entries notes.old.notes) }
+    ensures watched { IsWatched document.new.document views.new }
+    ensures next { views.new.next ≡ views.old.next }
+{
+    // The law that what was reserved is enough for each step in its turn.
+    needs_are_enough();
+    let mut place = 0;
+    'taking: while let Some(found) = unwanted_behind(document, place, to) {
+        let step = TextStep::Delete {
+            place: found,
+            count: 1,
+        };
+        make_step(document, views, notes, later, step);
+        later = true;
+        place = found;
+    }
+}
+
+// Makes all steps, one after the other.
+fn make_all(document: &mut Document, views: &mut IdTable<View>, notes: &mut NoteList, to: LineEnd)
+    requires { CanMakeSteps (conversion_steps to (text_of document.old.document)) document.old views.old notes.old }
+    ensures scene { scene_in document.new.document views.new.entries notes.new.notes ≡ steps_made false (conversion_steps to (text_of document.old.document)) (scene_in document.old.document views.old.entries notes.old.notes) }
+    ensures watched { IsWatched document.new.document views.new }
+    ensures next { views.new.next ≡ views.old.next }
+{
+    let later = put_missing(document, views, notes, to);
+    take_unwanted(document, views, notes, to, later);
+}
+
+// How many notes tell that the save point is left, with the first of the steps: none where there is no step.
+fn notes_of_leaving(document: &Document, views: &IdTable<View>, to: LineEnd) -> usize
+    requires named { AreNamed views.now.entries }
+    ensures { result ≡ (if nat_lt 0 (length (conversion_steps to (text_of document.now.document))) then leaving_count (watchers document.now.document views.now) document.now.document.history else 0) }
+{
+    if count_steps(document, to) > 0 {
+        leaving_need(document, views)
+    } else {
+        0
+    }
+}
+
+// How many steps there are.
+fn count_steps(document: &Document, to: LineEnd) -> usize
+    ensures { result ≡ length (conversion_steps to (text_of document.now.document)) }
+{
+    let _ = document.len(); // it says that no count runs out of numbers
+    let (first, second) = document.halves();
+    count_missing(first, second, to) + count_unwanted(first, second, to)
+}
+
+/// Turns each line end of the document's text into this kind, as `SCI_CONVERTEOLS` does: what is missing is put in, then what is
+/// unwanted is deleted, each left to right, a byte a step. Each step is told of to the views that watch and hear it, and
+/// followed by all that watch; if there is more than one, they are a transaction of their own. There must be room for all
+/// of them.
+pub fn convert(
+    document: &mut Document,
+    views: &mut IdTable<View>,
+    notes: &mut NoteList,
+    to: LineEnd,
+)
+    requires can { CanMakeSteps (conversion_steps to (text_of document.old.document)) document.old views.old notes.old }
+    ensures scene { scene_in document.new.document views.new.entries notes.new.notes ≡ edit_made (conversion_steps to (text_of document.old.document)) (scene_in document.old.document views.old.entries notes.old.notes) }
+    ensures watched { IsWatched document.new.document views.new }
+    ensures next { views.new.next ≡ views.old.next }
+{
+    if count_steps(document, to) < 2 {
+        return make_all(document, views, notes, to);
+    }
+    // The law that a seal does not change what the steps need.
+    needs_are_enough();
+    document.seal_outside_groups();
+    make_all(document, views, notes, to);
+    document.seal_outside_groups();
+}
+
+// What so many steps like this one need, but for the notes that the save point is left.
+fn need_of_many(
+    document: &Document,
+    views: &IdTable<View>,
+    step: TextStep,
+    count: usize,
+) -> ConversionNeed
+    requires fits { IsStepOn step (length document.now.document.cells) }
+    requires named { AreNamed views.now.entries }
+    ensures notes { result.notes ≡ capped_notes (notes_of_step (watchers document.now.document views.now) (step_in step.entry (text_of document.now.document)) * count) (bytes_of_step (watchers document.now.document views.now) (step_in step.entry (text_of document.now.document)) * count) }
+    ensures document { result.document ≡ capped_room (room_of_many count (need_of document.now.document.line_end_types step.entry)) }
+{
+    let notes = note_need(document, views, step);
+    let room = document.step_need(step);
+    ConversionNeed {
+        notes: NoteRoom {
+            notes: notes.notes.saturating_mul(count),
+            bytes: notes.bytes.saturating_mul(count),
+        },
+        document: DocumentRoom {
+            text: room.text.saturating_mul(count),
+            lines: room.lines.saturating_mul(count),
+            insertions: room.insertions.saturating_mul(count),
+            steps: room.steps.saturating_mul(count),
+            bytes: room.bytes.saturating_mul(count),
+        },
+    }
+}
+
+// What the insertions need.
+fn need_of_insertions(document: &Document, views: &IdTable<View>, to: LineEnd) -> ConversionNeed
+    requires named { AreNamed views.now.entries }
+    ensures notes { result.notes ≡ capped_notes (notes_of_steps (watchers document.now.document views.now) (missing_from 0 false to (text_of document.now.document))) (bytes_of_steps (watchers document.now.document views.now) (missing_from 0 false to (text_of document.now.document))) }
+    ensures document { result.document ≡ capped_room (room_of_steps document.now.document.line_end_types (missing_from 0 false to (text_of document.now.document))) }
+{
+    let (first, second) = document.halves();
+    let insertion = TextStep::Insert {
+        place: 0,
+        bytes: b"\n",
+    };
+    need_of_many(document, views, insertion, count_missing(first, second, to))
+}
+
+// What the deletions need.
+fn need_of_deletions(document: &Document, views: &IdTable<View>, to: LineEnd) -> ConversionNeed
+    requires named { AreNamed views.now.entries }
+    ensures notes { result.notes ≡ capped_notes (notes_of_steps (watchers document.now.document views.now) (deletions_of to (text_of document.now.document))) (bytes_of_steps (watchers document.now.document views.now) (deletions_of to (text_of document.now.document))) }
+    ensures document { result.document ≡ capped_room (room_of_steps document.now.document.line_end_types (deletions_of to (text_of document.now.document))) }
+{
+    let (first, second) = document.halves();
+    let count = count_unwanted(first, second, to);
+    if count == 0 {
+        return ConversionNeed {
+            notes: NoteRoom::none(),
+            document: DocumentRoom::none(),
+        };
+    }
+    let deletion = TextStep::Delete { place: 0, count: 1 };
+    need_of_many(document, views, deletion, count)
+}
+
+/// Returns what a conversion to this kind of line end needs: nothing, if it has no step.
+pub fn conversion_need(document: &Document, views: &IdTable<View>, to: LineEnd) -> ConversionNeed
+    requires named { AreNamed views.now.entries }
+    ensures notes { result.notes ≡ capped_notes (notes_for (conversion_steps to (text_of document.now.document)) (scene_in document.now.document views.now.entries [])) (bytes_for (conversion_steps to (text_of document.now.document)) (scene_in document.now.document views.now.entries [])) }
+    ensures document { result.document ≡ capped_room (room_of_steps document.now.document.line_end_types (conversion_steps to (text_of document.now.document))) }
+{
+    let insertions = need_of_insertions(document, views, to);
+    let deletions = need_of_deletions(document, views, to);
+    let leaving = NoteRoom {
+        notes: notes_of_leaving(document, views, to),
+        bytes: 0,
+    };
+    ConversionNeed {
+        notes: insertions.notes.plus(deletions.notes).plus(leaving),
+        document: insertions.document.plus(deletions.document),
+    }
+}

@@ -1,0 +1,43 @@
+//! Regrouping: the views that watch a document follow other line ends.
+
+ghost use Rattle.std.specs.Prelude.{◌≡◌, List, map};
+ghost use Rattle.ed_model.specs.declared.plan.DocumentChange.TheVariants as change;
+ghost use Rattle.ed_model.specs.Rows.{Row};
+ghost use Rattle.ed_model.specs.Session.{text_of};
+ghost use Rattle.ed_model.specs.Changes.{changed_lines};
+ghost use Rattle.line_index.specs.Settings.{edits_of_setting};
+ghost use Rattle.id_table.specs.Entries.{id_of};
+ghost use Rattle.scene.specs.Scenes.{views_of, IsWatched};
+
+use crate::moving::follow;
+use document::Document;
+use ed_model::{LineEndTypes, rows_match_lines, rows_that_meet};
+use ed_view::View;
+use id_table::IdTable;
+use line_index::{LineEdit, edits_of_settings};
+use selection::Movement;
+
+/// Carries the flags of the views that watch the document to the lines that it has once these line ends count in it. The
+/// edits are what that does to its lines. The document itself is still as it was, and is to follow.
+pub fn regroup(
+    document: &Document,
+    views: &mut IdTable<View>,
+    types: LineEndTypes,
+    edits: &[LineEdit],
+)
+    requires watched { IsWatched document.now.document views.old }
+    requires edits { edits.now ≡ edits_of_setting document.now.document.line_end_types types (text_of document.now.document) }
+    ensures views { views_of views.new.entries ≡ map (changed_lines (change.SetLineEndTypes types) document.now.document) (views_of views.old.entries) }
+    ensures watched { (rows : List Row) → IsWatched (record document.now.document { line_end_types = types; rows = rows }) views.new }
+    ensures ids { map id_of views.new.entries ≡ map id_of views.old.entries }
+    ensures next { views.new.next ≡ views.old.next }
+    ensures room { views.new.room ≡ views.old.room }
+{
+    edits_of_settings();
+    rows_match_lines();
+    rows_that_meet();
+    let _ = document.len(); // it says that no position runs out of numbers
+    // no place moves
+    let nowhere = Movement::Inserted { place: 0, count: 0 };
+    follow(document.views(), views, nowhere, edits);
+}

@@ -1,0 +1,212 @@
+//! Undo and redo: a transaction performed, and what that needs.
+
+ghost use Rattle.std.specs.Prelude.{◌≡◌, ◌≤◌, ◌<◌, ◌+◌, ◌++◌, length, map, reverse, slice_get, Some};
+ghost use Rattle.ed_model.specs.History.{Change, latest_text_step};
+ghost use Rattle.ed_model.specs.Session.{text_of};
+ghost use Rattle.ed_model.specs.SoundLaws.{AreStepsOf};
+ghost use Rattle.ed_model.specs.UndoPlans.{text_steps};
+ghost use Rattle.ed_model.specs.Performing.{save_point_change, transaction_performed};
+ghost use Rattle.id_table.specs.Entries.{id_of};
+ghost use Rattle.document.specs.Kept.{HasTextRoom, TakesRoom};
+ghost use Rattle.document.specs.Undoing.{changes_of, history_behind};
+ghost use Rattle.scene.specs.Scenes.{scene_in, watchers, AreNamed, IsWatched};
+ghost use Rattle.scene.specs.Needs.{note_room};
+ghost use Rattle.scene.specs.Turns.{turn_of};
+ghost use Rattle.scene.specs.Performed.{CanPerformAll, AreAllPerformed};
+ghost use Rattle.scene.specs.Undoing.{bits_of, notes_of_change, bytes_of_change, bytes_of_changes, notes_of_history, room_of_changes, capped_room, capped_notes, place_behind_any};
+
+use crate::need::{NoteRoom, told_need};
+use crate::performing::{CONTAINER, Turn, all_bits, bit_of, perform_change};
+use crate::step_notes::{BEFORE_DELETE, BEFORE_INSERT, DELETE_TEXT, INSERT_TEXT};
+use crate::steps::SAVE_POINT_LEFT;
+use crate::telling::{Audience, NoteText, count_hearers, count_watchers, tell};
+use document::{ChangeOutline, Direction, Document, DocumentRoom};
+use ed_model::positions_after_a_step;
+use ed_view::View;
+use id_table::IdTable;
+use notify::{NoteList, blank};
+
+/// SCN_SAVEPOINTREACHED
+const SAVE_POINT_REACHED: u32 = 2002;
+
+/// How much memory undo or redo needs. An amount past the greatest `usize` is that one, which is never there.
+#[derive(Clone, Copy, Debug, PartialEq, Eq)]
+pub struct HistoryNeed {
+    /// Notes, and the bytes of texts that they share.
+    pub notes: NoteRoom,
+    /// Room in the document.
+    pub document: DocumentRoom,
+}
+
+// The turn of the change at `index`, of `count`.
+fn turn_at(direction: Direction, index: usize, count: usize) -> Turn
+    requires { index < count }
+    ensures { result ≡ turn_of direction index count }
+{
+    Turn {
+        direction,
+        index,
+        several: count > 1,
+        last: index + 1 == count,
+    }
+}
+
+// Performs the changes one after the other. The history stays.
+fn perform_changes(
+    document: &mut Document,
+    views: &mut IdTable<View>,
+    notes: &mut NoteList,
+    direction: Direction,
+)
+    requires can { CanPerformAll direction document.old views.old notes.old }
+    ensures all { AreAllPerformed direction document.old views.old notes.old document.new views.new notes.new }
+{
+    positions_after_a_step();
+    let count = document.change_count(direction);
+    let mut lines_changed = false;
+    for index in 0..count {
+        let turn = turn_at(direction, index, count);
+        lines_changed = perform_change(document, views, notes, turn, lines_changed);
+    }
+}
+
+// Tells each view that watches that the save point is reached or left, if so.
+fn tell_save_point(
+    document: &Document,
+    views: &IdTable<View>,
+    notes: &mut NoteList,
+    was_there: bool,
+    is_there: bool,
+)
+    requires named { AreNamed views.now.entries }
+    requires room { length (watchers document.now.document views.now) ≤ notes.old.note_room }
+    ensures notes { notes.new.notes ≡ notes.old.notes ++ save_point_change (watchers document.now.document views.now) was_there is_there }
+    ensures note_room { notes.new.note_room + length notes.new.notes ≡ notes.old.note_room + length notes.old.notes }
+    ensures text_room { notes.new.text_room ≡ notes.old.text_room }
+{
+    if was_there == is_there {
+        return;
+    }
+    let code = if is_there {
+        SAVE_POINT_REACHED
+    } else {
+        SAVE_POINT_LEFT
+    };
+    let note = blank(code);
+    tell(
+        document,
+        views,
+        notes,
+        &note,
+        Audience::Everyone,
+        NoteText::Empty,
+    );
+}
+
+/// Performs undo or redo, `SCI_UNDO` and `SCI_REDO`: the changes of the transaction one after the other, each told of to the views
+/// that watch and hear it, and followed by all that watch; then all that watch are told if the save point is reached or left by
+/// it. The caret of no view is set. There must be room for all of it.
+pub fn perform_history(
+    document: &mut Document,
+    views: &mut IdTable<View>,
+    notes: &mut NoteList,
+    direction: Direction,
+)
+    requires steps { AreStepsOf (text_of document.old.document) (text_steps (changes_of direction document.old.document.history)) }
+    requires room { HasTextRoom document.old (room_of_changes document.old.document.line_end_types (changes_of direction document.old.document.history)) }
+    requires watched { IsWatched document.old.document views.old }
+    requires notes { notes_of_history (watchers document.old.document views.old) (bits_of direction) (changes_of direction document.old.document.history) ≤ notes.old.note_room }
+    requires texts { bytes_of_changes (watchers document.old.document views.old) (bits_of direction) (changes_of direction document.old.document.history) ≤ notes.old.text_room }
+    ensures scene { scene_in document.new.document views.new.entries notes.new.notes ≡ transaction_performed (bits_of direction) (changes_of direction document.old.document.history) (history_behind direction document.old.document.history) (scene_in document.old.document views.old.entries notes.old.notes) }
+    ensures watched { IsWatched document.new.document views.new }
+    ensures room_left { TakesRoom document.old.room document.new.room (room_of_changes document.old.document.line_end_types (changes_of direction document.old.document.history)) }
+    ensures note_room_left { notes.new.note_room + length notes.new.notes ≡ notes.old.note_room + length notes.old.notes }
+    ensures text_room_left { notes.new.text_room + bytes_of_changes (watchers document.old.document views.old) (bits_of direction) (changes_of direction document.old.document.history) ≡ notes.old.text_room }
+    ensures ids { map id_of views.new.entries ≡ map id_of views.old.entries }
+    ensures next { views.new.next ≡ views.old.next }
+    ensures view_room { views.new.room ≡ views.old.room }
+{
+    let was_there = document.history().is_at_save_point();
+    perform_changes(document, views, notes, direction);
+    document.finish_history(direction);
+    let is_there = document.history().is_at_save_point();
+    tell_save_point(document, views, notes, was_there, is_there);
+}
+
+// What a change needs of the notes.
+fn change_note_need(
+    document: &Document,
+    views: &IdTable<View>,
+    direction: Direction,
+    index: usize,
+) -> NoteRoom
+    requires there { index < length (changes_of direction document.now.document.history) }
+    requires named { AreNamed views.now.entries }
+    ensures { (change : Change) → slice_get (changes_of direction document.now.document.history) index ≡ Some change → result ≡ note_room (notes_of_change (watchers document.now.document views.now) (bits_of direction) change) (bytes_of_change (watchers document.now.document views.now) (bits_of direction) change) }
+{
+    let before = bit_of(direction);
+    let after = all_bits(direction);
+    match document.change_outline(direction, index) {
+        ChangeOutline::Insert { count, .. } => {
+            told_need(
+                document,
+                views,
+                (BEFORE_INSERT | before) | (INSERT_TEXT | after),
+                count,
+            )
+        }
+        ChangeOutline::Delete { count, .. } => {
+            told_need(
+                document,
+                views,
+                (BEFORE_DELETE | before) | (DELETE_TEXT | after),
+                count,
+            )
+        }
+        ChangeOutline::Container { .. } => NoteRoom {
+            notes: count_hearers(document, views, CONTAINER | after),
+            bytes: 0,
+        },
+    }
+}
+
+/// Returns what undo or redo needs at most.
+pub fn history_need(document: &Document, views: &IdTable<View>, direction: Direction) -> HistoryNeed
+    requires named { AreNamed views.now.entries }
+    ensures notes { result.notes ≡ capped_notes (notes_of_history (watchers document.now.document views.now) (bits_of direction) (changes_of direction document.now.document.history)) (bytes_of_changes (watchers document.now.document views.now) (bits_of direction) (changes_of direction document.now.document.history)) }
+    ensures document { result.document ≡ capped_room (room_of_changes document.now.document.line_end_types (changes_of direction document.now.document.history)) }
+{
+    let mut need = HistoryNeed {
+        notes: NoteRoom {
+            notes: count_watchers(document, views),
+            bytes: 0,
+        },
+        document: DocumentRoom::none(),
+    };
+    for index in 0..document.change_count(direction) {
+        let notes = change_note_need(document, views, direction, index);
+        need = HistoryNeed {
+            notes: need.notes.plus(notes),
+            document: need.document.plus(document.change_need(direction, index)),
+        };
+    }
+    need
+}
+
+/// Returns where undo or redo leaves the caret of the view that asked for it: behind what its latest step of the text puts in, or
+/// where that deletes. `None` if no change is a step of the text. There must be room for the changes.
+pub fn caret_after(document: &Document, direction: Direction) -> Option<usize>
+    requires steps { AreStepsOf (text_of document.now.document) (text_steps (changes_of direction document.now.document.history)) }
+    requires room { HasTextRoom document.now (room_of_changes document.now.document.line_end_types (changes_of direction document.now.document.history)) }
+    ensures { result ≡ place_behind_any (latest_text_step (reverse (changes_of direction document.now.document.history))) }
+{
+    let _ = document.len(); // it says that no place runs out of numbers
+    for index in (0..document.change_count(direction)).rev() {
+        match document.change_outline(direction, index) {
+            ChangeOutline::Insert { place, count } => return Some(place + count),
+            ChangeOutline::Delete { place, .. } => return Some(place),
+            ChangeOutline::Container { .. } => {}
+        }
+    }
+    None
+}

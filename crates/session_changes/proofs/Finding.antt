@@ -1,0 +1,165 @@
+-- What is kept by id, and what the model finds by id.
+use Rattle.std.proofs.Common.{◌≡◌, ℕ, ◌+◌, ◌<◌, ◌≤◌, ◌==◌, Bool, true, false, cond, List, [], ◌∷◌, map, refl, ap, sym, ◌∙◌, subst, arith, Option, Some, None, option_map, IsSomeAnd}
+use Rattle.std.specs.Prelude.{find, if◌then◌else◌}
+use Rattle.std.specs.List.{AllByRecursion}
+use Rattle.std.proofs.lemmas.Bool.{eqb-true, eqb-false, eq-eqb}
+use Rattle.ed_model.specs.SoundLaws.{Rise}
+use Rattle.ed_model.specs.Session.{Document, View}
+use Rattle.document.specs.Kept.{Kept}
+use Rattle.ed_view.specs.Kept.{KeptView}
+use Rattle.id_table.specs.Entries.{Entry, entry, value_of, value_at, with_value_at}
+
+-- Values that know their ids.
+module _ {X : Type 0} (own : X → ℕ) where
+  abbrev pub at_id : List X → ℕ → Option X
+  at_id xs id = find (λ x. own x == id) xs
+
+  pub own_at : (xs : List X) (id : ℕ) (x : X) → at_id xs id ≡ Some x → own x ≡ id
+  own_at [] id x e = absurd (cc)
+  own_at (y ∷ ys) id x e = go (own y == id) refl e (λ e. own_at ys id x e)
+    where
+      go : (b : Bool) → (own y == id) ≡ b → cond b (Some y) (at_id ys id) ≡ Some x → (at_id ys id ≡ Some x → own x ≡ id) → own x ≡ id
+      go true t e rest = let same : y ≡ x = cc in ap own (sym same) ∙ eqb-true (own y) id t
+      go false t e rest = rest e
+
+  pub holds_at : (P : X → Type 0) (xs : List X) (id : ℕ) (x : X) → AllByRecursion P xs → at_id xs id ≡ Some x → P x
+  holds_at P [] id x all e = absurd (cc)
+  holds_at P (y ∷ ys) id x all e = go (own y == id) e (λ e. holds_at P ys id x all.1 e)
+    where
+      go : (b : Bool) → cond b (Some y) (at_id ys id) ≡ Some x → (at_id ys id ≡ Some x → P x) → P x
+      go true e rest = let same : y ≡ x = cc in subst P same all.0
+      go false e rest = rest e
+
+  none_above : (P : X → Type 0) (id low high : ℕ) (xs : List X) → Rise low high (map own xs) → id < low → AllByRecursion (λ x. own x ≡ id → P x) xs
+  none_above P id low high [] r l = tt
+  none_above P id low high (x ∷ xs) r l =
+      let ge : low ≤ own x = r.0 in ((λ e. absurd (omega (arith, e, ge, l))), none_above P id (own x + 1) high xs r.2 (omega (arith, ge, l)))
+
+  -- an id is given once
+  pub found_once : (low high : ℕ) (xs : List X) (id : ℕ) (w : X) → Rise low high (map own xs) → at_id xs id ≡ Some w → AllByRecursion (λ x. own x ≡ id → x ≡ w) xs
+  found_once low high [] id w r e = tt
+  found_once low high (x ∷ xs) id w r e = go (own x == id) refl e (λ e. found_once (own x + 1) high xs id w r.2 e)
+    where
+      go : (b : Bool) → (own x == id) ≡ b → cond b (Some x) (at_id xs id) ≡ Some w
+          → (at_id xs id ≡ Some w → AllByRecursion (λ x. own x ≡ id → x ≡ w) xs)
+          → (own x ≡ id → x ≡ w) × AllByRecursion (λ x. own x ≡ id → x ≡ w) xs
+      go true t e rest =
+          let same = eqb-true (own x) id t in
+          let is : x ≡ w = cc in
+          ((λ _. is), none_above (λ x. x ≡ w) id (own x + 1) high xs r.2 (omega (arith, same)))
+      go false t e rest = ((λ same. absurd (eqb-false (own x) id t same)), rest e)
+
+  pub one_changes : (g : X → X) (id : ℕ) (w : X) (xs : List X) → AllByRecursion (λ x. own x ≡ id → x ≡ w) xs
+      → map (λ x. if own x == id then g w else x) xs ≡ map (λ x. if own x == id then g x else x) xs
+  one_changes g id w [] all = refl
+  one_changes g id w (x ∷ xs) all = go (own x == id) refl (one_changes g id w xs all.1)
+    where
+      go : (b : Bool) → (own x == id) ≡ b → map (λ x. if own x == id then g w else x) xs ≡ map (λ x. if own x == id then g x else x) xs
+          → cond b (g w) x ∷ map (λ x. if own x == id then g w else x) xs ≡ cond b (g x) x ∷ map (λ x. if own x == id then g x else x) xs
+      go true t rest = let is : x ≡ w = all.0 (eqb-true (own x) id t) in cc
+      go false t rest = ap (λ ys. x ∷ ys) rest
+
+-- A value's id is its entry's.
+module _ {V X : Type 0} (f : V → X) (own : X → ℕ) where
+  abbrev pub IsNamed : Entry V → Type 0
+  IsNamed e = e.id ≡ own (f e.value)
+
+  abbrev pub seen : List (Entry V) → List X
+  seen entries = map (λ (e : Entry V). f e.value) entries
+
+  pub found : (entries : List (Entry V)) (id : ℕ) → AllByRecursion IsNamed entries → at_id own (seen entries) id ≡ option_map f (value_at entries id)
+  found [] id all = refl
+  found (e ∷ es) id all = rw (sym all.0) (go (e.id == id) (found es id all.1))
+    where
+      go : (b : Bool) → at_id own (seen es) id ≡ option_map f (value_at es id)
+          → cond b (Some (f e.value)) (at_id own (seen es) id) ≡ option_map f (option_map value_of (cond b (Some e) (find (λ (e : Entry V). e.id == id) es)))
+      go true rest = refl
+      go false rest = rest
+
+  pub found_some : (entries : List (Entry V)) (id : ℕ) (v : V) → AllByRecursion IsNamed entries → value_at entries id ≡ Some v → at_id own (seen entries) id ≡ Some (f v)
+  found_some entries id v all e = found entries id all ∙ ap (option_map f) e
+
+  pub found_none : (entries : List (Entry V)) (id : ℕ) → AllByRecursion IsNamed entries → value_at entries id ≡ None → at_id own (seen entries) id ≡ None
+  found_none entries id all e = found entries id all ∙ ap (option_map f) e
+
+  -- what the model finds is kept
+  pub record IsKeptAs (o : Option V) (x : X) : Type 0 where
+    pub value : V
+    pub there : o ≡ Some value
+    pub is : f value ≡ x
+
+  some_kept : (o : Option V) (x : X) → option_map f o ≡ Some x → IsKeptAs o x
+  some_kept None x e = absurd (cc)
+  some_kept (Some v) x e = record { value = v; there = refl; is = (let same : f v ≡ x = cc in same) }
+
+  pub kept_as : (entries : List (Entry V)) (id : ℕ) (x : X) → AllByRecursion IsNamed entries → at_id own (seen entries) id ≡ Some x → IsKeptAs (value_at entries id) x
+  kept_as entries id x all e = some_kept (value_at entries id) x (sym (found entries id all) ∙ e)
+
+  pub replaced : (entries : List (Entry V)) (id : ℕ) (w : V) → AllByRecursion IsNamed entries
+      → seen (with_value_at id w entries) ≡ map (λ x. if own x == id then f w else x) (seen entries)
+  replaced [] id w all = refl
+  replaced (e ∷ es) id w all = rw (sym all.0) (go (e.id == id) (replaced es id w all.1))
+    where
+      go : (b : Bool) → seen (with_value_at id w es) ≡ map (λ x. if own x == id then f w else x) (seen es)
+          → f (cond b (entry id w) e).value ∷ seen (with_value_at id w es) ≡ cond b (f w) (f e.value) ∷ map (λ x. if own x == id then f w else x) (seen es)
+      go true rest = ap (λ xs. f w ∷ xs) rest
+      go false rest = ap (λ xs. f e.value ∷ xs) rest
+
+  pub still_named : (entries : List (Entry V)) (id : ℕ) (w : V) → own (f w) ≡ id → AllByRecursion IsNamed entries → AllByRecursion IsNamed (with_value_at id w entries)
+  still_named [] id w is all = tt
+  still_named (e ∷ es) id w is all = (go (e.id == id), still_named es id w is all.1)
+    where
+      go : (b : Bool) → (cond b (entry id w) e).id ≡ own (f (cond b (entry id w) e).value)
+      go true = sym is
+      go false = all.0
+
+  -- one value changes, which is kept with its id
+  module _ (entries : List (Entry V)) (id high : ℕ) (named : AllByRecursion IsNamed entries) (rise : Rise 0 high (map own (seen entries))) (old new : V) (at : value_at entries id ≡ Some old) where
+    pub id_of_old : own (f old) ≡ id
+    id_of_old = own_at own (seen entries) id (f old) (found_some entries id old named at)
+
+    pub changed : (g : X → X) → f new ≡ g (f old) → seen (with_value_at id new entries) ≡ map (λ x. if own x == id then g x else x) (seen entries)
+    changed g made =
+        replaced entries id new named ∙ ap (λ y. map (λ x. if own x == id then y else x) (seen entries)) made
+        ∙ one_changes own g id (f old) (seen entries) (found_once own 0 high (seen entries) id (f old) rise (found_some entries id old named at))
+
+    -- .. and one that is made anew as it was
+    pub unchanged : f new ≡ f old → seen (with_value_at id new entries) ≡ seen entries
+    unchanged same = changed (λ x. x) same ∙ itself (seen entries)
+      where
+        itself : (xs : List X) → map (λ x. if own x == id then x else x) xs ≡ xs
+        itself [] = refl
+        itself (x ∷ xs) = go (own x == id) (itself xs)
+          where
+            go : (b : Bool) → map (λ x. if own x == id then x else x) xs ≡ xs → cond b x x ∷ map (λ x. if own x == id then x else x) xs ≡ x ∷ xs
+            go true rest = ap (λ ys. x ∷ ys) rest
+            go false rest = ap (λ ys. x ∷ ys) rest
+
+    pub named_with : own (f new) ≡ own (f old) → AllByRecursion IsNamed (with_value_at id new entries)
+    named_with same = still_named entries id new (same ∙ id_of_old) named
+
+module _ {V : Type 0} where
+  pub value_replaced : (entries : List (Entry V)) (id : ℕ) (old new : V) → value_at entries id ≡ Some old → value_at (with_value_at id new entries) id ≡ Some new
+  value_replaced [] id old new e = absurd (cc)
+  value_replaced (x ∷ xs) id old new e = go (x.id == id) refl e (λ e. value_replaced xs id old new e)
+    where
+      go : (b : Bool) → (x.id == id) ≡ b → option_map value_of (cond b (Some x) (find (λ (e : Entry V). e.id == id) xs)) ≡ Some old
+          → (value_at xs id ≡ Some old → value_at (with_value_at id new xs) id ≡ Some new)
+          → option_map value_of (cond ((cond b (entry id new) x).id == id) (Some (cond b (entry id new) x)) (find (λ (e : Entry V). e.id == id) (with_value_at id new xs))) ≡ Some new
+      go true t e rest = let same : (id == id) ≡ true = eq-eqb id id refl in rw same refl
+      go false t e rest = rw t (rest e)
+
+  pub for_replaced : (P : V → Type 0) (entries : List (Entry V)) (id : ℕ) (old new : V) → value_at entries id ≡ Some old → P new → IsSomeAnd (value_at (with_value_at id new entries) id) P
+  for_replaced P entries id old new at is = subst (λ o. IsSomeAnd o P) (sym (value_replaced entries id old new at)) is
+
+abbrev pub view_in : KeptView → View
+view_in k = k.view
+
+abbrev pub id_of_view : View → ℕ
+id_of_view v = v.id
+
+abbrev pub document_in : Kept → Document
+document_in k = k.document
+
+abbrev pub id_of_document : Document → ℕ
+id_of_document d = d.id

@@ -1,0 +1,22 @@
+use Rattle.std.proofs.Common.{sym, ap, ◌∙◌, ◌<◌, IfSome}
+use Rattle.std.specs.Option.{option_copied_mut}
+use Rattle.document.specs.Kept.{Kept}
+use Rattle.session_changes.proofs.Finding.{document_in, id_of_document, unchanged, named_with, value_replaced}
+use Rattle.session_changes.proofs.SessionLemmas.{when_ok, for_some}
+use Rattle.session_changes.proofs.ready.reserve_view_in.Goals as goal
+
+pub returns-clause-same : goal.returns-clause-same
+returns-clause-same c =
+    unchanged document_in id_of_document c.args.documents.now.entries c.args.document c.args.documents.now.next c.requires.named c.requires.rise c.in-Some.document.now c.reserve_view.new.self
+    (sym c.get_mut.ensures.value ∙ ap option_copied_mut c.in-Some.is) (ap document_in c.reserve_view.ensures.same)
+
+pub returns-clause-named : goal.returns-clause-named
+returns-clause-named c =
+    named_with document_in id_of_document c.args.documents.now.entries c.args.document c.args.documents.now.next c.requires.named c.requires.rise c.in-Some.document.now c.reserve_view.new.self
+    (sym c.get_mut.ensures.value ∙ ap option_copied_mut c.in-Some.is) (ap (λ (k : Kept). k.document.id) c.reserve_view.ensures.same)
+
+pub returns-clause-ok : goal.returns-clause-ok
+returns-clause-ok c =
+    when_ok c.reserve_view.result _ _ c.reserve_view.ensures.ok
+    (for_some (λ (k : Kept). 0 < k.spare.views) _ c.reserve_view.new.self
+    (value_replaced c.args.documents.now.entries c.args.document c.in-Some.document.now c.reserve_view.new.self (sym c.get_mut.ensures.value ∙ ap option_copied_mut c.in-Some.is)))

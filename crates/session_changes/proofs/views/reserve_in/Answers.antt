@@ -1,0 +1,24 @@
+use Rattle.std.proofs.Common.{sym, ap, ◌∙◌, OnOk}
+use Rattle.std.specs.Option.{option_copied_mut}
+use Rattle.std.specs.Prelude.{length}
+use Rattle.ed_view.specs.Folding.{fold_need, HasFoldRoom}
+use Rattle.ed_view.specs.declared.folding.FoldNeed.{FoldNeed}
+use Rattle.session_changes.proofs.Finding.{view_in, id_of_view, unchanged, named_with}
+use Rattle.session_changes.proofs.SessionLemmas.{when_ok, fold_room_there}
+use Rattle.session_changes.proofs.views.reserve_in.Goals as goal
+
+pub returns-clause-same : goal.returns-clause-same
+returns-clause-same c =
+    unchanged view_in id_of_view c.args.views.now.entries c.args.view c.args.views.now.next c.requires.named c.requires.rise c.in-Some.view.now c.reserve_folding.new.self
+    (sym c.get_mut.ensures.value ∙ ap option_copied_mut c.in-Some.is) c.reserve_folding.ensures.same
+
+pub returns-clause-named : goal.returns-clause-named
+returns-clause-named c =
+    named_with view_in id_of_view c.args.views.now.entries c.args.view c.args.views.now.next c.requires.named c.requires.rise c.in-Some.view.now c.reserve_folding.new.self
+    (sym c.get_mut.ensures.value ∙ ap option_copied_mut c.in-Some.is) (ap id_of_view c.reserve_folding.ensures.same)
+
+pub returns-clause-ok : goal.returns-clause-ok
+returns-clause-ok c =
+    when_ok c.reserve_folding.result _ _ c.reserve_folding.ensures.ok
+    (fold_room_there c.args.views.now.entries c.args.view c.in-Some.view.now c.reserve_folding.new.self c.args.change c.fold_need-need.result
+    (sym c.get_mut.ensures.value ∙ ap option_copied_mut c.in-Some.is) c.reserve_folding.ensures.same c.fold_need-need.ensures)

@@ -1,0 +1,35 @@
+-- Changes of a view, and the room in it that they need.
+use Rattle.std.specs.Prelude.{◌≡◌, ℕ, ◌==◌, if◌then◌else◌, Bool, true, false, not, List, map, length, IsSomeAnd}
+use Rattle.ed_model.specs.declared.plan.ViewChange.{ViewChange}
+use Rattle.ed_model.specs.declared.plan.ViewChange.TheVariants.{HideLines, SetExpanded, Contract, Expand, EnsureVisible}
+use Rattle.ed_model.specs.Rows.{Row}
+use Rattle.ed_model.specs.Session.{Document, View}
+use Rattle.ed_view.specs.Folding.{fold_need, IsWithin, HasFoldRoom}
+use Rattle.ed_view.specs.Kept.{KeptView}
+use Rattle.id_table.specs.Entries.{Entry, value_at}
+
+-- whether the change may take memory for lines to be hidden or contracted
+abbrev pub takes_fold_room : ViewChange → Bool
+takes_fold_room (HideLines first past) = true
+takes_fold_room (SetExpanded line on) = not on
+takes_fold_room (Contract line) = true
+takes_fold_room (Expand line) = true
+takes_fold_room (EnsureVisible line) = true
+takes_fold_room other = false
+
+-- the view is there, and has the room
+abbrev pub HasFoldRoomAt : List (Entry KeptView) → ℕ → ViewChange → Type 0
+HasFoldRoomAt entries view change = IsSomeAnd (value_at entries view) (λ v. HasFoldRoom v.room (fold_need (length v.view.flags) change))
+
+-- the fold levels of the document's lines
+abbrev pub levels_of : Document → List ℕ
+levels_of d = map (λ (row : Row). row.level) d.rows
+
+-- the view of that id changes
+abbrev pub changed_at : ℕ → (View → View) → List View → List View
+changed_at id change views = map (λ (v : View). if v.id == id then change v else v) views
+
+-- the levels are of as many lines as the view has, the change is within them, and there is room for it
+abbrev pub CanChange : List ℕ → ViewChange → KeptView → Type 0
+CanChange levels change v =
+    (length levels ≡ length v.view.flags) × IsWithin (length v.view.flags) change × HasFoldRoom v.room (fold_need (length v.view.flags) change)

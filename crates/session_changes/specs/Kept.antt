@@ -1,0 +1,26 @@
+-- What holds of what a session keeps, between calls.
+use Rattle.std.specs.Prelude.{◌≡◌, true, List, map}
+use Rattle.std.specs.List.{AllByRecursion}
+use Rattle.ed_model.specs.Session.{View, is_allowed}
+use Rattle.ed_model.specs.SoundLaws.{Rise, IsSound}
+use Rattle.id_table.specs.Entries.{Entry, Entries}
+use Rattle.document.specs.Kept.{Kept}
+use Rattle.ed_view.specs.Kept.{KeptView}
+use Rattle.scene.specs.Scenes.{views_of, AreNamed}
+use Rattle.message_plans.specs.Requested.{session_in}
+use Rattle.message_plans.specs.declared.state.SessionState.{SessionState}
+
+-- each document is kept under its own id
+abbrev pub DocumentsAreNamed : List (Entry Kept) → Type 0
+DocumentsAreNamed entries = AllByRecursion (λ (e : Entry Kept). e.id ≡ e.value.document.id) entries
+
+-- it is sound, has limits that it may have, and keeps documents and views under their own ids
+pub record IsKept (s : SessionState) : Type 0 where
+  pub sound : IsSound (session_in s)
+  pub limits : is_allowed s.limits ≡ true
+  pub documents : DocumentsAreNamed s.documents.entries
+  pub views : AreNamed s.views.entries
+
+-- the ids of views rise
+abbrev pub ViewsRise : Entries KeptView → Type 0
+ViewsRise views = Rise 0 views.next (map (λ (v : View). v.id) (views_of views.entries))

@@ -1,0 +1,114 @@
+//! A view goes from one document to another.
+
+ghost use Rattle.std.specs.Prelude.{◌≡◌, ◌≢◌, ◌<◌, ◌^◌, map, length, IfSome, IsSomeAnd};
+ghost use Rattle.ed_model.specs.Session.{living, attached_to};
+ghost use Rattle.ed_model.specs.Changes.{attached_last};
+ghost use Rattle.id_table.specs.Entries.{value_at};
+ghost use Rattle.scene.specs.Scenes.{views_of, AreNamed};
+ghost use Rattle.message_plans.specs.Requested.{documents_in};
+ghost use Rattle.session_changes.specs.Kept.{DocumentsAreNamed, ViewsRise};
+ghost use Rattle.session_changes.specs.Folding.{changed_at};
+ghost use Rattle.session_changes.specs.Moving.{CanMove, DocumentsRise, with_last};
+
+use document::Document;
+use document_table::{DocumentTable, the_living_are_left};
+use ed_view::View;
+use id_table::IdTable;
+use message_plans::SessionState;
+
+/// Attaches a view behind those of the document of an id, which has a place for it.
+fn put_last(documents: &mut DocumentTable, document: u32, view: u32)
+    requires named { DocumentsAreNamed documents.old.entries }
+    requires rise { DocumentsRise documents.old }
+    requires place { IsSomeAnd (value_at documents.old.entries document) (λ k. 0 < k.spare.views) }
+    ensures documents { documents_in documents.new ≡ with_last document view (documents_in documents.old) }
+    ensures named { DocumentsAreNamed documents.new.entries }
+    ensures next { documents.new.next ≡ documents.old.next }
+{
+    let Some(document) = documents.get_mut(document) else {
+        unreachable!()
+    };
+    document.attach_reserved(view);
+}
+
+/// Takes a view out of the list of the document of an id, and attaches it there behind all others.
+fn move_last(documents: &mut DocumentTable, document: u32, view: u32)
+    requires can { CanMove documents.old document view document }
+    ensures documents { documents_in documents.new ≡ living (map (attached_last view document) (documents_in documents.old)) }
+    ensures named { DocumentsAreNamed documents.new.entries }
+    ensures next { documents.new.next ≡ documents.old.next }
+{
+    let Some(document) = documents.get_mut(document) else {
+        unreachable!()
+    };
+    document.detach(view);
+    document.attach_reserved(view);
+}
+
+/// The same, where the view comes from another document, which goes with its last reference.
+fn pass_on(documents: &mut DocumentTable, from: u32, view: u32, to: u32)
+    requires other { from ≢ to }
+    requires can { CanMove documents.old from view to }
+    ensures documents { documents_in documents.new ≡ living (map (attached_last view to) (documents_in documents.old)) }
+    ensures named { DocumentsAreNamed documents.new.entries }
+    ensures next { documents.new.next ≡ documents.old.next }
+{
+    // The law that the documents left are the living.
+    the_living_are_left();
+    put_last(documents, to, view);
+    documents.leave(from, view);
+}
+
+/// Moves a view from its document to the end of the list of another, or of its own.
+pub(crate) fn move_view(documents: &mut DocumentTable, from: u32, view: u32, to: u32)
+    requires can { CanMove documents.old from view to }
+    ensures documents { documents_in documents.new ≡ living (map (attached_last view to) (documents_in documents.old)) }
+    ensures named { DocumentsAreNamed documents.new.entries }
+    ensures next { documents.new.next ≡ documents.old.next }
+{
+    if from == to {
+        move_last(documents, to, view);
+    } else {
+        pass_on(documents, from, view, to);
+    }
+}
+
+/// Puts the view of an id at the start of a document: it stands there, and all lines are visible and expanded.
+fn stand_on(views: &mut IdTable<View>, view: u32, document: &Document)
+    requires few { IsSomeAnd (value_at views.old.entries view) (λ v. length v.view.flags < 2 ^ 63) }
+    requires named { AreNamed views.old.entries }
+    requires rise { ViewsRise views.old }
+    ensures views { views_of views.new.entries ≡ changed_at view (attached_to document.now.document) (views_of views.old.entries) }
+    ensures named { AreNamed views.new.entries }
+    ensures next { views.new.next ≡ views.old.next }
+{
+    let Some(view) = views.get_mut(view) else {
+        unreachable!()
+    };
+    view.attach_to(document.id(), document.line_count());
+}
+
+/// Attaches the view of an id, which is on the document `from`, to the document `to`, or to its own once more.
+pub(crate) fn attach(state: &mut SessionState, from: u32, view: u32, to: u32)
+    requires can { CanMove state.old.documents from view to }
+    requires few { IsSomeAnd (value_at state.old.views.entries view) (λ v. length v.view.flags < 2 ^ 63) }
+    requires named { AreNamed state.old.views.entries }
+    requires rise { ViewsRise state.old.views }
+    ensures documents { documents_in state.new.documents ≡ living (map (attached_last view to) (documents_in state.old.documents)) }
+    ensures views { IfSome (value_at state.old.documents.entries to) (λ k. views_of state.new.views.entries ≡ changed_at view (attached_to k.document) (views_of state.old.views.entries)) }
+    ensures next_document { state.new.documents.next ≡ state.old.documents.next }
+    ensures next_view { state.new.views.next ≡ state.old.views.next }
+    ensures clipboard { state.new.clipboard ≡ state.old.clipboard }
+    ensures limits { state.new.limits ≡ state.old.limits }
+    ensures named_documents { DocumentsAreNamed state.new.documents.entries }
+    ensures named_views { AreNamed state.new.views.entries }
+{
+    let SessionState {
+        documents, views, ..
+    } = state;
+    let Some(document) = documents.get(to) else {
+        unreachable!()
+    };
+    stand_on(views, view, document);
+    move_view(documents, from, view, to);
+}

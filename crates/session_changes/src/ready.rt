@@ -1,0 +1,142 @@
+//! What is made before a session changes.
+
+ghost use Rattle.std.specs.Prelude.{◌≡◌, ◌<◌, false, IsOk, IfOk, OnOk, IfSome};
+ghost use Rattle.id_table.specs.Entries.{value_at};
+ghost use Rattle.scene.specs.Scenes.{AreNamed};
+ghost use Rattle.message_plans.specs.Requested.{session_in, documents_in};
+ghost use Rattle.session_changes.specs.Kept.{IsKept, DocumentsAreNamed};
+ghost use Rattle.session_changes.specs.Moving.{DocumentsRise};
+ghost use Rattle.session_changes.specs.Ready.{IsReady, IsClipboardFor, IsNewDocument, AwaitsView, IsHeld, takes_memory};
+
+use document::Document;
+use document_table::DocumentTable;
+use ed_model::SessionChange;
+use message_plans::SessionState;
+use std::alloc::{AllocError, Global};
+
+/// What was made for a change of a session.
+#[derive(Drop)]
+pub enum SessionReady {
+    /// Nothing, but perhaps room in a document.
+    Nothing,
+    /// Room for the bytes that the clipboard becomes.
+    Clipboard { bytes: Vec<u8> },
+    /// A new document, for which the session's table has room.
+    NewDocument { document: Document },
+}
+
+/// Room for so many bytes that go to the clipboard.
+///
+/// # Errors
+///
+/// `AllocError` where memory is refused.
+fn clipboard_for(alloc: Global, count: usize) -> Result<SessionReady, AllocError>
+    ensures ok { IfOk result (IsClipboardFor count) }
+    ensures free { count ≡ 0 → IsOk result }
+{
+    let mut bytes = Vec::new(alloc);
+    let Ok(()) = bytes.reserve(count) else {
+        return Err(AllocError);
+    };
+    Ok(SessionReady::Clipboard { bytes })
+}
+
+/// Makes a place for a view in the document of an id, if it is there.
+///
+/// # Errors
+///
+/// `AllocError` where memory is refused. All documents are as they were, here too.
+fn reserve_view_in(documents: &mut DocumentTable, document: u32) -> Result<(), AllocError>
+    requires named { DocumentsAreNamed documents.old.entries }
+    requires rise { DocumentsRise documents.old }
+    ensures same { documents_in documents.new ≡ documents_in documents.old }
+    ensures named { DocumentsAreNamed documents.new.entries }
+    ensures next { documents.new.next ≡ documents.old.next }
+    ensures ok { OnOk result (IfSome (value_at documents.new.entries document) (λ k. 0 < k.spare.views)) }
+{
+    let Some(document) = documents.get_mut(document) else {
+        return Ok(());
+    };
+    document.reserve_view()
+}
+
+/// A new document with the table's next id, which has a place for a view; and room for it in the table.
+///
+/// # Errors
+///
+/// `AllocError` where memory is refused. All documents are as they were, here too.
+fn document_for_view(
+    alloc: Global,
+    documents: &mut DocumentTable,
+) -> Result<SessionReady, AllocError>
+    ensures entries { documents.new.entries ≡ documents.old.entries }
+    ensures next { documents.new.next ≡ documents.old.next }
+    ensures ok { IfOk result (IsNewDocument documents.new (AwaitsView documents.new.next)) }
+{
+    let mut document = Document::new(alloc, documents.next(), 0)?;
+    let Ok(()) = document.reserve_view() else {
+        return Err(AllocError);
+    };
+    let Ok(()) = documents.reserve(1) else {
+        return Err(AllocError);
+    };
+    Ok(SessionReady::NewDocument { document })
+}
+
+/// A new document with the table's next id and these options, which a caller holds; and room for it in the table.
+///
+/// # Errors
+///
+/// `AllocError` where memory is refused. All documents are as they were, here too.
+fn document_for_caller(
+    alloc: Global,
+    documents: &mut DocumentTable,
+    options: u32,
+) -> Result<SessionReady, AllocError>
+    ensures entries { documents.new.entries ≡ documents.old.entries }
+    ensures next { documents.new.next ≡ documents.old.next }
+    ensures ok { IfOk result (IsNewDocument documents.new (IsHeld documents.new.next options)) }
+{
+    let mut document = Document::new(alloc, documents.next(), options)?;
+    let Ok(()) = documents.reserve(1) else {
+        return Err(AllocError);
+    };
+    document.hold();
+    Ok(SessionReady::NewDocument { document })
+}
+
+/// Makes all that a change of the session needs.
+///
+/// # Errors
+///
+/// `AllocError` where memory is refused. The session is as it was, here too.
+pub fn prepare_session_change(
+    alloc: Global,
+    state: &mut SessionState,
+    change: SessionChange,
+) -> Result<SessionReady, AllocError>
+    requires kept { IsKept state.old }
+    ensures same { session_in state.new ≡ session_in state.old }
+    ensures limits { state.new.limits ≡ state.old.limits }
+    ensures documents { DocumentsAreNamed state.new.documents.entries }
+    ensures views { AreNamed state.new.views.entries }
+    ensures ok { IfOk result (λ ready. IsReady state.new.documents change ready) }
+    ensures free { takes_memory change ≡ false → IsOk result }
+{
+    match change {
+        SessionChange::Copy { count, .. } | SessionChange::CopyText { count } => {
+            clipboard_for(alloc, count)
+        }
+        SessionChange::Attach { document } => {
+            reserve_view_in(&mut state.documents, document)?;
+            Ok(SessionReady::Nothing)
+        }
+        SessionChange::AttachNew => document_for_view(alloc, &mut state.documents),
+        SessionChange::Create { options } => {
+            document_for_caller(alloc, &mut state.documents, options)
+        }
+        SessionChange::AddReference { .. } | SessionChange::Release { .. } => {
+            Ok(SessionReady::Nothing)
+        }
+    }
+}

@@ -1,0 +1,163 @@
+//! Changes of a session: its clipboard, and which documents there are.
+
+ghost use Rattle.std.specs.Prelude.{◌≡◌, ◌+◌, ◌<◌, ◌^◌, [], map, length, vec_capacity, IfSome, IsSomeAnd};
+ghost use Rattle.ed_model.specs.Session.{living, text_of};
+ghost use Rattle.ed_model.specs.Requests.{Request};
+ghost use Rattle.ed_model.specs.Changes.{session_changed, held_more, held_less};
+ghost use Rattle.id_table.specs.Entries.{value_at};
+ghost use Rattle.scene.specs.Scenes.{AreNamed};
+ghost use Rattle.message_plans.specs.Requested.{session_in, documents_in};
+ghost use Rattle.session_changes.specs.Kept.{IsKept, DocumentsAreNamed};
+ghost use Rattle.session_changes.specs.Asked.{IsAsked, CanChangeSession, CanChangeDocuments};
+ghost use Rattle.session_changes.specs.Clipboard.{copied, CanCopy};
+ghost use Rattle.session_changes.specs.Moving.{DocumentsRise};
+ghost use Rattle.session_changes.specs.Ready.{IsReady};
+ghost use Rattle.session_changes.specs.declared.ready.SessionReady.TheVariants as made;
+
+use crate::moving::attach;
+use crate::ready::SessionReady;
+use document::Document;
+use document_table::{DocumentTable, the_living_are_left};
+use ed_model::SessionChange;
+use message_plans::SessionState;
+
+/// Copies what goes to the clipboard, for which there is room: bytes of the document of an id, or of the message's text.
+fn copy(
+    documents: &DocumentTable,
+    document: u32,
+    text: &[u8],
+    change: SessionChange,
+    bytes: &mut Vec<u8>,
+)
+    requires empty { bytes.old.items ≡ [] }
+    requires can { IsSomeAnd (value_at documents.now.entries document) (λ k. CanCopy change (length k.document.cells) (length text.now) (vec_capacity bytes.old)) }
+    ensures { IfSome (value_at documents.now.entries document) (λ k. bytes.new.items ≡ copied change (text_of k.document) text.now) }
+{
+    let Some(document) = documents.get(document) else {
+        unreachable!()
+    };
+    let copied = match change {
+        SessionChange::Copy { start, count } => document.append_text_to(start, count, bytes),
+        SessionChange::CopyText { count } => bytes.extend_from_slice(&text[..count]),
+        _ => unreachable!(),
+    };
+    let Ok(()) = copied else { unreachable!() };
+}
+
+/// Changes the clipboard; `bytes` has room for what it becomes.
+fn change_clipboard(
+    state: &mut SessionState,
+    document: u32,
+    view: u32,
+    text: &[u8],
+    change: SessionChange,
+    mut bytes: Vec<u8>,
+)
+    requires kept { IsKept state.old }
+    requires can { CanChangeSession (session_in state.old) document view text.now change }
+    requires ready { IsReady state.old.documents change (made.Clipboard bytes) }
+    ensures changed { (r : Request) → IsAsked (session_in state.old) document view r → r.message.text ≡ text.now → session_in state.new ≡ session_changed r change }
+    ensures limits { state.new.limits ≡ state.old.limits }
+    ensures documents { DocumentsAreNamed state.new.documents.entries }
+    ensures views { AreNamed state.new.views.entries }
+{
+    copy(&state.documents, document, text, change, &mut bytes);
+    state.clipboard = bytes;
+}
+
+/// Gives callers a reference more to the document of an id.
+fn hold(documents: &mut DocumentTable, document: u32)
+    requires few { IsSomeAnd (value_at documents.old.entries document) (λ k. k.document.held_by_callers + 1 < 2 ^ 32) }
+    requires named { DocumentsAreNamed documents.old.entries }
+    requires rise { DocumentsRise documents.old }
+    ensures documents { documents_in documents.new ≡ map (held_more document) (documents_in documents.old) }
+    ensures named { DocumentsAreNamed documents.new.entries }
+    ensures next { documents.new.next ≡ documents.old.next }
+{
+    let Some(document) = documents.get_mut(document) else {
+        unreachable!()
+    };
+    document.hold();
+}
+
+/// Takes a reference of a caller to the document of an id away, which goes with its last reference.
+fn release(state: &mut SessionState, document: u32)
+    requires kept { IsKept state.old }
+    ensures changed { session_in state.new ≡ (let s = session_in state.old in record s { documents = living (map (held_less document) s.documents) }) }
+    ensures limits { state.new.limits ≡ state.old.limits }
+    ensures documents { DocumentsAreNamed state.new.documents.entries }
+    ensures views { state.new.views ≡ state.old.views }
+{
+    // The law that the documents left are the living.
+    the_living_are_left();
+    state.documents.release(document);
+}
+
+/// Changes who refers to a document.
+fn change_references(state: &mut SessionState, document: u32, view: u32, change: SessionChange)
+    requires kept { IsKept state.old }
+    requires can { CanChangeDocuments (session_in state.old) document view change }
+    requires ready { IsReady state.old.documents change made.Nothing }
+    ensures changed { (r : Request) → IsAsked (session_in state.old) document view r → session_in state.new ≡ session_changed r change }
+    ensures limits { state.new.limits ≡ state.old.limits }
+    ensures documents { DocumentsAreNamed state.new.documents.entries }
+    ensures views { AreNamed state.new.views.entries }
+{
+    match change {
+        SessionChange::Attach { document: to } => attach(state, document, view, to),
+        SessionChange::AddReference { document } => hold(&mut state.documents, document),
+        SessionChange::Release { document } => release(state, document),
+        _ => unreachable!(),
+    }
+}
+
+/// Puts a new document into the table, and attaches the view to it where that is the change.
+fn add_document(
+    state: &mut SessionState,
+    document: u32,
+    view: u32,
+    change: SessionChange,
+    new: Document,
+)
+    requires kept { IsKept state.old }
+    requires can { CanChangeDocuments (session_in state.old) document view change }
+    requires ready { IsReady state.old.documents change (made.NewDocument new) }
+    ensures changed { (r : Request) → IsAsked (session_in state.old) document view r → session_in state.new ≡ session_changed r change }
+    ensures limits { state.new.limits ≡ state.old.limits }
+    ensures documents { DocumentsAreNamed state.new.documents.entries }
+    ensures views { AreNamed state.new.views.entries }
+{
+    let id = state.documents.insert_reserved(new);
+    if let SessionChange::AttachNew = change {
+        attach(state, document, view, id);
+    }
+}
+
+/// Makes a change of the session for the view of an id, which is on the document of that id, with what was made for it before.
+/// `text` is the message's.
+pub fn change_session(
+    state: &mut SessionState,
+    document: u32,
+    view: u32,
+    text: &[u8],
+    change: SessionChange,
+    ready: SessionReady,
+)
+    requires kept { IsKept state.old }
+    requires can { CanChangeSession (session_in state.old) document view text.now change }
+    requires ready { IsReady state.old.documents change ready }
+    ensures changed { (r : Request) → IsAsked (session_in state.old) document view r → r.message.text ≡ text.now → session_in state.new ≡ session_changed r change }
+    ensures limits { state.new.limits ≡ state.old.limits }
+    ensures documents { DocumentsAreNamed state.new.documents.entries }
+    ensures views { AreNamed state.new.views.entries }
+{
+    match ready {
+        SessionReady::Nothing => change_references(state, document, view, change),
+        SessionReady::Clipboard { bytes } => {
+            change_clipboard(state, document, view, text, change, bytes);
+        }
+        SessionReady::NewDocument { document: new } => {
+            add_document(state, document, view, change, new);
+        }
+    }
+}

@@ -1,0 +1,109 @@
+//! Changes of a view: its settings, its selection, and which lines it shows.
+
+ghost use Rattle.std.specs.Prelude.{◌≡◌, false, map, length, IsOk, OnOk, IsSome, IsSomeAnd};
+ghost use Rattle.ed_model.specs.Session.{lines_in};
+ghost use Rattle.ed_model.specs.Requests.{Request};
+ghost use Rattle.ed_model.specs.Changes.{changed_view, view_change_performed};
+ghost use Rattle.id_table.specs.Entries.{value_at};
+ghost use Rattle.scene.specs.Scenes.{views_of, AreNamed};
+ghost use Rattle.message_plans.specs.Requested.{session_in};
+ghost use Rattle.session_changes.specs.Kept.{IsKept, ViewsRise};
+ghost use Rattle.session_changes.specs.Asked.{IsAsked, CanChangeView};
+ghost use Rattle.session_changes.specs.Folding.{takes_fold_room, HasFoldRoomAt, levels_of, changed_at, CanChange};
+
+use contraction::Levels;
+use document::Document;
+use ed_model::ViewChange;
+use ed_view::{View, fit_changes_are_within};
+use id_table::IdTable;
+use message_plans::SessionState;
+use std::alloc::AllocError;
+
+/// Makes room in the view of an id for a change of it. Only a change that hides or contracts lines needs any.
+///
+/// # Errors
+///
+/// `AllocError` where memory is refused. All views are as they were, here too.
+fn reserve_in(views: &mut IdTable<View>, view: u32, change: ViewChange) -> Result<(), AllocError>
+    requires there { IsSome (value_at views.old.entries view) }
+    requires named { AreNamed views.old.entries }
+    requires rise { ViewsRise views.old }
+    ensures same { views_of views.new.entries ≡ views_of views.old.entries }
+    ensures named { AreNamed views.new.entries }
+    ensures next { views.new.next ≡ views.old.next }
+    ensures ok { OnOk result (HasFoldRoomAt views.new.entries view change) }
+    ensures free { takes_fold_room change ≡ false → IsOk result }
+{
+    let Some(view) = views.get_mut(view) else {
+        unreachable!()
+    };
+    let need = view.fold_need(change);
+    view.reserve_folding(need)
+}
+
+/// Makes room in the view of an id for a change of it. Only a change that hides or contracts lines needs any.
+///
+/// # Errors
+///
+/// `AllocError` where memory is refused. The session is as it was, here too.
+pub fn reserve_view_change(
+    state: &mut SessionState,
+    view: u32,
+    change: ViewChange,
+) -> Result<(), AllocError>
+    requires kept { IsKept state.old }
+    requires there { IsSome (value_at state.old.views.entries view) }
+    ensures same { session_in state.new ≡ session_in state.old }
+    ensures limits { state.new.limits ≡ state.old.limits }
+    ensures documents { state.new.documents ≡ state.old.documents }
+    ensures views { AreNamed state.new.views.entries }
+    ensures ok { OnOk result (HasFoldRoomAt state.new.views.entries view change) }
+    ensures free { takes_fold_room change ≡ false → IsOk result }
+{
+    reserve_in(&mut state.views, view, change)
+}
+
+/// The fold levels of a document's lines.
+fn levels_of(document: &Document) -> Levels<'_>
+    ensures levels { result ≡ levels_of document.now.document }
+    ensures lines { length result ≡ lines_in document.now.document }
+{
+    let (before, after) = document.rows().levels().stored();
+    Levels::new(before, after, document.line_count())
+}
+
+/// Changes the view of an id; the levels are those of its document.
+fn change_in(views: &mut IdTable<View>, view: u32, levels: &Levels, change: ViewChange)
+    requires can { IsSomeAnd (value_at views.old.entries view) (CanChange levels.now change) }
+    requires named { AreNamed views.old.entries }
+    requires rise { ViewsRise views.old }
+    ensures views { views_of views.new.entries ≡ changed_at view (changed_view levels.now change) (views_of views.old.entries) }
+    ensures named { AreNamed views.new.entries }
+    ensures next { views.new.next ≡ views.old.next }
+{
+    let Some(view) = views.get_mut(view) else {
+        unreachable!()
+    };
+    view.change(levels, change);
+}
+
+/// Changes the view of an id, for which there is room; its document is that of the other id. All else stays as it is.
+pub fn change_view(state: &mut SessionState, document: u32, view: u32, change: ViewChange)
+    requires kept { IsKept state.old }
+    requires can { CanChangeView (session_in state.old) document view change }
+    requires room { HasFoldRoomAt state.old.views.entries view change }
+    ensures changed { (r : Request) → IsAsked (session_in state.old) document view r → session_in state.new ≡ view_change_performed r change }
+    ensures limits { state.new.limits ≡ state.old.limits }
+    ensures documents { state.new.documents ≡ state.old.documents }
+    ensures views { AreNamed state.new.views.entries }
+{
+    // The law that the lines of a fit change are there.
+    fit_changes_are_within();
+    let SessionState {
+        documents, views, ..
+    } = state;
+    let Some(document) = documents.get(document) else {
+        unreachable!()
+    };
+    change_in(views, view, &levels_of(document), change);
+}
