@@ -30,6 +30,10 @@ use Rattle.document_changes.specs.Needs.{needs_room, notes_of_change}
 use Rattle.session_changes.specs.Folding.{takes_fold_room}
 use Rattle.session_changes.specs.Ready.{takes_memory}
 
+pub all_known : (o : Option Kind) → o ≡ known_kind o
+all_known None = refl
+all_known (Some kind) = refl
+
 pub no_view : (s : Session) (id : ℕ) (m : Message) → view_at s.views id ≡ None → table table_so_far s id m ≡ Err NoSuchView
 no_view s id m none = ap (table_from_view table_so_far s m) none
 

@@ -13,7 +13,7 @@ ghost use Rattle.editor_session.specs.Tasks.{known_kind, IsFound, IsTask};
 
 use ed_model::{Plan, plans_are_fit};
 use ed_types::{Kind, Refusal};
-use message_plans::{Request, SentMessage, SessionState, plan_of, table_so_far};
+use message_plans::{Request, SentMessage, SessionState, plan_of};
 
 /// What is to be done for a message.
 #[derive(Clone, Copy, Debug)]
@@ -28,12 +28,11 @@ pub(crate) struct Task {
     pub is_recorded: bool,
 }
 
-/// The kind of a message by its number, if there is such a message yet.
+/// The kind of a message by its number, if there is such a message.
 fn known_kind(number: u32) -> Option<Kind>
     ensures { result ≡ known_kind (kind_of number) }
 {
-    let kind = Kind::from_number(number)?;
-    if table_so_far(kind) { Some(kind) } else { None }
+    Kind::from_number(number)
 }
 
 /// Finds the view of a message, its kind, and the view's document.
