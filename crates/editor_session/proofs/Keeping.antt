@@ -12,7 +12,7 @@ use Rattle.scene.specs.Scenes.{AreNamed}
 use Rattle.message_plans.specs.TableSoFar.{table_so_far}
 use Rattle.message_plans.specs.Requested.{session_in}
 use Rattle.message_plans.specs.declared.state.SessionState.{SessionState}
-use Rattle.editor_session.specs.Kept.{IsKept, DocumentsAreNamed}
+use Rattle.session_changes.specs.Kept.{IsKept, DocumentsAreNamed}
 use Rattle.editor_session.specs.Opening.{with_view_on_new}
 
 -- the session after an answer of the table

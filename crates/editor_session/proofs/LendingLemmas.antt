@@ -13,7 +13,7 @@ use Rattle.message_plans.specs.Requested.{documents_in, session_in}
 use Rattle.message_plans.specs.declared.state.SessionState.{SessionState}
 use Rattle.editor_session.specs.Lent.{lent_range, lent_from, lent_of, lent_if}
 use Rattle.editor_session.proofs.Finding.{view_in, id_of_view, document_in, id_of_document, found_some, found_none}
-use Rattle.editor_session.specs.Kept.{DocumentsAreNamed, IsKept}
+use Rattle.session_changes.specs.Kept.{DocumentsAreNamed, IsKept}
 use Rattle.editor_session.proofs.Performing.{found_all}
 
 above_stays : (k : Kept) (id low high : ℕ) (es : List (Entry Kept)) → Rise low high (map id_of es) → id < low → with_value_at id k es ≡ es

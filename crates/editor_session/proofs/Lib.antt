@@ -1,11 +1,11 @@
 pub mod Finding
-pub mod KnownPlans
 pub mod Styled
 pub mod TableWay
 pub mod Stepping
 pub mod Replacing
 pub mod Performing
-pub mod Width
+pub mod Changing
+pub mod Preparing
 pub mod Keeping
 pub mod OpeningLemmas
 pub mod Needing

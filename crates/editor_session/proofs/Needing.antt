@@ -1,32 +1,44 @@
 -- What is told of needs.
-use Rattle.std.proofs.Common.{◌≡◌, ℕ, ◌+◌, ◌-◌, ◌<◌, ◌≤◌, ◌^◌, ◌==◌, Bool, true, false, cond, List, [], ◌∷◌, length, map, refl, ap, sym, ◌∙◌, subst, arith, Option, Some, None, option_map, IsSomeAnd}
-use Rattle.std.specs.Prelude.{filter_map, find, if◌then◌else◌}
+use Rattle.std.proofs.Common.{◌≡◌, ℕ, ◌+◌, ◌-◌, ◌<◌, ◌≤◌, ◌^◌, ◌*◌, ◌&&◌, ◌==◌, ℤ, Bool, true, false, cond, List, [], ◌∷◌, length, map, refl, ap, sym, ◌∙◌, subst, arith, Option, Some, None, option_map, IsSomeAnd}
+use Rattle.std.specs.Prelude.{filter_map, find, min, not, if◌then◌else◌}
 use Rattle.std.specs.List.{cons_option}
-use Rattle.std.proofs.lemmas.Bool.{eqb-true, eq-eqb, ne_eqb}
+use Rattle.std.proofs.lemmas.Bool.{and_parts, eqb-true, eq-eqb, ne_eqb}
 use Rattle.ed_model.specs.declared.plan.Plan.{Plan}
 use Rattle.ed_model.specs.declared.plan.Plan.TheVariants as plan
 use Rattle.ed_model.specs.Steps.{Step}
-use Rattle.ed_model.specs.Session.{Document, View, document_at, view_at, watching}
+use Rattle.ed_model.specs.Session.{Session, Document, View, document_at, view_at, watching}
 use Rattle.ed_model.specs.Requests.{Request}
-use Rattle.ed_model.specs.Performing.{Scene}
+use Rattle.ed_model.specs.Performing.{Scene, scene_of}
+use Rattle.ed_model.specs.declared.plan.Edit.{Edit}
+use Rattle.ed_model.specs.declared.plan.Follow.{Follow}
+use Rattle.ed_model.specs.declared.plan.Follow.TheVariants as follow
+use Rattle.ed_model.specs.declared.plan.DocumentChange.{DocumentChange}
+use Rattle.ed_model.specs.Edits.{steps_of, has_steps}
+use Rattle.document.specs.declared.undoing.Direction.TheVariants.{Undo, Redo}
+use Rattle.document_changes.specs.Needs.{needs_room, notes_of_change}
+use Rattle.scene.specs.Scenes.{scene_in}
+use Rattle.scene.specs.Undoing.{capped, capped_room, capped_notes}
+use Rattle.message_plans.specs.declared.state.SessionState.{SessionState}
+use Rattle.editor_session.specs.Plans.{takes_nothing_along}
+use Rattle.editor_session.specs.Edited.{IsPastedFor}
+use Rattle.editor_session.specs.Edits.{edit_steps}
+use Rattle.editor_session.proofs.Performing.{same_edit}
 use Rattle.ed_model.specs.SoundLaws.{Rise}
 use Rattle.id_table.specs.Entries.{Entry, entry, value_of, value_at, with_value_at}
 use Rattle.document.specs.declared.room.DocumentRoom.{DocumentRoom}
 use Rattle.document.specs.Kept.{Kept, HasRoom, amount_sum, room_sum, no_room}
 use Rattle.scene.specs.Needs.{note_room, notes_of_step, bytes_of_step, leaving_count}
 use Rattle.editor_session.specs.declared.need.Need.{Need}
-use Rattle.editor_session.specs.Kept.{DocumentsAreNamed}
+use Rattle.session_changes.specs.Kept.{DocumentsAreNamed}
 use Rattle.editor_session.specs.Prepared.{HasRoomAt}
-use Rattle.editor_session.specs.Needs.{no_need, need_sum, room_of_step, IsAtLeast, IsCounted, NeedsSteps, NeedsTask}
+use Rattle.editor_session.specs.Needs.{no_need, need_sum, clipboard_need, IsAtLeast, IsCounted, IsEnoughFor, IsAbout, text_of_plan, clipboard_of_plan, notes_of_plan, bytes_of_plan, room_of_plan, notes_of_history_of, bytes_of_history_of, room_of_history_of, NeedsSteps, NeedsEdit, NeedsTask}
+use Rattle.scene.specs.Conversion.{room_of_step}
 use Rattle.editor_session.proofs.Finding.{document_in, id_of_document, replaced, still_named, found_some, id_of_document_at}
 
 -- One step.
 
 sum_counted : (a b : ℕ) → amount_sum a b < 2 ^ 64 - 1 → a + b ≤ amount_sum a b
 sum_counted a b h = omega arith
-
-sum_at_most : (a : ℕ) → amount_sum a 0 ≤ a
-sum_at_most a = omega arith
 
 pub one_step : (scene : Scene) (step : Step) (room : DocumentRoom) (leaving : ℕ) (need : Need) → room_of_step scene.document.line_end_types step ≡ room
     → leaving ≡ leaving_count (watching scene.views scene.document) scene.document.history
@@ -45,7 +57,6 @@ one_step scene step room leaving need is left e = rw e (record {
           bytes = sum_counted room.bytes 0 c.bytes;
         });
   };
-  at_most = subst (λ (x : DocumentRoom). amount_sum room.text 0 ≤ x.text + 0) (sym is) (omega arith);
   none = λ empty. absurd (cc);
   no_text = refl;
   no_clipboard = refl;
@@ -81,9 +92,115 @@ attempt_needs r need e = rw e (record {
       document_there = record { text = omega arith; lines = omega arith; insertions = omega arith; steps = omega arith; bytes = omega arith };
     };
   };
-  at_most = omega arith;
   free = λ h n. absurd (cc);
 })
+
+-- Amounts that are capped.
+
+capped_enough : (n b : ℕ) (room : DocumentRoom) → IsCounted (record no_need { notes = capped_notes n b; document = capped_room room }) → IsEnoughFor n b room (record no_need { notes = capped_notes n b; document = capped_room room })
+capped_enough n b room c = record {
+  notes_there = less n c.notes;
+  bytes_there = less b c.note_bytes;
+  document_there = record { text = less room.text c.text; lines = less room.lines c.lines; insertions = less room.insertions c.insertions; steps = less room.steps c.steps; bytes = less room.bytes c.bytes };
+}
+  where
+    less : (x : ℕ) → capped x < 2 ^ 64 - 1 → x ≤ capped x
+    less x h = omega arith
+
+pub conversion_needs : (steps : List Step) (scene : Scene) (need : Need)
+    → need ≡ record no_need { notes = capped_notes (notes_for steps scene) (bytes_for steps scene); document = capped_room (room_of_steps scene.document.line_end_types steps) } → NeedsSteps steps scene need
+conversion_needs steps scene need e = rw e (record {
+  enough = capped_enough (notes_for steps scene) (bytes_for steps scene) (room_of_steps scene.document.line_end_types steps);
+  none = λ empty. rw empty refl;
+  no_text = refl;
+  no_clipboard = refl;
+})
+
+with_none : (n b : ℕ) (room : DocumentRoom) (need : Need) → IsEnoughFor n b room need → IsEnoughFor (0 + n) (0 + b) room need
+with_none n b room need e =
+    let x = e.notes_there in
+    let y = e.bytes_there in
+    record { notes_there = omega (arith, x); bytes_there = omega (arith, y); document_there = e.document_there }
+
+pub undo_needs : (r : Request) (need : Need) → need ≡ record no_need { notes = capped_notes (notes_of_history_of Undo r) (bytes_of_history_of Undo r); document = capped_room (room_of_history_of Undo r) } → NeedsTask r plan.Undo false need
+undo_needs r need e = rw e (record {
+  enough = λ c. record { text_there = refl; clipboard_there = refl; all_there = with_none _ _ _ _ (capped_enough (notes_of_history_of Undo r) (bytes_of_history_of Undo r) (room_of_history_of Undo r) c) };
+  free = λ h n. absurd (cc);
+})
+
+pub redo_needs : (r : Request) (need : Need) → need ≡ record no_need { notes = capped_notes (notes_of_history_of Redo r) (bytes_of_history_of Redo r); document = capped_room (room_of_history_of Redo r) } → NeedsTask r plan.Redo false need
+redo_needs r need e = rw e (record {
+  enough = λ c. record { text_there = refl; clipboard_there = refl; all_there = with_none _ _ _ _ (capped_enough (notes_of_history_of Redo r) (bytes_of_history_of Redo r) (room_of_history_of Redo r) c) };
+  free = λ h n. absurd (cc);
+})
+
+-- A plan that needs so many notes, and so much text to hand out.
+
+nothing_there : IsAtLeast no_room no_room
+nothing_there = record { text = omega arith; lines = omega arith; insertions = omega arith; steps = omega arith; bytes = omega arith }
+
+pub change_needs : (r : Request) (change : DocumentChange) (value : ℤ) (need : Need) → need ≡ record no_need { notes = note_room (notes_of_change change r.document.history (watching r.session.views r.document)) 0 } → NeedsTask r (plan.ChangeDocument change value) false need
+change_needs r change value need e = rw e (record {
+  enough = λ c. record { text_there = refl; clipboard_there = refl; all_there = record { notes_there = omega arith; bytes_there = omega arith; document_there = nothing_there } };
+  free = λ h n. (let none : notes_of_change change r.document.history (watching r.session.views r.document) ≡ 0 = eqb-true _ 0 (and_parts (not (needs_room change)) (notes_of_change change r.document.history (watching r.session.views r.document) == 0) h).1 in rw none refl);
+})
+
+pub none_needs : (r : Request) (what : Plan) (need : Need) → need ≡ no_need → text_of_plan what ≡ 0 → clipboard_of_plan what ≡ 0 → notes_of_plan r what ≡ 0 → bytes_of_plan r what ≡ 0 → room_of_plan r what ≡ no_room → NeedsTask r what false need
+none_needs r what need e text clipboard notes bytes room = rw e (record {
+  enough = λ c. record { text_there = sym text; clipboard_there = sym clipboard; all_there = record { notes_there = omega (arith, notes); bytes_there = omega (arith, bytes); document_there = subst (IsAtLeast no_room) (sym room) nothing_there } };
+  free = λ h n. refl;
+})
+
+pub hand_out_needs : (r : Request) (value : ℤ) (start count : ℕ) (need : Need) → need ≡ record no_need { text = count } → NeedsTask r (plan.HandOut value start count) false need
+hand_out_needs r value start count need e = rw e (record {
+  enough = λ c. record { text_there = refl; clipboard_there = refl; all_there = record { notes_there = omega arith; bytes_there = omega arith; document_there = nothing_there } };
+  free = λ h n. (let none : count ≡ 0 = eqb-true count 0 h in rw none refl);
+})
+
+pub styled_needs : (r : Request) (start count : ℕ) (need : Need) → need ≡ record no_need { text = min (count * 2) (2 ^ 64 - 1) } → NeedsTask r (plan.HandOutStyled start count) false need
+styled_needs r start count need e = rw e (record {
+  enough = λ c. record { text_there = (let h : min (count * 2) (2 ^ 64 - 1) < 2 ^ 64 - 1 = c.handed_out in omega (arith, h)); clipboard_there = refl; all_there = record { notes_there = omega arith; bytes_there = omega arith; document_there = nothing_there } };
+  free = λ h n. (let none : count ≡ 0 = eqb-true count 0 h in rw none refl);
+})
+
+-- An edit.
+
+no_steps : (ss : List Step) → not (has_steps ss) ≡ true → ss ≡ []
+no_steps [] h = refl
+no_steps (s ∷ ss) h = absurd (cc)
+
+nothing_along : (f : Follow) → takes_nothing_along f ≡ true → clipboard_need f ≡ 0
+nothing_along (follow.Clipboard start count) h = eqb-true count 0 h
+nothing_along follow.Nothing h = refl
+nothing_along (follow.Caret place) h = refl
+nothing_along (follow.Target start past) h = refl
+
+pub with_clipboard : (steps : List Step) (after : Follow) (scene : Scene) (need : Need) (count : ℕ) → count ≡ clipboard_need after → NeedsSteps steps scene need → NeedsEdit steps after scene (record need { clipboard = count })
+with_clipboard steps after scene need count is h = record {
+  enough = λ c. (let e = h.enough (record { handed_out = c.handed_out; notes = c.notes; note_bytes = c.note_bytes; text = c.text; lines = c.lines; insertions = c.insertions; steps = c.steps; bytes = c.bytes }) in
+      record { notes_there = e.notes_there; bytes_there = e.bytes_there; document_there = e.document_there });
+  none = λ empty. ap (λ n. record n { clipboard = count }) (h.none empty) ∙ ap (λ n. record no_need { clipboard = n }) is;
+  no_text = h.no_text;
+  to_clipboard = is;
+}
+
+pub edit_needs : (s : SessionState) (d : Document) (bytes pasted : List ℕ) (change : Edit) (value : ℤ) (after : Follow) (need : Need) (r : Request) → IsAbout s d bytes r → IsPastedFor (plan.Edit change value after) s.clipboard.items d.line_end pasted
+    → NeedsEdit (edit_steps change bytes s.clipboard.items pasted d) after (scene_in d s.views.entries []) need → NeedsTask r (plan.Edit change value after) false need
+edit_needs s d bytes pasted change value after need r about turned has =
+    let turned_here : IsPastedFor (plan.Edit change value after) r.session.clipboard r.document.line_end pasted =
+    subst (λ (x : Session). IsPastedFor (plan.Edit change value after) x.clipboard r.document.line_end pasted) (sym about.session)
+    (subst (λ (x : Document). IsPastedFor (plan.Edit change value after) s.clipboard.items x.line_end pasted) (sym about.document) turned) in
+    let steps : edit_steps change bytes s.clipboard.items pasted d ≡ steps_of r change =
+    ap (λ x. edit_steps change x s.clipboard.items pasted d) (sym about.text) ∙ ap (λ (x : Session). edit_steps change r.message.text x.clipboard pasted d) (sym about.session)
+    ∙ ap (edit_steps change r.message.text r.session.clipboard pasted) (sym about.document) ∙ same_edit r change value after pasted turned_here in
+    let scene : scene_in d s.views.entries [] ≡ scene_of r =
+    ap (λ (x : Session). record { document = d; views = x.views; notes = [] }) (sym about.session) ∙ ap (λ x. record { document = x; views = r.session.views; notes = [] }) (sym about.document) in
+    let h : NeedsEdit (steps_of r change) after (scene_of r) need = subst (λ x. NeedsEdit (steps_of r change) after x need) scene (subst (λ ss. NeedsEdit ss after (scene_in d s.views.entries []) need) steps has) in
+    record {
+      enough = λ c. record { text_there = h.no_text; clipboard_there = h.to_clipboard; all_there = with_none _ _ _ _ (h.enough c) };
+      free = λ free n. (let parts = and_parts (not (has_steps (steps_of r change))) (takes_nothing_along after) free in
+          h.none (no_steps (steps_of r change) parts.0) ∙ ap (λ k. record no_need { clipboard = k }) (nothing_along after parts.1));
+    }
 
 -- A recorded message.
 
@@ -125,7 +242,6 @@ recorded_needs r what need all bytes was is e = rw e (record {
           };
         };
       });
-  at_most = (let a = sum_at_most need.document.text in let b = was.at_most in omega (arith, a, b));
   free = λ h n. absurd (cc);
 })
   where
@@ -177,3 +293,6 @@ value_replaced (x ∷ xs) id old new e = go (x.id == id) refl e (λ e. value_rep
 
 pub has_room_there : (entries : List (Entry Kept)) (id : ℕ) (old new : Kept) (need : DocumentRoom) → value_at entries id ≡ Some old → HasRoom new need → HasRoomAt (with_value_at id new entries) id need
 has_room_there entries id old new need at room = subst (λ o. IsSomeAnd o (λ k. HasRoom k need)) (sym (value_replaced entries id old new at)) room
+
+pub there_after : (P : Kept → Type 0) (entries : List (Entry Kept)) (id : ℕ) (old new : Kept) → value_at entries id ≡ Some old → P new → IsSomeAnd (value_at (with_value_at id new entries) id) P
+there_after P entries id old new at h = subst (λ o. IsSomeAnd o P) (sym (value_replaced entries id old new at)) h

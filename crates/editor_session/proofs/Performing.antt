@@ -1,44 +1,61 @@
--- What is performed is what the table answers.
-use Rattle.std.proofs.Common.{◌≡◌, ℕ, ◌+◌, ◌≤◌, ℤ, pos, ◌==◌, Bool, true, false, cond, ◌&&◌, List, [], ◌∷◌, ◌++◌, length, refl, ap, sym, ◌∙◌, subst, arith, Option, Some, None, Ok, IfSome, IsSomeAnd, option_map, slice_range}
-use Rattle.std.specs.Prelude.{find, nat_lt}
+-- What is done is what the plan says.
+use Rattle.std.proofs.Common.{◌≡◌, ℕ, ◌+◌, ◌-◌, ◌^◌, ◌≤◌, ℤ, pos, ◌==◌, Bool, true, false, cond, ◌&&◌, List, [], ◌∷◌, ◌++◌, length, map, refl, ap, sym, ◌∙◌, subst, arith, Option, Some, None, Ok, IfSome, IsSome, IsSomeAnd, option_map, slice_range}
+use Rattle.std.specs.Prelude.{find, nat_lt, reverse}
 use Rattle.std.specs.List.{AllByRecursion}
 use Rattle.ed_types.specs.declared.message.Message.{Message}
 use Rattle.ed_types.specs.Notices.{Notice, Response}
 use Rattle.ed_types.specs.Messages.{marks_of}
 use Rattle.ed_model.specs.declared.plan.Source.{Source}
 use Rattle.ed_model.specs.declared.plan.Source.TheVariants as source
+use Rattle.ed_model.specs.declared.plan.Edit.{Edit}
 use Rattle.ed_model.specs.declared.plan.Edit.TheVariants as edit
 use Rattle.ed_model.specs.declared.plan.Follow.{Follow}
 use Rattle.ed_model.specs.declared.plan.Follow.TheVariants as follow
+use Rattle.ed_model.specs.declared.plan.DocumentChange.{DocumentChange}
+use Rattle.ed_model.specs.declared.plan.DocumentChange.TheVariants as change
+use Rattle.ed_model.specs.declared.plan.ViewChange.{ViewChange}
+use Rattle.ed_model.specs.declared.plan.SessionChange.{SessionChange}
+use Rattle.ed_types.specs.declared.limits.Limits.{Limits}
+use Rattle.std.proofs.lemmas.Bool.Decides.{nat_tests}
+use Rattle.session_changes.specs.Asked.{CanChangeView, CanChangeSession}
 use Rattle.ed_model.specs.declared.plan.Plan.{Plan}
 use Rattle.ed_model.specs.declared.plan.Plan.TheVariants as plan
 use Rattle.ed_model.specs.Steps.{Step, replacement}
 use Rattle.ed_model.specs.LineEnds.{after_steps}
-use Rattle.ed_model.specs.Session.{Session, Document, View, document_at, text_of, watching}
-use Rattle.ed_model.specs.Notes.{told, modify_attempt, blank}
+use Rattle.ed_model.specs.History.{at_save_point, History, Change, TextStep, ContainerStep, latest_text_step}
+use Rattle.ed_model.specs.Session.{Session, Document, View, is_allowed, view_at, document_at, text_of, with_document, watching}
+use Rattle.ed_model.specs.Notes.{told, modify_attempt, blank, bit_if, multi_step}
 use Rattle.ed_model.specs.Requests.{Request, size, text}
 use Rattle.ed_model.specs.Edits.{steps_of, source_bytes}
-use Rattle.ed_model.specs.SoundLaws.{IsSoundView, StandsOn, ListsItsViews}
-use Rattle.ed_model.specs.PlansFit.{IsFitPlan, IsFitSource, IsFitFollow}
-use Rattle.ed_model.specs.Performing.{Scene, scene_of, session_of, step_made, steps_made, edit_made, sealed_scene, followed, response, styled_text}
-use Rattle.ed_model.specs.Table.{table, performed, answered, with_recording, record_note}
+use Rattle.ed_model.specs.Changes.{changed_document, changed_lines, change_told, view_change_performed, session_changed}
+use Rattle.ed_model.specs.SoundLaws.{IsSoundView, StandsOn, ListsItsViews, AreStepsOf}
+use Rattle.ed_model.specs.PlansFit.{IsFitPlan, IsFitDocumentChange, IsFitEdit, IsFitSource, IsFitFollow}
+use Rattle.ed_model.specs.UndoPlans.{text_steps}
+use Rattle.ed_model.specs.Performing.{Scene, scene_of, session_of, step_made, steps_made, edit_made, sealed_scene, change_performed, changes_performed, transaction_performed, history_performed, caret_behind, is_last, changes_lines, save_point_change, followed, response, styled_text}
+use Rattle.ed_model.specs.Table.{table, performed, answered as answered_by, with_recording, record_note}
+use Rattle.message_plans.specs.TableSoFar.{table_so_far}
 use Rattle.id_table.specs.Entries.{value_at}
 use Rattle.notify.specs.Gathered.{Gathered}
 use Rattle.document.specs.Kept.{Kept, HasRoom}
 use Rattle.document.specs.declared.room.DocumentRoom.{DocumentRoom}
-use Rattle.scene.specs.Scenes.{views_of, scene_in, StandsIfOn, IsWatched}
+use Rattle.document.specs.declared.undoing.Direction.{Direction}
+use Rattle.document.specs.Undoing.{changes_of, history_behind}
+use Rattle.document_changes.specs.Fit.{IsFitChange, bytes_read}
+use Rattle.document_changes.specs.Needs.{notes_of_change}
+use Rattle.ed_view.specs.Kept.{KeptView}
+use Rattle.scene.specs.Scenes.{views_of, scene_in, watchers, StandsIfOn, IsWatched}
+use Rattle.scene.specs.Conversion.{notes_for, bytes_for, room_of_steps}
+use Rattle.scene.specs.Undoing.{bits_of, notes_of_history, bytes_of_changes, room_of_changes}
 use Rattle.message_plans.specs.Requested.{session_in}
-use Rattle.message_plans.specs.TableSoFar.{table_so_far}
 use Rattle.message_plans.specs.declared.state.SessionState.{SessionState}
+use Rattle.session_changes.specs.Kept.{IsKept}
 use Rattle.editor_session.specs.declared.find.Task.{Task}
-use Rattle.editor_session.specs.declared.edits.Replacement.{Replacement}
-use Rattle.editor_session.specs.Kept.{IsKept}
-use Rattle.editor_session.specs.Plans.{is_stored, is_performed}
-use Rattle.editor_session.specs.Tasks.{IsTask, recording, first_note}
-use Rattle.editor_session.specs.Needs.{IsAtLeast, IsEnough, notes_for, bytes_for, notes_if, bytes_if, room_of_steps, clipboard_need}
-use Rattle.editor_session.specs.Edited.{IsStoredIn, IsWithin, stored_bytes, CanTake}
-use Rattle.editor_session.specs.Edits.{steps_for, scene_after, CanEdit, Edits}
-use Rattle.editor_session.proofs.Finding.{document_in, id_of_document, found, id_of_document_at}
+use Rattle.editor_session.specs.Tasks.{IsTask, IsAskedBy, IsPlanned, recording, first_note}
+use Rattle.editor_session.specs.Needs.{IsAbout, notes_if, bytes_if, clipboard_need, notes_of_history_of, bytes_of_history_of, room_of_history_of}
+use Rattle.editor_session.specs.Edited.{IsStoredIn, IsTurnedFor, IsPastedFor, IsEditWithin, IsWithin, stored_bytes, CanTake}
+use Rattle.editor_session.specs.Edits.{edit_steps, scene_after, CanEdit, Edits}
+use Rattle.editor_session.specs.Doing.{IsDone, CanGo, Goes, CanTell, Changes}
+use Rattle.editor_session.proofs.Finding.{document_in, id_of_document, view_in, id_of_view, found, id_of_document_at}
 
 -- A fact of each is one of the one found.
 pub found_all : {X : Type 0} (P : X → Type 0) (test : X → Bool) (xs : List X) (x : X) → AllByRecursion P xs → find test xs ≡ Some x → P x
@@ -103,14 +120,50 @@ pub edit_told_from : (ns : List Notice) (steps : List Step) (d : Document) (view
 edit_told_from ns steps d views =
     ap (λ xs. edit_made steps (record { document = d; views = views; notes = xs })) (sym (append_nil ns)) ∙ edit_told ns steps (record { document = d; views = views; notes = [] })
 
+-- Undo and redo too.
+
+append_all : (ns s a : List Notice) → (ns ++ s) ++ a ≡ ns ++ (s ++ a)
+append_all [] s a = refl
+append_all (n ∷ ns) s a = ap (λ xs. n ∷ xs) (append_all ns s a)
+
+change_told_behind : (ns : List Notice) (who several : ℕ) (last lines_changed : Bool) (c : Change) (scene : Scene) → change_performed who several last lines_changed c (telling ns scene) ≡ telling ns (change_performed who several last lines_changed c scene)
+change_told_behind ns who several last lines_changed (TextStep step) scene = ap (λ x. (let made = change_performed who several last lines_changed (TextStep step) scene in record made { notes = x })) (behind ns scene.notes _ _ _)
+change_told_behind ns who several last lines_changed (ContainerStep token coalesce) scene = ap (λ x. record scene { notes = x }) (append_all ns scene.notes _)
+
+changes_told : (ns : List Notice) (who several : ℕ) (lines_changed : Bool) (cs : List Change) (scene : Scene) → changes_performed who several lines_changed cs (telling ns scene) ≡ telling ns (changes_performed who several lines_changed cs scene)
+changes_told ns who several lines_changed [] scene = refl
+changes_told ns who several lines_changed (c ∷ cs) scene =
+    let changed = cond lines_changed true (changes_lines c scene.document) in
+    ap (changes_performed who several changed cs) (change_told_behind ns who several (is_last cs) changed c scene) ∙ changes_told ns who several changed cs (change_performed who several (is_last cs) changed c scene)
+
+transaction_told : (ns : List Notice) (who : ℕ) (cs : List Change) (new : History) (scene : Scene) → transaction_performed who cs new (telling ns scene) ≡ telling ns (transaction_performed who cs new scene)
+transaction_told ns who cs new scene =
+    ap (λ (x : Scene). told_of x) (changes_told ns who _ false cs scene) ∙ ap (λ x. (let d = done.document in record done { document = record d { history = new }; notes = x })) (append_all ns done.notes _)
+  where
+    done : Scene
+    done = changes_performed who (bit_if (nat_lt 1 (length cs)) multi_step) false cs scene
+
+    told_of : Scene → Scene
+    told_of x = (let d = x.document in record x { document = record d { history = new }; notes = x.notes ++ save_point_change (watching x.views x.document) (at_save_point scene.document.history) (at_save_point new) })
+
+pub transaction_told_from : (ns : List Notice) (who : ℕ) (cs : List Change) (new : History) (d : Document) (views : List View)
+    → transaction_performed who cs new (record { document = d; views = views; notes = ns }) ≡ telling ns (transaction_performed who cs new (record { document = d; views = views; notes = [] }))
+transaction_told_from ns who cs new d views =
+    ap (λ xs. transaction_performed who cs new (record { document = d; views = views; notes = xs })) (sym (append_nil ns)) ∙ transaction_told ns who cs new (record { document = d; views = views; notes = [] })
+
 -- The bytes of a source.
 
-same_bytes : (r : Request) (from : Source) → is_stored from ≡ true → stored_bytes from r.message.text r.session.clipboard r.document.line_end ≡ source_bytes r from
-same_bytes r source.Nothing h = refl
-same_bytes r (source.MessageText count) h = refl
-same_bytes r (source.Clipboard true) h = absurd (cc)
-same_bytes r (source.Clipboard false) h = refl
-same_bytes r source.LineEnd h = refl
+same_bytes : (r : Request) (from : Source) (pasted : List ℕ) → IsTurnedFor from r.session.clipboard r.document.line_end pasted → stored_bytes from r.message.text r.session.clipboard pasted r.document.line_end ≡ source_bytes r from
+same_bytes r source.Nothing pasted h = refl
+same_bytes r (source.MessageText count) pasted h = refl
+same_bytes r (source.Clipboard true) pasted h = h
+same_bytes r (source.Clipboard false) pasted h = refl
+same_bytes r source.LineEnd pasted h = refl
+
+pub same_edit : (r : Request) (change : Edit) (value : ℤ) (after : Follow) (pasted : List ℕ) → IsPastedFor (plan.Edit change value after) r.session.clipboard r.document.line_end pasted
+    → edit_steps change r.message.text r.session.clipboard pasted r.document ≡ steps_of r change
+same_edit r (edit.Replace start count from) value after pasted h = ap (λ xs. replacement start count xs (text r)) (same_bytes r from pasted h)
+same_edit r (edit.ConvertLineEnds to) value after pasted h = refl
 
 stored_in : (r : Request) (from : Source) → IsFitSource r from → IsStoredIn from (length r.message.text)
 stored_in r source.Nothing h = tt
@@ -118,19 +171,22 @@ stored_in r (source.MessageText count) h = h
 stored_in r (source.Clipboard convert) h = tt
 stored_in r source.LineEnd h = tt
 
+edit_within : (r : Request) (change : Edit) → IsFitEdit r change → IsEditWithin change (size r) (length r.message.text)
+edit_within r (edit.Replace start count from) fit = (fit.0, stored_in r from fit.1)
+edit_within r (edit.ConvertLineEnds to) fit = tt
+
 -- a fit plan lies within
-pub fits_within : (r : Request) (what : Plan) → is_performed what ≡ true → IsFitPlan r what → IsWithin what (size r) (length r.message.text)
-fits_within r (plan.Edit (edit.Replace start count from) value after) p fit = (fit.0.0, stored_in r from fit.0.1)
-fits_within r (plan.Edit (edit.ConvertLineEnds to) value after) p fit = tt
-fits_within r (plan.Answer value) p fit = tt
-fits_within r (plan.HandOut value start count) p fit = tt
-fits_within r (plan.HandOutStyled start count) p fit = fit
-fits_within r plan.Attempt p fit = tt
-fits_within r plan.Undo p fit = tt
-fits_within r plan.Redo p fit = tt
-fits_within r (plan.ChangeDocument change value) p fit = tt
-fits_within r (plan.ChangeView change value) p fit = tt
-fits_within r (plan.ChangeSession change value) p fit = tt
+pub fits_within : (r : Request) (what : Plan) → IsFitPlan r what → IsWithin what (size r) (length r.message.text)
+fits_within r (plan.Edit change value after) fit = edit_within r change fit.0
+fits_within r (plan.Answer value) fit = tt
+fits_within r (plan.HandOut value start count) fit = tt
+fits_within r (plan.HandOutStyled start count) fit = tt
+fits_within r plan.Attempt fit = tt
+fits_within r plan.Undo fit = tt
+fits_within r plan.Redo fit = tt
+fits_within r (plan.ChangeDocument change value) fit = tt
+fits_within r (plan.ChangeView change value) fit = tt
+fits_within r (plan.ChangeSession change value) fit = tt
 
 same_notes : (steps : List Step) (d : Document) (views : List View) (ns : List Notice) → notes_for steps (record { document = d; views = views; notes = ns }) ≡ notes_for steps (record { document = d; views = views; notes = [] })
 same_notes [] d views ns = refl
@@ -141,22 +197,64 @@ same_note_bytes [] d views ns = refl
 same_note_bytes (s ∷ ss) d views ns = refl
 
 -- what follows an edit that is taken along
-can_take : (r : Request) (after n : ℕ) (f : Follow) (room need : ℕ) → IsFitFollow r after f → need ≡ clipboard_need f → need ≤ room → n ≡ size r → CanTake f n room
-can_take r after n (follow.Clipboard start count) room need h e l is = (subst (λ k. start + count ≤ k) (sym is) h, subst (λ k. k ≤ room) e l)
-can_take r after n follow.Nothing room need h e l is = tt
-can_take r after n (follow.Caret place) room need h e l is = tt
-can_take r after n (follow.Target start past) room need h e l is = tt
+can_take : (r : Request) (after n : ℕ) (f : Follow) (room : ℕ) → IsFitFollow r after f → clipboard_need f ≤ room → n ≡ size r → CanTake f n room
+can_take r after n (follow.Clipboard start count) room h l is = (subst (λ k. start + count ≤ k) (sym is) h, l)
+can_take r after n follow.Nothing room h l is = tt
+can_take r after n (follow.Caret place) room h l is = tt
+can_take r after n (follow.Target start past) room h l is = tt
 
-has_room : (k : Kept) (a b : DocumentRoom) → HasRoom k a → IsAtLeast a b → HasRoom k b
-has_room k a b h l = (
-  (less b.text a.text k.room.text l.text h.0.0, less b.lines a.lines k.room.lines l.lines h.0.1, less b.insertions a.insertions k.room.insertions l.insertions h.0.2),
-  λ on. (less b.steps a.steps k.room.steps l.steps (h.1 on).0, less b.bytes a.bytes k.room.bytes l.bytes (h.1 on).1),
-)
-  where
-    less : (x y z : ℕ) → x ≤ y → y ≤ z → x ≤ z
-    less x y z p q = omega arith
+-- A fit change of a document.
 
--- The task of a message.
+bounded : (l : Limits) → is_allowed l ≡ true → (l.handles ≤ 2 ^ 31 - 1) × (l.depth ≤ 255)
+bounded l h = (grind (arith, nat_tests), grind (arith, nat_tests))
+
+pub fit_change : (r : Request) (what : DocumentChange) → is_allowed r.session.limits ≡ true → IsFitDocumentChange r what → IsFitChange r.document what
+fit_change r change.BeginGroup l h = let b = (bounded r.session.limits l).1 in omega (arith, h, b)
+fit_change r (change.AddMarker line number) l h = let b = (bounded r.session.limits l).0 in (h.0, omega (arith, h.1), omega (arith, h.2, b))
+fit_change r (change.AddMarkers line mask) l h = let b = (bounded r.session.limits l).0 in (h.0, omega (arith, h.2, b))
+fit_change r (change.DeleteMarker line number) l h = h.0
+fit_change r (change.DeleteHandle handle) l h = h
+fit_change r (change.SetLevel line level) l h = h.0
+fit_change r (change.SetState line state) l h = h
+fit_change r (change.StyleRun count style) l h = h
+fit_change r (change.StyleBytes count) l h = h.0
+fit_change r (change.NeedStyle start past) l h = h.1
+fit_change r (change.FillIndicator indicator start count value) l h = h
+fit_change r (change.SetReadOnly on) l h = tt
+fit_change r (change.SetLineEnd to) l h = tt
+fit_change r (change.SetLineEndTypes to) l h = tt
+fit_change r change.SetSavePoint l h = tt
+fit_change r change.EndGroup l h = tt
+fit_change r change.ForgetHistory l h = tt
+fit_change r (change.CollectUndo on) l h = tt
+fit_change r (change.AppendContainer token coalesce) l h = tt
+fit_change r (change.DeleteMarkers number) l h = tt
+fit_change r (change.SetEndStyled place) l h = tt
+
+pub read_change : (r : Request) (what : DocumentChange) → IsFitDocumentChange r what → bytes_read what ≤ length r.message.text
+read_change r (change.StyleBytes count) h = h.1
+read_change r change.BeginGroup h = omega arith
+read_change r (change.AddMarker line number) h = omega arith
+read_change r (change.AddMarkers line mask) h = omega arith
+read_change r (change.DeleteMarker line number) h = omega arith
+read_change r (change.DeleteHandle handle) h = omega arith
+read_change r (change.SetLevel line level) h = omega arith
+read_change r (change.SetState line state) h = omega arith
+read_change r (change.StyleRun count style) h = omega arith
+read_change r (change.NeedStyle start past) h = omega arith
+read_change r (change.FillIndicator indicator start count value) h = omega arith
+read_change r (change.SetReadOnly on) h = omega arith
+read_change r (change.SetLineEnd to) h = omega arith
+read_change r (change.SetLineEndTypes to) h = omega arith
+read_change r change.SetSavePoint h = omega arith
+read_change r change.EndGroup h = omega arith
+read_change r change.ForgetHistory h = omega arith
+read_change r (change.CollectUndo on) h = omega arith
+read_change r (change.AppendContainer token coalesce) h = omega arith
+read_change r (change.DeleteMarkers number) h = omega arith
+read_change r (change.SetEndStyled place) h = omega arith
+
+-- A request of a session that is kept.
 
 pub record AtDocument (s : SessionState) (id : ℕ) (d : Document) : Type 0 where
   pub k : Kept
@@ -170,18 +268,18 @@ at_document s id d kept there = go (value_at s.documents.entries id) refl (sym (
     go None e h = absurd (cc)
     go (Some k) e h = let same : k.document ≡ d = cc in record { k = k; at = e; is = same }
 
-module _ (s : SessionState) (view : ℕ) (m : Message) (task : Task) (kept : IsKept s) (t : IsTask (session_in s) view m task) where
-  abbrev pub asked : Request
-  asked = t.request
+module _ (s : SessionState) (task : Task) (bytes : List ℕ) (kept : IsKept s) (r : Request) (by : IsAskedBy (session_in s) task bytes r) where
+  pub session_is : r.session ≡ session_in s
+  session_is = by.asked.session
 
-  pub document_there : document_at (session_in s).documents task.document ≡ Some asked.document
+  pub document_there : document_at (session_in s).documents task.document ≡ Some r.document
   document_there =
-      let own : asked.document.id ≡ asked.view.document = id_of_document_at asked.session.documents asked.view.document asked.document t.found.sound.document in
-      let there : document_at asked.session.documents task.document ≡ Some asked.document = ap (document_at asked.session.documents) (t.document_id ∙ own) ∙ t.found.sound.document in
-      subst (λ (x : Session). document_at x.documents task.document ≡ Some asked.document) t.found.session there
+      let own : r.document.id ≡ r.view.document = id_of_document_at r.session.documents r.view.document r.document by.asked.sound.document in
+      let there : document_at r.session.documents task.document ≡ Some r.document = ap (document_at r.session.documents) (sym by.asked.document_id ∙ own) ∙ by.asked.sound.document in
+      subst (λ (x : Session). document_at x.documents task.document ≡ Some r.document) session_is there
 
-  pub kept_at : AtDocument s task.document asked.document
-  kept_at = at_document s task.document asked.document kept document_there
+  pub kept_at : AtDocument s task.document r.document
+  kept_at = at_document s task.document r.document kept document_there
 
   -- a fact of the document that is kept
   pub for_kept : (P : Kept → Type 0) → P kept_at.k → IsSomeAnd (value_at s.documents.entries task.document) P
@@ -193,155 +291,223 @@ module _ (s : SessionState) (view : ℕ) (m : Message) (task : Task) (kept : IsK
   pub of_room : (P : Kept → Type 0) → IsSomeAnd (value_at s.documents.entries task.document) P → P kept_at.k
   of_room P h = subst (λ o. IsSomeAnd o P) kept_at.at h
 
-  pub size_is : length kept_at.k.document.cells ≡ size asked
-  size_is = ap (λ (d : Document). length d.cells) kept_at.is
+  -- the same, said of the request's document
+  pub for_document : (P : Document → Type 0) → P r.document → IsSomeAnd (value_at s.documents.entries task.document) (λ k. P k.document)
+  for_document P h = for_kept (λ k. P k.document) (subst P (sym kept_at.is) h)
 
-  pub fit_of : (what : Plan) → task.plan ≡ what → IsFitPlan asked what
-  fit_of what e = subst (IsFitPlan asked) e t.fit
+  pub of_document : (P : Document → Type 0) → IfSome (value_at s.documents.entries task.document) (λ k. P k.document) → P r.document
+  of_document P h = subst P kept_at.is (of_kept (λ k. P k.document) h)
 
-  pub range_of : (start count : ℕ) → start + count ≤ size asked → IsSomeAnd (value_at s.documents.entries task.document) (λ k. start + count ≤ length k.document.cells)
-  range_of start count h = for_kept (λ k. start + count ≤ length k.document.cells) (subst (λ n. start + count ≤ n) (sym size_is) h)
+  pub document_here : IsSome (value_at s.documents.entries task.document)
+  document_here = subst (λ o. IsSome o) (sym kept_at.at) tt
 
-  -- the reply, with the note by which it is recorded
-  recorded_reply : (reply : Response) → with_recording t.kind asked reply ≡ record reply { notes = first_note task.is_recorded view m ++ reply.notes }
-  recorded_reply reply =
-      go (asked.view.records && (marks_of t.kind).r)
-      ∙ ap (λ b. record reply { notes = first_note b view m ++ reply.notes }) (sym t.recorded)
+  pub view_here : IsSome (value_at s.views.entries task.view)
+  view_here = go (value_at s.views.entries task.view) (sym (found view_in id_of_view s.views.entries task.view kept.views) ∙ at)
     where
-      go : (b : Bool) → cond b (record reply { notes = record_note asked ∷ reply.notes }) reply ≡ record reply { notes = first_note b view m ++ reply.notes }
-      go true = ap (λ n. record reply { notes = recording n asked.message ∷ reply.notes }) t.found.view_id ∙ ap (λ x. record reply { notes = recording view x ∷ reply.notes }) t.found.message
-      go false = refl
+      at : view_at (session_in s).views task.view ≡ Some r.view
+      at = subst (λ (x : Session). view_at x.views task.view ≡ Some r.view) session_is (ap (view_at r.session.views) (sym by.asked.view_id) ∙ by.asked.sound.view)
 
-  pub answered_so : (new : Session) (value : ℤ) (bytes : List ℕ) (ns : List Notice) → performed asked task.plan ≡ (new, response value bytes ns)
-      → table table_so_far (session_in s) view m ≡ Ok (new, response value bytes (first_note task.is_recorded view m ++ ns))
-  answered_so new value bytes ns e =
-      t.found.answer ∙ ap (answered t.kind asked) t.planned
-      ∙ ap (λ (done : Session × Response). Ok (done.0, with_recording t.kind asked done.1)) e
-      ∙ ap (λ x. Ok (new, x)) (recorded_reply (response value bytes ns))
+      go : (o : Option KeptView) → option_map view_in o ≡ Some r.view → IsSome o
+      go None e = absurd (cc)
+      go (Some k) e = tt
 
-  pub session_is : asked.session ≡ session_in s
-  session_is = t.found.session
+  pub same_document : (k : Kept) → value_at s.documents.entries task.document ≡ Some k → r.document ≡ k.document
+  same_document k at =
+      let both : Some kept_at.k ≡ Some k = sym kept_at.at ∙ at in
+      let is : kept_at.k ≡ k = cc in
+      sym kept_at.is ∙ ap (λ (x : Kept). x.document) is
 
-  pub text_is : asked.message.text ≡ m.text
-  text_is = ap (λ (x : Message). x.text) t.found.message
+  pub about_document : (k : Kept) → value_at s.documents.entries task.document ≡ Some k → IsAbout s k.document bytes r
+  about_document k at = record { session = session_is; document = same_document k at; text = by.message }
+
+  pub within_here : (k : Kept) → value_at s.documents.entries task.document ≡ Some k → IsFitPlan r task.plan → IsWithin task.plan (length k.document.cells) (length bytes)
+  within_here k at fit =
+      subst (λ (d : Document). IsWithin task.plan (length d.cells) (length bytes)) (same_document k at) (subst (λ x. IsWithin task.plan (size r) (length x)) by.message (fits_within r task.plan fit))
+
+  pub watched_here : IsWatched kept_at.k.document s.views
+  watched_here = watched_by s kept_at.k.document kept (subst (λ d. document_at (session_in s).documents d.id ≡ Some d) (sym kept_at.is) (ap (document_at (session_in s).documents) by.asked.document_id ∙ document_there))
+
+  pub watching_is : watching r.session.views r.document ≡ watchers kept_at.k.document s.views
+  watching_is = ap (λ (x : Session). watching x.views r.document) session_is ∙ ap (λ d. watching (views_of s.views.entries) d) (sym kept_at.is)
+
+  -- nothing is told, and the session stays
+  pub answered : (what : Plan) (ns : List Notice) (value : ℤ) (out : List ℕ) → performed r what ≡ (r.session, response value out []) → IsDone r what s ns ns value out
+  answered what ns value out e = record { told = []; done = e ∙ ap (λ x. (x, response value out [])) session_is; heard = sym (append_nil ns) }
+
+  pub handed_out : (value : ℤ) (start count : ℕ) (ns : List Notice) (empty out : List ℕ) → empty ≡ [] → IfSome (value_at s.documents.entries task.document) (λ k. out ≡ empty ++ slice_range (text_of k.document) start (start + count))
+      → IsDone r (plan.HandOut value start count) s ns ns value out
+  handed_out value start count ns empty out e copied =
+      let put : out ≡ slice_range (text r) start (start + count) = of_document (λ d. out ≡ empty ++ slice_range (text_of d) start (start + count)) copied ∙ ap (λ xs. xs ++ slice_range (text r) start (start + count)) e in
+      answered (plan.HandOut value start count) ns value out (ap (λ b. (r.session, response value b [])) (sym put))
+
+  pub handed_out_styled : (start count : ℕ) (ns : List Notice) (empty out : List ℕ) → empty ≡ [] → IfSome (value_at s.documents.entries task.document) (λ k. out ≡ empty ++ styled_text (slice_range k.document.cells start (start + count)))
+      → IsDone r (plan.HandOutStyled start count) s ns ns (pos (length out)) out
+  handed_out_styled start count ns empty out e copied =
+      let put : out ≡ styled_text (slice_range r.document.cells start (start + count)) = of_document (λ d. out ≡ empty ++ styled_text (slice_range d.cells start (start + count))) copied ∙ ap (λ xs. xs ++ styled_text (slice_range r.document.cells start (start + count))) e in
+      answered (plan.HandOutStyled start count) ns (pos (length out)) out (ap (λ b. (r.session, response (pos (length b)) b [])) (sym put))
+
+  pub attempted : (ns ns' : List Notice) → IfSome (value_at s.documents.entries task.document) (λ k. ns' ≡ ns ++ told (watching (views_of s.views.entries) k.document) (blank modify_attempt)) → IsDone r plan.Attempt s ns ns' (pos 0) []
+  attempted ns ns' put = record {
+    told = told (watching r.session.views r.document) (blank modify_attempt);
+    done = ap (λ x. (x, response (pos 0) [] (told (watching r.session.views r.document) (blank modify_attempt)))) session_is;
+    heard = of_document (λ d. ns' ≡ ns ++ told (watching (views_of s.views.entries) d) (blank modify_attempt)) put ∙ ap (λ (x : Session). ns ++ told (watching x.views r.document) (blank modify_attempt)) (sym session_is);
+  }
+
+  pub attempt_room : (room : ℕ) → length (watching r.session.views r.document) ≤ room → IsSomeAnd (value_at s.documents.entries task.document) (λ k. length (watching (views_of s.views.entries) k.document) ≤ room)
+  attempt_room room n = for_document (λ d. length (watching (views_of s.views.entries) d) ≤ room) (subst (λ (x : Session). length (watching x.views r.document) ≤ room) session_is n)
 
   -- An edit.
-  module _ (change : Replacement) (value : ℤ) (after : Follow) (is : task.plan ≡ plan.Edit (edit.Replace change.start change.count change.source) value after) where
-    abbrev pub wanted : Plan
-    wanted = plan.Edit (edit.Replace change.start change.count change.source) value after
+  module _ (change : Edit) (value : ℤ) (after : Follow) (pasted : List ℕ) (turned : IsPastedFor (plan.Edit change value after) s.clipboard.items kept_at.k.document.line_end pasted) where
+    pub turned_here : IsPastedFor (plan.Edit change value after) r.session.clipboard r.document.line_end pasted
+    turned_here =
+        subst (λ (x : Session). IsPastedFor (plan.Edit change value after) x.clipboard r.document.line_end pasted) (sym session_is)
+        (subst (λ (d : Document). IsPastedFor (plan.Edit change value after) s.clipboard.items d.line_end pasted) kept_at.is turned)
 
-    abbrev pub steps_asked : List Step
-    steps_asked = steps_of asked (edit.Replace change.start change.count change.source)
-
-    stored : is_stored change.source ≡ true
-    stored = ap is_performed (sym is) ∙ t.performed
-
-    pub same_steps : steps_for m.text change s kept_at.k ≡ steps_asked
+    pub same_steps : edit_steps change bytes s.clipboard.items pasted kept_at.k.document ≡ steps_of r change
     same_steps =
-        ap (λ x. replacement change.start change.count (stored_bytes change.source x s.clipboard.items kept_at.k.document.line_end) (text_of kept_at.k.document)) (sym text_is)
-        ∙ ap (λ (x : Session). replacement change.start change.count (stored_bytes change.source asked.message.text x.clipboard kept_at.k.document.line_end) (text_of kept_at.k.document)) (sym session_is)
-        ∙ ap (λ (d : Document). replacement change.start change.count (stored_bytes change.source asked.message.text asked.session.clipboard d.line_end) (text_of d)) kept_at.is
-        ∙ ap (λ bytes. replacement change.start change.count bytes (text asked)) (same_bytes asked change.source stored)
+        ap (λ x. edit_steps change x s.clipboard.items pasted kept_at.k.document) (sym by.message)
+        ∙ ap (λ (x : Session). edit_steps change r.message.text x.clipboard pasted kept_at.k.document) (sym session_is)
+        ∙ ap (edit_steps change r.message.text r.session.clipboard pasted) kept_at.is
+        ∙ same_edit r change value after pasted turned_here
 
     -- the scene of the request, from these notes on
-    pub same_scene : (ns : List Notice) → scene_in kept_at.k.document s.views.entries ns ≡ record { document = asked.document; views = asked.session.views; notes = ns }
+    pub same_scene : (ns : List Notice) → scene_in kept_at.k.document s.views.entries ns ≡ record { document = r.document; views = r.session.views; notes = ns }
     same_scene ns =
-        ap (λ d. scene_in d s.views.entries ns) kept_at.is ∙ ap (λ (x : Session). record { document = asked.document; views = x.views; notes = ns }) (sym session_is)
+        ap (λ d. scene_in d s.views.entries ns) kept_at.is ∙ ap (λ (x : Session). record { document = r.document; views = x.views; notes = ns }) (sym session_is)
 
-    pub can_edit : (need_room : HasRoom kept_at.k task.need.document) (enough : IsEnough asked task.plan task.is_recorded task.need) (taken : List ℕ) (room : ℕ) (notes : Gathered)
-        → taken ≡ [] → task.need.clipboard ≤ room → task.need.notes.notes ≤ notes.note_room + notes_if task.is_recorded → task.need.notes.bytes ≤ notes.text_room + bytes_if task.is_recorded m.text
-        → CanEdit m.text change after s taken room notes kept_at.k
-    can_edit need_room enough taken room notes empty fits note_room text_room =
-        let fit = fit_of wanted is in
-        let all : IsEnough asked wanted task.is_recorded task.need = subst (λ p. IsEnough asked p task.is_recorded task.need) is enough in
-        let n : notes_for steps_asked (scene_of asked) ≤ notes.note_room = omega (arith, all.all_there.notes_there, note_room) in
-        let text_same : bytes_if task.is_recorded asked.message.text ≡ bytes_if task.is_recorded m.text = ap (bytes_if task.is_recorded) text_is in
-        let b : bytes_for steps_asked (scene_of asked) ≤ notes.text_room = omega (arith, all.all_there.bytes_there, text_room, text_same) in
+    pub can_edit : (fit : IsFitPlan r (plan.Edit change value after)) (taken : List ℕ) (room : ℕ) (notes : Gathered)
+        → HasRoom kept_at.k (room_of_steps r.document.line_end_types (steps_of r change)) → taken ≡ [] → clipboard_need after ≤ room
+        → notes_for (steps_of r change) (scene_of r) ≤ notes.note_room → bytes_for (steps_of r change) (scene_of r) ≤ notes.text_room
+        → CanEdit change bytes pasted after s taken room notes kept_at.k
+    can_edit fit taken room notes there empty fits n b =
+        let steps = steps_of r change in
         record {
-          stored = subst (λ x. IsStoredIn change.source (length x)) text_is (stored_in asked change.source fit.0.1);
-          replace = record {
-            range = subst (λ n. change.start + change.count ≤ n) (sym size_is) fit.0.0;
-            watched = watched_by s kept_at.k.document kept (subst (λ d. document_at (session_in s).documents d.id ≡ Some d) (sym kept_at.is) (ap (document_at (session_in s).documents) (sym t.document_id) ∙ document_there));
-            room = subst (λ ss. HasRoom kept_at.k (room_of_steps kept_at.k.document.line_end_types ss)) (sym same_steps)
-                (subst (λ d. HasRoom kept_at.k (room_of_steps d.line_end_types steps_asked)) (sym kept_at.is) (has_room kept_at.k task.need.document (room_of_steps asked.document.line_end_types steps_asked) need_room all.all_there.document_there));
-            note_room = subst (λ ss. notes_for ss (scene_in kept_at.k.document s.views.entries notes.notes) ≤ notes.note_room) (sym same_steps)
-                (subst (λ x. notes_for steps_asked x ≤ notes.note_room) (sym (same_scene notes.notes)) (subst (λ n. n ≤ notes.note_room) (sym (same_notes steps_asked asked.document asked.session.views notes.notes)) n));
-            text_room = subst (λ ss. bytes_for ss (scene_in kept_at.k.document s.views.entries notes.notes) ≤ notes.text_room) (sym same_steps)
-                (subst (λ x. bytes_for steps_asked x ≤ notes.text_room) (sym (same_scene notes.notes)) (subst (λ n. n ≤ notes.text_room) (sym (same_note_bytes steps_asked asked.document asked.session.views notes.notes)) b));
+          can = record {
+            within = subst (λ (d : Document). IsEditWithin change (length d.cells) (length bytes)) (sym kept_at.is) (subst (λ x. IsEditWithin change (size r) (length x)) by.message (edit_within r change fit.0));
+            steps = record {
+              watched = watched_here;
+              room = subst (λ ss. HasRoom kept_at.k (room_of_steps kept_at.k.document.line_end_types ss)) (sym same_steps)
+                  (subst (λ d. HasRoom kept_at.k (room_of_steps d.line_end_types steps)) (sym kept_at.is) there);
+              notes_there = subst (λ ss. notes_for ss (scene_in kept_at.k.document s.views.entries notes.notes) ≤ notes.note_room) (sym same_steps)
+                  (subst (λ x. notes_for steps x ≤ notes.note_room) (sym (same_scene notes.notes)) (subst (λ n. n ≤ notes.note_room) (sym (same_notes steps r.document r.session.views notes.notes)) n));
+              texts_there = subst (λ ss. bytes_for ss (scene_in kept_at.k.document s.views.entries notes.notes) ≤ notes.text_room) (sym same_steps)
+                  (subst (λ x. bytes_for steps x ≤ notes.text_room) (sym (same_scene notes.notes)) (subst (λ n. n ≤ notes.text_room) (sym (same_note_bytes steps r.document r.session.views notes.notes)) b));
+            };
           };
           empty = empty;
-          take = can_take asked (length (after_steps steps_asked (text asked))) (length kept_at.k.document.cells) after room task.need.clipboard fit.1 all.clipboard_there fits size_is;
+          take = can_take r (length (after_steps steps (text r))) (length kept_at.k.document.cells) after room fit.1 fits (ap (λ (d : Document). length d.cells) kept_at.is);
         }
 
-    pub edit_answered : (s' : SessionState) (notes notes' : Gathered) → task.view ≡ view → notes.notes ≡ first_note task.is_recorded view m
-        → Edits task.view m.text change after s notes kept_at.k s' notes'
-        → table table_so_far (session_in s) view m ≡ Ok (session_in s', response value [] notes'.notes)
-    edit_answered s' notes notes' owner first done =
-        let base = edit_made steps_asked (scene_of asked) in
-        let scene : scene_after m.text change s notes kept_at.k ≡ telling (first_note task.is_recorded view m) base =
-        ap (λ ss. edit_made ss (scene_in kept_at.k.document s.views.entries notes.notes)) same_steps ∙ ap (edit_made steps_asked) (same_scene notes.notes)
-        ∙ ap (λ ns. edit_made steps_asked (record { document = asked.document; views = asked.session.views; notes = ns })) first
-        ∙ edit_told_from (first_note task.is_recorded view m) steps_asked asked.document asked.session.views in
-        let told : notes'.notes ≡ first_note task.is_recorded view m ++ base.notes = done.notes_after ∙ ap (λ (x : Scene). x.notes) scene in
-        let same_view : asked.view.id ≡ task.view = t.found.view_id ∙ sym owner in
-        let session : session_in s' ≡ followed asked.view.id (text asked) after (session_of asked.session base) =
+    pub edited : (s' : SessionState) (notes notes' : Gathered) → Edits task.view change bytes pasted after s notes kept_at.k s' notes' → IsDone r (plan.Edit change value after) s' notes.notes notes'.notes value []
+    edited s' notes notes' done =
+        let base = edit_made (steps_of r change) (scene_of r) in
+        let scene : scene_after change bytes pasted s notes kept_at.k ≡ telling notes.notes base =
+        ap (λ ss. edit_made ss (scene_in kept_at.k.document s.views.entries notes.notes)) same_steps ∙ ap (edit_made (steps_of r change)) (same_scene notes.notes)
+        ∙ edit_told_from notes.notes (steps_of r change) r.document r.session.views in
+        let session : session_in s' ≡ followed r.view.id (text r) after (session_of r.session base) =
         done.session_after
         ∙ ap (λ (x : Scene). followed task.view (text_of kept_at.k.document) after (session_of (session_in s) x)) scene
         ∙ ap (λ (d : Document). followed task.view (text_of d) after (session_of (session_in s) base)) kept_at.is
-        ∙ ap (λ (x : Session). followed task.view (text asked) after (session_of x base)) (sym session_is)
-        ∙ ap (λ id. followed id (text asked) after (session_of asked.session base)) (sym same_view) in
-        answered_so (session_in s') value [] base.notes
-        (ap (performed asked) is ∙ ap (λ x. (x, response value [] base.notes)) (sym session))
-        ∙ ap (λ ns. Ok (session_in s', response value [] ns)) (sym told)
+        ∙ ap (λ (x : Session). followed task.view (text r) after (session_of x base)) (sym session_is)
+        ∙ ap (λ id. followed id (text r) after (session_of r.session base)) (sym by.asked.view_id) in
+        record { told = base.notes; done = ap (λ x. (x, response value [] base.notes)) (sym session); heard = done.notes_after ∙ ap (λ (x : Scene). x.notes) scene }
 
-  -- A text that is handed out, and an attempt.
+  -- Undo and redo.
+  module _ (direction : Direction) where
+    pub can_go : (notes : Gathered) → AreStepsOf (text r) (text_steps (changes_of direction r.document.history)) → HasRoom kept_at.k (room_of_history_of direction r)
+        → notes_of_history_of direction r ≤ notes.note_room → bytes_of_history_of direction r ≤ notes.text_room → CanGo direction s.views notes kept_at.k
+    can_go notes steps there n b = record {
+      steps = subst (λ d. AreStepsOf (text_of d) (text_steps (changes_of direction d.history))) (sym kept_at.is) steps;
+      room = (subst (λ d. HasRoom kept_at.k (room_of_changes d.line_end_types (changes_of direction d.history))) (sym kept_at.is) there).0;
+      watched = watched_here;
+      note_room = subst (λ d. notes_of_history (watchers d s.views) (bits_of direction) (changes_of direction d.history) ≤ notes.note_room) (sym kept_at.is)
+          (subst (λ (x : Session). notes_of_history (watching x.views r.document) (bits_of direction) (changes_of direction r.document.history) ≤ notes.note_room) session_is n);
+      text_room = subst (λ d. bytes_of_changes (watchers d s.views) (bits_of direction) (changes_of direction d.history) ≤ notes.text_room) (sym kept_at.is)
+          (subst (λ (x : Session). bytes_of_changes (watching x.views r.document) (bits_of direction) (changes_of direction r.document.history) ≤ notes.text_room) session_is b);
+    }
 
-  pub handed_out : (value : ℤ) (start count : ℕ) → task.plan ≡ plan.HandOut value start count → (empty bytes : List ℕ) (none ns : List Notice) → empty ≡ [] → none ≡ [] → ns ≡ none ++ first_note task.is_recorded view m
-      → IfSome (value_at s.documents.entries task.document) (λ k. bytes ≡ empty ++ slice_range (text_of k.document) start (start + count))
-      → table table_so_far (session_in s) view m ≡ Ok (session_in s, response value bytes ns)
-  handed_out value start count is empty bytes none ns e n first copied =
-      let put : bytes ≡ slice_range (text asked) start (start + count) =
-      of_kept (λ k. bytes ≡ empty ++ slice_range (text_of k.document) start (start + count)) copied
-      ∙ ap (λ xs. xs ++ slice_range (text_of kept_at.k.document) start (start + count)) e ∙ ap (λ (d : Document). slice_range (text_of d) start (start + count)) kept_at.is in
-      let told : ns ≡ first_note task.is_recorded view m ++ [] = first ∙ ap (λ xs. xs ++ first_note task.is_recorded view m) n ∙ sym (append_nil (first_note task.is_recorded view m)) in
-      answered_so (session_in s) value bytes []
-      (ap (performed asked) is ∙ ap (λ x. (x, response value (slice_range (text asked) start (start + count)) [])) session_is ∙ ap (λ b. (session_in s, response value b [])) (sym put))
-      ∙ ap (λ xs. Ok (session_in s, response value bytes xs)) (sym told)
+    pub gone : (what : Plan) → performed r what ≡ history_performed r (bits_of direction) (changes_of direction r.document.history) (history_behind direction r.document.history)
+        → (s' : SessionState) (notes notes' : Gathered) → Goes task.view direction s notes kept_at.k s' notes' → IsDone r what s' notes.notes notes'.notes (pos 0) []
+    gone what is s' notes notes' done =
+        let cs = changes_of direction r.document.history in
+        let new = history_behind direction r.document.history in
+        let base = transaction_performed (bits_of direction) cs new (scene_of r) in
+        let at : Document → Session → List Notice → Scene = λ d x ns. transaction_performed (bits_of direction) (changes_of direction d.history) (history_behind direction d.history) (record { document = d; views = x.views; notes = ns }) in
+        let scene : at kept_at.k.document (session_in s) notes.notes ≡ telling notes.notes base =
+        ap (λ d. at d (session_in s) notes.notes) kept_at.is ∙ ap (λ x. at r.document x notes.notes) (sym session_is) ∙ transaction_told_from notes.notes (bits_of direction) cs new r.document r.session.views in
+        let after : Session → Scene → ℕ → Document → Session = λ x scene id d. (let t = session_of x scene in record t { views = caret_behind id (latest_text_step (reverse (changes_of direction d.history))) t.views }) in
+        let session : session_in s' ≡ after r.session base r.view.id r.document =
+        done.session_after ∙ ap (λ (x : Scene). after (session_in s) x task.view kept_at.k.document) scene ∙ ap (after (session_in s) base task.view) kept_at.is
+        ∙ ap (λ x. after x base task.view r.document) (sym session_is) ∙ ap (λ id. after r.session base id r.document) (sym by.asked.view_id) in
+        record { told = base.notes; done = is ∙ ap (λ x. (x, response (pos 0) [] base.notes)) (sym session); heard = done.notes_after ∙ ap (λ (x : Scene). x.notes) scene }
 
-  pub handed_out_styled : (start count : ℕ) → task.plan ≡ plan.HandOutStyled start count → (empty bytes : List ℕ) (none ns : List Notice) → empty ≡ [] → none ≡ [] → ns ≡ none ++ first_note task.is_recorded view m
-      → IfSome (value_at s.documents.entries task.document) (λ k. bytes ≡ empty ++ styled_text (slice_range k.document.cells start (start + count)))
-      → table table_so_far (session_in s) view m ≡ Ok (session_in s, response (pos (length bytes)) bytes ns)
-  handed_out_styled start count is empty bytes none ns e n first copied =
-      let put : bytes ≡ styled_text (slice_range asked.document.cells start (start + count)) =
-      of_kept (λ k. bytes ≡ empty ++ styled_text (slice_range k.document.cells start (start + count))) copied
-      ∙ ap (λ xs. xs ++ styled_text (slice_range kept_at.k.document.cells start (start + count))) e ∙ ap (λ (d : Document). styled_text (slice_range d.cells start (start + count))) kept_at.is in
-      let told : ns ≡ first_note task.is_recorded view m ++ [] = first ∙ ap (λ xs. xs ++ first_note task.is_recorded view m) n ∙ sym (append_nil (first_note task.is_recorded view m)) in
-      answered_so (session_in s) (pos (length bytes)) bytes []
-      (ap (performed asked) is ∙ ap (λ x. (x, response (pos (length (styled_text (slice_range asked.document.cells start (start + count))))) (styled_text (slice_range asked.document.cells start (start + count))) [])) session_is
-      ∙ ap (λ b. (session_in s, response (pos (length b)) b [])) (sym put))
-      ∙ ap (λ xs. Ok (session_in s, response (pos (length bytes)) bytes xs)) (sym told)
+  -- A change of the document.
+  pub can_tell : (change : DocumentChange) (notes : Gathered) → IsFitChange r.document change → bytes_read change ≤ length r.message.text → notes_of_change change r.document.history (watching r.session.views r.document) ≤ notes.note_room
+      → CanTell change bytes s.views notes kept_at.k
+  can_tell change notes fits read n = record {
+    fits = subst (λ d. IsFitChange d change) (sym kept_at.is) fits;
+    read = subst (λ x. bytes_read change ≤ length x) by.message read;
+    watched = watched_here;
+    room = subst (λ (d : Document). notes_of_change change d.history (watchers d s.views) ≤ notes.note_room) (sym kept_at.is)
+        (subst (λ (x : Session). notes_of_change change r.document.history (watching x.views r.document) ≤ notes.note_room) session_is n);
+  }
 
-  pub attempt_room : task.plan ≡ plan.Attempt → IsEnough asked task.plan task.is_recorded task.need → (room : ℕ) → task.need.notes.notes ≤ room + notes_if task.is_recorded
-      → IsSomeAnd (value_at s.documents.entries task.document) (λ k. length (watching (views_of s.views.entries) k.document) ≤ room)
-  attempt_room is enough room there =
-      let all : IsEnough asked plan.Attempt task.is_recorded task.need = subst (λ p. IsEnough asked p task.is_recorded task.need) is enough in
-      let n : length (watching asked.session.views asked.document) ≤ room = omega (arith, all.all_there.notes_there, there) in
-      for_kept (λ k. length (watching (views_of s.views.entries) k.document) ≤ room)
-      (subst (λ d. length (watching (views_of s.views.entries) d) ≤ room) (sym kept_at.is) (subst (λ (x : Session). length (watching x.views asked.document) ≤ room) session_is n))
+  pub changed : (change : DocumentChange) (value : ℤ) (s' : SessionState) (notes notes' : Gathered) → Changes change task.view bytes kept_at.k s notes s' notes' → IsDone r (plan.ChangeDocument change value) s' notes.notes notes'.notes value []
+  changed change value s' notes notes' done =
+      let after : Session → Document → List ℕ → Session = λ t d x. record t { documents = with_document (changed_document x change d) t.documents; views = map (changed_lines change d) t.views } in
+      let heard : List View → Document → List ℕ → List Notice = λ views d x. change_told r.view (watching views d) d (changed_document x change d) change in
+      let session : session_in s' ≡ after r.session r.document r.message.text =
+      done.session_after ∙ ap (λ d. after (session_in s) d bytes) kept_at.is ∙ ap (after (session_in s) r.document) (sym by.message) ∙ ap (λ t. after t r.document r.message.text) (sym session_is) in
+      let notes_are : notes'.notes ≡ notes.notes ++ heard r.session.views r.document r.message.text =
+      done.notes_after r.view by.asked.view_id ∙ ap (λ d. notes.notes ++ heard (views_of s.views.entries) d bytes) kept_at.is ∙ ap (λ x. notes.notes ++ heard (views_of s.views.entries) r.document x) (sym by.message)
+      ∙ ap (λ (t : Session). notes.notes ++ heard t.views r.document r.message.text) (sym session_is) in
+      record { told = heard r.session.views r.document r.message.text; done = ap (λ x. (x, response value [] (heard r.session.views r.document r.message.text))) (sym session); heard = notes_are }
 
-  pub attempted : task.plan ≡ plan.Attempt → (none ns ns' : List Notice) → none ≡ [] → ns ≡ none ++ first_note task.is_recorded view m
-      → IfSome (value_at s.documents.entries task.document) (λ k. ns' ≡ ns ++ told (watching (views_of s.views.entries) k.document) (blank modify_attempt))
-      → table table_so_far (session_in s) view m ≡ Ok (session_in s, response (pos 0) [] ns')
-  attempted is none ns ns' n first put =
-      let heard : ns' ≡ ns ++ told (watching asked.session.views asked.document) (blank modify_attempt) =
-      of_kept (λ k. ns' ≡ ns ++ told (watching (views_of s.views.entries) k.document) (blank modify_attempt)) put
-      ∙ ap (λ (d : Document). ns ++ told (watching (views_of s.views.entries) d) (blank modify_attempt)) kept_at.is
-      ∙ ap (λ (x : Session). ns ++ told (watching x.views asked.document) (blank modify_attempt)) (sym session_is) in
-      let all : ns' ≡ first_note task.is_recorded view m ++ told (watching asked.session.views asked.document) (blank modify_attempt) =
-      heard ∙ ap (λ xs. xs ++ told (watching asked.session.views asked.document) (blank modify_attempt)) (first ∙ ap (λ xs. xs ++ first_note task.is_recorded view m) n) in
-      answered_so (session_in s) (pos 0) [] (told (watching asked.session.views asked.document) (blank modify_attempt))
-      (ap (performed asked) is ∙ ap (λ x. (x, response (pos 0) [] (told (watching asked.session.views asked.document) (blank modify_attempt)))) session_is)
-      ∙ ap (λ xs. Ok (session_in s, response (pos 0) [] xs)) (sym all)
+  -- A change of the view, and of the session.
+
+  pub can_change_view : (change : ViewChange) (value : ℤ) → IsFitPlan r (plan.ChangeView change value) → CanChangeView (session_in s) task.document task.view change
+  can_change_view change value fit = record { request = r; asked = by.asked; fit = fit }
+
+  pub view_changed : (change : ViewChange) (value : ℤ) (s' : SessionState) (ns : List Notice) → session_in s' ≡ view_change_performed r change → IsDone r (plan.ChangeView change value) s' ns ns value []
+  view_changed change value s' ns e = record { told = []; done = ap (λ x. (x, response value [] [])) (sym e); heard = sym (append_nil ns) }
+
+  pub can_change_session : (change : SessionChange) (value : ℤ) → IsFitPlan r (plan.ChangeSession change value) → CanChangeSession (session_in s) task.document task.view bytes change
+  can_change_session change value fit = record { request = r; asked = by.asked; message = by.message; fit = fit }
+
+  pub session_is_changed : (change : SessionChange) (value : ℤ) (s' : SessionState) (ns : List Notice) → session_in s' ≡ session_changed r change → IsDone r (plan.ChangeSession change value) s' ns ns value []
+  session_is_changed change value s' ns e = record { told = []; done = ap (λ x. (x, response value [] [])) (sym e); heard = sym (append_nil ns) }
+
+  pub change_fits : (change : DocumentChange) (value : ℤ) → IsFitPlan r (plan.ChangeDocument change value) → IsFitChange r.document change
+  change_fits change value fit = fit_change r change (subst (λ (x : Session). is_allowed x.limits ≡ true) (sym session_is) kept.limits) fit
+
+-- The answer to a message.
+module _ (s : SessionState) (view : ℕ) (m : Message) (task : Task) (t : IsTask (session_in s) view m task) where
+  pub asked_by : IsAskedBy (session_in s) task m.text t.request
+  asked_by = record {
+    asked = record { sound = t.found.sound; session = t.found.session; document_id = sym t.document_id; view_id = t.found.view_id ∙ sym t.view_id };
+    message = ap (λ (x : Message). x.text) t.found.message;
+  }
+
+  pub planned : IsPlanned (session_in s) task m.text
+  planned = record { request = t.request; asked = asked_by; fit = t.fit }
+
+  -- the reply, with the note by which it is recorded
+  recorded_reply : (reply : Response) → with_recording t.kind t.request reply ≡ record reply { notes = first_note task.is_recorded view m ++ reply.notes }
+  recorded_reply reply =
+      go (t.request.view.records && (marks_of t.kind).r)
+      ∙ ap (λ b. record reply { notes = first_note b view m ++ reply.notes }) (sym t.recorded)
+    where
+      go : (b : Bool) → cond b (record reply { notes = record_note t.request ∷ reply.notes }) reply ≡ record reply { notes = first_note b view m ++ reply.notes }
+      go true = ap (λ n. record reply { notes = recording n t.request.message ∷ reply.notes }) t.found.view_id ∙ ap (λ x. record reply { notes = recording view x ∷ reply.notes }) t.found.message
+      go false = refl
+
+  pub answered_so : (s' : SessionState) (before after : List Notice) (value : ℤ) (out : List ℕ) → before ≡ first_note task.is_recorded view m → IsDone t.request task.plan s' before after value out
+      → table table_so_far (session_in s) view m ≡ Ok (session_in s', response value out after)
+  answered_so s' before after value out first done =
+      t.found.answer ∙ ap (answered_by t.kind t.request) t.planned
+      ∙ ap (λ (x : Session × Response). Ok (x.0, with_recording t.kind t.request x.1)) done.done
+      ∙ ap (λ x. Ok (session_in s', x)) (recorded_reply (response value out done.told))
+      ∙ ap (λ xs. Ok (session_in s', response value out xs)) (sym (done.heard ∙ ap (λ xs. xs ++ done.told) first))
 
 -- the room that the note of recording leaves
 pub room_left : (is_recorded : Bool) (bytes : List ℕ) (old new : Gathered) → (is_recorded ≡ true → (old.note_room ≤ new.note_room + 1) × (old.text_room ≤ new.text_room + length bytes)) → (is_recorded ≡ false → new ≡ old)
@@ -350,3 +516,6 @@ room_left true bytes old new some none = some refl
 room_left false bytes old new some none =
     let same = none refl in
     (subst (λ (g : Gathered). old.note_room ≤ g.note_room + 0) (sym same) (omega arith), subst (λ (g : Gathered). old.text_room ≤ g.text_room + 0) (sym same) (omega arith))
+
+pub bytes_same : (is_recorded : Bool) (xs ys : List ℕ) → xs ≡ ys → bytes_if is_recorded xs ≡ bytes_if is_recorded ys
+bytes_same is_recorded xs ys e = ap (bytes_if is_recorded) e

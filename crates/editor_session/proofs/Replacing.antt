@@ -1,19 +1,24 @@
 -- An edit of one of the documents of a table.
-use Rattle.std.proofs.Common.{◌≡◌, ℕ, ◌==◌, Bool, true, false, List, [], ◌∷◌, length, map, refl, ap, sym, ◌∙◌, subst, Some, IfSome}
+use Rattle.std.proofs.Common.{◌≡◌, ℕ, ◌==◌, Bool, true, false, cond, List, [], ◌∷◌, length, map, refl, ap, sym, ◌∙◌, subst, Some, IfSome}
 use Rattle.std.specs.Prelude.{nat_lt, if◌then◌else◌}
 use Rattle.std.proofs.lemmas.Bool.{cond_both}
-use Rattle.ed_model.specs.Steps.{Step, replacement}
-use Rattle.ed_model.specs.Session.{Document, text_of, with_document}
-use Rattle.ed_model.specs.Performing.{Scene, step_made, steps_made, edit_made, sealed_scene}
+use Rattle.ed_model.specs.Steps.{Step}
+use Rattle.ed_model.specs.declared.plan.DocumentChange.{DocumentChange}
+use Rattle.ed_model.specs.declared.plan.DocumentChange.TheVariants as change
+use Rattle.ed_model.specs.History.{History, Change, TextStep, ContainerStep}
+use Rattle.ed_model.specs.Notes.{bit_if, multi_step}
+use Rattle.ed_model.specs.Changes.{changed_document}
+use Rattle.ed_model.specs.Session.{Document, with_document}
+use Rattle.ed_model.specs.Performing.{Scene, step_made, steps_made, edit_made, sealed_scene, change_performed, changes_performed, transaction_performed, is_last, changes_lines}
 use Rattle.id_table.specs.Entries.{Entries, value_at, with_value_at}
 use Rattle.notify.specs.Gathered.{Gathered}
 use Rattle.document.specs.Kept.{Kept}
 use Rattle.ed_view.specs.Kept.{KeptView}
 use Rattle.scene.specs.Scenes.{scene_in}
 use Rattle.message_plans.specs.Requested.{documents_in}
-use Rattle.editor_session.specs.Kept.{DocumentsAreNamed}
-use Rattle.editor_session.specs.Edited.{Replaces}
-use Rattle.editor_session.proofs.Finding.{document_in, id_of_document, found_some, replaced, id_of_document_at}
+use Rattle.session_changes.specs.Kept.{DocumentsAreNamed}
+use Rattle.editor_session.specs.Edited.{Becomes}
+use Rattle.editor_session.proofs.Finding.{document_in, id_of_document, found_some, replaced, still_named, id_of_document_at}
 
 steps_keep_id : (later : Bool) (steps : List Step) (scene : Scene) → (steps_made later steps scene).document.id ≡ scene.document.id
 steps_keep_id later [] scene = refl
@@ -24,30 +29,80 @@ edit_keeps_id steps scene =
     cond_both (nat_lt 1 (length steps)) (sealed_scene (steps_made false steps (sealed_scene scene))) (steps_made false steps scene) (λ x. x.document.id ≡ scene.document.id)
     (λ _. steps_keep_id false steps (sealed_scene scene)) (λ _. steps_keep_id false steps scene)
 
-module _ (documents : Entries Kept) (views views' : Entries KeptView) (notes notes' : Gathered) (id : ℕ) (k k' : Kept) (start count : ℕ) (bytes : List ℕ) (named : DocumentsAreNamed documents.entries) (at : value_at documents.entries id ≡ Some k)
-    (made : scene_in k'.document views'.entries notes'.notes ≡ edit_made (replacement start count bytes (text_of k.document)) (scene_in k.document views.entries notes.notes)) where
+module _ (documents : Entries Kept) (views' : Entries KeptView) (notes' : Gathered) (id : ℕ) (k k' : Kept) (scene : Scene) (named : DocumentsAreNamed documents.entries) (at : value_at documents.entries id ≡ Some k)
+    (made : scene_in k'.document views'.entries notes'.notes ≡ scene) (same : scene.document.id ≡ k.document.id) where
   pub id_after : k'.document.id ≡ id
-  id_after =
-      ap (λ (x : Scene). x.document.id) made ∙ edit_keeps_id (replacement start count bytes (text_of k.document)) (scene_in k.document views.entries notes.notes)
-      ∙ id_of_document_at (documents_in documents) id k.document (found_some document_in id_of_document documents.entries id k named at)
+  id_after = ap (λ (x : Scene). x.document.id) made ∙ same ∙ id_of_document_at (documents_in documents) id k.document (found_some document_in id_of_document documents.entries id k named at)
 
-  abbrev pub after : Scene
-  after = edit_made (replacement start count bytes (text_of k.document)) (scene_in k.document views.entries notes.notes)
-
-  replaced_at : documents_in (record documents { entries = with_value_at id k' documents.entries }) ≡ with_document after.document (documents_in documents)
+  replaced_at : documents_in (record documents { entries = with_value_at id k' documents.entries }) ≡ with_document scene.document (documents_in documents)
   replaced_at =
       replaced document_in id_of_document documents.entries id k' named
       ∙ ap (λ n. map (λ (d : Document). if d.id == n then k'.document else d) (documents_in documents)) (sym id_after)
       ∙ ap (λ (d : Document). with_document d (documents_in documents)) (ap (λ (x : Scene). x.document) made)
 
-  pub replaced_entries : Replaces (replacement start count bytes (text_of k.document)) k.document documents views notes (record documents { entries = with_value_at id k' documents.entries }) views' notes'
-  replaced_entries = record { documents_after = replaced_at; views_after = ap (λ (x : Scene). x.views) made; notes_after = ap (λ (x : Scene). x.notes) made }
+  pub becomes : Becomes scene documents (record documents { entries = with_value_at id k' documents.entries }) views' notes'
+  becomes = record { documents_after = replaced_at; views_after = ap (λ (x : Scene). x.views) made; notes_after = ap (λ (x : Scene). x.notes) made }
 
-pub replaced_so : (documents documents' : Entries Kept) (views views' : Entries KeptView) (notes notes' : Gathered) (id : ℕ) (k k' : Kept) (start count : ℕ) (bytes : List ℕ) → DocumentsAreNamed documents.entries → value_at documents.entries id ≡ Some k
+pub becomes_so : (documents documents' : Entries Kept) (views' : Entries KeptView) (notes' : Gathered) (id : ℕ) (k k' : Kept) (scene : Kept → Scene) → DocumentsAreNamed documents.entries → value_at documents.entries id ≡ Some k
     → documents' ≡ record documents { entries = with_value_at id k' documents.entries }
-    → scene_in k'.document views'.entries notes'.notes ≡ edit_made (replacement start count bytes (text_of k.document)) (scene_in k.document views.entries notes.notes)
-    → IfSome (value_at documents.entries id) (λ x. Replaces (replacement start count bytes (text_of x.document)) x.document documents views notes documents' views' notes')
-replaced_so documents documents' views views' notes notes' id k k' start count bytes named at is made =
-    subst (λ o. IfSome o (λ x. Replaces (replacement start count bytes (text_of x.document)) x.document documents views notes documents' views' notes')) (sym at)
-    (subst (λ ds. Replaces (replacement start count bytes (text_of k.document)) k.document documents views notes ds views' notes') (sym is)
-    (replaced_entries documents views views' notes notes' id k k' start count bytes named at made))
+    → scene_in k'.document views'.entries notes'.notes ≡ scene k → (scene k).document.id ≡ k.document.id
+    → IfSome (value_at documents.entries id) (λ x. Becomes (scene x) documents documents' views' notes')
+becomes_so documents documents' views' notes' id k k' scene named at is made same =
+    subst (λ o. IfSome o (λ x. Becomes (scene x) documents documents' views' notes')) (sym at)
+    (subst (λ ds. Becomes (scene k) documents ds views' notes') (sym is) (becomes documents views' notes' id k k' (scene k) named at made same))
+
+pub still_named_so : (documents : Entries Kept) (views' : Entries KeptView) (notes' : Gathered) (id : ℕ) (k k' : Kept) (scene : Scene) → DocumentsAreNamed documents.entries → value_at documents.entries id ≡ Some k
+    → scene_in k'.document views'.entries notes'.notes ≡ scene → scene.document.id ≡ k.document.id → DocumentsAreNamed (with_value_at id k' documents.entries)
+still_named_so documents views' notes' id k k' scene named at made same = still_named document_in id_of_document documents.entries id k' (id_after documents views' notes' id k k' scene named at made same) named
+
+-- Undo and redo keep the document's id.
+
+changes_keep_id : (who several : ℕ) (lines_changed : Bool) (cs : List Change) (scene : Scene) → (changes_performed who several lines_changed cs scene).document.id ≡ scene.document.id
+changes_keep_id who several lines_changed [] scene = refl
+changes_keep_id who several lines_changed (TextStep step ∷ cs) scene =
+    let changed = cond lines_changed true (changes_lines (TextStep step) scene.document) in
+    changes_keep_id who several changed cs (change_performed who several (is_last cs) changed (TextStep step) scene)
+changes_keep_id who several lines_changed (ContainerStep token coalesce ∷ cs) scene =
+    let changed = cond lines_changed true (changes_lines (ContainerStep token coalesce) scene.document) in
+    changes_keep_id who several changed cs (change_performed who several (is_last cs) changed (ContainerStep token coalesce) scene)
+
+pub transaction_keeps_id : (who : ℕ) (cs : List Change) (new : History) (scene : Scene) → (transaction_performed who cs new scene).document.id ≡ scene.document.id
+transaction_keeps_id who cs new scene = changes_keep_id who (bit_if (nat_lt 1 (length cs)) multi_step) false cs scene
+
+-- A change of one of the documents of a table.
+
+pub change_keeps_id : (text : List ℕ) (what : DocumentChange) (d : Document) → (changed_document text what d).id ≡ d.id
+change_keeps_id text (change.SetReadOnly on) d = refl
+change_keeps_id text (change.SetLineEnd to) d = refl
+change_keeps_id text (change.SetLineEndTypes to) d = refl
+change_keeps_id text change.SetSavePoint d = refl
+change_keeps_id text change.BeginGroup d = refl
+change_keeps_id text change.EndGroup d = refl
+change_keeps_id text change.ForgetHistory d = refl
+change_keeps_id text (change.CollectUndo on) d = refl
+change_keeps_id text (change.AppendContainer token coalesce) d = refl
+change_keeps_id text (change.AddMarker line number) d = refl
+change_keeps_id text (change.AddMarkers line mask) d = refl
+change_keeps_id text (change.DeleteMarker line number) d = refl
+change_keeps_id text (change.DeleteMarkers number) d = refl
+change_keeps_id text (change.DeleteHandle handle) d = refl
+change_keeps_id text (change.SetLevel line level) d = refl
+change_keeps_id text (change.SetState line state) d = refl
+change_keeps_id text (change.SetEndStyled place) d = refl
+change_keeps_id text (change.StyleRun count style) d = refl
+change_keeps_id text (change.StyleBytes count) d = refl
+change_keeps_id text (change.NeedStyle start past) d = refl
+change_keeps_id text (change.FillIndicator indicator start count value) d = refl
+
+pub document_put : (documents : Entries Kept) (id : ℕ) (k k' : Kept) (d : Document) → DocumentsAreNamed documents.entries → value_at documents.entries id ≡ Some k → k'.document ≡ d → d.id ≡ k.document.id
+    → documents_in (record documents { entries = with_value_at id k' documents.entries }) ≡ with_document d (documents_in documents)
+document_put documents id k k' d named at is same =
+    let own : k.document.id ≡ id = id_of_document_at (documents_in documents) id k.document (found_some document_in id_of_document documents.entries id k named at) in
+    replaced document_in id_of_document documents.entries id k' named
+    ∙ ap (λ (x : Document). map (λ (e : Document). if e.id == id then x else e) (documents_in documents)) is
+    ∙ ap (λ n. map (λ (e : Document). if e.id == n then d else e) (documents_in documents)) (sym (same ∙ own))
+
+pub put_named : (documents : Entries Kept) (id : ℕ) (k k' : Kept) (d : Document) → DocumentsAreNamed documents.entries → value_at documents.entries id ≡ Some k → k'.document ≡ d → d.id ≡ k.document.id → DocumentsAreNamed (with_value_at id k' documents.entries)
+put_named documents id k k' d named at is same =
+    still_named document_in id_of_document documents.entries id k'
+    (ap (λ (x : Document). x.id) is ∙ same ∙ id_of_document_at (documents_in documents) id k.document (found_some document_in id_of_document documents.entries id k named at)) named

@@ -18,7 +18,7 @@ use Rattle.notify.specs.Gathered.{Gathered}
 use Rattle.scene.specs.Scenes.{views_of, scene_in, StandsIfOn, IsWatched}
 use Rattle.scene.specs.Hearing.{bytes_shared, made_kinds}
 use Rattle.scene.specs.Needs.{notes_needed, bytes_needed, NotesAreEnough, BytesAreEnough, SealingNeedsTheSame}
-use Rattle.editor_session.specs.Needs.{room_of_step, room_of_steps, notes_for, bytes_for}
+use Rattle.scene.specs.Conversion.{room_of_step, room_of_steps, notes_for, bytes_for}
 
 -- Notes and their bytes.
 

@@ -1,5 +1,5 @@
 -- The way of a message through the table.
-use Rattle.std.proofs.Common.{◌&&◌, ◌≡◌, ◌≢◌, ℕ, Bool, true, false, cond, refl, ap, sym, ◌∙◌, subst, Option, Some, None, Ok, Err}
+use Rattle.std.proofs.Common.{◌&&◌, ◌≡◌, ◌≢◌, ℕ, Bool, true, false, cond, ◌==◌, List, refl, ap, sym, ◌∙◌, subst, Option, Some, None, Ok, Err}
 use Rattle.std.specs.Prelude.{Result, not}
 use Rattle.ed_types.specs.declared.message.Message.{Message}
 use Rattle.ed_types.specs.declared.kind.Kind.{Kind}
@@ -7,7 +7,7 @@ use Rattle.ed_types.specs.declared.refusal.Refusal.{Refusal}
 use Rattle.ed_types.specs.declared.refusal.Refusal.TheVariants.{NoSuchView, UnknownMessage, NoSuchDocument, OutOfMemory}
 use Rattle.ed_types.specs.Notices.{Response}
 use Rattle.ed_types.specs.Messages.{kind_of, marks_of}
-use Rattle.ed_model.specs.Session.{Session, View, Document, document_at, view_at}
+use Rattle.ed_model.specs.Session.{Session, View, Document, document_at, view_at, watching}
 use Rattle.ed_model.specs.SoundLaws.{IsSound}
 use Rattle.ed_model.specs.Requests.{Request, Planned}
 use Rattle.ed_model.specs.declared.plan.Plan.{Plan}
@@ -16,10 +16,23 @@ use Rattle.ed_model.specs.Table.{table, table_from_view, table_from_kind, table_
 use Rattle.message_plans.specs.TableSoFar.{table_so_far}
 use Rattle.editor_session.proofs.Finding.{id_of_view_at}
 use Rattle.editor_session.specs.declared.find.Task.{Task}
-use Rattle.editor_session.specs.Plans.{is_performed, needs_no_memory, planned_without_memory, is_free, is_free_request, is_free_from_document, is_free_if_known, is_free_from_kind, is_free_from_view, is_marked_free, is_recorded_by, MarkedMessagesAreFree}
+use Rattle.editor_session.specs.Plans.{needs_no_memory, planned_without_memory, is_free, is_free_request, is_free_from_document, is_free_if_known, is_free_from_kind, is_free_from_view, is_marked_free, is_recorded_by, MarkedMessagesAreFree}
 use Rattle.editor_session.specs.Tasks.{known_kind, IsFound, IsTask}
-use Rattle.editor_session.proofs.KnownPlans.{known_plan, IsPerformed}
-use Rattle.ed_model.specs.FreePlans.{IsFreePlan, IsFreePlanned, MarkedPlansAreFree}
+use Rattle.ed_model.specs.FreePlans.{IsFreeDocumentChange, IsFreeViewChange, IsFreeSessionChange, IsFreePlan, IsFreePlanned, MarkedPlansAreFree}
+use Rattle.ed_model.specs.declared.plan.DocumentChange.{DocumentChange}
+use Rattle.ed_model.specs.declared.plan.DocumentChange.TheVariants as document_change
+use Rattle.ed_model.specs.declared.plan.ViewChange.{ViewChange}
+use Rattle.ed_model.specs.declared.plan.ViewChange.TheVariants as view_change
+use Rattle.ed_model.specs.declared.plan.SessionChange.{SessionChange}
+use Rattle.ed_model.specs.declared.plan.SessionChange.TheVariants as session_change
+use Rattle.ed_model.specs.History.{History}
+use Rattle.document_changes.specs.Needs.{needs_room, notes_of_change}
+use Rattle.session_changes.specs.Folding.{takes_fold_room}
+use Rattle.session_changes.specs.Ready.{takes_memory}
+
+pub all_known : (o : Option Kind) → o ≡ known_kind o
+all_known None = refl
+all_known (Some kind) = refl
 
 pub no_view : (s : Session) (id : ℕ) (m : Message) → view_at s.views id ≡ None → table table_so_far s id m ≡ Err NoSuchView
 no_view s id m none = ap (table_from_view table_so_far s m) none
@@ -94,30 +107,53 @@ free_task s view m task t free =
     let parts = both_true (planned_without_memory r (plan_of t.kind r)) (not (r.view.records && (marks_of t.kind).r)) (sym is ∙ free) in
     (subst (λ p. planned_without_memory r p ≡ true) t.planned parts.0, t.recorded ∙ not_true (r.view.records && (marks_of t.kind).r) parts.1)
 
-free_needs_none : (r : Request) (what : Plan) → is_performed what ≡ true → IsFreePlan what → needs_no_memory r what ≡ true
-free_needs_none r (plan.Answer value) p h = refl
-free_needs_none r (plan.HandOut value start count) p h = absurd h
-free_needs_none r (plan.HandOutStyled start count) p h = absurd h
-free_needs_none r (plan.Edit change value after) p h = absurd h
-free_needs_none r plan.Attempt p h = absurd h
-free_needs_none r plan.Undo p h = absurd h
-free_needs_none r plan.Redo p h = absurd h
-free_needs_none r (plan.ChangeDocument change value) p h = absurd (cc)
-free_needs_none r (plan.ChangeView change value) p h = absurd (cc)
-free_needs_none r (plan.ChangeSession change value) p h = absurd (cc)
+free_change : (change : DocumentChange) (h : History) (views : List View) → IsFreeDocumentChange change → (not (needs_room change) && (notes_of_change change h views == 0)) ≡ true
+free_change (document_change.SetReadOnly on) h views f = refl
+free_change (document_change.SetLineEnd to) h views f = refl
+free_change document_change.BeginGroup h views f = refl
+free_change document_change.EndGroup h views f = refl
+free_change document_change.ForgetHistory h views f = refl
+free_change (document_change.CollectUndo on) h views f = refl
+free_change (document_change.SetEndStyled place) h views f = refl
+free_change _ h views f = absurd f
+
+free_view_change : (change : ViewChange) → IsFreeViewChange change → not (takes_fold_room change) ≡ true
+free_view_change (view_change.HideLines first past) f = absurd f
+free_view_change (view_change.SetExpanded line on) f = absurd f
+free_view_change (view_change.Contract line) f = absurd f
+free_view_change (view_change.Expand line) f = absurd f
+free_view_change (view_change.EnsureVisible line) f = absurd f
+free_view_change _ f = refl
+
+free_session_change : (change : SessionChange) → IsFreeSessionChange change → not (takes_memory change) ≡ true
+free_session_change (session_change.AddReference id) f = refl
+free_session_change (session_change.Release id) f = refl
+free_session_change _ f = absurd f
+
+free_needs_none : (r : Request) (what : Plan) → IsFreePlan what → needs_no_memory r what ≡ true
+free_needs_none r (plan.Answer value) h = refl
+free_needs_none r (plan.HandOut value start count) h = absurd h
+free_needs_none r (plan.HandOutStyled start count) h = absurd h
+free_needs_none r (plan.Edit change value after) h = absurd h
+free_needs_none r plan.Attempt h = absurd h
+free_needs_none r plan.Undo h = absurd h
+free_needs_none r plan.Redo h = absurd h
+free_needs_none r (plan.ChangeDocument change value) h = free_change change r.document.history (watching r.session.views r.document) h
+free_needs_none r (plan.ChangeView change value) h = free_view_change change h
+free_needs_none r (plan.ChangeSession change value) h = free_session_change change h
 
 pub marked_are_free : MarkedPlansAreFree → MarkedMessagesAreFree
 marked_are_free law s view m marked unrecorded = from_view (view_at s.views view) marked unrecorded
   where
-    of_plan : (r : Request) (p : Planned) → IsPerformed p → IsFreePlanned p → planned_without_memory r p ≡ true
-    of_plan r (Ok what) p h = free_needs_none r what p h
-    of_plan r (Err refusal) p h = refl
+    of_plan : (r : Request) (p : Planned) → IsFreePlanned p → planned_without_memory r p ≡ true
+    of_plan r (Ok what) h = free_needs_none r what h
+    of_plan r (Err refusal) h = refl
 
     from_document : (v : View) (kind : Kind) (o : Option Document) → table_so_far kind ≡ true → (marks_of kind).n ≡ true → (v.records && (marks_of kind).r) ≡ false → is_free_from_document s v kind m o ≡ true
     from_document v kind None known n r = refl
     from_document v kind (Some d) known n r =
         let q = request s v d m in
-        rw (of_plan q (plan_of kind q) (known_plan kind q known) (law kind q n), r) refl
+        rw (of_plan q (plan_of kind q) (law kind q n), r) refl
 
     if_known : (v : View) (kind : Kind) (b : Bool) → table_so_far kind ≡ b → (marks_of kind).n ≡ true → (v.records && (marks_of kind).r) ≡ false → is_free_if_known b s v kind m ≡ true
     if_known v kind true known n r = from_document v kind (document_at s.documents v.document) known n r

@@ -1,35 +1,42 @@
 -- Edits of a session.
 use Rattle.std.specs.Prelude.{◌≡◌, ℕ, List, length, []}
+use Rattle.ed_model.specs.declared.plan.Edit.{Edit}
+use Rattle.ed_model.specs.declared.plan.Edit.TheVariants as edit
 use Rattle.ed_model.specs.declared.plan.Follow.{Follow}
+use Rattle.ed_model.specs.LineEnds.{conversion_steps}
 use Rattle.ed_model.specs.Steps.{Step, replacement}
-use Rattle.ed_model.specs.Session.{text_of}
+use Rattle.ed_model.specs.Session.{Document, text_of}
 use Rattle.ed_model.specs.Performing.{Scene, edit_made, followed, session_of}
 use Rattle.notify.specs.Gathered.{Gathered}
 use Rattle.document.specs.Kept.{Kept}
+use Rattle.id_table.specs.Entries.{Entries}
+use Rattle.ed_view.specs.Kept.{KeptView}
 use Rattle.scene.specs.Scenes.{scene_in}
+use Rattle.scene.specs.Conversion.{CanMakeSteps}
 use Rattle.message_plans.specs.Requested.{session_in}
 use Rattle.message_plans.specs.declared.state.SessionState.{SessionState}
-use Rattle.editor_session.specs.declared.edits.Replacement.{Replacement}
-use Rattle.editor_session.specs.Edited.{IsStoredIn, stored_bytes, CanTake, CanReplace}
+use Rattle.editor_session.specs.Edited.{IsEditWithin, stored_bytes, CanTake}
 
--- the bytes that come
-abbrev pub bytes_for : List ℕ → Replacement → SessionState → Kept → List ℕ
-bytes_for text change s k = stored_bytes change.source text s.clipboard.items k.document.line_end
+-- the steps of an edit of the document
+abbrev pub edit_steps : Edit → List ℕ → List ℕ → List ℕ → Document → List Step
+edit_steps (edit.Replace start count from) text clipboard pasted d = replacement start count (stored_bytes from text clipboard pasted d.line_end) (text_of d)
+edit_steps (edit.ConvertLineEnds to) text clipboard pasted d = conversion_steps to (text_of d)
 
--- the steps, and the scene after them
-abbrev pub steps_for : List ℕ → Replacement → SessionState → Kept → List Step
-steps_for text change s k = replacement change.start change.count (bytes_for text change s k) (text_of k.document)
+-- and the scene after them
+abbrev pub scene_after : Edit → List ℕ → List ℕ → SessionState → Gathered → Kept → Scene
+scene_after change text pasted s notes k = edit_made (edit_steps change text s.clipboard.items pasted k.document) (scene_in k.document s.views.entries notes.notes)
 
-abbrev pub scene_after : List ℕ → Replacement → SessionState → Gathered → Kept → Scene
-scene_after text change s notes k = edit_made (steps_for text change s k) (scene_in k.document s.views.entries notes.notes)
+-- its ranges lie within, and there is room for its steps
+pub record CanChange (change : Edit) (text clipboard pasted : List ℕ) (views : Entries KeptView) (notes : Gathered) (k : Kept) : Type 0 where
+  pub within : IsEditWithin change (length k.document.cells) (length text)
+  pub steps : CanMakeSteps (edit_steps change text clipboard pasted k.document) k views notes
 
 -- there is room for the edit and for what follows it
-pub record CanEdit (text : List ℕ) (change : Replacement) (follow : Follow) (s : SessionState) (taken : List ℕ) (room : ℕ) (notes : Gathered) (k : Kept) : Type 0 where
-  pub stored : IsStoredIn change.source (length text)
-  pub replace : CanReplace change.start change.count (bytes_for text change s k) k s.views notes
+pub record CanEdit (change : Edit) (text pasted : List ℕ) (follow : Follow) (s : SessionState) (taken : List ℕ) (room : ℕ) (notes : Gathered) (k : Kept) : Type 0 where
+  pub can : CanChange change text s.clipboard.items pasted s.views notes k
   pub empty : taken ≡ []
   pub take : CanTake follow (length k.document.cells) room
 
-pub record Edits (view : ℕ) (text : List ℕ) (change : Replacement) (follow : Follow) (s : SessionState) (notes : Gathered) (k : Kept) (s' : SessionState) (notes' : Gathered) : Type 0 where
-  pub session_after : session_in s' ≡ followed view (text_of k.document) follow (session_of (session_in s) (scene_after text change s notes k))
-  pub notes_after : notes'.notes ≡ (scene_after text change s notes k).notes
+pub record Edits (view : ℕ) (change : Edit) (text pasted : List ℕ) (follow : Follow) (s : SessionState) (notes : Gathered) (k : Kept) (s' : SessionState) (notes' : Gathered) : Type 0 where
+  pub session_after : session_in s' ≡ followed view (text_of k.document) follow (session_of (session_in s) (scene_after change text pasted s notes k))
+  pub notes_after : notes'.notes ≡ (scene_after change text pasted s notes k).notes

@@ -1,12 +1,12 @@
 -- Definitions that the contracts cite.
 pub mod Answers
-pub mod Kept
 pub mod Plans
 pub mod Needs
 pub mod Tasks
 pub mod Lent
 pub mod Lends
 pub mod Prepared
+pub mod Doing
 pub mod Edited
 pub mod Edits
 pub mod Opening

@@ -1,19 +1,23 @@
 -- What a message needs of memory.
 use Rattle.std.specs.Prelude.{◌≡◌, ℕ, ◌+◌, ◌≤◌, ◌<◌, ◌^◌, ◌-◌, ◌*◌, Bool, true, false, List, [], ◌∷◌, length}
-use Rattle.ed_model.specs.declared.plan.LineEndTypes.{LineEndTypes}
 use Rattle.ed_model.specs.declared.plan.Follow.{Follow}
 use Rattle.ed_model.specs.declared.plan.Follow.TheVariants as follow
 use Rattle.ed_model.specs.declared.plan.Plan.{Plan}
 use Rattle.ed_model.specs.declared.plan.Plan.TheVariants as plan
-use Rattle.ed_model.specs.Steps.{Step, Insert, Delete}
+use Rattle.ed_model.specs.Steps.{Step}
 use Rattle.ed_model.specs.Session.{Document, watching}
 use Rattle.ed_model.specs.Requests.{Request}
 use Rattle.ed_model.specs.Edits.{steps_of}
 use Rattle.ed_model.specs.Performing.{Scene, scene_of}
-use Rattle.line_index.specs.RoomLaws.{lines_for_insertion, lines_for_deletion}
 use Rattle.document.specs.declared.room.DocumentRoom.{DocumentRoom}
-use Rattle.document.specs.Kept.{document_room, no_room, amount_sum, room_sum}
-use Rattle.scene.specs.Needs.{note_room, notes_needed, bytes_needed}
+use Rattle.document.specs.declared.undoing.Direction.{Direction}
+use Rattle.document.specs.declared.undoing.Direction.TheVariants.{Undo, Redo}
+use Rattle.document.specs.Kept.{no_room, amount_sum, room_sum}
+use Rattle.document.specs.Undoing.{changes_of}
+use Rattle.scene.specs.Needs.{note_room}
+use Rattle.scene.specs.Conversion.{room_of_steps, notes_for, bytes_for}
+use Rattle.scene.specs.Undoing.{bits_of, notes_of_history, bytes_of_changes, room_of_changes}
+use Rattle.document_changes.specs.Needs.{notes_of_change}
 use Rattle.message_plans.specs.Requested.{session_in}
 use Rattle.message_plans.specs.declared.state.SessionState.{SessionState}
 use Rattle.editor_session.specs.declared.need.Need.{Need}
@@ -21,28 +25,6 @@ use Rattle.editor_session.specs.Plans.{needs_no_memory}
 
 abbrev pub no_need : Need
 no_need = record { text = 0; clipboard = 0; notes = note_room 0 0; document = no_room }
-
--- what a step needs of its document
-abbrev pub room_of_step : LineEndTypes → Step → DocumentRoom
-room_of_step types (Insert place bytes) = document_room (length bytes) (lines_for_insertion types bytes) 1 1 (length bytes)
-room_of_step types (Delete place bytes) = document_room 0 lines_for_deletion 0 1 (length bytes)
-
-abbrev pub both_rooms : DocumentRoom → DocumentRoom → DocumentRoom
-both_rooms a b = document_room (a.text + b.text) (a.lines + b.lines) (a.insertions + b.insertions) (a.steps + b.steps) (a.bytes + b.bytes)
-
--- and steps in turn
-abbrev pub room_of_steps : LineEndTypes → List Step → DocumentRoom
-room_of_steps types [] = no_room
-room_of_steps types (step ∷ steps) = both_rooms (room_of_step types step) (room_of_steps types steps)
-
--- the notes and the bytes that steps of a message need; none, where there is no step
-abbrev pub notes_for : List Step → Scene → ℕ
-notes_for [] scene = 0
-notes_for (step ∷ steps) scene = notes_needed scene (step ∷ steps)
-
-abbrev pub bytes_for : List Step → Scene → ℕ
-bytes_for [] scene = 0
-bytes_for (step ∷ steps) scene = bytes_needed scene (step ∷ steps)
 
 -- at least as much room
 pub record IsAtLeast (room need : DocumentRoom) : Type 0 where
@@ -85,17 +67,34 @@ abbrev pub clipboard_of_plan : Plan → ℕ
 clipboard_of_plan (plan.Edit change value after) = clipboard_need after
 clipboard_of_plan other = 0
 
+abbrev pub notes_of_history_of : Direction → Request → ℕ
+notes_of_history_of direction r = notes_of_history (watching r.session.views r.document) (bits_of direction) (changes_of direction r.document.history)
+
+abbrev pub bytes_of_history_of : Direction → Request → ℕ
+bytes_of_history_of direction r = bytes_of_changes (watching r.session.views r.document) (bits_of direction) (changes_of direction r.document.history)
+
+abbrev pub room_of_history_of : Direction → Request → DocumentRoom
+room_of_history_of direction r = room_of_changes r.document.line_end_types (changes_of direction r.document.history)
+
 abbrev pub notes_of_plan : Request → Plan → ℕ
 notes_of_plan r (plan.Edit change value after) = notes_for (steps_of r change) (scene_of r)
 notes_of_plan r plan.Attempt = length (watching r.session.views r.document)
+notes_of_plan r plan.Undo = notes_of_history_of Undo r
+notes_of_plan r plan.Redo = notes_of_history_of Redo r
+notes_of_plan r (plan.ChangeDocument change value) = notes_of_change change r.document.history (watching r.session.views r.document)
 notes_of_plan r other = 0
 
 abbrev pub bytes_of_plan : Request → Plan → ℕ
 bytes_of_plan r (plan.Edit change value after) = bytes_for (steps_of r change) (scene_of r)
+bytes_of_plan r plan.Undo = bytes_of_history_of Undo r
+bytes_of_plan r plan.Redo = bytes_of_history_of Redo r
 bytes_of_plan r other = 0
 
+-- the room for steps of the text; what else a change needs is made ready by its crate
 abbrev pub room_of_plan : Request → Plan → DocumentRoom
 room_of_plan r (plan.Edit change value after) = room_of_steps r.document.line_end_types (steps_of r change)
+room_of_plan r plan.Undo = room_of_history_of Undo r
+room_of_plan r plan.Redo = room_of_history_of Redo r
 room_of_plan r other = no_room
 
 -- and the note by which a message is recorded
@@ -122,11 +121,10 @@ pub record IsAbout (s : SessionState) (d : Document) (bytes : List ℕ) (r : Req
 abbrev pub need_sum : Need → Need → Need
 need_sum a b = record a { notes = note_room (amount_sum a.notes.notes b.notes.notes) (amount_sum a.notes.bytes b.notes.bytes); document = room_sum a.document b.document }
 
--- What is told of a need: that it is enough, unless it is not counted, and that it asks for no more text.
+-- What is told of a need: that it is enough, unless it is not counted.
 
 pub record NeedsSteps (steps : List Step) (scene : Scene) (need : Need) : Type 0 where
   pub enough : IsCounted need → IsEnoughFor (notes_for steps scene) (bytes_for steps scene) (room_of_steps scene.document.line_end_types steps) need
-  pub at_most : need.document.text ≤ (room_of_steps scene.document.line_end_types steps).text
   pub none : steps ≡ [] → need ≡ no_need
   pub no_text : need.text ≡ 0
   pub no_clipboard : need.clipboard ≡ 0
@@ -134,12 +132,10 @@ pub record NeedsSteps (steps : List Step) (scene : Scene) (need : Need) : Type 0
 -- the same with what follows an edit
 pub record NeedsEdit (steps : List Step) (after : Follow) (scene : Scene) (need : Need) : Type 0 where
   pub enough : IsCounted need → IsEnoughFor (notes_for steps scene) (bytes_for steps scene) (room_of_steps scene.document.line_end_types steps) need
-  pub at_most : need.document.text ≤ (room_of_steps scene.document.line_end_types steps).text
   pub none : steps ≡ [] → need ≡ record no_need { clipboard = clipboard_need after }
   pub no_text : need.text ≡ 0
   pub to_clipboard : need.clipboard ≡ clipboard_need after
 
 pub record NeedsTask (r : Request) (what : Plan) (is_recorded : Bool) (need : Need) : Type 0 where
   pub enough : IsCounted need → IsEnough r what is_recorded need
-  pub at_most : need.document.text ≤ (room_of_plan r what).text
   pub free : needs_no_memory r what ≡ true → is_recorded ≡ false → need ≡ no_need

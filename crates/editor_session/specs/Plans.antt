@@ -1,53 +1,34 @@
--- Plans: which are performed so far, and which need no memory.
+-- Plans that need no memory.
 use Rattle.std.specs.Prelude.{◌≡◌, ℕ, ◌==◌, ◌&&◌, not, Bool, true, false, Option, Some, None, Ok, Err}
 use Rattle.ed_types.specs.declared.kind.Kind.{Kind}
 use Rattle.ed_types.specs.declared.message.Message.{Message}
 use Rattle.ed_types.specs.Messages.{kind_of, marks_of}
-use Rattle.ed_model.specs.declared.plan.Source.{Source}
-use Rattle.ed_model.specs.declared.plan.Source.TheVariants as source
-use Rattle.ed_model.specs.declared.plan.Edit.{Edit}
-use Rattle.ed_model.specs.declared.plan.Edit.TheVariants as edit
 use Rattle.ed_model.specs.declared.plan.Follow.{Follow}
 use Rattle.ed_model.specs.declared.plan.Follow.TheVariants as follow
 use Rattle.ed_model.specs.declared.plan.Plan.{Plan}
 use Rattle.ed_model.specs.declared.plan.Plan.TheVariants as plan
 use Rattle.ed_model.specs.Requests.{Request, Planned}
-use Rattle.ed_model.specs.Session.{Session, View, Document, view_at, document_at}
+use Rattle.ed_model.specs.Session.{Session, View, Document, view_at, document_at, watching}
 use Rattle.ed_model.specs.Edits.{steps_of, has_steps}
 use Rattle.ed_model.specs.Table.{request, plan_of}
 use Rattle.message_plans.specs.TableSoFar.{table_so_far}
-
--- The plans that are performed so far: answers, texts handed out with their styles or without, edits that replace bytes by others that stand somewhere, and
--- attempts.
-
-abbrev pub is_stored : Source → Bool
-is_stored (source.Clipboard convert) = not convert
-is_stored other = true
-
-abbrev pub is_replacement : Edit → Bool
-is_replacement (edit.Replace start count from) = is_stored from
-is_replacement (edit.ConvertLineEnds to) = false
-
-abbrev pub is_performed : Plan → Bool
-is_performed (plan.Answer value) = true
-is_performed (plan.HandOut value start count) = true
-is_performed (plan.HandOutStyled start count) = true
-is_performed (plan.Edit change value after) = is_replacement change
-is_performed plan.Attempt = true
-is_performed other = false
-
--- Plans that need no memory.
+use Rattle.document_changes.specs.Needs.{needs_room, notes_of_change}
+use Rattle.session_changes.specs.Folding.{takes_fold_room}
+use Rattle.session_changes.specs.Ready.{takes_memory}
 
 abbrev pub takes_nothing_along : Follow → Bool
 takes_nothing_along (follow.Clipboard start count) = count == 0
 takes_nothing_along other = true
 
--- an answer needs none, nor does a text without bytes, nor an edit without steps
+-- an answer needs none, nor does a text without bytes, an edit without steps, or a change that needs no room and tells nothing
 abbrev pub needs_no_memory : Request → Plan → Bool
 needs_no_memory r (plan.Answer value) = true
 needs_no_memory r (plan.HandOut value start count) = count == 0
 needs_no_memory r (plan.HandOutStyled start count) = count == 0
 needs_no_memory r (plan.Edit change value after) = not (has_steps (steps_of r change)) && takes_nothing_along after
+needs_no_memory r (plan.ChangeDocument change value) = not (needs_room change) && (notes_of_change change r.document.history (watching r.session.views r.document) == 0)
+needs_no_memory r (plan.ChangeView change value) = not (takes_fold_room change)
+needs_no_memory r (plan.ChangeSession change value) = not (takes_memory change)
 needs_no_memory r other = false
 
 abbrev pub planned_without_memory : Request → Planned → Bool

@@ -1,26 +1,73 @@
 -- The memory that was taken for a message.
-use Rattle.std.specs.Prelude.{◌≡◌, ℕ, ◌+◌, ◌≤◌, List, [], length, IsSomeAnd, vec_capacity}
+use Rattle.std.specs.Prelude.{◌≡◌, ℕ, ◌+◌, ◌≤◌, not, Bool, true, false, List, [], IsSome, IsSomeAnd, vec_capacity}
+use Rattle.ed_model.specs.declared.plan.DocumentChange.{DocumentChange}
+use Rattle.ed_model.specs.declared.plan.SessionChange.{SessionChange}
+use Rattle.ed_model.specs.declared.plan.Source.TheVariants as source
+use Rattle.ed_model.specs.declared.plan.Edit.TheVariants as edit
+use Rattle.ed_model.specs.declared.plan.Plan.{Plan}
+use Rattle.ed_model.specs.declared.plan.Plan.TheVariants as plan
+use Rattle.ed_model.specs.Requests.{Request}
 use Rattle.id_table.specs.Entries.{Entry, value_at}
-use Rattle.document.specs.Kept.{Kept, HasRoom, FitsWidth}
+use Rattle.document.specs.Kept.{Kept, HasRoom}
 use Rattle.document.specs.declared.room.DocumentRoom.{DocumentRoom}
-use Rattle.editor_session.specs.declared.need.Need.{Need}
+use Rattle.document_changes.specs.Needs.{needs_room, IsReady as IsChangeReady}
+use Rattle.session_changes.specs.Folding.{takes_fold_room, HasFoldRoomAt}
+use Rattle.session_changes.specs.Ready.{takes_memory, IsReady as IsSessionReady}
+use Rattle.message_plans.specs.declared.state.SessionState.{SessionState}
+use Rattle.editor_session.specs.declared.find.Task.{Task}
 use Rattle.editor_session.specs.declared.prepare.Prepared.{Prepared}
-
--- the document is there, and its places are wide enough for so much more text
-abbrev pub SuitsWidth : List (Entry Kept) → ℕ → DocumentRoom → Type 0
-SuitsWidth entries id need = IsSomeAnd (value_at entries id) (λ k. FitsWidth k.document (length k.document.cells + need.text))
+use Rattle.editor_session.specs.declared.ready.Ready.{Ready}
+use Rattle.editor_session.specs.declared.ready.Ready.TheVariants as ready
+use Rattle.editor_session.specs.Edited.{IsPastedFor}
+use Rattle.editor_session.specs.Needs.{text_of_plan, clipboard_of_plan, notes_of_plan, bytes_of_plan, room_of_plan, notes_if, bytes_if}
 
 -- the document is there, and has the room
 abbrev pub HasRoomAt : List (Entry Kept) → ℕ → DocumentRoom → Type 0
 HasRoomAt entries id need = IsSomeAnd (value_at entries id) (λ k. HasRoom k need)
 
--- all of it is there, and nothing is put in yet
-pub record IsPrepared (need : Need) (document : ℕ) (entries : List (Entry Kept)) (prepared : Prepared) : Type 0 where
+-- the document is there, and ready for the change
+abbrev pub IsReadyForChange : List (Entry Kept) → ℕ → DocumentChange → Ready → Type 0
+IsReadyForChange entries id change (ready.Document edits) = IsSomeAnd (value_at entries id) (λ k. IsChangeReady k change edits)
+IsReadyForChange entries id change other = ⊥
+
+abbrev pub IsReadyForSession : SessionState → SessionChange → Ready → Type 0
+IsReadyForSession s change (ready.Session made) = IsSessionReady s.documents change made
+IsReadyForSession s change other = ⊥
+
+-- what the plan itself asks for is there: room in the document for so much, or what its change needs
+abbrev pub IsReadyFor : Plan → DocumentRoom → SessionState → Task → Ready → Type 0
+IsReadyFor (plan.Edit change value after) room s task made = HasRoomAt s.documents.entries task.document room
+IsReadyFor plan.Undo room s task made = HasRoomAt s.documents.entries task.document room
+IsReadyFor plan.Redo room s task made = HasRoomAt s.documents.entries task.document room
+IsReadyFor (plan.ChangeDocument change value) room s task made = IsReadyForChange s.documents.entries task.document change made
+IsReadyFor (plan.ChangeView change value) room s task made = HasFoldRoomAt s.views.entries task.view change
+IsReadyFor (plan.ChangeSession change value) room s task made = IsReadyForSession s change made
+IsReadyFor other room s task made = Unit {0}
+
+-- its change asks for nothing
+abbrev pub takes_nothing : Plan → Bool
+takes_nothing (plan.ChangeDocument change value) = not (needs_room change)
+takes_nothing (plan.ChangeView change value) = not (takes_fold_room change)
+takes_nothing (plan.ChangeSession change value) = not (takes_memory change)
+takes_nothing other = true
+
+-- it puts in the clipboard with other line ends
+abbrev pub is_turned : Plan → Bool
+is_turned (plan.Edit (edit.Replace start count (source.Clipboard convert)) value after) = convert
+is_turned other = false
+
+-- what the clipboard is turned into for the plan
+abbrev pub IsPastedIn : SessionState → Task → List ℕ → Type 0
+IsPastedIn s task pasted = IsSomeAnd (value_at s.documents.entries task.document) (λ k. IsPastedFor task.plan s.clipboard.items k.document.line_end pasted)
+
+-- all of it is there for a request, and nothing is put in yet
+pub record HasAll (r : Request) (s : SessionState) (task : Task) (prepared : Prepared) : Type 0 where
   pub text : prepared.text.items ≡ []
-  pub text_room : need.text ≤ vec_capacity prepared.text
+  pub text_room : text_of_plan task.plan ≤ vec_capacity prepared.text
   pub clipboard : prepared.clipboard.items ≡ []
-  pub clipboard_room : need.clipboard ≤ vec_capacity prepared.clipboard
+  pub clipboard_room : clipboard_of_plan task.plan ≤ vec_capacity prepared.clipboard
+  pub pasted : IsPastedIn s task prepared.pasted.items
   pub notes : prepared.notes.notes ≡ []
-  pub note_room : need.notes.notes ≤ prepared.notes.note_room
-  pub note_text_room : need.notes.bytes ≤ prepared.notes.text_room
-  pub document_room : HasRoomAt entries document need.document
+  pub note_room : notes_if task.is_recorded + notes_of_plan r task.plan ≤ prepared.notes.note_room
+  pub note_text_room : bytes_if task.is_recorded r.message.text + bytes_of_plan r task.plan ≤ prepared.notes.text_room
+  pub ready : IsReadyFor task.plan (room_of_plan r task.plan) s task prepared.ready

@@ -1,5 +1,5 @@
 -- From a message to what is done for it.
-use Rattle.std.specs.Prelude.{◌≡◌, ℕ, ◌≤◌, ◌&&◌, if◌then◌else◌, Bool, true, false, List, [], ◌∷◌, Option, Some, None, Ok}
+use Rattle.std.specs.Prelude.{◌≡◌, ℕ, ◌&&◌, if◌then◌else◌, Bool, true, false, List, [], ◌∷◌, Option, Some, None, Ok}
 use Rattle.ed_types.specs.declared.kind.Kind.{Kind}
 use Rattle.ed_types.specs.declared.message.Message.{Message}
 use Rattle.ed_types.specs.Messages.{kind_of, marks_of}
@@ -11,8 +11,7 @@ use Rattle.ed_model.specs.Requests.{Request}
 use Rattle.ed_model.specs.Table.{table, plan_of, answered}
 use Rattle.message_plans.specs.TableSoFar.{table_so_far}
 use Rattle.editor_session.specs.declared.find.Task.{Task}
-use Rattle.editor_session.specs.Plans.{is_performed, needs_no_memory}
-use Rattle.editor_session.specs.Needs.{IsCounted, IsEnough, room_of_plan, no_need}
+use Rattle.session_changes.specs.Asked.{IsAsked}
 
 -- the kind, if there is such a message yet
 abbrev pub known_kind : Option Kind → Option Kind
@@ -29,7 +28,7 @@ pub record IsFound (s : Session) (view : ℕ) (m : Message) (kind : Kind) (r : R
   pub message : r.message ≡ m
   pub answer : table table_so_far s view m ≡ answered kind r (plan_of kind r)
 
--- the task of a message: the request that it comes of, its plan, and what it needs
+-- the task of a message: the request that it comes of, and its plan
 pub record IsTask (s : Session) (view : ℕ) (m : Message) (task : Task) : Type 0 where
   pub kind : Kind
   pub request : Request
@@ -38,11 +37,18 @@ pub record IsTask (s : Session) (view : ℕ) (m : Message) (task : Task) : Type 
   pub view_id : task.view ≡ view
   pub document_id : task.document ≡ request.document.id
   pub recorded : task.is_recorded ≡ (request.view.records && (marks_of kind).r)
-  pub performed : is_performed task.plan ≡ true
   pub fit : IsFitPlan request task.plan
-  pub enough : IsCounted task.need → IsEnough request task.plan task.is_recorded task.need
-  pub at_most : task.need.document.text ≤ (room_of_plan request task.plan).text
-  pub free : needs_no_memory request task.plan ≡ true → task.is_recorded ≡ false → task.need ≡ no_need
+
+-- the request of a task, with this text
+pub record IsAskedBy (s : Session) (task : Task) (text : List ℕ) (r : Request) : Type 0 where
+  pub asked : IsAsked s task.document task.view r
+  pub message : r.message.text ≡ text
+
+-- there is one, and the plan is fit for it
+pub record IsPlanned (s : Session) (task : Task) (text : List ℕ) : Type 0 where
+  pub request : Request
+  pub asked : IsAskedBy s task text request
+  pub fit : IsFitPlan request task.plan
 
 -- the note by which a view that records hears of the message
 abbrev pub recording : ℕ → Message → Notice

@@ -9,36 +9,40 @@ ghost use Rattle.ed_model.specs.SoundLaws.{Rise};
 ghost use Rattle.id_table.specs.Entries.{value_at};
 ghost use Rattle.document.specs.Kept.{HasRoom};
 ghost use Rattle.scene.specs.Scenes.{views_of, scene_in, AreNamed, IsWatched};
-ghost use Rattle.editor_session.specs.Kept.{IsKept, DocumentsAreNamed, ViewsRise};
-ghost use Rattle.editor_session.specs.Needs.{room_of_steps, notes_for, bytes_for};
-ghost use Rattle.editor_session.specs.Edits.{CanEdit, Edits};
+ghost use Rattle.session_changes.specs.Kept.{IsKept, DocumentsAreNamed, ViewsRise};
+ghost use Rattle.scene.specs.Conversion.{room_of_steps, notes_for, bytes_for};
+ghost use Rattle.ed_model.specs.LineEnds.{conversion_steps};
+ghost use Rattle.scene.specs.Conversion.{CanMakeSteps};
+ghost use Rattle.editor_session.specs.Edits.{edit_steps, CanChange, CanEdit, Edits};
 ghost use Rattle.editor_session.specs.Edited.{IsStoredIn, stored_bytes, taken_along, CanTake, followed_views, followed_clipboard, CanReplace, Replaces};
 
-use crate::handing_out::copy_bytes;
+use crate::handing_out::{copy_bytes, line_end_in};
 use document::{Document, TextStep};
 use document_table::DocumentTable;
-use ed_model::{Follow, LineEnd, Source};
+use ed_model::{Edit, Follow, LineEnd, Source};
 use ed_view::{Target, View};
 use id_table::IdTable;
 use message_plans::SessionState;
 use notify::NoteList;
-use scene::{make_step, needs_are_enough};
+use scene::{convert, make_step, needs_are_enough};
 use selection::Selection;
 
-/// The bytes that an edit puts in.
+/// The bytes that an edit puts in; `pasted` is what the clipboard was turned into for it.
 pub(crate) fn source_bytes<'a>(
     source: Source,
     text: &'a [u8],
     clipboard: &'a [u8],
+    pasted: &'a [u8],
     line_end: LineEnd,
 ) -> &'a [u8]
     requires { IsStoredIn source (length text.now) }
-    ensures { result.now ≡ stored_bytes source text.now clipboard.now line_end }
+    ensures { result.now ≡ stored_bytes source text.now clipboard.now pasted.now line_end }
 {
     match source {
         Source::Nothing => &[],
         Source::MessageText { count } => &text[..count],
-        Source::Clipboard { .. } => clipboard,
+        Source::Clipboard { convert: true } => pasted,
+        Source::Clipboard { convert: false } => clipboard,
         Source::LineEnd => match line_end {
             LineEnd::CrLf => b"\r\n",
             LineEnd::Cr => b"\r",
@@ -149,15 +153,61 @@ pub(crate) fn replace_in(
     replace_bytes(document, views, notes, start, count, bytes);
 }
 
-/// The line end that typing makes in the document of an id.
-pub(crate) fn line_end_in(documents: &DocumentTable, document: u32) -> LineEnd
-    requires { IsSome (value_at documents.now.entries document) }
-    ensures { IfSome (value_at documents.now.entries document) (λ k. result ≡ k.document.line_end) }
+/// Turns all line ends of the document of an id into this kind.
+fn convert_in(
+    documents: &mut DocumentTable,
+    views: &mut IdTable<View>,
+    notes: &mut NoteList,
+    document: u32,
+    to: LineEnd,
+)
+    requires can { IsSomeAnd (value_at documents.old.entries document) (λ k. CanMakeSteps (conversion_steps to (text_of k.document)) k views.old notes.old) }
+    requires named { DocumentsAreNamed documents.old.entries }
+    ensures replaced { IfSome (value_at documents.old.entries document) (λ k. Replaces (conversion_steps to (text_of k.document)) k.document documents.old views.old notes.old documents.new views.new notes.new) }
+    ensures documents { DocumentsAreNamed documents.new.entries }
+    ensures views { AreNamed views.new.entries }
+    ensures rise { ViewsRise views.new }
+    ensures next_document { documents.new.next ≡ documents.old.next }
+    ensures next_view { views.new.next ≡ views.old.next }
 {
-    let Some(document) = documents.get(document) else {
+    let Some(document) = documents.get_mut(document) else {
         unreachable!()
     };
-    document.typed_line_end()
+    convert(document, views, notes, to);
+}
+
+/// Makes the steps of an edit of the document of an id.
+fn change_text(
+    documents: &mut DocumentTable,
+    views: &mut IdTable<View>,
+    notes: &mut NoteList,
+    document: u32,
+    edit: Edit,
+    text: &[u8],
+    clipboard: &[u8],
+    pasted: &[u8],
+)
+    requires can { IsSomeAnd (value_at documents.old.entries document) (λ k. CanChange edit text.now clipboard.now pasted.now views.old notes.old k) }
+    requires named { DocumentsAreNamed documents.old.entries }
+    ensures changed { IfSome (value_at documents.old.entries document) (λ k. Replaces (edit_steps edit text.now clipboard.now pasted.now k.document) k.document documents.old views.old notes.old documents.new views.new notes.new) }
+    ensures documents { DocumentsAreNamed documents.new.entries }
+    ensures views { AreNamed views.new.entries }
+    ensures rise { ViewsRise views.new }
+    ensures next_document { documents.new.next ≡ documents.old.next }
+    ensures next_view { views.new.next ≡ views.old.next }
+{
+    match edit {
+        Edit::Replace {
+            start,
+            count,
+            source,
+        } => {
+            let line_end = line_end_in(documents, document);
+            let bytes = source_bytes(source, text, clipboard, pasted, line_end);
+            replace_in(documents, views, notes, document, start, count, bytes);
+        }
+        Edit::ConvertLineEnds { to } => convert_in(documents, views, notes, document, to),
+    }
 }
 
 /// Copies what an edit takes to the clipboard, as it stands before the edit.
@@ -177,7 +227,7 @@ pub(crate) fn take_along(
 }
 
 /// Sets anchor and caret of the view of an id to a place.
-fn set_caret(views: &mut IdTable<View>, view: u32, place: usize)
+pub(crate) fn set_caret(views: &mut IdTable<View>, view: u32, place: usize)
     requires named { AreNamed views.old.entries }
     requires rise { ViewsRise views.old }
     ensures views { views_of views.new.entries ≡ followed_views view (Caret place) (views_of views.old.entries) }
@@ -225,32 +275,22 @@ pub(crate) fn follow_edit(
     }
 }
 
-/// Which bytes of a document an edit replaces, and by which.
-#[derive(Clone, Copy, Debug)]
-pub(crate) struct Replacement {
-    /// From which place on.
-    pub start: usize,
-    /// How many bytes go.
-    pub count: usize,
-    /// What comes in their place.
-    pub source: Source,
-}
-
 /// Makes an edit of the document of an id, and does what follows it for the view of an id; `taken` has room for what goes to
-/// the clipboard.
-pub(crate) fn edit(
+/// the clipboard, and `pasted` is what the clipboard was turned into.
+pub(crate) fn make_edit(
     state: &mut SessionState,
     document: u32,
     view: u32,
     text: &[u8],
-    change: Replacement,
+    pasted: &[u8],
+    edit: Edit,
     follow: Follow,
     mut taken: Vec<u8>,
     notes: &mut NoteList,
 )
     requires kept { IsKept state.old }
-    requires can { IsSomeAnd (value_at state.old.documents.entries document) (λ k. CanEdit text.now change follow state.old taken.items (vec_capacity taken) notes.old k) }
-    ensures edited { IfSome (value_at state.old.documents.entries document) (λ k. Edits view text.now change follow state.old notes.old k state.new notes.new) }
+    requires can { IsSomeAnd (value_at state.old.documents.entries document) (λ k. CanEdit edit text.now pasted.now follow state.old taken.items (vec_capacity taken) notes.old k) }
+    ensures edited { IfSome (value_at state.old.documents.entries document) (λ k. Edits view edit text.now pasted.now follow state.old notes.old k state.new notes.new) }
     ensures documents { DocumentsAreNamed state.new.documents.entries }
     ensures views { AreNamed state.new.views.entries }
     ensures limits { state.new.limits ≡ state.old.limits }
@@ -262,16 +302,6 @@ pub(crate) fn edit(
         ..
     } = state;
     take_along(documents, document, follow, &mut taken);
-    let line_end = line_end_in(documents, document);
-    let bytes = source_bytes(change.source, text, clipboard, line_end);
-    replace_in(
-        documents,
-        views,
-        notes,
-        document,
-        change.start,
-        change.count,
-        bytes,
-    );
+    change_text(documents, views, notes, document, edit, text, clipboard, pasted);
     follow_edit(views, clipboard, view, follow, taken);
 }

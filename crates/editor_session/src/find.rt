@@ -8,13 +8,12 @@ ghost use Rattle.ed_model.specs.Table.{table};
 ghost use Rattle.message_plans.specs.Requested.{session_in};
 ghost use Rattle.message_plans.specs.TableSoFar.{table_so_far};
 ghost use Rattle.editor_session.specs.Answers.{message_with};
-ghost use Rattle.editor_session.specs.Kept.{IsKept};
+ghost use Rattle.session_changes.specs.Kept.{IsKept};
 ghost use Rattle.editor_session.specs.Tasks.{known_kind, IsFound, IsTask};
 
-use crate::need::{Need, task_need};
 use ed_model::{Plan, plans_are_fit};
 use ed_types::{Kind, Refusal};
-use message_plans::{Request, SentMessage, SessionState, plan_of, table_so_far};
+use message_plans::{Request, SentMessage, SessionState, plan_of};
 
 /// What is to be done for a message.
 #[derive(Clone, Copy, Debug)]
@@ -27,16 +26,13 @@ pub(crate) struct Task {
     pub plan: Plan,
     /// Whether the view hears of it, since it records.
     pub is_recorded: bool,
-    /// The memory that it needs.
-    pub need: Need,
 }
 
-/// The kind of a message by its number, if there is such a message yet.
+/// The kind of a message by its number, if there is such a message.
 fn known_kind(number: u32) -> Option<Kind>
     ensures { result ≡ known_kind (kind_of number) }
 {
-    let kind = Kind::from_number(number)?;
-    if table_so_far(kind) { Some(kind) } else { None }
+    Kind::from_number(number)
 }
 
 /// Finds the view of a message, its kind, and the view's document.
@@ -103,6 +99,5 @@ pub(crate) fn find_task(
         document: request.document.id(),
         plan,
         is_recorded,
-        need: task_need(state, request.document, text, plan, is_recorded),
     })
 }

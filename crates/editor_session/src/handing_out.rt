@@ -1,12 +1,13 @@
-//! Bytes of a document that are handed out, or go to the clipboard.
+//! What is read of a document by its id: bytes that are handed out or go to the clipboard, and its line end.
 
-ghost use Rattle.std.specs.Prelude.{◌≡◌, ◌≤◌, ◌+◌, ◌*◌, ◌++◌, length, slice_range, IfSome, IsSomeAnd, vec_len, vec_capacity};
+ghost use Rattle.std.specs.Prelude.{◌≡◌, ◌≤◌, ◌+◌, ◌*◌, ◌++◌, length, slice_range, IfSome, IsSome, IsSomeAnd, vec_len, vec_capacity};
 ghost use Rattle.ed_model.specs.Session.{text_of};
 ghost use Rattle.ed_model.specs.Performing.{styled_text};
 ghost use Rattle.id_table.specs.Entries.{value_at};
 
 use document::Document;
 use document_table::DocumentTable;
+use ed_model::LineEnd;
 
 /// Copies bytes of the document of an id, for which there is room.
 pub(crate) fn copy_bytes(
@@ -57,4 +58,15 @@ pub(crate) fn copy_styled(
         unreachable!()
     };
     append_styled(document, start, count, target);
+}
+
+/// The line end that typing makes in the document of an id.
+pub(crate) fn line_end_in(documents: &DocumentTable, document: u32) -> LineEnd
+    requires { IsSome (value_at documents.now.entries document) }
+    ensures { IfSome (value_at documents.now.entries document) (λ k. result ≡ k.document.line_end) }
+{
+    let Some(document) = documents.get(document) else {
+        unreachable!()
+    };
+    document.typed_line_end()
 }

@@ -7,7 +7,7 @@ ghost use Rattle.id_table.specs.Entries.{value_at};
 ghost use Rattle.ed_model.specs.Session.{Document as ModelDocument, text_of};
 ghost use Rattle.ed_model.specs.SoundLaws.{Rise};
 ghost use Rattle.message_plans.specs.Requested.{session_in, documents_in};
-ghost use Rattle.editor_session.specs.Kept.{IsKept, DocumentsAreNamed};
+ghost use Rattle.session_changes.specs.Kept.{IsKept, DocumentsAreNamed};
 ghost use Rattle.editor_session.specs.Lent.{lent_range};
 ghost use Rattle.editor_session.specs.PartLends.{documents_back, state_back};
 

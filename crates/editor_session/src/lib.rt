@@ -5,15 +5,18 @@
 //! cannot fail.
 #![tactic(auto)]
 
+mod changes;
 mod edits;
 mod find;
 mod handing_out;
+mod history;
 mod laws;
 mod lending;
 mod need;
 mod opening;
 mod perform;
 mod prepare;
+mod ready;
 mod run;
 mod session;
 

@@ -7,18 +7,27 @@ ghost use Rattle.ed_model.specs.Session.{text_of, watching};
 ghost use Rattle.document.specs.TextSteps.{step_in, IsStepOn, need_of};
 ghost use Rattle.scene.specs.Scenes.{views_of, scene_in, AreNamed};
 ghost use Rattle.scene.specs.Needs.{note_room, notes_of_step, bytes_of_step};
-ghost use Rattle.editor_session.specs.Plans.{is_performed, needs_no_memory};
-ghost use Rattle.editor_session.specs.Needs.{no_need, need_sum, IsCounted, IsAbout, NeedsSteps, NeedsEdit, NeedsTask};
-ghost use Rattle.editor_session.specs.Edited.{IsStoredIn, IsWithin};
-ghost use Rattle.editor_session.specs.Edits.{steps_for};
+ghost use Rattle.ed_model.specs.LineEnds.{conversion_steps};
+ghost use Rattle.document.specs.Undoing.{changes_of};
+ghost use Rattle.scene.specs.Scenes.{watchers};
+ghost use Rattle.scene.specs.Undoing.{bits_of, notes_of_history, bytes_of_changes, room_of_changes, capped_room, capped_notes};
+ghost use Rattle.message_plans.specs.Requested.{session_in};
+ghost use Rattle.session_changes.specs.Kept.{IsKept};
+ghost use Rattle.editor_session.specs.Tasks.{IsAskedBy, IsPlanned};
+ghost use Rattle.editor_session.specs.Needs.{no_need, need_sum, clipboard_need, IsCounted, IsAbout, NeedsSteps, NeedsEdit, NeedsTask};
+ghost use Rattle.editor_session.specs.Edited.{IsEditWithin, IsWithin, IsPastedFor};
+ghost use Rattle.editor_session.specs.Edits.{edit_steps};
+ghost use Rattle.editor_session.specs.Prepared.{IsPastedIn};
 
-use crate::edits::{Replacement, source_bytes};
-use document::{Document, DocumentRoom, TextStep};
-use ed_model::{Edit, Follow, Plan};
+use crate::edits::source_bytes;
+use crate::find::Task;
+use document::{Direction, Document, DocumentRoom, TextStep};
+use document_changes::change_note_need;
+use ed_model::{Edit, Follow, LineEnd, Plan};
 use ed_view::View;
 use id_table::IdTable;
 use message_plans::SessionState;
-use scene::{NoteRoom, leaving_need, note_need};
+use scene::{NoteRoom, conversion_need, history_need, leaving_need, note_need};
 
 /// How much memory a message needs. An amount that is the greatest `usize` is never there.
 #[derive(Clone, Copy, Debug, PartialEq, Eq)]
@@ -133,40 +142,100 @@ fn replacement_need(
     need.plus(step_need(document, views, insertion))
 }
 
+/// What the conversion of all line ends needs.
+fn conversion(document: &Document, views: &IdTable<View>, to: LineEnd) -> Need
+    requires named { AreNamed views.now.entries }
+    ensures enough { NeedsSteps (conversion_steps to (text_of document.now.document)) (scene_in document.now.document views.now.entries []) result }
+{
+    let need = conversion_need(document, views, to);
+    Need {
+        notes: need.notes,
+        document: need.document,
+        ..Need::none()
+    }
+}
+
+/// What undo or redo needs.
+fn history(document: &Document, views: &IdTable<View>, direction: Direction) -> Need
+    requires named { AreNamed views.now.entries }
+    ensures { let changes = changes_of direction document.now.document.history in let vs = watchers document.now.document views.now in
+        result ≡ record no_need { notes = capped_notes (notes_of_history vs (bits_of direction) changes) (bytes_of_changes vs (bits_of direction) changes); document = capped_room (room_of_changes document.now.document.line_end_types changes) } }
+{
+    let need = history_need(document, views, direction);
+    Need {
+        notes: need.notes,
+        document: need.document,
+        ..Need::none()
+    }
+}
+
+/// What the steps of an edit need; `pasted` is what the clipboard was turned into for it.
+fn steps_need(
+    state: &SessionState,
+    document: &Document,
+    text: &[u8],
+    pasted: &[u8],
+    edit: Edit,
+) -> Need
+    requires named { AreNamed state.now.views.entries }
+    requires within { IsEditWithin edit (length document.now.document.cells) (length text.now) }
+    ensures enough { NeedsSteps (edit_steps edit text.now state.now.clipboard.items pasted.now document.now.document) (scene_in document.now.document state.now.views.entries []) result }
+{
+    match edit {
+        Edit::Replace {
+            start,
+            count,
+            source,
+        } => {
+            let line_end = document.typed_line_end();
+            let bytes = source_bytes(source, text, &state.clipboard, pasted, line_end);
+            replacement_need(document, &state.views, start, count, bytes)
+        }
+        Edit::ConvertLineEnds { to } => conversion(document, &state.views, to),
+    }
+}
+
 /// What an edit needs, and what follows it.
 fn edit_need(
     state: &SessionState,
     document: &Document,
     text: &[u8],
-    change: Replacement,
+    pasted: &[u8],
+    edit: Edit,
     follow: Follow,
 ) -> Need
     requires named { AreNamed state.now.views.entries }
-    requires range { change.start + change.count ≤ length document.now.document.cells }
-    requires stored { IsStoredIn change.source (length text.now) }
-    ensures enough { NeedsEdit (steps_for text.now change state.now document.now) follow (scene_in document.now.document state.now.views.entries []) result }
+    requires within { IsEditWithin edit (length document.now.document.cells) (length text.now) }
+    ensures enough { NeedsEdit (edit_steps edit text.now state.now.clipboard.items pasted.now document.now.document) follow (scene_in document.now.document state.now.views.entries []) result }
 {
-    let bytes = source_bytes(
-        change.source,
-        text,
-        &state.clipboard,
-        document.typed_line_end(),
-    );
-    let need = replacement_need(document, &state.views, change.start, change.count, bytes);
+    let need = steps_need(state, document, text, pasted, edit);
+    Need {
+        clipboard: clipboard_need(follow),
+        ..need
+    }
+}
+
+/// How many bytes go to the clipboard.
+fn clipboard_need(follow: Follow) -> usize
+    ensures { result ≡ clipboard_need follow }
+{
     match follow {
-        Follow::Clipboard { count, .. } => Need {
-            clipboard: count,
-            ..need
-        },
-        _ => need,
+        Follow::Clipboard { count, .. } => count,
+        _ => 0,
     }
 }
 
 /// What a plan needs.
-fn plan_need(state: &SessionState, document: &Document, text: &[u8], plan: Plan) -> Need
+fn plan_need(
+    state: &SessionState,
+    document: &Document,
+    text: &[u8],
+    pasted: &[u8],
+    plan: Plan,
+) -> Need
     requires named { AreNamed state.now.views.entries }
-    requires performed { is_performed plan ≡ true }
     requires within { IsWithin plan (length document.now.document.cells) (length text.now) }
+    requires pasted { IsPastedFor plan state.now.clipboard.items document.now.document.line_end pasted.now }
     ensures enough { (r : ModelRequest) → IsAbout state.now document.now.document text.now r → NeedsTask r plan false result }
 {
     match plan {
@@ -178,42 +247,34 @@ fn plan_need(state: &SessionState, document: &Document, text: &[u8], plan: Plan)
             text: count.saturating_mul(2),
             ..Need::none()
         },
-        Plan::Edit {
-            edit: Edit::Replace {
-                start,
-                count,
-                source,
-            },
-            follow,
-            ..
-        } => {
-            let change = Replacement {
-                start,
-                count,
-                source,
-            };
-            edit_need(state, document, text, change, follow)
-        }
+        Plan::Edit { edit, follow, .. } => edit_need(state, document, text, pasted, edit, follow),
         Plan::Attempt => Need::of_notes(document.views().len(), 0),
-        _ => Need::none(),
+        Plan::Undo => history(document, &state.views, Direction::Undo),
+        Plan::Redo => history(document, &state.views, Direction::Redo),
+        Plan::ChangeDocument { change, .. } => {
+            Need::of_notes(change_note_need(document, &state.views, change), 0)
+        }
+        Plan::Answer { .. } | Plan::ChangeView { .. } | Plan::ChangeSession { .. } => Need::none(),
     }
 }
 
 /// What a plan needs, with the note by which the message is recorded.
 pub(crate) fn task_need(
     state: &SessionState,
-    document: &Document,
+    task: &Task,
     text: &[u8],
-    plan: Plan,
-    is_recorded: bool,
+    pasted: &[u8],
 ) -> Need
-    requires named { AreNamed state.now.views.entries }
-    requires performed { is_performed plan ≡ true }
-    requires within { IsWithin plan (length document.now.document.cells) (length text.now) }
-    ensures enough { (r : ModelRequest) → IsAbout state.now document.now.document text.now r → NeedsTask r plan is_recorded result }
+    requires kept { IsKept state.now }
+    requires planned { IsPlanned (session_in state.now) task.now text.now }
+    requires pasted { IsPastedIn state.now task.now pasted.now }
+    ensures enough { (r : ModelRequest) → IsAskedBy (session_in state.now) task.now text.now r → NeedsTask r task.now.plan task.now.is_recorded result }
 {
-    let need = plan_need(state, document, text, plan);
-    if is_recorded {
+    let Some(document) = state.documents.get(task.document) else {
+        unreachable!()
+    };
+    let need = plan_need(state, document, text, pasted, task.plan);
+    if task.is_recorded {
         need.plus(Need::of_notes(1, text.len()))
     } else {
         need

@@ -5,7 +5,7 @@ ghost use Rattle.ed_model.specs.Session.{view_at, new_document, new_view};
 ghost use Rattle.ed_model.specs.Table.{opened, closed};
 ghost use Rattle.message_plans.specs.Requested.{session_in};
 ghost use Rattle.scene.specs.Scenes.{AreNamed};
-ghost use Rattle.editor_session.specs.Kept.{IsKept, DocumentsAreNamed};
+ghost use Rattle.session_changes.specs.Kept.{IsKept, DocumentsAreNamed};
 ghost use Rattle.editor_session.specs.Opening.{document_for, with_view_on_new};
 
 use document::Document;

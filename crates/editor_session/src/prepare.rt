@@ -1,59 +1,85 @@
 //! One pass of reserves: all memory that a message needs is taken here.
 
-ghost use Rattle.std.specs.Prelude.{◌≡◌, OnOk, OnErr, IfOk, IsOk, map};
-ghost use Rattle.ed_model.specs.Session.{Document as ModelDocument};
-ghost use Rattle.ed_model.specs.SoundLaws.{Rise};
-ghost use Rattle.document.specs.Kept.{no_room};
+ghost use Rattle.std.specs.Prelude.{◌≡◌, true, false, [], IfOk, IsOk, IsSome, IfSome};
+ghost use Rattle.ed_model.specs.Requests.{Request};
+ghost use Rattle.ed_model.specs.LineEnds.{converted};
+ghost use Rattle.id_table.specs.Entries.{value_at};
 ghost use Rattle.scene.specs.Scenes.{AreNamed};
-ghost use Rattle.message_plans.specs.Requested.{session_in, documents_in};
-ghost use Rattle.editor_session.specs.Kept.{IsKept, DocumentsAreNamed};
-ghost use Rattle.editor_session.specs.Needs.{no_need, IsCounted};
-ghost use Rattle.editor_session.specs.Prepared.{IsPrepared, SuitsWidth, HasRoomAt};
+ghost use Rattle.message_plans.specs.Requested.{session_in};
+ghost use Rattle.session_changes.specs.Kept.{IsKept, DocumentsAreNamed};
+ghost use Rattle.editor_session.specs.Plans.{needs_no_memory};
+ghost use Rattle.editor_session.specs.Tasks.{IsAskedBy, IsPlanned};
+ghost use Rattle.editor_session.specs.Prepared.{HasAll, IsPastedIn, is_turned};
 
-use crate::need::Need;
-use document::DocumentRoom;
-use document_table::DocumentTable;
+use crate::find::Task;
+use crate::handing_out::line_end_in;
+use crate::need::task_need;
+use crate::ready::{Ready, make_ready};
+use ed_model::{Edit, Plan, Source};
+use line_ends::{convert_into, converted_len};
 use message_plans::SessionState;
 use notify::NoteList;
 use std::alloc::{AllocError, Global};
 
-/// The memory that a message needs, beside that in its document.
+/// The memory that a message needs.
 #[derive(Drop)]
 pub(crate) struct Prepared {
     /// For the text that is handed out.
     pub text: Vec<u8>,
     /// For what goes to the clipboard.
     pub clipboard: Vec<u8>,
+    /// What the clipboard was turned into for a paste.
+    pub pasted: Vec<u8>,
     /// For the notes and their texts.
     pub notes: NoteList,
+    /// What the plan asks for beside.
+    pub ready: Ready,
 }
 
-/// Makes room in the document of an id.
+/// Whether a plan puts in the clipboard with other line ends.
+fn is_turned(plan: Plan) -> bool
+    ensures { result ≡ is_turned plan }
+{
+    matches!(
+        plan,
+        Plan::Edit {
+            edit: Edit::Replace {
+                source: Source::Clipboard { convert: true },
+                ..
+            },
+            ..
+        }
+    )
+}
+
+/// The clipboard with the line ends of the task's document, where its plan puts that in; else nothing.
 ///
 /// # Errors
 ///
-/// `AllocError` where memory is refused. All documents are as they were, here too.
-fn reserve_in(
-    documents: &mut DocumentTable,
-    document: u32,
-    need: DocumentRoom,
-) -> Result<(), AllocError>
-    requires wide { SuitsWidth documents.old.entries document need }
-    requires named { DocumentsAreNamed documents.old.entries }
-    requires rise { Rise 0 documents.old.next (map (λ (d : ModelDocument). d.id) (documents_in documents.old)) }
-    ensures same { documents_in documents.new ≡ documents_in documents.old }
-    ensures next { documents.new.next ≡ documents.old.next }
-    ensures named { DocumentsAreNamed documents.new.entries }
-    ensures ok { OnOk result (HasRoomAt documents.new.entries document need) }
-    ensures free { need ≡ no_room → IsOk result }
+/// `AllocError` where memory is refused.
+fn turned_clipboard(
+    alloc: Global,
+    state: &SessionState,
+    task: &Task,
+) -> Result<Vec<u8>, AllocError>
+    requires there { IsSome (value_at state.now.documents.entries task.now.document) }
+    ensures pasted { IfOk result (λ pasted. IsPastedIn state.now task.now pasted.items) }
+    ensures free { is_turned task.now.plan ≡ false → IsOk result }
+    ensures empty { IfSome (value_at state.now.documents.entries task.now.document) (λ k. converted k.document.line_end state.now.clipboard.items ≡ [] → IsOk result) }
 {
-    let Some(document) = documents.get_mut(document) else {
-        unreachable!()
+    let mut pasted = Vec::new(alloc);
+    if !is_turned(task.plan) {
+        return Ok(pasted);
+    }
+    let line_end = line_end_in(&state.documents, task.document);
+    let Ok(()) = pasted.reserve(converted_len(&state.clipboard, line_end)) else {
+        return Err(AllocError);
     };
-    document.reserve(need)
+    convert_into(&state.clipboard, line_end, &mut pasted);
+    Ok(pasted)
 }
 
-/// Makes room for a message that needs so much.
+/// Makes room for the message of a task, whose text is lent.
 ///
 /// # Errors
 ///
@@ -61,19 +87,22 @@ fn reserve_in(
 pub(crate) fn prepare(
     alloc: Global,
     state: &mut SessionState,
-    document: u32,
-    need: Need,
+    task: &Task,
+    message_text: &[u8],
 ) -> Result<Prepared, AllocError>
     requires kept { IsKept state.old }
-    requires wide { SuitsWidth state.old.documents.entries document need.document }
+    requires planned { IsPlanned (session_in state.old) task.now message_text.now }
     ensures same { session_in state.new ≡ session_in state.old }
     ensures limits { state.new.limits ≡ state.old.limits }
     ensures documents { DocumentsAreNamed state.new.documents.entries }
     ensures views { AreNamed state.new.views.entries }
-    ensures counted { OnOk result (IsCounted need) }
-    ensures ok { IfOk result (λ prepared. IsPrepared need document state.new.documents.entries prepared) }
-    ensures free { need ≡ no_need → IsOk result }
+    ensures ok { IfOk result (λ prepared. (r : Request) → IsAskedBy (session_in state.old) task.now message_text.now r → HasAll r state.new task.now prepared) }
+    ensures free { (r : Request) → IsAskedBy (session_in state.old) task.now message_text.now r → needs_no_memory r task.now.plan ≡ true → task.now.is_recorded ≡ false → IsOk result }
 {
+    let Ok(pasted) = turned_clipboard(alloc, state, task) else {
+        return Err(AllocError);
+    };
+    let need = task_need(state, task, message_text, &pasted);
     if !need.is_counted() {
         return Err(AllocError);
     }
@@ -89,12 +118,14 @@ pub(crate) fn prepare(
     let Ok(()) = notes.reserve(need.notes.notes, need.notes.bytes) else {
         return Err(AllocError);
     };
-    let Ok(()) = reserve_in(&mut state.documents, document, need.document) else {
+    let Ok(ready) = make_ready(alloc, state, task, message_text, need.document) else {
         return Err(AllocError);
     };
     Ok(Prepared {
         text,
         clipboard,
+        pasted,
         notes,
+        ready,
     })
 }

@@ -32,7 +32,7 @@ pub struct Session {
 impl Model for Session {
     ghost use Rattle.ed_model.specs.Session.{Session};
     ghost use Rattle.message_plans.specs.Requested.{session_in};
-    ghost use Rattle.editor_session.specs.Kept.{IsKept};
+    ghost use Rattle.session_changes.specs.Kept.{IsKept};
 
     ghost Value = { Session };
 
@@ -191,7 +191,7 @@ impl Session {
         if let (Plan::Answer { value }, false) = (task.plan, task.is_recorded) {
             return Ok(Reply::quiet(self.alloc, value, Bytes::empty(self.alloc)));
         }
-        let Ok(prepared) = prepare(self.alloc, &mut self.state, task.document, task.need) else {
+        let Ok(prepared) = prepare(self.alloc, &mut self.state, &task, text) else {
             return Err(Refusal::OutOfMemory);
         };
         Ok(perform(&mut self.state, &task, number, w, l, text, prepared))

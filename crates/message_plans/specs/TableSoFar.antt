@@ -1,66 +1,6 @@
--- The messages that there are so far.
-use Rattle.std.specs.Prelude.{Bool, true, false}
+-- The messages that there are: all of them.
+use Rattle.std.specs.Prelude.{Bool, true}
 use Rattle.ed_types.specs.declared.kind.Kind.{Kind}
-use Rattle.ed_types.specs.declared.kind.Kind.TheVariants.{InsertText, DeleteRange, GetLength, GetTextLength, GetCharAt, GetText, GetTextRange, GetLineCount, GetLine, GetCurLine, LineLength, GetLineEndPosition, LineFromPosition, PositionFromLine, CanUndo, GetReadOnly, GetModify, AddText, ClearAll, SetText, AppendText, ReplaceSel, Cut, Clear, DeleteBack, NewLine, ReplaceTarget, CanRedo, GetUndoCollection, GetCurrentPos, GetAnchor, GetSelectionStart, GetSelectionEnd, GetSelectionEmpty, CanPaste, GetTargetStart, GetTargetEnd, GetTargetText, GetSelText, GetSearchFlags, GetEolMode, GetPasteConvertEndings, GetDocPointer, GetDocumentOptions, GetLineEndTypesAllowed, GetLineEndTypesActive, GetModEventMask, GetEndStyled, GetIndicatorCurrent, GetIndicatorValue, GetLineState, GetFoldLevel, GetLineVisible, GetAllLinesVisible, GetFoldExpanded, GetStyleAt, GetStyledText, PositionBefore, PositionAfter}
 
 abbrev pub table_so_far : Kind → Bool
-table_so_far InsertText = true
-table_so_far DeleteRange = true
-table_so_far GetLength = true
-table_so_far GetTextLength = true
-table_so_far GetCharAt = true
-table_so_far GetText = true
-table_so_far GetTextRange = true
-table_so_far GetLineCount = true
-table_so_far GetLine = true
-table_so_far GetCurLine = true
-table_so_far LineLength = true
-table_so_far GetLineEndPosition = true
-table_so_far LineFromPosition = true
-table_so_far PositionFromLine = true
-table_so_far CanUndo = true
-table_so_far GetReadOnly = true
-table_so_far GetModify = true
-table_so_far AddText = true
-table_so_far ClearAll = true
-table_so_far SetText = true
-table_so_far AppendText = true
-table_so_far ReplaceSel = true
-table_so_far Cut = true
-table_so_far Clear = true
-table_so_far DeleteBack = true
-table_so_far NewLine = true
-table_so_far ReplaceTarget = true
-table_so_far CanRedo = true
-table_so_far GetUndoCollection = true
-table_so_far GetCurrentPos = true
-table_so_far GetAnchor = true
-table_so_far GetSelectionStart = true
-table_so_far GetSelectionEnd = true
-table_so_far GetSelectionEmpty = true
-table_so_far CanPaste = true
-table_so_far GetTargetStart = true
-table_so_far GetTargetEnd = true
-table_so_far GetTargetText = true
-table_so_far GetSelText = true
-table_so_far GetSearchFlags = true
-table_so_far GetEolMode = true
-table_so_far GetPasteConvertEndings = true
-table_so_far GetDocPointer = true
-table_so_far GetDocumentOptions = true
-table_so_far GetLineEndTypesAllowed = true
-table_so_far GetLineEndTypesActive = true
-table_so_far GetModEventMask = true
-table_so_far GetEndStyled = true
-table_so_far GetIndicatorCurrent = true
-table_so_far GetIndicatorValue = true
-table_so_far GetLineState = true
-table_so_far GetFoldLevel = true
-table_so_far GetLineVisible = true
-table_so_far GetAllLinesVisible = true
-table_so_far GetFoldExpanded = true
-table_so_far GetStyleAt = true
-table_so_far GetStyledText = true
-table_so_far PositionBefore = true
-table_so_far PositionAfter = true
-table_so_far _ = false
+table_so_far kind = true

@@ -20,6 +20,6 @@ mod target_plans;
 mod text_plans;
 mod undo_plans;
 
-pub use plan::{plan_of, table_so_far};
+pub use plan::plan_of;
 pub use request::{Request, SentMessage};
 pub use state::SessionState;

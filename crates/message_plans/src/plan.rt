@@ -3,7 +3,6 @@
 ghost use Rattle.std.specs.Prelude.{◌≡◌};
 ghost use Rattle.ed_model.specs.PlansFit.{IsSoundRequest};
 ghost use Rattle.ed_model.specs.Table.{plan_of};
-ghost use Rattle.message_plans.specs.TableSoFar.{table_so_far};
 
 use crate::request::Request;
 use crate::{
@@ -12,74 +11,6 @@ use crate::{
 };
 use ed_model::Planned;
 use ed_types::Kind;
-
-/// Whether there is such a message yet.
-pub fn table_so_far(kind: Kind) -> bool
-    ensures { result ≡ table_so_far kind }
-{
-    match kind {
-        Kind::InsertText
-        | Kind::DeleteRange
-        | Kind::GetLength
-        | Kind::GetTextLength
-        | Kind::GetCharAt
-        | Kind::GetText
-        | Kind::GetTextRange
-        | Kind::GetLineCount
-        | Kind::GetLine
-        | Kind::GetCurLine
-        | Kind::LineLength
-        | Kind::GetLineEndPosition => true,
-        Kind::LineFromPosition
-        | Kind::PositionFromLine
-        | Kind::CanUndo
-        | Kind::GetReadOnly
-        | Kind::GetModify
-        | Kind::AddText
-        | Kind::ClearAll
-        | Kind::SetText
-        | Kind::AppendText
-        | Kind::ReplaceSel
-        | Kind::Cut
-        | Kind::Clear => true,
-        Kind::DeleteBack
-        | Kind::NewLine
-        | Kind::ReplaceTarget
-        | Kind::CanRedo
-        | Kind::GetUndoCollection
-        | Kind::GetCurrentPos
-        | Kind::GetAnchor
-        | Kind::GetSelectionStart
-        | Kind::GetSelectionEnd
-        | Kind::GetSelectionEmpty
-        | Kind::CanPaste
-        | Kind::GetTargetStart => true,
-        Kind::GetTargetEnd
-        | Kind::GetTargetText
-        | Kind::GetSelText
-        | Kind::GetSearchFlags
-        | Kind::GetEolMode
-        | Kind::GetPasteConvertEndings
-        | Kind::GetDocPointer
-        | Kind::GetDocumentOptions
-        | Kind::GetLineEndTypesAllowed
-        | Kind::GetLineEndTypesActive
-        | Kind::GetModEventMask
-        | Kind::GetEndStyled => true,
-        Kind::GetIndicatorCurrent
-        | Kind::GetIndicatorValue
-        | Kind::GetLineState
-        | Kind::GetFoldLevel
-        | Kind::GetLineVisible
-        | Kind::GetAllLinesVisible
-        | Kind::GetFoldExpanded
-        | Kind::GetStyleAt
-        | Kind::GetStyledText
-        | Kind::PositionBefore
-        | Kind::PositionAfter => true,
-        _ => false,
-    }
-}
 
 /// The plan of a message: what it is going to do. It takes no memory, and nothing changes.
 ///

@@ -4,7 +4,7 @@ use Rattle.ed_model.specs.Steps.{Insert, Delete, replacement}
 use Rattle.ed_model.specs.Performing.{edit_made}
 use Rattle.ed_model.specs.Session.{text_of}
 use Rattle.scene.specs.Scenes.{scene_in}
-use Rattle.editor_session.specs.Needs.{notes_for, bytes_for}
+use Rattle.scene.specs.Conversion.{notes_for, bytes_for}
 use Rattle.editor_session.proofs.Stepping.{first_notes, first_bytes, deletes_some, deletes_none, inserts_some, inserts_none, positive}
 use Rattle.editor_session.proofs.edits.replace_bytes.Goals as goal
 

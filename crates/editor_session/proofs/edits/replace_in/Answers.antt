@@ -1,8 +1,11 @@
 use Rattle.std.proofs.Common.{refl, sym, ap, ◌∙◌}
 use Rattle.std.specs.Option.{option_copied_mut}
+use Rattle.ed_model.specs.Steps.{replacement}
+use Rattle.ed_model.specs.Session.{text_of}
+use Rattle.ed_model.specs.Performing.{edit_made}
 use Rattle.id_table.specs.Entries.{with_value_at}
-use Rattle.editor_session.proofs.Finding.{document_in, id_of_document, still_named}
-use Rattle.editor_session.proofs.Replacing.{replaced_so, id_after}
+use Rattle.scene.specs.Scenes.{scene_in}
+use Rattle.editor_session.proofs.Replacing.{becomes_so, still_named_so, edit_keeps_id}
 use Rattle.editor_session.proofs.edits.replace_in.Goals as goal
 
 pub returns-clause-replaced : goal.returns-clause-replaced
@@ -10,14 +13,18 @@ returns-clause-replaced c =
     let a = c.args in
     let documents = a.documents.now in
     let n = c.replace_bytes.new in
-    replaced_so documents (record documents { entries = with_value_at a.document n.document documents.entries }) a.views.now n.views a.notes.now n.notes a.document c.in-Some.document.now n.document a.start a.count a.bytes.now c.requires.named
+    let old = c.in-Some.document.now in
+    becomes_so documents (record documents { entries = with_value_at a.document n.document documents.entries }) n.views n.notes a.document old n.document
+    (λ x. edit_made (replacement a.start a.count a.bytes.now (text_of x.document)) (scene_in x.document a.views.now.entries a.notes.now.notes)) c.requires.named
     (sym c.get_mut.ensures.value ∙ ap option_copied_mut c.in-Some.is) refl c.replace_bytes.ensures.scene
+    (edit_keeps_id (replacement a.start a.count a.bytes.now (text_of old.document)) (scene_in old.document a.views.now.entries a.notes.now.notes))
 
 pub returns-clause-documents : goal.returns-clause-documents
 returns-clause-documents c =
     let a = c.args in
     let n = c.replace_bytes.new in
-    still_named document_in id_of_document a.documents.now.entries a.document n.document
-    (id_after a.documents.now a.views.now n.views a.notes.now n.notes a.document c.in-Some.document.now n.document a.start a.count a.bytes.now c.requires.named
-    (sym c.get_mut.ensures.value ∙ ap option_copied_mut c.in-Some.is) c.replace_bytes.ensures.scene)
-    c.requires.named
+    let old = c.in-Some.document.now in
+    let steps = replacement a.start a.count a.bytes.now (text_of old.document) in
+    let before = scene_in old.document a.views.now.entries a.notes.now.notes in
+    still_named_so a.documents.now n.views n.notes a.document old n.document (edit_made steps before) c.requires.named
+    (sym c.get_mut.ensures.value ∙ ap option_copied_mut c.in-Some.is) c.replace_bytes.ensures.scene (edit_keeps_id steps before)

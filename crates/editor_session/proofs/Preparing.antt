@@ -1,0 +1,121 @@
+-- All that is taken for a message is there.
+use Rattle.std.proofs.Common.{◌≡◌, ◌⊎◌, inl, inr, ℕ, ◌+◌, ◌≤◌, ◌==◌, ◌&&◌, Bool, true, false, List, [], ◌∷◌, ◌++◌, length, refl, ap, sym, ◌∙◌, subst, arith, Option, Some, None, IfSome, IsSomeAnd}
+use Rattle.std.specs.Prelude.{not, vec_capacity}
+use Rattle.std.proofs.lemmas.Bool.{and_parts}
+use Rattle.ed_model.specs.declared.plan.Source.TheVariants as source
+use Rattle.ed_model.specs.declared.plan.Edit.TheVariants as edit
+use Rattle.ed_model.specs.declared.plan.Plan.{Plan}
+use Rattle.ed_model.specs.declared.plan.Plan.TheVariants as plan
+use Rattle.ed_model.specs.LineEnds.{converted}
+use Rattle.ed_model.specs.Steps.{Step, insertion, deletion}
+use Rattle.ed_model.specs.Session.{Session, Document}
+use Rattle.ed_model.specs.Requests.{Request, text}
+use Rattle.ed_model.specs.Edits.{steps_of, has_steps}
+use Rattle.document_changes.specs.Needs.{needs_room, notes_of_change}
+use Rattle.ed_model.specs.Session.{watching}
+use Rattle.document.specs.Kept.{Kept, HasRoom}
+use Rattle.document.specs.declared.room.DocumentRoom.{DocumentRoom}
+use Rattle.id_table.specs.Entries.{value_at}
+use Rattle.message_plans.specs.Requested.{session_in}
+use Rattle.message_plans.specs.declared.state.SessionState.{SessionState}
+use Rattle.session_changes.specs.Kept.{IsKept}
+use Rattle.editor_session.specs.declared.find.Task.{Task}
+use Rattle.editor_session.specs.declared.need.Need.{Need}
+use Rattle.editor_session.specs.declared.prepare.Prepared.{Prepared}
+use Rattle.editor_session.specs.declared.ready.Ready.{Ready}
+use Rattle.editor_session.specs.Plans.{needs_no_memory, takes_nothing_along}
+use Rattle.editor_session.specs.Tasks.{IsAskedBy}
+use Rattle.editor_session.specs.Needs.{IsAtLeast, IsCounted, NeedsTask, room_of_plan}
+use Rattle.editor_session.specs.Edited.{IsPastedFor}
+use Rattle.editor_session.specs.Prepared.{IsReadyFor, IsPastedIn, HasAll, is_turned, takes_nothing}
+use Rattle.editor_session.proofs.Performing.{kept_at, of_room, for_document}
+
+less_room : (k : Kept) (a b : DocumentRoom) → HasRoom k a → IsAtLeast a b → HasRoom k b
+less_room k a b h l = (
+  (less b.text a.text k.room.text l.text h.0.0, less b.lines a.lines k.room.lines l.lines h.0.1, less b.insertions a.insertions k.room.insertions l.insertions h.0.2),
+  λ on. (less b.steps a.steps k.room.steps l.steps (h.1 on).0, less b.bytes a.bytes k.room.bytes l.bytes (h.1 on).1),
+)
+  where
+    less : (x y z : ℕ) → x ≤ y → y ≤ z → x ≤ z
+    less x y z p q = omega arith
+
+room_there : (o : Option Kept) (a b : DocumentRoom) → IsAtLeast a b → IsSomeAnd o (λ k. HasRoom k a) → IsSomeAnd o (λ k. HasRoom k b)
+room_there None a b l h = absurd h
+room_there (Some k) a b l h = less_room k a b h l
+
+ready_for : (what : Plan) (a b : DocumentRoom) (s : SessionState) (task : Task) (made : Ready) → IsAtLeast a b → IsReadyFor what a s task made → IsReadyFor what b s task made
+ready_for (plan.Edit change value after) a b s task made l h = room_there (value_at s.documents.entries task.document) a b l h
+ready_for plan.Undo a b s task made l h = room_there (value_at s.documents.entries task.document) a b l h
+ready_for plan.Redo a b s task made l h = room_there (value_at s.documents.entries task.document) a b l h
+ready_for (plan.ChangeDocument change value) a b s task made l h = h
+ready_for (plan.ChangeView change value) a b s task made l h = h
+ready_for (plan.ChangeSession change value) a b s task made l h = h
+ready_for (plan.Answer value) a b s task made l h = tt
+ready_for (plan.HandOut value start count) a b s task made l h = tt
+ready_for (plan.HandOutStyled start count) a b s task made l h = tt
+ready_for plan.Attempt a b s task made l h = tt
+
+-- what the clipboard was turned into stays that, in a session that is the same
+still_pasted : (old new : SessionState) (task : Task) (bytes pasted : List ℕ) → IsKept old → IsKept new → session_in new ≡ session_in old → (r : Request) → IsAskedBy (session_in old) task bytes r → IsAskedBy (session_in new) task bytes r
+    → IsPastedIn old task pasted → IsPastedIn new task pasted
+still_pasted old new task bytes pasted kept kept' same r by by' h =
+    let k = kept_at old task bytes kept r by in
+    let here = subst (λ (d : Document). IsPastedFor task.plan old.clipboard.items d.line_end pasted) k.is (of_room old task bytes kept r by (λ x. IsPastedFor task.plan old.clipboard.items x.document.line_end pasted) h) in
+    for_document new task bytes kept' r by' (λ d. IsPastedFor task.plan new.clipboard.items d.line_end pasted)
+    (subst (λ (x : Session). IsPastedFor task.plan x.clipboard r.document.line_end pasted) (sym same) here)
+
+pub has_all : (old new : SessionState) (task : Task) (bytes : List ℕ) → IsKept old → IsKept new → session_in new ≡ session_in old → (r : Request) → IsAskedBy (session_in old) task bytes r → (need : Need) (p : Prepared)
+    → NeedsTask r task.plan task.is_recorded need → IsCounted need → p.text.items ≡ [] → need.text ≤ vec_capacity p.text → p.clipboard.items ≡ [] → need.clipboard ≤ vec_capacity p.clipboard
+    → IsPastedIn old task p.pasted.items → p.notes.notes ≡ [] → need.notes.notes ≤ p.notes.note_room → need.notes.bytes ≤ p.notes.text_room → IsReadyFor task.plan need.document new task p.ready → HasAll r new task p
+has_all old new task bytes kept kept' same r by need p needs counted text text_room clipboard clipboard_room pasted notes note_room byte_room ready =
+    let e = needs.enough counted in
+    let n = e.all_there.notes_there in
+    let b = e.all_there.bytes_there in
+    record {
+      text = text;
+      text_room = subst (λ x. x ≤ vec_capacity p.text) e.text_there text_room;
+      clipboard = clipboard;
+      clipboard_room = subst (λ x. x ≤ vec_capacity p.clipboard) e.clipboard_there clipboard_room;
+      pasted = still_pasted old new task bytes p.pasted.items kept kept' same r by (subst (λ x. IsAskedBy x task bytes r) (sym same) by) pasted;
+      notes = notes;
+      note_room = omega (arith, n, note_room);
+      note_text_room = omega (arith, b, byte_room);
+      ready = ready_for task.plan need.document (room_of_plan r task.plan) new task p.ready e.all_there.document_there ready;
+    }
+
+-- Plans that need no memory.
+
+pub needs_none : (r : Request) (what : Plan) → needs_no_memory r what ≡ true → takes_nothing what ≡ true
+needs_none r (plan.ChangeDocument change value) h = (and_parts (not (needs_room change)) (notes_of_change change r.document.history (watching r.session.views r.document) == 0) h).0
+needs_none r (plan.ChangeView change value) h = h
+needs_none r (plan.ChangeSession change value) h = h
+needs_none r (plan.Edit change value after) h = refl
+needs_none r plan.Undo h = refl
+needs_none r plan.Redo h = refl
+needs_none r (plan.Answer value) h = refl
+needs_none r (plan.HandOut value start count) h = refl
+needs_none r (plan.HandOutStyled start count) h = refl
+needs_none r plan.Attempt h = refl
+
+inserts_nothing : (gone : List Step) (start : ℕ) (bytes : List ℕ) → not (has_steps (gone ++ insertion start bytes)) ≡ true → bytes ≡ []
+inserts_nothing [] start [] h = refl
+inserts_nothing [] start (b ∷ bs) h = absurd (cc)
+inserts_nothing (g ∷ gs) start bytes h = absurd (cc)
+
+pub turns_nothing : (r : Request) (what : Plan) → needs_no_memory r what ≡ true → (is_turned what ≡ false) ⊎ (converted r.document.line_end r.session.clipboard ≡ [])
+turns_nothing r (plan.Edit (edit.Replace start count (source.Clipboard true)) value after) h =
+    inr (inserts_nothing _ start (converted r.document.line_end r.session.clipboard) (and_parts (not (has_steps (steps_of r (edit.Replace start count (source.Clipboard true))))) (takes_nothing_along after) h).0)
+turns_nothing r (plan.Edit (edit.Replace start count (source.Clipboard false)) value after) h = inl refl
+turns_nothing r (plan.Edit (edit.Replace start count source.Nothing) value after) h = inl refl
+turns_nothing r (plan.Edit (edit.Replace start count (source.MessageText n)) value after) h = inl refl
+turns_nothing r (plan.Edit (edit.Replace start count source.LineEnd) value after) h = inl refl
+turns_nothing r (plan.Edit (edit.ConvertLineEnds to) value after) h = inl refl
+turns_nothing r (plan.ChangeDocument change value) h = inl refl
+turns_nothing r (plan.ChangeView change value) h = inl refl
+turns_nothing r (plan.ChangeSession change value) h = inl refl
+turns_nothing r plan.Undo h = inl refl
+turns_nothing r plan.Redo h = inl refl
+turns_nothing r (plan.Answer value) h = inl refl
+turns_nothing r (plan.HandOut value start count) h = inl refl
+turns_nothing r (plan.HandOutStyled start count) h = inl refl
+turns_nothing r plan.Attempt h = inl refl
