@@ -73,7 +73,6 @@ id_stays levels (view_change.Contract line) v = refl
 id_stays levels (view_change.Expand line) v = refl
 id_stays levels (view_change.EnsureVisible line) v = refl
 
-
 -- the view of an id in place of itself, once it has changed
 pub in_its_place : (s : SessionState) (document view : ℕ) (r : Request) → IsKept s → IsAsked (session_in s) document view r → (g : View → View) → (g r.view).id ≡ r.view.id
     → changed_at view g (session_in s).views ≡ with_view (g r.view) r.session.views

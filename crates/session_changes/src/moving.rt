@@ -104,7 +104,9 @@ pub(crate) fn attach(state: &mut SessionState, from: u32, view: u32, to: u32)
     ensures named_views { AreNamed state.new.views.entries }
 {
     let SessionState {
-        documents, views, ..
+        documents,
+        views,
+        ..
     } = state;
     let Some(document) = documents.get(to) else {
         unreachable!()

@@ -100,7 +100,9 @@ pub fn change_view(state: &mut SessionState, document: u32, view: u32, change: V
     // The law that the lines of a fit change are there.
     fit_changes_are_within();
     let SessionState {
-        documents, views, ..
+        documents,
+        views,
+        ..
     } = state;
     let Some(document) = documents.get(document) else {
         unreachable!()
