@@ -1,5 +1,5 @@
 -- The notes of changes that undo or redo performs: no more than was told before.
-use Rattle.std.proofs.Common.{◌≡◌, ℕ, ◌+◌, ◌*◌, ◌<◌, ◌≤◌, Bool, true, false, cond, List, [], ◌∷◌, ◌++◌, map, length, refl, ap, sym, ◌∙◌, subst, arith, length-append}
+use Rattle.std.proofs.Common.{◌≡◌, ℕ, ◌+◌, ◌*◌, ◌≤◌, Bool, true, false, cond, List, [], ◌∷◌, ◌++◌, length, refl, ap, ◌∙◌, arith, length-append}
 use Rattle.std.specs.Prelude.{ℤ, filter, filter_map, bit_or, nat_lt}
 use Rattle.std.proofs.lemmas.List.{length-map}
 use Rattle.ed_types.specs.Notices.{Notice}
@@ -8,11 +8,11 @@ use Rattle.ed_model.specs.Steps.{Step, step_bytes}
 use Rattle.ed_model.specs.History.{Change, TextStep, ContainerStep}
 use Rattle.ed_model.specs.Notes as notes
 use Rattle.ed_model.specs.Notes.{told, heard, before_note, after_note}
-use Rattle.ed_model.specs.Session.{View, Document, view_at, watching, lines_in}
+use Rattle.ed_model.specs.Session.{View, view_at, watching, lines_in}
 use Rattle.ed_model.specs.Performing.{Scene, document_after, view_after, last_bits, container_note, change_performed}
 use Rattle.document.specs.declared.undoing.Direction.{Direction}
 use Rattle.document.specs.declared.undoing.Direction.TheVariants.{Undo, Redo}
-use Rattle.scene.specs.Hearing.{hearers, before_kind, after_kind, bytes_shared}
+use Rattle.scene.specs.Hearing.{hearers, before_kind, after_kind}
 use Rattle.scene.specs.Undoing.{bits_of, all_bits, performed_kinds, container_kinds, notes_of_change, bytes_of_change, notes_of_changes, bytes_of_changes}
 use Rattle.scene.proofs.ToldSoFar.{length_told}
 use Rattle.scene.proofs.KindLemmas.{meets_left, meets_right, meets_more, after_more, hearers_more, before_kind_is, after_kind_is}

@@ -1,10 +1,9 @@
 -- The steps among changes that undo or redo performs, and the room that is left for them.
-use Rattle.std.proofs.Common.{◌≡◌, ℕ, suc, ◌+◌, ◌-◌, ◌^◌, ◌<◌, ◌≤◌, Bool, true, false, cond, List, [], ◌∷◌, ◌++◌, map, length, take, drop, get_or, refl, ap, sym, ◌∙◌, subst, arith, drop-cons, length-append}
-use Rattle.std.specs.Prelude.{slice_range, slice_get, min, Option, Some, None, IsSomeAnd}
+use Rattle.std.proofs.Common.{◌≡◌, ℕ, suc, ◌+◌, ◌-◌, ◌^◌, ◌<◌, ◌≤◌, Bool, List, ◌∷◌, length, drop, refl, ap, sym, ◌∙◌, subst, arith, drop-cons}
+use Rattle.std.specs.Prelude.{slice_range, slice_get, Option, Some, IsSomeAnd}
 use Rattle.std.proofs.lemmas.List.{length-drop, length-take}
 use Rattle.std.proofs.lemmas.Option.{slice_get_within, get_or_from_slice_get}
 use Rattle.ed_model.specs.declared.plan.LineEndTypes.{LineEndTypes}
-use Rattle.ed_model.specs.Text.{Cell, bytes_of}
 use Rattle.ed_model.specs.Steps as model
 use Rattle.ed_model.specs.Steps.{Step, step_bytes, edited, edited_cells}
 use Rattle.ed_model.specs.StepLaws.{CellsFollowBytes}
@@ -18,12 +17,12 @@ use Rattle.document.specs.declared.text_step.TextStep.{TextStep}
 use Rattle.document.specs.declared.text_step.TextStep.TheVariants.{Insert, Delete}
 use Rattle.document.specs.declared.room.DocumentRoom.{DocumentRoom}
 use Rattle.document.specs.TextSteps.{step_in, IsStepOn}
-use Rattle.document.specs.Kept.{HasTextRoom, TakesRoom, no_room}
-use Rattle.document.specs.Undoing.{room_of_step, room_of_change}
+use Rattle.document.specs.Kept.{TakesRoom, no_room}
+use Rattle.document.specs.Undoing.{room_of_step}
 use Rattle.line_index.specs.RoomLaws.{lines_for_step}
 use Rattle.selection.specs.Positions.{movement_of, count_of}
 use Rattle.scene.specs.StepNotes.{IsSmallStep}
-use Rattle.scene.specs.Undoing.{room_of_changes, both_rooms}
+use Rattle.scene.specs.Undoing.{both_rooms}
 use Rattle.scene.specs.Turns.{ChangeFits}
 
 -- A step of a change.

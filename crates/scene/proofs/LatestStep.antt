@@ -1,6 +1,6 @@
 -- The latest step of the text among changes, looked for from the last one on.
-use Rattle.std.proofs.Common.{◌≡◌, ℕ, zero, suc, ◌+◌, ◌-◌, ◌<◌, ◌≤◌, List, [], ◌∷◌, ◌++◌, length, take, drop, reverse, get_or, refl, ap, sym, ◌∙◌, subst, arith, length-append}
-use Rattle.std.specs.Prelude.{slice_get, ℤ, Option, Some, None}
+use Rattle.std.proofs.Common.{◌≡◌, ℕ, zero, suc, ◌+◌, ◌≤◌, List, [], ◌∷◌, length, take, reverse, get_or, refl, ap, sym, ◌∙◌, arith, length-append}
+use Rattle.std.specs.Prelude.{slice_get, ℤ, Option, Some}
 use Rattle.std.proofs.lemmas.List.{take_more, take_all, reverse-append, length-take, length-drop}
 use Rattle.std.proofs.lemmas.Option.{slice_get_within, get_or_from_slice_get}
 use Rattle.ed_model.specs.declared.plan.LineEndTypes.{LineEndTypes}
@@ -9,7 +9,6 @@ use Rattle.ed_model.specs.Steps.{Step, edited}
 use Rattle.ed_model.specs.History.{Change, TextStep, ContainerStep, latest_text_step}
 use Rattle.ed_model.specs.SoundLaws.{AreStepsOf}
 use Rattle.ed_model.specs.UndoPlans.{text_steps}
-use Rattle.document.specs.declared.undoing.ChangeOutline.{ChangeOutline}
 use Rattle.document.specs.declared.undoing.ChangeOutline.TheVariants.{Insert, Delete, Container}
 use Rattle.document.specs.Undoing.{outline_of, room_of_step}
 use Rattle.scene.specs.Undoing.{room_of_changes, place_behind_any}

@@ -1,6 +1,6 @@
 -- What steps put is no more than what was told before.
-use Rattle.std.proofs.Common.{◌≡◌, ℕ, suc, ◌+◌, ◌*◌, ◌<◌, ◌≤◌, Bool, true, false, cond, List, [], ◌∷◌, ◌++◌, map, length, refl, ap, sym, ◌∙◌, subst, arith, length-append}
-use Rattle.std.specs.Prelude.{◌==◌, ◌&&◌, ◌||◌, not, nat_le, nat_lt, ℤ, Option, Some, None, filter, filter_map, option_map, if◌then◌else◌, bit_or}
+use Rattle.std.proofs.Common.{◌≡◌, ℕ, suc, ◌+◌, ◌<◌, ◌≤◌, Bool, true, false, cond, List, [], ◌∷◌, ◌++◌, map, length, refl, ap, ◌∙◌, arith, length-append}
+use Rattle.std.specs.Prelude.{◌==◌, ◌&&◌, not, nat_le, nat_lt, ℤ, Option, Some, None, filter, filter_map, option_map}
 use Rattle.std.specs.List.{cons_option}
 use Rattle.std.proofs.lemmas.Bool.{ne_eqb, leb-true, ltb-true, lt-ltb}
 use Rattle.ed_types.specs.Notices.{Notice}
@@ -10,9 +10,9 @@ use Rattle.ed_model.specs.History.{History, Change, Transaction, TextStep, at_sa
 use Rattle.ed_model.specs.Notes as notes
 use Rattle.ed_model.specs.Notes.{told, heard, before_note, after_note, performed_user}
 use Rattle.ed_model.specs.Session.{View, Document, view_at, watching, lines_in}
-use Rattle.ed_model.specs.Performing.{Scene, document_after, moved_view, view_after, leaving, step_made, sealed_scene}
+use Rattle.ed_model.specs.Performing.{document_after, moved_view, view_after, leaving, step_made}
 use Rattle.scene.specs.Hearing.{hearers, before_kind, after_kind, step_kinds, user_bits, bytes_shared}
-use Rattle.scene.specs.Needs.{user_kinds, leaving_count, notes_of_step, bytes_of_step, notes_of_steps, bytes_of_steps, NotesAreEnough, BytesAreEnough, SealingNeedsTheSame}
+use Rattle.scene.specs.Needs.{user_kinds, leaving_count, notes_of_steps, bytes_of_steps, NotesAreEnough, BytesAreEnough, SealingNeedsTheSame}
 use Rattle.scene.proofs.ToldSoFar.{length_told}
 use Rattle.scene.proofs.KindLemmas.{meets_left, meets_right, hearers_more, before_kind_is, after_kind_is}
 

@@ -1,6 +1,6 @@
 -- What was performed of undo or redo, and what is still to be performed.
 use Rattle.std.proofs.Common.{◌≡◌, ℕ, ◌+◌, ◌-◌, ◌<◌, ◌≤◌, Bool, true, false, List, [], ◌∷◌, ◌++◌, map, length, drop, get_or, refl, ap, sym, ◌∙◌, subst, arith}
-use Rattle.std.specs.Prelude.{◌==◌, nat_lt, slice_get, if◌then◌else◌, Option, Some}
+use Rattle.std.specs.Prelude.{◌==◌, nat_lt, slice_get, Some}
 use Rattle.std.proofs.lemmas.List.{length-drop}
 use Rattle.std.proofs.lemmas.Bool.{eq-eqb, ne_eqb}
 use Rattle.std.proofs.lemmas.Option.{slice_get-get_or}
@@ -12,17 +12,16 @@ use Rattle.ed_model.specs.History.{History, Change, TextStep, ContainerStep}
 use Rattle.ed_model.specs.Session.{Document, View, text_of, watching}
 use Rattle.ed_model.specs.SoundLaws.{AreStepsOf}
 use Rattle.ed_model.specs.UndoPlans.{text_steps}
-use Rattle.ed_model.specs.Performing.{Scene, is_last, changes_lines, change_performed, changes_performed, save_point_change, with_history}
+use Rattle.ed_model.specs.Performing.{Scene, is_last, change_performed, changes_performed, save_point_change, with_history}
 use Rattle.id_table.specs.Entries.{Entry, Entries, id_of}
 use Rattle.notify.specs.Gathered.{Gathered}
 use Rattle.ed_view.specs.Kept.{KeptView}
 use Rattle.document.specs.declared.undoing.Direction.{Direction}
-use Rattle.document.specs.declared.room.DocumentRoom.{DocumentRoom}
 use Rattle.document.specs.Kept.{Kept, HasTextRoom, TakesRoom}
 use Rattle.document.specs.Undoing.{changes_of, room_of_change}
 use Rattle.scene.specs.declared.performing.Turn.{Turn}
 use Rattle.scene.specs.Scenes.{views_of, scene_in, watchers, IsWatched}
-use Rattle.scene.specs.Undoing.{bits_of, notes_of_change, notes_of_changes, bytes_of_changes, room_of_changes}
+use Rattle.scene.specs.Undoing.{bits_of, notes_of_changes, bytes_of_changes, room_of_changes}
 use Rattle.scene.specs.Turns.{several_bits, CanPerform, IsPerformed}
 use Rattle.scene.specs.Performed.{CanPerformAll, AreAllPerformed}
 use Rattle.scene.proofs.ChangeNotes.{HearAlike, hear_alike_still, notes_alike, bytes_alike, performed_few}

@@ -1,23 +1,17 @@
 -- Undo and redo: the bits of their notes, and what they need.
-use Rattle.std.specs.Prelude.{◌≡◌, ℕ, ◌+◌, ◌-◌, ◌*◌, ◌^◌, ◌≤◌, min, Bool, true, if◌then◌else◌, List, [], ◌∷◌, length, map, slice_get, bit_or, Option, Some, None}
+use Rattle.std.specs.Prelude.{ℕ, ◌+◌, ◌-◌, ◌*◌, ◌^◌, min, true, List, [], ◌∷◌, length, bit_or, Option, Some, None}
 use Rattle.ed_model.specs.declared.plan.LineEndTypes.{LineEndTypes}
 use Rattle.ed_model.specs.Steps.{Step, step_bytes}
-use Rattle.ed_model.specs.History.{History, Change, TextStep, ContainerStep}
-use Rattle.ed_model.specs.InverseLaws.{Fits}
-use Rattle.ed_model.specs.Session.{Document, View, text_of}
+use Rattle.ed_model.specs.History.{Change, TextStep, ContainerStep}
+use Rattle.ed_model.specs.Session.{View}
 use Rattle.ed_model.specs.Notes as notes
-use Rattle.ed_model.specs.Performing.{last_bits, place_behind, changes_lines, change_performed}
-use Rattle.id_table.specs.Entries.{Entries, id_of}
-use Rattle.notify.specs.Gathered.{Gathered}
-use Rattle.ed_view.specs.Kept.{KeptView}
+use Rattle.ed_model.specs.Performing.{last_bits, place_behind}
 use Rattle.document.specs.declared.undoing.Direction.{Direction}
 use Rattle.document.specs.declared.undoing.Direction.TheVariants.{Undo, Redo}
 use Rattle.document.specs.declared.room.DocumentRoom.{DocumentRoom}
-use Rattle.document.specs.Kept.{Kept, document_room, no_room, HasTextRoom, TakesRoom}
-use Rattle.document.specs.Undoing.{changes_of, room_of_change}
+use Rattle.document.specs.Kept.{document_room, no_room}
+use Rattle.document.specs.Undoing.{room_of_change}
 use Rattle.scene.specs.declared.need.NoteRoom.{NoteRoom}
-use Rattle.scene.specs.declared.performing.Turn.{Turn}
-use Rattle.scene.specs.Scenes.{scene_in, watchers, IsWatched}
 use Rattle.scene.specs.Hearing.{step_kinds, hearers, bytes_shared}
 use Rattle.scene.specs.Needs.{note_room}
 

@@ -1,4 +1,4 @@
-use Rattle.std.proofs.Common.{◌≡◌, ◌++◌, length, sym, ap, ◌∙◌, arith, refl, length-append, w64, to_z, of_z}
+use Rattle.std.proofs.Common.{◌≡◌, length, sym, ap, ◌∙◌, arith, refl, length-append, w64, to_z, of_z}
 use Rattle.std.proofs.lemmas.Int.{ints}
 use Rattle.ed_types.specs.Notices.{Notice}
 use Rattle.ed_model.specs.Notes.{heard}

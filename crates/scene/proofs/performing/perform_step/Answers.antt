@@ -1,4 +1,4 @@
-use Rattle.std.proofs.Common.{◌≡◌, ◌≤◌, ◌++◌, ◌∙◌, length, sym, ap, arith, refl, subst, []}
+use Rattle.std.proofs.Common.{◌≡◌, ◌≤◌, ◌++◌, ◌∙◌, length, sym, ap, arith, subst, []}
 use Rattle.std.specs.Prelude.{Some}
 use Rattle.std.proofs.lemmas.List.{append-nil}
 use Rattle.line_index.specs.StepEdits.{edits_of}
@@ -12,15 +12,15 @@ use Rattle.ed_model.specs.Performing.{document_after}
 use Rattle.ed_view.specs.Moving.{step_edits}
 use Rattle.scene.specs.declared.telling.Audience.TheVariants.{Hearers}
 use Rattle.scene.specs.declared.telling.NoteText.TheVariants.{Shared}
-use Rattle.scene.specs.Scenes.{watchers, views_of, scene_in, IsWatched}
-use Rattle.scene.specs.Hearing.{left_note, audience_of, with_note_text}
+use Rattle.scene.specs.Scenes.{watchers, scene_in, IsWatched}
+use Rattle.scene.specs.Hearing.{audience_of, with_note_text}
 use Rattle.scene.specs.Undoing.{bits_of, all_bits}
 use Rattle.scene.specs.Turns.{change_at, bits_behind, IsPerformed}
 use Rattle.scene.proofs.ToldSoFar.{told_last, length_told, length_parts}
 use Rattle.scene.proofs.KindLemmas.{told_after_more}
 use Rattle.scene.proofs.StepScenes.{length_text, end_within, same_scene, watched_can, stands_can, watched_after, watched_again}
 use Rattle.scene.proofs.ChangeNotes.{bits_more, performed_few}
-use Rattle.scene.proofs.ChangeSteps.{is_some, step_same, small_change, small_count, lines_of_room}
+use Rattle.scene.proofs.ChangeSteps.{step_same, small_change, small_count, lines_of_room}
 use Rattle.scene.proofs.performing.perform_step.Goals as goal
 
 pub step_at-step-requires : goal.step_at-step-requires

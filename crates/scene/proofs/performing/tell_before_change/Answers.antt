@@ -1,11 +1,9 @@
-use Rattle.std.proofs.Common.{◌≡◌, ◌<◌, ℕ, ◌++◌, length, sym, ap, ◌∙◌, arith, refl, subst, List}
-use Rattle.std.specs.Prelude.{Some, nat_lt, true}
+use Rattle.std.proofs.Common.{◌≡◌, ◌<◌, ◌++◌, length, sym, ap, ◌∙◌, arith, subst}
 use Rattle.std.proofs.lemmas.Bool.{lt-ltb}
-use Rattle.ed_model.specs.Steps.{Step, step_bytes}
+use Rattle.ed_model.specs.Steps.{step_bytes}
 use Rattle.ed_model.specs.History.{TextStep}
 use Rattle.ed_model.specs.Session.{text_of}
 use Rattle.ed_model.specs.Notes.{heard, before_note}
-use Rattle.document.specs.Undoing.{bytes_in}
 use Rattle.scene.specs.declared.telling.Audience.TheVariants.{Hearers}
 use Rattle.scene.specs.Scenes.{watchers}
 use Rattle.scene.specs.Hearing.{audience_of, with_note_text, hearers}

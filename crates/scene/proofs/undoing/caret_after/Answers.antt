@@ -1,4 +1,4 @@
-use Rattle.std.proofs.Common.{◌≡◌, ◌+◌, ◌-◌, ◌<◌, ◌≤◌, length, sym, ap, ◌∙◌, arith}
+use Rattle.std.proofs.Common.{◌≡◌, ◌+◌, ◌-◌, sym, ap, ◌∙◌, arith}
 use Rattle.ed_model.specs.Session.{text_of}
 use Rattle.document.specs.Undoing.{changes_of}
 use Rattle.scene.proofs.StepScenes.{length_text}

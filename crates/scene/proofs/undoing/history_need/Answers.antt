@@ -1,11 +1,11 @@
-use Rattle.std.proofs.Common.{◌≡◌, ◌+◌, ◌<◌, drop, length, sym, ap, ◌∙◌, arith}
+use Rattle.std.proofs.Common.{◌+◌, drop, arith}
 use Rattle.std.proofs.lemmas.List.{drop_all}
 use Rattle.document.specs.Undoing.{changes_of}
 use Rattle.scene.specs.Scenes.{watchers}
 use Rattle.scene.specs.Undoing.{bits_of}
 use Rattle.scene.proofs.ChangeSteps.{drop_some, some_has}
 use Rattle.scene.proofs.PerformedSoFar.{there}
-use Rattle.scene.proofs.NeededSoFar.{needed_none, needed_next, needed_notes, needed_room}
+use Rattle.scene.proofs.NeededSoFar.{needed_next, needed_notes, needed_room}
 use Rattle.scene.proofs.undoing.history_need.Goals as goal
 
 pub loop-index-preserved : goal.loop-index-preserved

@@ -1,4 +1,4 @@
-use Rattle.std.proofs.Common.{◌≡◌, ◌++◌, ◌∙◌, sym, ap, []}
+use Rattle.std.proofs.Common.{◌++◌, ◌∙◌, sym, ap, []}
 use Rattle.ed_model.specs.Notes.{told}
 use Rattle.scene.specs.Scenes.{watchers}
 use Rattle.scene.proofs.PerformedSoFar.{reached, left}
