@@ -1,9 +1,8 @@
 #!/usr/bin/env python3
-"""Runs the worked examples by the built program, as each compiler made it, and compares what they print.
+"""Runs the worked examples by the built program, as each compiler made it, and compares what they print and how they end.
 
-The scripts lie in crates/sci_console/data/, where the program's own run in `rt ci` finds them: those of examples/ that send only messages that stand today, which
-is read from the dots of docs/MESSAGES.md. With --write they are brought there; without it each is looked at to be the same as in examples/, and none may be missing.
-Run it anywhere in the repository after `rt ci`, or after `rt run` in crates/sci_console.
+Each script is run with the files that it loads. The one that the program's own run in `rt ci` takes lies in crates/sci_console/data/ as well, and is looked at to be
+the same. Run it anywhere in the repository after `rt ci`, or after `rt run` in crates/sci_console.
 """
 import os
 import re
@@ -21,60 +20,29 @@ def read(*path):
         return file.read()
 
 
-def standing():
-    """The numbers of the messages that stand, and of all that there are."""
-    rows = re.findall(rb"(?m)^\| (\d{4}) \| SCI_[A-Z]+ ", read(TOP, "docs", "MESSAGES.md"))
-    dots = re.findall(rb"(?m)^\| (\d{4}) \| SCI_[A-Z]+ \xe2\x80\xa2 ", read(TOP, "docs", "MESSAGES.md"))
-    return {int(it) for it in dots}, {int(it) for it in rows}
-
-
-SETTEXT = 2181
-
-
-def stands(script, known, listed):
-    """Whether the script sends only messages that stand, or that are in no table; to load a file is to set the text."""
-    numbers = {int(it) for it in re.findall(rb"(?m)^send \d+ (\d+) ", script)}
-    if b"\nload " in script:
-        numbers.add(SETTEXT)
-    return not (numbers & listed) - known
-
-
-def wanted():
+def scripts():
     """The scripts, each with the files that it loads, in order."""
-    known, listed = standing()
     names = sorted(os.listdir(EXAMPLES))
     for script in names:
-        if script.endswith(".sci") and stands(read(EXAMPLES, script), known, listed):
+        if script.endswith(".sci"):
             loaded = [it for it in names if it.startswith(script[:-4] + ".file")]
             yield script, sorted(loaded, key=lambda it: int(it.rpartition(".file")[2]))
 
 
-def write():
-    os.makedirs(DATA, exist_ok=True)
-    for file in os.listdir(DATA):
-        os.remove(os.path.join(DATA, file))
-    for script, loaded in wanted():
-        for file in (script, *loaded):
-            with open(os.path.join(DATA, file), "wb") as out:
-                out.write(read(EXAMPLES, file))
-
-
 def main():
-    if sys.argv[1:] == ["--write"]:
-        return write()
     programs = [os.path.join(CRATE, "out", name) for name in ("sci_console", "sci_console.by-rattle")]
     programs = [it for it in programs if os.path.exists(it)]
     if not programs:
         sys.exit("sci_console was not built")
-    scripts, passed, failed = list(wanted()), 0, 0
-    files = sorted(it for script, loaded in scripts for it in (script, *loaded))
-    if sorted(os.listdir(DATA)) != files or any(read(DATA, it) != read(EXAMPLES, it) for it in files):
-        sys.exit("crates/sci_console/data is not what stands of examples/: tools/run_examples.py --write brings it there")
-    for script, loaded in scripts:
+    for file in os.listdir(DATA):
+        if read(DATA, file) != read(EXAMPLES, file):
+            sys.exit("crates/sci_console/data/%s is not the one of examples/" % file)
+    passed, failed = 0, 0
+    for script, loaded in scripts():
         printed = read(EXAMPLES, script[:-4] + ".out")
         status = 4 if re.search(rb"(?m)^- ", printed) else 0
         for program in programs:
-            ran = subprocess.run([program, "run", script, *loaded], capture_output=True, cwd=DATA)
+            ran = subprocess.run([program, "run", script, *loaded], capture_output=True, cwd=EXAMPLES)
             if (ran.stdout, ran.returncode) == (printed, status):
                 passed += 1
             else:
