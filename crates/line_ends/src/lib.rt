@@ -1,9 +1,10 @@
 //! Line ends of a text, and how they are turned into one kind.
 //!
 //! ```text
-//! text       a CR b CR LF c LF d
-//! missing      LF         CR        with them each line end is a CRLF
-//! unwanted     LF    LF      LF     of each, where CR is wanted
+//! text        a CR b CR LF c LF d
+//! for CRLF    a CR LF b CR LF c CR LF d      an LF and a CR were missing
+//! for LF      a CR LF b CR LF c LF d         an LF was missing, and two CRs are unwanted
+//! for CR      a CR b CR LF c CR LF d         a CR was missing, and two LFs are unwanted
 //! ```
 //!
 //! In a document each byte that comes or goes is a step of its own: first what is missing is put in, left to right, then
