@@ -6,7 +6,8 @@ use std::alloc::Global;
 use std::test::Fail;
 
 /// A message to a view, and what it answers.
-struct Sent<'a> {
+#[derive(Drop)]
+struct Exchange<'a> {
     view: u32,
     kind: Kind,
     w: i64,
@@ -16,8 +17,8 @@ struct Sent<'a> {
 }
 
 /// A message to view 1 that answers a value.
-fn sent(kind: Kind, w: i64, l: i64, value: i64) -> Sent<'static> {
-    Sent {
+fn sent(kind: Kind, w: i64, l: i64, value: i64) -> Exchange<'static> {
+    Exchange {
         view: 1,
         kind,
         w,
@@ -28,16 +29,16 @@ fn sent(kind: Kind, w: i64, l: i64, value: i64) -> Sent<'static> {
 }
 
 /// A message to view 1 that is refused.
-fn refused(kind: Kind, w: i64, l: i64, refusal: Refusal) -> Sent<'static> {
-    Sent {
+fn refused(kind: Kind, w: i64, l: i64, refusal: Refusal) -> Exchange<'static> {
+    Exchange {
         answer: Err(refusal),
         ..sent(kind, w, l, 0)
     }
 }
 
 /// The same message with a text.
-fn with_text<'a>(text: &'a [u8], message: Sent<'static>) -> Sent<'a> {
-    Sent {
+fn with_text<'a>(text: &'a [u8], message: Exchange<'static>) -> Exchange<'a> {
+    Exchange {
         view: message.view,
         kind: message.kind,
         w: message.w,
@@ -48,7 +49,7 @@ fn with_text<'a>(text: &'a [u8], message: Sent<'static>) -> Sent<'a> {
 }
 
 /// Whether a message answers as it is to.
-fn is_met(session: &mut Session, row: &Sent) -> bool {
+fn is_met(session: &mut Session, row: &Exchange) -> bool {
     let answer = session.send_lent(row.view, row.kind.number(), row.w, row.l, row.text);
     match (answer, row.answer) {
         (Ok(reply), Ok(value)) => reply.value() == value,
@@ -58,7 +59,7 @@ fn is_met(session: &mut Session, row: &Sent) -> bool {
 }
 
 /// Whether each answers as it is to, one after the other.
-fn are_met(session: &mut Session, rows: &[Sent]) -> bool {
+fn are_met(session: &mut Session, rows: &[Exchange]) -> bool {
     for row in rows {
         if !is_met(session, row) {
             return false;
@@ -68,7 +69,7 @@ fn are_met(session: &mut Session, rows: &[Sent]) -> bool {
 }
 
 /// Whether a new session with these limits and a view so answers.
-fn answers(alloc: Global, limits: Limits, rows: &[Sent]) -> bool {
+fn answers(alloc: Global, limits: Limits, rows: &[Exchange]) -> bool {
     let Ok(mut session) = Session::with_limits(alloc, limits) else {
         return false;
     };
