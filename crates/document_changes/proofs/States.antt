@@ -1,7 +1,6 @@
 -- States of lines are the same or not.
 use Rattle.std.proofs.Common.{◌≡◌, ℕ, ◌≤◌, Bool, true, false, cond, List, [], refl, ap, sym, ◌∙◌, subst, arith}
 use Rattle.std.specs.Prelude.{ℤ, pos, negsuc, int_le, nat_le, ◌&&◌}
-use Rattle.core.specs.Bool.{passes}
 use Rattle.std.proofs.Math.Nat.{le_antisymm}
 use lib.Dec.{T, leb→le, le→leb}
 use Rattle.ed_model.specs.Changes.{is_same}
@@ -9,6 +8,10 @@ use Rattle.ed_model.specs.Changes.{is_same}
 passed : (b : Bool) → T b → b ≡ true
 passed true t = refl
 passed false t = absurd t
+
+passes : (b : Bool) → b ≡ true → T b
+passes true e = tt
+passes false e = absurd (cc)
 
 int_le_self : (a : ℤ) → int_le a a ≡ true
 int_le_self (pos n) = passed (nat_le n n) (le→leb n n (omega arith))
