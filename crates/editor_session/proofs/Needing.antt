@@ -32,7 +32,7 @@ use Rattle.editor_session.specs.declared.need.Need.{Need}
 use Rattle.session_changes.specs.Kept.{DocumentsAreNamed}
 use Rattle.editor_session.specs.Prepared.{HasRoomAt}
 use Rattle.editor_session.specs.Needs.{no_need, need_sum, clipboard_need, IsAtLeast, IsCounted, IsEnoughFor, IsAbout, text_of_plan, clipboard_of_plan, notes_of_plan, bytes_of_plan, room_of_plan, notes_of_history_of, bytes_of_history_of, room_of_history_of, NeedsSteps, NeedsEdit, NeedsTask}
-use Rattle.scene.specs.Conversion.{room_of_step}
+use Rattle.scene.specs.Conversion.{room_of_step, room_of_steps, notes_for, bytes_for}
 use Rattle.editor_session.proofs.Finding.{document_in, id_of_document, replaced, still_named, found_some, id_of_document_at}
 
 -- One step.
@@ -179,7 +179,7 @@ pub with_clipboard : (steps : List Step) (after : Follow) (scene : Scene) (need 
 with_clipboard steps after scene need count is h = record {
   enough = λ c. (let e = h.enough (record { handed_out = c.handed_out; notes = c.notes; note_bytes = c.note_bytes; text = c.text; lines = c.lines; insertions = c.insertions; steps = c.steps; bytes = c.bytes }) in
       record { notes_there = e.notes_there; bytes_there = e.bytes_there; document_there = e.document_there });
-  none = λ empty. ap (λ n. record n { clipboard = count }) (h.none empty) ∙ ap (λ n. record no_need { clipboard = n }) is;
+  none = λ empty. ap {A = Need} (λ n. record n { clipboard = count }) (h.none empty) ∙ ap (λ n. record no_need { clipboard = n }) is;
   no_text = h.no_text;
   to_clipboard = is;
 }

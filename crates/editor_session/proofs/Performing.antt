@@ -215,7 +215,7 @@ fit_change r (change.AddMarkers line mask) l h = let b = (bounded r.session.limi
 fit_change r (change.DeleteMarker line number) l h = h.0
 fit_change r (change.DeleteHandle handle) l h = h
 fit_change r (change.SetLevel line level) l h = h.0
-fit_change r (change.SetState line state) l h = h
+fit_change r (change.SetState line state) l h = (h.0, h.1.0, h.1.1)
 fit_change r (change.StyleRun count style) l h = h
 fit_change r (change.StyleBytes count) l h = h.0
 fit_change r (change.NeedStyle start past) l h = h.1
@@ -299,7 +299,7 @@ module _ (s : SessionState) (task : Task) (bytes : List ℕ) (kept : IsKept s) (
   of_document P h = subst P kept_at.is (of_kept (λ k. P k.document) h)
 
   pub document_here : IsSome (value_at s.documents.entries task.document)
-  document_here = subst (λ o. IsSome o) (sym kept_at.at) tt
+  document_here = subst (λ o. IsSome o) (sym kept_at.at) refl
 
   pub view_here : IsSome (value_at s.views.entries task.view)
   view_here = go (value_at s.views.entries task.view) (sym (found view_in id_of_view s.views.entries task.view kept.views) ∙ at)
@@ -309,7 +309,7 @@ module _ (s : SessionState) (task : Task) (bytes : List ℕ) (kept : IsKept s) (
 
       go : (o : Option KeptView) → option_map view_in o ≡ Some r.view → IsSome o
       go None e = absurd (cc)
-      go (Some k) e = tt
+      go (Some k) e = refl
 
   pub same_document : (k : Kept) → value_at s.documents.entries task.document ≡ Some k → r.document ≡ k.document
   same_document k at =

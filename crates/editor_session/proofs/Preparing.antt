@@ -1,6 +1,6 @@
 -- All that is taken for a message is there.
-use Rattle.std.proofs.Common.{◌≡◌, ◌⊎◌, inl, inr, ℕ, ◌+◌, ◌≤◌, ◌==◌, ◌&&◌, Bool, true, false, List, [], ◌∷◌, ◌++◌, length, refl, ap, sym, ◌∙◌, subst, arith, Option, Some, None, IfSome, IsSomeAnd}
-use Rattle.std.specs.Prelude.{not, vec_capacity}
+use Rattle.std.proofs.Common.{◌≡◌, ◌⊎◌, inl, inr, ℕ, ◌+◌, ◌≤◌, ◌==◌, ◌&&◌, Bool, true, false, List, [], ◌∷◌, ◌++◌, length, refl, ap, sym, ◌∙◌, subst, arith, Option, Some, None, Ok, Err, IfOk, IfSome, IsSomeAnd}
+use Rattle.std.specs.Prelude.{Result, not, vec_capacity}
 use Rattle.std.proofs.lemmas.Bool.{and_parts}
 use Rattle.ed_model.specs.declared.plan.Source.TheVariants as source
 use Rattle.ed_model.specs.declared.plan.Edit.TheVariants as edit
@@ -18,7 +18,7 @@ use Rattle.document.specs.declared.room.DocumentRoom.{DocumentRoom}
 use Rattle.id_table.specs.Entries.{value_at}
 use Rattle.message_plans.specs.Requested.{session_in}
 use Rattle.message_plans.specs.declared.state.SessionState.{SessionState}
-use Rattle.session_changes.specs.Kept.{IsKept}
+use Rattle.session_changes.specs.Kept.{IsKept, DocumentsAreNamed}
 use Rattle.editor_session.specs.declared.find.Task.{Task}
 use Rattle.editor_session.specs.declared.need.Need.{Need}
 use Rattle.editor_session.specs.declared.prepare.Prepared.{Prepared}
@@ -27,8 +27,12 @@ use Rattle.editor_session.specs.Plans.{needs_no_memory, takes_nothing_along}
 use Rattle.editor_session.specs.Tasks.{IsAskedBy}
 use Rattle.editor_session.specs.Needs.{IsAtLeast, IsCounted, NeedsTask, room_of_plan}
 use Rattle.editor_session.specs.Edited.{IsPastedFor}
-use Rattle.editor_session.specs.Prepared.{IsReadyFor, IsPastedIn, HasAll, is_turned, takes_nothing}
-use Rattle.editor_session.proofs.Performing.{kept_at, of_room, for_document}
+use Rattle.editor_session.specs.Prepared.{IsReadyFor, IsPastedIn, IsTaken, HasAll, is_turned, takes_nothing}
+use Rattle.editor_session.proofs.Performing.{kept_at, of_kept, of_room, for_document, session_is}
+use Rattle.editor_session.proofs.Keeping.{kept_with}
+use Rattle.ed_model.specs.SoundLaws.{IsSound}
+use Rattle.scene.specs.Scenes.{AreNamed}
+use Rattle.std.specs.declared.alloc.AllocError.{AllocError}
 
 less_room : (k : Kept) (a b : DocumentRoom) → HasRoom k a → IsAtLeast a b → HasRoom k b
 less_room k a b h l = (
@@ -82,6 +86,22 @@ has_all old new task bytes kept kept' same r by need p needs counted text text_r
       note_text_room = omega (arith, b, byte_room);
       ready = ready_for task.plan need.document (room_of_plan r task.plan) new task p.ready e.all_there.document_there ready;
     }
+
+pub all_taken : (old new : SessionState) (task : Task) (bytes pasted : List ℕ) (need : Need) (result : Result Prepared AllocError) → IsKept old → session_in new ≡ session_in old → new.limits ≡ old.limits
+    → DocumentsAreNamed new.documents.entries → AreNamed new.views.entries → ((r : Request) → IsAskedBy (session_in old) task bytes r → NeedsTask r task.plan task.is_recorded need) → IsPastedIn old task pasted
+    → IfOk result (IsTaken need new task pasted) → IfOk result (λ p. (r : Request) → IsAskedBy (session_in old) task bytes r → HasAll r new task p)
+all_taken old new task bytes pasted need (Err e) kept same limits documents views needs turned h = tt
+all_taken old new task bytes pasted need (Ok p) kept same limits documents views needs turned h = λ r by.
+    has_all old new task bytes kept (kept_with old new kept (subst IsSound (sym same) kept.sound) limits documents views) same r by need p (needs r by) h.counted h.text h.text_room h.clipboard h.clipboard_room
+    (subst (IsPastedIn old task) (sym h.pasted_is) turned) h.notes h.note_room h.note_text_room h.ready
+
+-- where the clipboard would be turned into nothing, that is so in the document that is kept
+pub turned_empty : (s : SessionState) (task : Task) (bytes : List ℕ) (kept : IsKept s) (r : Request) (by : IsAskedBy (session_in s) task bytes r) (P : Type 0) → converted r.document.line_end r.session.clipboard ≡ []
+    → IfSome (value_at s.documents.entries task.document) (λ k. converted k.document.line_end s.clipboard.items ≡ [] → P) → P
+turned_empty s task bytes kept r by P e h =
+    let k = kept_at s task bytes kept r by in
+    of_kept s task bytes kept r by (λ k. converted k.document.line_end s.clipboard.items ≡ [] → P) h
+    (ap (λ (d : Document). converted d.line_end s.clipboard.items) k.is ∙ ap (λ (x : Session). converted r.document.line_end x.clipboard) (sym (session_is s task bytes kept r by)) ∙ e)
 
 -- Plans that need no memory.
 

@@ -15,11 +15,12 @@ use Rattle.session_changes.specs.Folding.{takes_fold_room, HasFoldRoomAt}
 use Rattle.session_changes.specs.Ready.{takes_memory, IsReady as IsSessionReady}
 use Rattle.message_plans.specs.declared.state.SessionState.{SessionState}
 use Rattle.editor_session.specs.declared.find.Task.{Task}
+use Rattle.editor_session.specs.declared.need.Need.{Need}
 use Rattle.editor_session.specs.declared.prepare.Prepared.{Prepared}
 use Rattle.editor_session.specs.declared.ready.Ready.{Ready}
 use Rattle.editor_session.specs.declared.ready.Ready.TheVariants as ready
 use Rattle.editor_session.specs.Edited.{IsPastedFor}
-use Rattle.editor_session.specs.Needs.{text_of_plan, clipboard_of_plan, notes_of_plan, bytes_of_plan, room_of_plan, notes_if, bytes_if}
+use Rattle.editor_session.specs.Needs.{IsCounted, text_of_plan, clipboard_of_plan, notes_of_plan, bytes_of_plan, room_of_plan, notes_if, bytes_if}
 
 -- the document is there, and has the room
 abbrev pub HasRoomAt : List (Entry Kept) → ℕ → DocumentRoom → Type 0
@@ -71,3 +72,16 @@ pub record HasAll (r : Request) (s : SessionState) (task : Task) (prepared : Pre
   pub note_room : notes_if task.is_recorded + notes_of_plan r task.plan ≤ prepared.notes.note_room
   pub note_text_room : bytes_if task.is_recorded r.message.text + bytes_of_plan r task.plan ≤ prepared.notes.text_room
   pub ready : IsReadyFor task.plan (room_of_plan r task.plan) s task prepared.ready
+
+-- so much is there as was asked for, what the clipboard was turned into, and what the plan asks for
+pub record IsTaken (need : Need) (s : SessionState) (task : Task) (pasted : List ℕ) (prepared : Prepared) : Type 0 where
+  pub counted : IsCounted need
+  pub text : prepared.text.items ≡ []
+  pub text_room : need.text ≤ vec_capacity prepared.text
+  pub clipboard : prepared.clipboard.items ≡ []
+  pub clipboard_room : need.clipboard ≤ vec_capacity prepared.clipboard
+  pub pasted_is : prepared.pasted.items ≡ pasted
+  pub notes : prepared.notes.notes ≡ []
+  pub note_room : need.notes.notes ≤ prepared.notes.note_room
+  pub note_text_room : need.notes.bytes ≤ prepared.notes.text_room
+  pub ready : IsReadyFor task.plan need.document s task prepared.ready

@@ -30,6 +30,7 @@ use message_plans::SessionState;
 use notify::{NoteList, blank};
 use scene::attempt;
 use session_changes::change_view;
+use std::mem;
 
 /// The code of the note by which a view that records hears of a message, `SCN_MACRORECORD`.
 const MACRO_RECORD: u32 = 2009;
@@ -65,6 +66,13 @@ fn tell_attempt(state: &SessionState, document: u32, notes: &mut NoteList)
     attempt(document, &state.views, notes);
 }
 
+/// Takes what was made ready.
+fn take_ready(ready: &mut Ready) -> Ready
+    ensures { result ≡ ready.old }
+{
+    mem::replace(ready, Ready::Room)
+}
+
 /// Does what the plan of a task says, for which all memory was taken, and returns the value that it answers.
 fn act(
     state: &mut SessionState,
@@ -73,7 +81,7 @@ fn act(
     handed_out: &mut Vec<u8>,
     clipboard: Vec<u8>,
     pasted: &[u8],
-    ready: Ready,
+    ready: &mut Ready,
     notes: &mut NoteList,
 ) -> i64
     requires kept { IsKept state.old }
@@ -85,7 +93,7 @@ fn act(
     requires pasted { IsPastedIn state.old task.now pasted.now }
     requires notes { (r : Request) → IsAskedBy (session_in state.old) task.now text.now r → notes_of_plan r task.now.plan ≤ notes.old.note_room }
     requires texts { (r : Request) → IsAskedBy (session_in state.old) task.now text.now r → bytes_of_plan r task.now.plan ≤ notes.old.text_room }
-    requires ready { (r : Request) → IsAskedBy (session_in state.old) task.now text.now r → IsReadyFor task.now.plan (room_of_plan r task.now.plan) state.old task.now ready }
+    requires ready { (r : Request) → IsAskedBy (session_in state.old) task.now text.now r → IsReadyFor task.now.plan (room_of_plan r task.now.plan) state.old task.now ready.old }
     ensures done { (r : Request) → IsAskedBy (session_in state.old) task.now text.now r → IsDone r task.now.plan state.new notes.old.notes notes.new.notes result handed_out.new.items }
     ensures limits { state.new.limits ≡ state.old.limits }
     ensures documents { DocumentsAreNamed state.new.documents.entries }
@@ -131,7 +139,8 @@ fn act(
             0
         }
         Plan::ChangeDocument { change, value } => {
-            change_document(state, document, view, text, change, ready, notes);
+            let made = take_ready(ready);
+            change_document(state, document, view, text, change, made, notes);
             value
         }
         Plan::ChangeView { change, value } => {
@@ -139,7 +148,8 @@ fn act(
             value
         }
         Plan::ChangeSession { change, value } => {
-            change_session(state, document, view, text, change, ready);
+            let made = take_ready(ready);
+            change_session(state, document, view, text, change, made);
             value
         }
     }
@@ -168,7 +178,7 @@ pub(crate) fn perform(
         clipboard,
         pasted,
         mut notes,
-        ready,
+        mut ready,
     } = prepared;
     record(task, number, w, l, text, &mut notes);
     let value = act(
@@ -178,7 +188,7 @@ pub(crate) fn perform(
         &mut handed_out,
         clipboard,
         &pasted,
-        ready,
+        &mut ready,
         &mut notes,
     );
     notes.finish(value, Bytes::new(handed_out))

@@ -9,11 +9,12 @@ ghost use Rattle.message_plans.specs.Requested.{session_in};
 ghost use Rattle.session_changes.specs.Kept.{IsKept, DocumentsAreNamed};
 ghost use Rattle.editor_session.specs.Plans.{needs_no_memory};
 ghost use Rattle.editor_session.specs.Tasks.{IsAskedBy, IsPlanned};
-ghost use Rattle.editor_session.specs.Prepared.{HasAll, IsPastedIn, is_turned};
+ghost use Rattle.editor_session.specs.Needs.{no_need};
+ghost use Rattle.editor_session.specs.Prepared.{HasAll, IsTaken, IsPastedIn, is_turned, takes_nothing};
 
 use crate::find::Task;
 use crate::handing_out::line_end_in;
-use crate::need::task_need;
+use crate::need::{Need, task_need};
 use crate::ready::{Ready, make_ready};
 use ed_model::{Edit, Plan, Source};
 use line_ends::{convert_into, converted_len};
@@ -79,16 +80,18 @@ fn turned_clipboard(
     Ok(pasted)
 }
 
-/// Makes room for the message of a task, whose text is lent.
+/// Takes so much memory, and what the plan of a task asks for beside.
 ///
 /// # Errors
 ///
 /// `AllocError` where memory is refused. The session is as it was, here too.
-pub(crate) fn prepare(
+fn take(
     alloc: Global,
     state: &mut SessionState,
     task: &Task,
     message_text: &[u8],
+    pasted: Vec<u8>,
+    need: Need,
 ) -> Result<Prepared, AllocError>
     requires kept { IsKept state.old }
     requires planned { IsPlanned (session_in state.old) task.now message_text.now }
@@ -96,13 +99,9 @@ pub(crate) fn prepare(
     ensures limits { state.new.limits ≡ state.old.limits }
     ensures documents { DocumentsAreNamed state.new.documents.entries }
     ensures views { AreNamed state.new.views.entries }
-    ensures ok { IfOk result (λ prepared. (r : Request) → IsAskedBy (session_in state.old) task.now message_text.now r → HasAll r state.new task.now prepared) }
-    ensures free { (r : Request) → IsAskedBy (session_in state.old) task.now message_text.now r → needs_no_memory r task.now.plan ≡ true → task.now.is_recorded ≡ false → IsOk result }
+    ensures ok { IfOk result (λ prepared. IsTaken need state.new task.now pasted.items prepared) }
+    ensures free { need ≡ no_need → takes_nothing task.now.plan ≡ true → IsOk result }
 {
-    let Ok(pasted) = turned_clipboard(alloc, state, task) else {
-        return Err(AllocError);
-    };
-    let need = task_need(state, task, message_text, &pasted);
     if !need.is_counted() {
         return Err(AllocError);
     }
@@ -128,4 +127,31 @@ pub(crate) fn prepare(
         notes,
         ready,
     })
+}
+
+/// Makes room for the message of a task, whose text is lent.
+///
+/// # Errors
+///
+/// `AllocError` where memory is refused. The session is as it was, here too.
+pub(crate) fn prepare(
+    alloc: Global,
+    state: &mut SessionState,
+    task: &Task,
+    message_text: &[u8],
+) -> Result<Prepared, AllocError>
+    requires kept { IsKept state.old }
+    requires planned { IsPlanned (session_in state.old) task.now message_text.now }
+    ensures same { session_in state.new ≡ session_in state.old }
+    ensures limits { state.new.limits ≡ state.old.limits }
+    ensures documents { DocumentsAreNamed state.new.documents.entries }
+    ensures views { AreNamed state.new.views.entries }
+    ensures ok { IfOk result (λ prepared. (r : Request) → IsAskedBy (session_in state.old) task.now message_text.now r → HasAll r state.new task.now prepared) }
+    ensures free { (r : Request) → IsAskedBy (session_in state.old) task.now message_text.now r → needs_no_memory r task.now.plan ≡ true → task.now.is_recorded ≡ false → IsOk result }
+{
+    let Ok(pasted) = turned_clipboard(alloc, state, task) else {
+        return Err(AllocError);
+    };
+    let need = task_need(state, task, message_text, &pasted);
+    take(alloc, state, task, message_text, pasted, need)
 }

@@ -15,7 +15,7 @@ returns c =
     let d = a.document.now.document in
     let steps = conversion_steps a.to (text_of d) in
     let scene = scene_in d a.views.now.entries [] in
-    let made : Need = (let n = c.none.result in record n { notes = c.conversion_need.result.notes; document = c.conversion_need.result.document }) in
+    let made : Need = (let n = c.none.result in record n { notes = c.conversion_need-need.result.notes; document = c.conversion_need-need.result.document }) in
     let is : made ≡ record no_need { notes = capped_notes (notes_for steps scene) (bytes_for steps scene); document = capped_room (room_of_steps d.line_end_types steps) } =
-    rw (c.none.ensures, c.conversion_need.ensures.notes, c.conversion_need.ensures.document) refl in
+    rw (c.none.ensures, c.conversion_need-need.ensures.notes, c.conversion_need-need.ensures.document) refl in
     record { enough = conversion_needs steps scene made is }

@@ -9,5 +9,5 @@ returns c =
     let a = c.args in
     let d = a.document.now.document in
     record {
-      enough = with_clipboard (edit_steps a.edit a.text.now a.state.now.clipboard.items a.pasted.now d) a.follow (scene_in d a.state.now.views.entries []) c.steps_need.result c.clipboard_need.result c.clipboard_need.ensures c.steps_need.ensures.enough;
+      enough = with_clipboard (edit_steps a.edit a.text.now a.state.now.clipboard.items a.pasted.now d) a.follow (scene_in d a.state.now.views.entries []) c.steps_need-need.result c.clipboard_need.result c.clipboard_need.ensures c.steps_need-need.ensures.enough;
     }

@@ -1,5 +1,4 @@
 use Rattle.std.proofs.Common.{rules, ◌≡◌, [], length, refl, sym, ap, subst, ◌∙◌, false}
-use Rattle.std.specs.Prelude.{min}
 use Rattle.ed_model.specs.declared.plan.Plan.{Plan}
 use Rattle.ed_model.specs.declared.plan.Plan.TheVariants as plan
 use Rattle.ed_model.specs.Session.{Document, Session, watching}
@@ -30,10 +29,15 @@ returns-in-Edit c =
     }
 
 pub returns-in-HandOut : goal.returns-in-HandOut
-returns-in-HandOut c = record { enough = λ r about. subst (λ p. NeedsTask r p false _) (sym c.in-HandOut.is) (hand_out_needs r _ _ _ _ (ap (λ n. record n { text = c.in-HandOut.count }) c.none.ensures)) }
+returns-in-HandOut c = record { enough = λ r about. subst (λ p. NeedsTask r p false (record c.none.result { text = c.in-HandOut.count })) (sym c.in-HandOut.is) (hand_out_needs r _ _ _ _ (ap {A = Need} (λ n. record n { text = c.in-HandOut.count }) c.none.ensures)) }
 
 pub returns-in-HandOutStyled : goal.returns-in-HandOutStyled
-returns-in-HandOutStyled c = record { enough = λ r about. subst (λ p. NeedsTask r p false _) (sym c.in-HandOutStyled.is) (styled_needs r _ _ _ (ap (λ n. record n { text = _ }) c.none-in-HandOutStyled.ensures)) }
+returns-in-HandOutStyled c =
+    let size = c.saturating_mul.result in
+    record {
+      enough = λ r about. subst (λ p. NeedsTask r p false (record c.none-in-HandOutStyled.result { text = size })) (sym c.in-HandOutStyled.is)
+          (styled_needs r _ _ _ (ap {A = Need} (λ n. record n { text = size }) c.none-in-HandOutStyled.ensures ∙ ap {B = Need} (λ n. record no_need { text = n }) c.saturating_mul.ensures));
+    }
 
 pub returns-in-Attempt : goal.returns-in-Attempt
 returns-in-Attempt c =

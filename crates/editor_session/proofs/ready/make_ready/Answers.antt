@@ -30,7 +30,7 @@ ready_change-requires-clause-fits c =
     let p = c.requires.planned in
     let e = c.in-ChangeDocument in
     for_document a.state.now a.task.now a.text.now c.requires.kept p.request p.asked (λ (d : Document). IsFitChange d e.change)
-    (change_fits a.state.now a.task.now a.text.now c.requires.kept p.request p.asked e.change _ (subst (IsFitPlan p.request) e.is p.fit))
+    (change_fits a.state.now a.task.now a.text.now c.requires.kept p.request p.asked e.change e.value (subst (IsFitPlan p.request) e.is p.fit))
 
 pub ready_view-requires-clause-there : goal.ready_view-requires-clause-there
 ready_view-requires-clause-there c = view_here c.args.state.now c.args.task.now c.args.text.now c.requires.kept c.requires.planned.request c.requires.planned.asked

@@ -5,17 +5,17 @@ use Rattle.editor_session.specs.Answers.{message_with}
 use Rattle.editor_session.specs.Plans.{is_free}
 use Rattle.editor_session.specs.Tasks.{IsTask}
 use Rattle.editor_session.proofs.TableWay.{free_task}
-use Rattle.editor_session.proofs.Width.{wide_enough}
+use Rattle.editor_session.proofs.Performing.{planned, asked_by}
 use Rattle.editor_session.proofs.Keeping.{kept_with, kept_after_message}
 use Rattle.editor_session.proofs.session.Session.send_lent.Goals as goal
 
 pub returns-in-Err-clause-free : goal.returns-in-Err-clause-free
 returns-in-Err-clause-free c free = c.in-Err.ensures.memory
 
-pub prepare-requires-clause-wide : goal.prepare-requires-clause-wide
-prepare-requires-clause-wide c =
+pub prepare-requires-clause-planned : goal.prepare-requires-clause-planned
+prepare-requires-clause-planned c =
     let a = c.args in
-    wide_enough c.self.inside.state a.view (message_with a.number (to_z w64 (of_z w64 a.w)) (to_z w64 (of_z w64 a.l)) a.text.now) c.in-Ok.task c.self.invariant c.in-Ok.ensures.found
+    planned c.self.inside.state a.view (message_with a.number (to_z w64 (of_z w64 a.w)) (to_z w64 (of_z w64 a.l)) a.text.now) c.in-Ok.task c.in-Ok.ensures.found
 
 pub returns-in_default-prepare-clause-free : goal.returns-in_default-prepare-clause-free
 returns-in_default-prepare-clause-free c free e =
@@ -25,7 +25,7 @@ returns-in_default-prepare-clause-free c free e =
     let same : message_with a.number (to_z w64 (of_z w64 a.w)) (to_z w64 (of_z w64 a.l)) a.text.now ≡ m = search rules in
     let task : IsTask s a.view m c.in-Ok.task = subst (λ x. IsTask s a.view x c.in-Ok.task) same c.in-Ok.ensures.found in
     let needs = free_task s a.view m c.in-Ok.task task (subst (λ x. is_free x a.view m ≡ true) (sym c.self.view_is) free) in
-    let bad : false ≡ true = c.in_default-prepare.ensures.free (task.free needs.0 needs.1) in
+    let bad : false ≡ true = c.in_default-prepare.ensures.free task.request (asked_by c.self.inside.state a.view m c.in-Ok.task task) needs.0 needs.1 in
     absurd (cc)
 
 pub invariant_of-self-2 : goal.invariant_of-self-2
