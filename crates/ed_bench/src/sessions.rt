@@ -7,17 +7,29 @@ use std::io;
 use std::time::Instant;
 
 const ADD_TEXT: u32 = 2001;
+
 const INSERT_TEXT: u32 = 2003;
+
 const GET_LENGTH: u32 = 2006;
+
 const GET_CHAR_AT: u32 = 2007;
+
 const BEGIN_UNDO_ACTION: u32 = 2078;
+
 const END_UNDO_ACTION: u32 = 2079;
+
 pub const GOTO_POS: u32 = 2025;
+
 const GET_TEXT_RANGE: u32 = 2162;
+
 const LINE_FROM_POSITION: u32 = 2166;
+
 const UNDO: u32 = 2176;
+
 pub const SET_TEXT: u32 = 2181;
+
 const GET_TEXT: u32 = 2182;
+
 pub const SET_MASK: u32 = 2359;
 
 /// Every kind of change is heard.
@@ -48,7 +60,13 @@ pub fn send(session: &mut Session, view: u32, number: u32, w: i64, l: i64, text:
 }
 
 /// Sends a series of messages, and answers a check sum of their values.
-pub fn send_series(session: &mut Session, view: u32, series: Series, count: usize, text: &[u8]) -> i64 {
+pub fn send_series(
+    session: &mut Session,
+    view: u32,
+    series: Series,
+    count: usize,
+    text: &[u8],
+) -> i64 {
     let mut sum = 0i64;
     let mut w = 0i64;
     for _ in 0..count {
@@ -63,7 +81,14 @@ pub fn send_series(session: &mut Session, view: u32, series: Series, count: usiz
 }
 
 /// Sends a series of messages, and tells how long each took.
-pub fn measure(rt: &HostRuntime, session: &mut Session, view: u32, what: &str, series: Series, count: usize) -> io::Result<()> {
+pub fn measure(
+    rt: &HostRuntime,
+    session: &mut Session,
+    view: u32,
+    what: &str,
+    series: Series,
+    count: usize,
+) -> io::Result<()> {
     let start = Instant::now(rt)?;
     let sum = send_series(session, view, series, count, &[]);
     tell(rt, what, start, count)?;
@@ -81,18 +106,34 @@ pub fn type_bytes(session: &mut Session, view: u32, count: usize) -> i64 {
 }
 
 /// Types in the midst of the text, and tells how long each byte took.
-fn type_in_midst(rt: &HostRuntime, session: &mut Session, view: u32, what: &str, mask: i64, count: usize) -> io::Result<()> {
+fn type_in_midst(
+    rt: &HostRuntime,
+    session: &mut Session,
+    view: u32,
+    what: &str,
+    mask: i64,
+    count: usize,
+) -> io::Result<()> {
     let size = send(session, view, GET_LENGTH, 0, 0, &[]);
     send(session, view, SET_MASK, mask, 0, &[]);
     send(session, view, GOTO_POS, size / 2, 0, &[]);
     let start = Instant::now(rt)?;
     let refused = type_bytes(session, view, count);
     tell(rt, what, start, count)?;
-    println!(rt; "{what}: {refused} {}", send(session, view, GET_LENGTH, 0, 0, &[]))
+    println!(rt;
+        "{what}: {refused} {}",
+        send(session, view, GET_LENGTH, 0, 0, &[])
+    )
 }
 
 /// Looks at the text at places far apart.
-fn look_up(rt: &HostRuntime, session: &mut Session, view: u32, size: i64, count: usize) -> io::Result<()> {
+fn look_up(
+    rt: &HostRuntime,
+    session: &mut Session,
+    view: u32,
+    size: i64,
+    count: usize,
+) -> io::Result<()> {
     let series = Series {
         number: GET_CHAR_AT,
         size: size.wrapping_sub(40),
@@ -111,8 +152,18 @@ fn look_up(rt: &HostRuntime, session: &mut Session, view: u32, size: i64, count:
         ..series
     };
     measure(rt, session, view, "40 bytes handed out", ranges, count)?;
-    let near = Series { stride: 40, ..ranges };
-    measure(rt, session, view, "40 bytes handed out, one behind the other", near, count)
+    let near = Series {
+        stride: 40,
+        ..ranges
+    };
+    measure(
+        rt,
+        session,
+        view,
+        "40 bytes handed out, one behind the other",
+        near,
+        count,
+    )
 }
 
 /// Hands out the whole text, beside a copy of as many bytes.
@@ -167,11 +218,20 @@ fn undo_group(rt: &HostRuntime, session: &mut Session, view: u32, count: usize) 
     let start = Instant::now(rt)?;
     send(session, view, UNDO, 0, 0, &[]);
     tell(rt, "a group undone at once, a step", start, count)?;
-    println!(rt; "group {sum} {}", send(session, view, GET_LENGTH, 0, 0, &[]))
+    println!(rt;
+        "group {sum} {}",
+        send(session, view, GET_LENGTH, 0, 0, &[])
+    )
 }
 
 /// Sets the text, and tells how long a byte took.
-pub fn set_text(rt: &HostRuntime, session: &mut Session, view: u32, what: &str, text: &[u8]) -> io::Result<()> {
+pub fn set_text(
+    rt: &HostRuntime,
+    session: &mut Session,
+    view: u32,
+    what: &str,
+    text: &[u8],
+) -> io::Result<()> {
     let start = Instant::now(rt)?;
     let value = send(session, view, SET_TEXT, 0, 0, text);
     tell(rt, what, start, text.len())?;
@@ -188,7 +248,13 @@ pub fn text_of(alloc: Global, bytes: usize) -> Result<Vec<u8>, AllocError> {
 }
 
 /// All of it, by one view.
-fn measure_all(rt: &HostRuntime, session: &mut Session, view: u32, text: &[u8], count: usize) -> io::Result<()> {
+fn measure_all(
+    rt: &HostRuntime,
+    session: &mut Session,
+    view: u32,
+    text: &[u8],
+    count: usize,
+) -> io::Result<()> {
     send(session, view, SET_MASK, 0, 0, &[]);
     undo_typing(rt, session, view, count)?;
     undo_group(rt, session, view, count)?;
@@ -198,7 +264,14 @@ fn measure_all(rt: &HostRuntime, session: &mut Session, view: u32, text: &[u8], 
     look_up(rt, session, view, size, count)?;
     hand_out(rt, session, view, text)?;
     type_in_midst(rt, session, view, "a byte typed, heard by none", 0, count)?;
-    type_in_midst(rt, session, view, "a byte typed, heard by one", WHOLE_MASK, count)
+    type_in_midst(
+        rt,
+        session,
+        view,
+        "a byte typed, heard by one",
+        WHOLE_MASK,
+        count,
+    )
 }
 
 /// Messages to one view of a text of `bytes` bytes, `count` of each.

@@ -54,8 +54,8 @@ pub use sound_laws::{
     steps_keep_views_standing,
 };
 pub use table_laws::{
-    marked_plans_are_free,
-    free_messages_are_silent, queries_leave_the_session, refusals_leave_the_session,
+    free_messages_are_silent, marked_plans_are_free, queries_leave_the_session,
+    refusals_leave_the_session,
 };
 pub use undo_laws::{earlier_texts_are_kept, undos_and_redos};
 pub use undo_message_laws::{

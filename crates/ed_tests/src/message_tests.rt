@@ -196,8 +196,14 @@ fn ids_run_out(alloc: Global) -> bool {
     };
     session.new_view() == Ok(1)
         && is_met(&mut session, &sent(Kind::CreateDocument, 0, 0, 2))
-        && is_met(&mut session, &refused(Kind::CreateDocument, 0, 0, Refusal::TooMany))
-        && is_met(&mut session, &refused(Kind::SetDocPointer, 0, 0, Refusal::TooMany))
+        && is_met(
+            &mut session,
+            &refused(Kind::CreateDocument, 0, 0, Refusal::TooMany),
+        )
+        && is_met(
+            &mut session,
+            &refused(Kind::SetDocPointer, 0, 0, Refusal::TooMany),
+        )
         && session.new_view() == Err(Refusal::TooMany)
         && session.close_view(1) == Ok(())
         && session.new_view() == Err(Refusal::TooMany)

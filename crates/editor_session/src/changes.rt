@@ -69,7 +69,9 @@ pub(crate) fn change_document(
         unreachable!()
     };
     let SessionState {
-        documents, views, ..
+        documents,
+        views,
+        ..
     } = state;
     change_in(documents, views, notes, document, view, text, change, made);
 }

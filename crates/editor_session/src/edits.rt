@@ -302,6 +302,8 @@ pub(crate) fn make_edit(
         ..
     } = state;
     take_along(documents, document, follow, &mut taken);
-    change_text(documents, views, notes, document, edit, text, clipboard, pasted);
+    change_text(
+        documents, views, notes, document, edit, text, clipboard, pasted,
+    );
     follow_edit(views, clipboard, view, follow, taken);
 }

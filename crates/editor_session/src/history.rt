@@ -61,7 +61,9 @@ pub(crate) fn go(
     ensures limits { state.new.limits ≡ state.old.limits }
 {
     let SessionState {
-        documents, views, ..
+        documents,
+        views,
+        ..
     } = state;
     if let Some(place) = go_in(documents, views, notes, document, direction) {
         set_caret(views, view, place);

@@ -259,12 +259,7 @@ fn plan_need(
 }
 
 /// What a plan needs, with the note by which the message is recorded.
-pub(crate) fn task_need(
-    state: &SessionState,
-    task: &Task,
-    text: &[u8],
-    pasted: &[u8],
-) -> Need
+pub(crate) fn task_need(state: &SessionState, task: &Task, text: &[u8], pasted: &[u8]) -> Need
     requires kept { IsKept state.now }
     requires planned { IsPlanned (session_in state.now) task.now text.now }
     requires pasted { IsPastedIn state.now task.now pasted.now }

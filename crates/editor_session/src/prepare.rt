@@ -58,11 +58,7 @@ fn is_turned(plan: Plan) -> bool
 /// # Errors
 ///
 /// `AllocError` where memory is refused.
-fn turned_clipboard(
-    alloc: Global,
-    state: &SessionState,
-    task: &Task,
-) -> Result<Vec<u8>, AllocError>
+fn turned_clipboard(alloc: Global, state: &SessionState, task: &Task) -> Result<Vec<u8>, AllocError>
     requires there { IsSome (value_at state.now.documents.entries task.now.document) }
     ensures pasted { IfOk result (λ pasted. IsPastedIn state.now task.now pasted.items) }
     ensures free { is_turned task.now.plan ≡ false → IsOk result }

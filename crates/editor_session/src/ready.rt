@@ -159,11 +159,7 @@ fn ready_change(
 /// # Errors
 ///
 /// `AllocError` where memory is refused. The session is as it was, here too.
-fn ready_view(
-    state: &mut SessionState,
-    view: u32,
-    change: ViewChange,
-) -> Result<Ready, AllocError>
+fn ready_view(state: &mut SessionState, view: u32, change: ViewChange) -> Result<Ready, AllocError>
     requires kept { IsKept state.old }
     requires there { IsSome (value_at state.old.views.entries view) }
     ensures same { session_in state.new ≡ session_in state.old }
@@ -231,9 +227,7 @@ pub(crate) fn make_ready(
         Plan::ChangeDocument { change, .. } => ready_change(alloc, state, task.document, change),
         Plan::ChangeView { change, .. } => ready_view(state, task.view, change),
         Plan::ChangeSession { change, .. } => ready_session(alloc, state, change),
-        Plan::Answer { .. }
-        | Plan::HandOut { .. }
-        | Plan::HandOutStyled { .. }
-        | Plan::Attempt => Ok(Ready::Room),
+        Plan::Answer { .. } | Plan::HandOut { .. } | Plan::HandOutStyled { .. } | Plan::Attempt =>
+            Ok(Ready::Room),
     }
 }

@@ -42,7 +42,7 @@ adding-preserved c =
             handles = omega (arith, was.handles, ap length next, ap (λ (k : KeptRows). k.next_handle) is);
             within = omega (arith, c.adding-test.true);
           }
-        )
+          )
       | else-mask-number-eq1 w ↦ (
           let next = next_is_out c.args.mask number c.adding-test.true w.if-mask-number-eq1.false in
           record {
@@ -53,7 +53,7 @@ adding-preserved c =
             handles = omega (arith, was.handles, ap length next, ap (λ (k : KeptRows). k.next_handle) w.rows-is);
             within = omega (arith, c.adding-test.true);
           }
-        )
+          )
     ]
 
 pub returns : goal.returns

@@ -11,15 +11,15 @@ counting-preserved c =
     let was = c.counting.invariant in
     elim c.if-mask-number-eq1.branch [
       | then-mask-number-eq1 w ↦ record {
-          counted = omega (arith, was.counted, w.count-is, ap length (next_is_in c.args.mask c.counting.number c.counting-test.true w.if-mask-number-eq1.true));
-          few = omega (arith, was.few, w.count-is);
-          within = omega (arith, c.counting-test.true);
-        }
+        counted = omega (arith, was.counted, w.count-is, ap length (next_is_in c.args.mask c.counting.number c.counting-test.true w.if-mask-number-eq1.true));
+        few = omega (arith, was.few, w.count-is);
+        within = omega (arith, c.counting-test.true);
+      }
       | else-mask-number-eq1 w ↦ record {
-          counted = omega (arith, was.counted, w.count-is, ap length (next_is_out c.args.mask c.counting.number c.counting-test.true w.if-mask-number-eq1.false));
-          few = omega (arith, was.few, w.count-is);
-          within = omega (arith, c.counting-test.true);
-        }
+        counted = omega (arith, was.counted, w.count-is, ap length (next_is_out c.args.mask c.counting.number c.counting-test.true w.if-mask-number-eq1.false));
+        few = omega (arith, was.few, w.count-is);
+        within = omega (arith, c.counting-test.true);
+      }
     ]
 
 pub returns-clause-count : goal.returns-clause-count

@@ -64,7 +64,7 @@ make_edit-requires-clause-can c =
     let e = c.in-Edit in
     let what = plan.Edit e.edit e.value e.follow in
     let turned = subst (λ x. IsPastedFor x s.clipboard.items (kept_at s task a.text.now c.requires.kept r by).k.document.line_end a.pasted.now) e.is
-        (of_room s task a.text.now c.requires.kept r by (λ k. IsPastedFor task.plan s.clipboard.items k.document.line_end a.pasted.now) c.requires.pasted) in
+    (of_room s task a.text.now c.requires.kept r by (λ k. IsPastedFor task.plan s.clipboard.items k.document.line_end a.pasted.now) c.requires.pasted) in
     let there = of_room s task a.text.now c.requires.kept r by (λ k. HasRoom k (room_of_plan r what)) (subst (λ x. IsReadyFor x (room_of_plan r x) s task a.ready.now) e.is (c.requires.ready r by)) in
     for_kept s task a.text.now c.requires.kept r by (λ k. CanEdit e.edit a.text.now a.pasted.now e.follow s a.clipboard.items (vec_capacity a.clipboard) a.notes.now k)
     (can_edit s task a.text.now c.requires.kept r by e.edit e.value e.follow a.pasted.now turned (subst (IsFitPlan r) e.is p.fit) a.clipboard.items (vec_capacity a.clipboard) a.notes.now there c.requires.untaken
@@ -189,7 +189,7 @@ returns-in-Edit-clause-done c = λ r by.
     let e = c.in-Edit in
     let n = c.make_edit.new in
     let turned = subst (λ x. IsPastedFor x s.clipboard.items (kept_at s task a.text.now c.requires.kept r by).k.document.line_end a.pasted.now) e.is
-        (of_room s task a.text.now c.requires.kept r by (λ k. IsPastedFor task.plan s.clipboard.items k.document.line_end a.pasted.now) c.requires.pasted) in
+    (of_room s task a.text.now c.requires.kept r by (λ k. IsPastedFor task.plan s.clipboard.items k.document.line_end a.pasted.now) c.requires.pasted) in
     let fits : SFits w64 e.value = search rules in
     as_answered r a.task.now.plan n.state a.notes.now.notes n.notes.notes e.value a.handed_out.now.items fits (subst (λ out. IsDone r task.plan n.state a.notes.now.notes n.notes.notes e.value out) (sym c.requires.empty)
     (subst (λ x. IsDone r x n.state a.notes.now.notes n.notes.notes e.value []) (sym e.is)
