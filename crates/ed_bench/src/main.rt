@@ -11,10 +11,6 @@
 //!     ed_bench folding LINES COUNT
 //!     ed_bench characters BYTES
 //!     ed_bench history STEPS
-//!     ed_bench session BYTES COUNT
-//!     ed_bench session_rows BYTES RANGES
-//!     ed_bench session_search BYTES MATCHES
-//!     ed_bench session_views BYTES COUNT
 //!     ed_bench all                                  (each part, tiny)
 #![tactic(auto)]
 
@@ -26,10 +22,6 @@ mod partitions;
 mod rows;
 mod scripts;
 mod search;
-mod session_rows;
-mod session_search;
-mod session_views;
-mod sessions;
 mod split;
 mod styling;
 
@@ -75,11 +67,7 @@ fn main(rt: HostRuntime) -> io::Result<()> {
             styling::run(&rt, 1600, 20)?;
             folding::run(&rt, 80, 10)?;
             characters::run(&rt, 140)?;
-            histories::run(&rt, 10)?;
-            sessions::run(&rt, 400, 10)?;
-            session_rows::run(&rt, 4000, 10)?;
-            session_search::run(&rt, 400, 10)?;
-            session_views::run(&rt, 400, 10)
+            histories::run(&rt, 10)
         }
         "split" => split::run(&rt, first, second, third),
         "script" => scripts::run(&rt, first),
@@ -90,13 +78,9 @@ fn main(rt: HostRuntime) -> io::Result<()> {
         "folding" => folding::run(&rt, first, second),
         "characters" => characters::run(&rt, first),
         "history" => histories::run(&rt, first),
-        "session" => sessions::run(&rt, first, second),
-        "session_rows" => session_rows::run(&rt, first, second),
-        "session_search" => session_search::run(&rt, first, second),
-        "session_views" => session_views::run(&rt, first, second),
         "partitions" => partitions::run(&rt, first, second, third),
         _ => eprintln!(&rt;
-            "ed_bench split|partitions|script|lines|search|rows|styling|folding|characters|history|session|session_rows|session_search|session_views|all SIZES.."
+            "ed_bench split|partitions|script|lines|search|rows|styling|folding|characters|history|all SIZES.."
         ),
     }
 }
