@@ -30,8 +30,6 @@ mod macro_script_tests;
 #[cfg(test)]
 mod marker_store_tests;
 #[cfg(test)]
-mod message_tests;
-#[cfg(test)]
 mod notify_tests;
 #[cfg(test)]
 mod partitioning_tests;
