@@ -1,9 +1,0 @@
--- Definitions that the contracts cite.
-pub mod Owned
-pub mod Lends
-pub mod Answers
-pub mod Calls
-pub mod Opened
-pub mod Copies
-pub mod Told
-pub mod Names
