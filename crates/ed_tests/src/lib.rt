@@ -36,6 +36,8 @@ mod partitioning_tests;
 #[cfg(test)]
 mod run_styles_tests;
 #[cfg(test)]
+mod script_stepper_tests;
+#[cfg(test)]
 mod selection_tests;
 #[cfg(test)]
 mod split_vector_tests;

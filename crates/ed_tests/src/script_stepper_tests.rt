@@ -1,0 +1,79 @@
+//! A script forwards and back: that memory suffices, and that what comes of a command after going back is what came of it before.
+
+use ed_types::{Bytes, Outcome};
+use macro_script::assemble;
+use script_stepper::{StepFault, Stepper};
+use std::test::Fail;
+
+/// A view, a text put in, all of the text handed out, and two questions, the first of which is refused.
+const INSERTION: &[u8] =
+    b"sci 1\nopen\nsend 1 2003 0 0 \"ab\\x0a\"\nsend 1 2182 0 0 \"\"\nsend 1 2003 9 0 \"z\"\nsend 1 2007 -1 0 \"\"\n";
+
+/// Every command, with expects that are met but for the last.
+const EVERY_COMMAND: &[u8] =
+    b"sci 2\nopen\nexpect 1\nload 1 1\nload 1 2\nsend 1 2006 0 0 \"\"\nexpect 2\nclose 1\nexpect 1\n";
+
+/// The value that the next command answers, or the number of its refusal below 0; nothing at the end, or where memory is refused.
+fn next_value(stepper: &mut Stepper) -> Option<i64> {
+    match stepper.step() {
+        Ok(Some(Outcome::Opened(id))) => Some(i64::from(id)),
+        Ok(Some(Outcome::Closed)) => Some(0),
+        Ok(Some(Outcome::Replied(reply))) => Some(reply.value()),
+        Ok(Some(Outcome::Refused(refusal))) => Some(-i64::from(refusal as u8)),
+        Ok(Some(Outcome::Expected { met, .. })) => Some(i64::from(met)),
+        Ok(None) | Err(_) => None,
+    }
+}
+
+/// Whether the next commands answer these values.
+fn gives(stepper: &mut Stepper, values: &[i64]) -> bool {
+    for value in values {
+        if next_value(stepper) != Some(*value) {
+            return false;
+        }
+    }
+    true
+}
+
+#[test]
+fn steps_back_and_forwards(rt: HostRuntime) -> Result<(), Fail> {
+    let alloc = rt.alloc();
+    let script = assemble(alloc, INSERTION)?;
+    let mut stepper = Stepper::new(alloc, script, Vec::new(alloc));
+    assert_eq!(rt; stepper.state(), 0);
+    assert_eq!(rt; stepper.commands().len(), 5);
+    assert_eq!(rt; stepper.back(), Ok(false));
+    assert!(rt; gives(&mut stepper, &[1, 0, 3]));
+    assert_eq!(rt; stepper.state(), 3);
+    assert_eq!(rt; stepper.back(), Ok(true));
+    assert!(rt; gives(&mut stepper, &[3]));
+    // The text is put in once, though its command is done twice.
+    assert_eq!(rt; stepper.back(), Ok(true));
+    assert_eq!(rt; stepper.back(), Ok(true));
+    assert_eq!(rt; stepper.state(), 1);
+    assert!(rt; gives(&mut stepper, &[0, 3]));
+    assert_eq!(rt; stepper.run_to(6), Err(StepFault::OutOfRange));
+    assert_eq!(rt; stepper.state(), 3);
+    assert_eq!(rt; stepper.run_to(5), Ok(()));
+    assert_eq!(rt; next_value(&mut stepper), None);
+    assert_eq!(rt; stepper.state(), 5);
+    assert_eq!(rt; stepper.run_to(3), Ok(()));
+    assert!(rt; gives(&mut stepper, &[-6, 0]));
+    assert_eq!(rt; stepper.run_to(0), Ok(()));
+    assert!(rt; gives(&mut stepper, &[1, 0, 3, -6, 0]));
+    Ok(())
+}
+
+#[test]
+fn loads_files_and_keeps_values(rt: HostRuntime) -> Result<(), Fail> {
+    let alloc = rt.alloc();
+    let script = assemble(alloc, EVERY_COMMAND)?;
+    let mut files = Vec::new(alloc);
+    files.push(Bytes::new(Vec::from_slice(alloc, b"hi")?))?;
+    let mut stepper = Stepper::new(alloc, script, files);
+    assert!(rt; gives(&mut stepper, &[1, 1, 0, -6, 2, 1, 0, 0]));
+    // An expect looks at the value of the command before it, also behind where the stepper went back to.
+    assert_eq!(rt; stepper.run_to(5), Ok(()));
+    assert!(rt; gives(&mut stepper, &[1]));
+    Ok(())
+}

@@ -1,0 +1,29 @@
+use Rattle.std.proofs.Common.{rules, ◌≡◌, ◌≤◌, ◌<◌, length, get_or, slice_get, Some, refl, ap, ◌∙◌, subst}
+use Rattle.std.proofs.lemmas.Option.{slice_get_read}
+use Rattle.script_stepper.specs.Stepping.{next_outcome}
+use Rattle.script_stepper.proofs.NextCommand.{stands_on, came_next, none_next}
+use Rattle.script_stepper.proofs.stepper.Stepper.step.Goals as goal
+
+pub returns-in_default-clause-outcome : goal.returns-in_default-clause-outcome
+returns-in_default-clause-outcome c =
+    let s = c.self.inside in
+    let past : length s.script ≤ s.state = search rules in
+    none_next s.state s.script s.files.items past ∙ ap next_outcome c.self.view_is
+
+-- the command that is done is the next one
+there : (c : goal.After-self-1) → slice_get c.self.inside.script c.self.inside.state ≡ Some c.in-Some.command.now
+there c =
+    let s = c.self.inside in
+    let within : s.state < length s.script = search rules in
+    let is : c.in-Some.command.now ≡ get_or s.script s.state c.in-Some.command.now = search rules in
+    slice_get_read s.script (length s.script) s.state c.in-Some.command.now refl within is
+
+pub invariant_of-self-2 : goal.invariant_of-self-2
+invariant_of-self-2 c =
+    let s = c.self.inside in
+    stands_on s.state s.script s.files.items s.run c.step.new.self c.in-Some.command.now c.self.invariant (there c) (search rules)
+
+pub returns-clause-outcome : goal.returns-clause-outcome
+returns-clause-outcome c =
+    let s = c.self.inside in
+    came_next s.state s.script s.files.items s.run c.in-Some.command.now c.in_ok-outcome.outcome c.self.invariant (there c) (search rules) ∙ ap next_outcome c.self.view_is

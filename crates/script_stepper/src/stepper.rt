@@ -1,0 +1,157 @@
+//! `Stepper` and its calls.
+
+ghost use Rattle.std.specs.Prelude.{◌≡◌, ◌≤◌, ◌<◌, ◌-◌, ◌↔◌, length, take, OnOk, OnErr, IfOk, IfErr, Ok, Err, None, false};
+ghost use Rattle.script_stepper.specs.declared.fault.StepFault.TheVariants.{OutOfRange, OutOfMemory};
+ghost use Rattle.script_stepper.specs.Stepping.{Stepping, session_of, next_outcome, moved_on};
+ghost use Rattle.ed_model.specs.Run.{run_to};
+ghost use Rattle.message_plans.specs.TableSoFar.{table_so_far};
+
+use crate::fault::StepFault;
+use ed_types::{Bytes, Command, Outcome};
+use editor_session::{Run, Session};
+use macro_script::Script;
+use std::alloc::{AllocError, Global};
+use std::marker::Model;
+
+/// A script in a session of its own, done a command at a time. Contracts see its commands, the files that they load, and how many of
+/// the commands are done; these alone tell in which session it stands.
+#[derive(Drop)]
+pub struct Stepper {
+    alloc: Global,
+    script: Script,
+    files: Vec<Bytes>,
+    state: usize,
+    run: Run,
+}
+
+impl Model for Stepper {
+    ghost use Rattle.script_stepper.specs.Stepping.{Stepping, StandsAt};
+
+    ghost Value = { Stepping };
+
+    ghost view = { λ s. record { commands = s.script; files = s.files.items; state = s.state } };
+
+    ghost invariant = { λ s. StandsAt s.state s.script s.files.items s.run };
+}
+
+/// Does commands in order.
+///
+/// # Errors
+///
+/// `AllocError` where memory is refused; the run then stands behind the commands that were done.
+fn do_all(run: &mut Run, files: &[Bytes], commands: &[Command]) -> Result<(), AllocError>
+    ensures { OnOk result (run.new ≡ run_to table_so_far files.now commands.now run.old) }
+{
+    for command in commands {
+        run.step(files, command)?;
+    }
+    Ok(())
+}
+
+impl Stepper {
+    /// A stepper before the first command of a script, in a new session. `load` takes its file from `files`, where the first is 1.
+    /// Takes no memory.
+    pub fn new(alloc: Global, script: Script, files: Vec<Bytes>) -> Self
+        ensures { result ≡ record { commands = script; files = files.items; state = 0 } }
+    {
+        Stepper {
+            alloc,
+            script,
+            files,
+            state: 0,
+            run: Run::new(Session::new(alloc)),
+        }
+    }
+
+    /// The commands of the script, lent. Takes no memory.
+    pub fn commands(&self) -> &[Command]
+        ensures { result.now ≡ self.now.commands }
+    {
+        self.script.commands()
+    }
+
+    /// How many commands are done. Takes no memory.
+    pub fn state(&self) -> usize
+        ensures state { result ≡ self.now.state }
+        ensures within { self.now.state ≤ length self.now.commands }
+    {
+        self.state
+    }
+
+    /// The session behind the first `state()` commands, lent. Takes no memory.
+    pub fn session(&self) -> &Session
+        ensures { result.now ≡ session_of self.now }
+    {
+        self.run.session()
+    }
+
+    /// Does the next command, and answers what came of it: nothing where all are done.
+    ///
+    /// # Errors
+    ///
+    /// `OutOfMemory` where the command was refused for want of memory. The stepper is then as it was.
+    pub fn step(&mut self) -> Result<Option<Outcome>, StepFault>
+        ensures outcome { IfOk result (λ outcome. outcome ≡ next_outcome self.old) }
+        ensures end { (result ≡ Ok None) ↔ (self.old.state ≡ length self.old.commands) }
+        ensures moved { IfOk result (λ outcome. self.new ≡ moved_on outcome self.old) }
+        ensures refused { IfErr result (λ fault. fault ≡ OutOfMemory) }
+        ensures kept { OnErr result (self.new ≡ self.old) }
+    {
+        let Some(command) = self.script.commands().get(self.state) else {
+            return Ok(None);
+        };
+        let outcome = self.run.step(&self.files, command)?;
+        self.state += 1;
+        Ok(Some(outcome))
+    }
+
+    /// Goes back by one command, and answers whether there was one. Does the commands before it again, from a new session.
+    ///
+    /// # Errors
+    ///
+    /// `OutOfMemory` where memory is refused. The stepper is then as it was.
+    pub fn back(&mut self) -> Result<bool, StepFault>
+        ensures start { (result ≡ Ok false) ↔ (self.old.state ≡ 0) }
+        ensures moved { OnOk result (self.new ≡ record self.old { state = self.old.state - 1 }) }
+        ensures refused { IfErr result (λ fault. fault ≡ OutOfMemory) }
+        ensures kept { OnErr result (self.new ≡ self.old) }
+    {
+        if self.state == 0 {
+            return Ok(false);
+        }
+        let before = self.state - 1;
+        self.start_again(before)?;
+        Ok(true)
+    }
+
+    /// Goes to where the first `n` commands are done. Does them again, from a new session.
+    ///
+    /// # Errors
+    ///
+    /// `OutOfRange` exactly where the script has fewer than `n` commands; `OutOfMemory` where memory is refused. The stepper is then
+    /// as it was.
+    pub fn run_to(&mut self, n: usize) -> Result<(), StepFault>
+        ensures range { (result ≡ Err OutOfRange) ↔ (length self.old.commands < n) }
+        ensures moved { OnOk result (self.new ≡ record self.old { state = n }) }
+        ensures kept { OnErr result (self.new ≡ self.old) }
+    {
+        if self.script.commands().len() < n {
+            return Err(StepFault::OutOfRange);
+        }
+        self.start_again(n)?;
+        Ok(())
+    }
+
+    /// Does the first `n` commands in a new session, which takes the place of the old one.
+    fn start_again(&mut self, n: usize) -> Result<(), AllocError>
+        requires { n ≤ length self.old.commands }
+        ensures moved { OnOk result (self.new ≡ record self.old { state = n }) }
+        ensures kept { OnErr result (self.new ≡ self.old) }
+    {
+        let mut run = Run::new(Session::new(self.alloc));
+        do_all(&mut run, &self.files, &self.script.commands()[..n])?;
+        self.run = run;
+        self.state = n;
+        Ok(())
+    }
+}
