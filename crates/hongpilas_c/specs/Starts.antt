@@ -1,7 +1,6 @@
 -- Addresses.
 use denote.RawPtr.{Ptr, block_ptr}
 use denote.Ref.{Bor}
-use Rattle.std.specs.Prelude.{List}
 
 -- where what a reference leads to begins
 abbrev pub start : {A : Type 0} → Bor A → Ptr
