@@ -1,0 +1,27 @@
+use Rattle.std.proofs.Common.{rules, ◌≡◌, ◌≢◌, true, subst, sym, ◌∙◌, to_z, of_z, w64, Ok}
+use Rattle.ed_types.specs.declared.refusal.Refusal.TheVariants.{OutOfMemory}
+use Rattle.ed_types.specs.Notices.{Response}
+use Rattle.ed_model.specs.Table.{table}
+use Rattle.message_plans.specs.TableSoFar.{table_so_far}
+use Rattle.editor_session.specs.Answers.{message_with}
+use Rattle.editor_session.specs.Plans.{is_free}
+use Rattle.hongpilas_c.specs.Answers.{refused_with}
+use Rattle.hongpilas_c.proofs.Refusing.{refused_as_said, memory_alone}
+use Rattle.hongpilas_c.proofs.held.Held.send.Goals as goal
+
+pub returns-in-Ok-clause-done : goal.returns-in-Ok-clause-done
+returns-in-Ok-clause-done c done =
+    let same : message_with c.args.number (to_z w64 (of_z w64 c.args.w)) (to_z w64 (of_z w64 c.args.l)) c.args.text.now ≡ message_with c.args.number c.args.w c.args.l c.args.text.now = search rules in
+    subst (λ m. table table_so_far c.args.self.now.session c.args.view m ≡ Ok (c.send_lent.new.self, c.in-Ok.reply)) same c.in-Ok.ensures.answer
+
+pub returns-in-Err-clause-refused : goal.returns-in-Err-clause-refused
+returns-in-Err-clause-refused c other =
+    let same : message_with c.args.number (to_z w64 (of_z w64 c.args.w)) (to_z w64 (of_z w64 c.args.l)) c.args.text.now ≡ message_with c.args.number c.args.w c.args.l c.args.text.now = search rules in
+    subst (λ m. c.number_of.result ≡ refused_with (table table_so_far c.args.self.now.session c.args.view m)) same
+    (c.number_of.ensures ∙ refused_as_said Response (table table_so_far c.args.self.now.session c.args.view (message_with c.args.number (to_z w64 (of_z w64 c.args.w)) (to_z w64 (of_z w64 c.args.l)) c.args.text.now)) c.in-Err.refusal c.in-Err.ensures.refused c.in-Err.ensures.answer.1)
+
+pub returns-in-Err-clause-free : goal.returns-in-Err-clause-free
+returns-in-Err-clause-free c free is =
+    let same : message_with c.args.number (to_z w64 (of_z w64 c.args.w)) (to_z w64 (of_z w64 c.args.l)) c.args.text.now ≡ message_with c.args.number c.args.w c.args.l c.args.text.now = search rules in
+    let other : c.in-Err.refusal ≢ OutOfMemory = subst (λ m. is_free c.args.self.now.session c.args.view m ≡ true → c.in-Err.refusal ≢ OutOfMemory) same c.in-Err.ensures.free free in
+    memory_alone c.in-Err.refusal other (sym c.number_of.ensures ∙ is)

@@ -1,0 +1,71 @@
+-- `start_of` reads the address of the bytes, and keeps nothing of them.
+use mathlib.Core.Path.{refl}
+use Prim.Native.Nat.{ℕ}
+use mathlib.Core.List.{List, [], ◌∷◌}
+use lib.ListN.{length}
+use seplogic.Ra.Ura.{Ura}
+use mir.Syntax.{named}
+use mir.Val.{Val, vptr}
+use base.Logic.{SProp, ent, sep, emp}
+use base.Fml.{Lft, Share, ftrue, flft}
+use prog.Memory.{Memory}
+use prog.Routine.{Routine}
+use prog.Wp.{Calls, Loops, WpFn, Tables}
+use types.Logic.{Logic}
+use contract.Monad.{Fun}
+use contract.Running.{tables, tables_of}
+use sound.WpLaws.{WpFn-mono}
+use types.Kit.{‵, ◌⊛◌, raw, ◌$◌, ◌∵◌, !, qed, move, keep, split, join, group, feq_i, suffices, done}
+use types.Part.{whole, sub}
+use types.Run.{stop, fld, hop, from, addr, returns, enter}
+use types.ByLocal.{alloc_all, pass_all, free_all, look_at, look_in_at, sets}
+use denote.Builtin.{u8}
+use denote.Exit.{yes}
+use denote.RattleType.{owns}
+use denote.RawPtr.{block_ptr}
+use denote.Ref.{Bor}
+use denote.Signature.{plain, shr_slice_of}
+use denote.Slice.{ShrSlice, Room, slice_val, shr_slice_vals, shr_slice_Tells}
+use denote.Steps.{nothing}
+use denote.Triple.Entry.{on_entry}
+use denote.Triple.Spec.{Meets, triple_of}
+use denote.Triple.Table.{entered}
+use denote.Triple.Walked.{says, Stays, stay_dropped, walk_of, ends_at, walked, Goes-dropped, walk_Meets}
+use Rattle.hongpilas_c.specs.contracts.starts.start_of as F
+use Rattle.hongpilas_c.specs.contracts.starts.start_of.Key.{name as #self}
+use Rattle.hongpilas_c.proofs.starts.start_of.Statement as stated
+use Rattle.hongpilas_c.proofs.starts.start_of.Code as code
+
+abbrev stayed : Stays (F.ended).signature.params (F.ended).kept
+stayed = (stay_dropped (shr_slice_of (0 ∷ []) tt (plain (λ _. u8))) yes, tt)
+
+module _ {M : Type 1} {𝓤 : Ura M} (𝓛 : Logic 𝓤) (at_mem : Memory → SProp 𝓤) (run : Routine → Fun 𝓤) where
+  open 𝓛 use {H}
+
+  module _ (C : Calls 𝓤 H) (Λ : Loops 𝓤 H) (κ : Lft) (q : Share) (b o : ℕ) (xs : List ℕ) where
+    abbrev self : Bor (List ℕ)
+    self = record { ref_ptr = (b, o); now = xs }
+
+    abbrev bound : (walk_of 𝓛 F.ended stayed (F.clauses 𝓛 at_mem run)).Ghost
+    bound = (((κ, tt), (q, tt), tt, (self, tt), (shr_slice_vals self, tt)), tt)
+
+    walk : Room u8 (length xs) → ent 𝓤 (sep 𝓤 (on_entry 𝓛 F.signature (κ, tt) (q, tt) (self, tt) (shr_slice_vals self, tt)) (emp 𝓤)) (WpFn 𝓤 H C Λ code.function (slice_val (b, o) (length xs) ∷ []) ((walk_of 𝓛 F.ended stayed (F.clauses 𝓛 at_mem run)).post bound))
+    walk room =
+        qed 𝓛 (((‵ (flft κ q) ⊛ ‵ ftrue) ⊛ ‵ (owns (ShrSlice (named 0) κ u8 ∷ []) (self, tt) (shr_slice_vals self, tt))) ∷ raw (emp 𝓤) ∷ []) ∵ split ! $ enter ! C Λ code.function (slice_val (b, o) (length xs) ∷ []) _ $
+        alloc_all ! (λ l. pass_all ! refl ((tt, (tt, (record { fits = room.0 }, tt))), tt) $
+        sets ! (addr ! (from ! (fld ! refl (hop ! (look_in_at ! 1 (sub ! 0 refl (whole !))) (stop !))))) refl (tt, tt) $
+        returns ! (look_at ! 0 refl) $ free_all ! refl $ keep ! (0 ∷ []) $
+        suffices ! _ (ends_at 𝓛 F.ended stayed (F.clauses 𝓛 at_mem run) bound (vptr b o) (block_ptr b o) (tt, tt) (tt, tt)) $
+        says ! refl $ feq_i ! (List Val) (vptr b o ∷ []) (vptr b o ∷ []) refl $ nothing ! $ nothing ! $ join ! $ move ! (2 ∷ 0 ∷ 1 ∷ []) $ group ! 3 $ done !)
+
+  meets : (𝓣 : Tables 𝓤 H) → Meets 𝓛 F.signature (WpFn 𝓤 H 𝓣.C 𝓣.Λ code.function) (F.spec 𝓛 at_mem run)
+  meets 𝓣 =
+      walk_Meets 𝓛 F.ended stayed (Goes-dropped 𝓛 1 (shr_slice_of (0 ∷ []) tt (plain (λ _. u8))) yes (λ κs x f. refl), tt) (F.clauses 𝓛 at_mem run) (WpFn 𝓤 H 𝓣.C 𝓣.Λ code.function) (WpFn-mono 𝓤 H 𝓛.laws 𝓣 code.function)
+      (walked 𝓛 F.ended stayed (F.clauses 𝓛 at_mem run) (WpFn 𝓤 H 𝓣.C 𝓣.Λ code.function) (λ κs. (shr_slice_vals, tt)) (λ κs. (shr_slice_Tells (named 0) κs.0 u8, tt))
+      (λ κs qs bounds a g are. walk 𝓣.C 𝓣.Λ κs.0 qs.0 a.0.ref_ptr.0 a.0.ref_ptr.1 a.0.now are.0.0.1))
+
+pub start_of_spec : {M : Type 1} → stated.statement M
+unfolding tables_of
+start_of_spec 𝓤 𝓛 𝓜 𝓡 wired =
+    let 𝓣 : Tables 𝓤 𝓛.H = tables_of 𝓤 𝓛.H 𝓜 (tables 𝓤 𝓛.H 𝓜 𝓡 𝓡.env) in
+    entered 𝓤 𝓛.H (triple_of 𝓛 F.signature (F.spec 𝓛 𝓜.mem 𝓡.returns)) 𝓣.C 𝓣.Λ #self code.function (code.unfolded 𝓤 𝓛.H 𝓜 𝓡 wired) (meets 𝓛 𝓜.mem 𝓡.returns 𝓣)

@@ -1,0 +1,57 @@
+-- What calls on a handle did, by what stands behind it before and after. Nothing is said of a handle that is not open.
+use Rattle.std.specs.Prelude.{◌≡◌, ℕ, ℤ, pos, true, List, [], Option, Some, None, Ok}
+use Rattle.ed_types.specs.declared.message.Message.{Message}
+use Rattle.ed_types.specs.Notices.{Response}
+use Rattle.ed_model.specs.Table.{table, opened, closed}
+use Rattle.message_plans.specs.TableSoFar.{table_so_far}
+use Rattle.editor_session.specs.Plans.{is_free}
+use Rattle.editor_session.specs.Lent.{lent_range}
+use Rattle.hongpilas_c.specs.declared.held.Held.{Held}
+use Rattle.hongpilas_c.specs.Answers.{answered, refused_with}
+
+-- the message was done: session and reply are those of the table, and the value is the reply's
+abbrev pub IsSent : ℕ → Message → ℤ → Option Held → Option Held → Type 0
+IsSent view m value (Some old) (Some new) = (table table_so_far old.session view m ≡ Ok (new.session, new.reply)) × (value ≡ new.reply.value)
+IsSent view m value _ _ = ⊥
+
+-- the message was refused with this number
+abbrev pub IsRefused : ℕ → Message → ℕ → Option Held → Type 0
+IsRefused view m number (Some old) = number ≡ refused_with (table table_so_far old.session view m)
+IsRefused view m number None = ⊥
+
+-- the message needs no memory
+abbrev pub IsFree : ℕ → Message → Option Held → Type 0
+IsFree view m (Some old) = is_free old.session view m ≡ true
+IsFree view m None = ⊥
+
+-- this view was opened, and the reply stayed
+abbrev pub IsViewOpened : ℕ → Option Held → Option Held → Type 0
+IsViewOpened view (Some old) (Some new) = (opened old.session ≡ Ok (new.session, view)) × (new.reply ≡ old.reply)
+IsViewOpened view _ _ = ⊥
+
+abbrev pub IsViewRefused : ℕ → Option Held → Type 0
+IsViewRefused number (Some old) = number ≡ refused_with (opened old.session)
+IsViewRefused number None = ⊥
+
+-- this view was closed, and the reply stayed
+abbrev pub IsViewClosed : ℕ → Option Held → Option Held → Type 0
+IsViewClosed view (Some old) (Some new) = (closed old.session view ≡ Ok new.session) × (new.reply ≡ old.reply)
+IsViewClosed view _ _ = ⊥
+
+abbrev pub IsCloseAnswer : ℕ → ℕ → Option Held → Type 0
+IsCloseAnswer view number (Some old) = number ≡ answered (closed old.session view)
+IsCloseAnswer view number None = ⊥
+
+abbrev pub IsLendAnswer : ℕ → ℕ → ℕ → ℕ → Option Held → Type 0
+IsLendAnswer view start count number (Some old) = number ≡ answered (lent_range old.session view start count)
+IsLendAnswer view start count number None = ⊥
+
+-- these are the bytes of the document
+abbrev pub IsLent : ℕ → ℕ → ℕ → List ℕ → Option Held → Type 0
+IsLent view start count bytes (Some old) = lent_range old.session view start count ≡ Ok bytes
+IsLent view start count bytes None = ⊥
+
+-- the last reply; of a handle that is not open it says nothing
+abbrev pub reply_of : Option Held → Response
+reply_of (Some held) = held.reply
+reply_of None = record { value = pos 0; text = []; notes = [] }

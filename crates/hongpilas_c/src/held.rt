@@ -1,0 +1,119 @@
+//! What a handle leads to.
+
+ghost use Rattle.std.specs.Prelude.{◌≡◌, ◌≢◌, true, length, Ok};
+ghost use Rattle.ed_types.specs.declared.refusal.Refusal.TheVariants.{OutOfMemory};
+ghost use Rattle.ed_model.specs.Table.{table, opened, closed};
+ghost use Rattle.ed_model.specs.Printed.{refusal_number};
+ghost use Rattle.message_plans.specs.TableSoFar.{table_so_far};
+ghost use Rattle.editor_session.specs.Answers.{message_with};
+ghost use Rattle.editor_session.specs.Plans.{is_free};
+ghost use Rattle.editor_session.specs.Lent.{lent_range};
+ghost use Rattle.hongpilas_c.specs.Answers.{answered, refused_with};
+
+use crate::answers::{DONE, number_of};
+use crate::starts::start_of;
+use ed_types::Reply;
+use editor_session::Session;
+
+/// A session, and its reply to the last message, so that C need not give back replies.
+#[derive(Drop)]
+pub struct Held {
+    pub session: Session,
+    pub reply: Reply,
+}
+
+impl Held {
+    /// Sends a message, and keeps its reply.
+    pub(crate) fn send(
+        &mut self,
+        view: u32,
+        number: u32,
+        w: i64,
+        l: i64,
+        text: &[u8],
+        value: &mut i64,
+    ) -> u32
+        ensures done { result ≡ 0 → table table_so_far self.old.session view (message_with number w l text.now) ≡ Ok (self.new.session, self.new.reply) }
+        ensures value { result ≡ 0 → value.new ≡ self.new.reply.value }
+        ensures refused { result ≢ 0 → result ≡ refused_with (table table_so_far self.old.session view (message_with number w l text.now)) }
+        ensures kept { result ≢ 0 → self.new ≡ self.old }
+        ensures value_kept { result ≢ 0 → value.new ≡ value.old }
+        ensures free { is_free self.old.session view (message_with number w l text.now) ≡ true → result ≢ refusal_number OutOfMemory }
+    {
+        match self.session.send_lent(view, number, w, l, text) {
+            Ok(reply) => {
+                *value = reply.value();
+                self.reply = reply;
+                DONE
+            }
+            Err(refusal) => number_of(refusal),
+        }
+    }
+
+    /// Opens a view.
+    pub(crate) fn open_view(&mut self, view: &mut u32) -> u32
+        ensures done { result ≡ 0 → opened self.old.session ≡ Ok (self.new.session, view.new) }
+        ensures refused { result ≢ 0 → result ≡ refused_with (opened self.old.session) }
+        ensures kept { result ≢ 0 → self.new.session ≡ self.old.session }
+        ensures view_kept { result ≢ 0 → view.new ≡ view.old }
+        ensures reply { self.new.reply ≡ self.old.reply }
+    {
+        match self.session.new_view() {
+            Ok(opened) => {
+                *view = opened;
+                DONE
+            }
+            Err(refusal) => number_of(refusal),
+        }
+    }
+
+    /// Closes a view.
+    pub(crate) fn close_view(&mut self, view: u32) -> u32
+        ensures answer { result ≡ answered (closed self.old.session view) }
+        ensures done { result ≡ 0 → closed self.old.session view ≡ Ok self.new.session }
+        ensures kept { result ≢ 0 → self.new.session ≡ self.old.session }
+        ensures reply { self.new.reply ≡ self.old.reply }
+    {
+        match self.session.close_view(view) {
+            Ok(()) => DONE,
+            Err(refusal) => number_of(refusal),
+        }
+    }
+
+    /// Lends bytes of a view's document: C is told where they begin.
+    pub(crate) fn lend(
+        &mut self,
+        view: u32,
+        start: usize,
+        count: usize,
+        bytes: &mut *const u8,
+    ) -> u32
+        ensures answer { result ≡ answered (lent_range self.old.session view start count) }
+        ensures same { self.new ≡ self.old }
+        ensures bytes_kept { result ≢ 0 → bytes.new ≡ bytes.old }
+    {
+        match self.session.lend_range(view, start, count) {
+            Ok(lent) => {
+                *bytes = start_of(lent);
+                DONE
+            }
+            Err(refusal) => number_of(refusal),
+        }
+    }
+
+    /// Copies bytes of a view's document, as many as `into` has.
+    pub(crate) fn copy(&mut self, view: u32, start: usize, into: &mut [u8]) -> u32
+        ensures answer { result ≡ answered (lent_range self.old.session view start (length into.old)) }
+        ensures done { result ≡ 0 → lent_range self.old.session view start (length into.old) ≡ Ok into.new }
+        ensures same { self.new ≡ self.old }
+        ensures into_kept { result ≢ 0 → into.new ≡ into.old }
+    {
+        match self.session.lend_range(view, start, into.len()) {
+            Ok(lent) => {
+                into.copy_from_slice(lent);
+                DONE
+            }
+            Err(refusal) => number_of(refusal),
+        }
+    }
+}

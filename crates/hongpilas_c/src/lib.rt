@@ -1,0 +1,25 @@
+//! The calls of a session for programs in C. `include/hongpilas.h` declares them.
+//!
+//! C holds a session by a handle of one word. Each call answers 0 where it was done, or the number of its refusal; a refused
+//! call has changed nothing. There is no global state.
+#![tactic(auto)]
+
+mod answers;
+mod copies;
+mod handle;
+mod held;
+mod lending;
+mod names;
+mod notes;
+mod opening;
+mod parts;
+mod ranges;
+mod replies;
+mod sending;
+mod starts;
+mod views;
+
+pub use handle::Handle;
+pub use held::Held;
+pub use notes::NoteInC;
+pub use opening::LimitsInC;

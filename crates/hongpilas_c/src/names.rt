@@ -1,0 +1,61 @@
+//! Names of refusals, and the version.
+
+ghost use Rattle.std.specs.Prelude.{◌≡◌, length};
+ghost use Rattle.hongpilas_c.specs.Names.{refusal_name};
+ghost use Rattle.hongpilas_c.specs.Copies.{count_copied, copied};
+
+use crate::copies::copy_from;
+use crate::starts::tell_start;
+
+/// The version of this interface: its major number times 1000, and its minor number.
+const VERSION: u32 = 1000;
+
+/// The name of a refusal by its number.
+fn name_of(number: u32) -> &'static [u8]
+    ensures { result.now ≡ refusal_name number }
+{
+    if number == 0 {
+        b"done"
+    } else if number == 1 {
+        b"out of memory"
+    } else if number == 2 {
+        b"no such view"
+    } else if number == 3 {
+        b"unknown message"
+    } else if number == 4 {
+        b"no such document"
+    } else if number == 5 {
+        b"text too long"
+    } else if number == 6 {
+        b"bad argument"
+    } else if number == 7 {
+        b"too many"
+    } else {
+        b"unknown refusal"
+    }
+}
+
+/// Lends the name of a refusal: `name` is set to where it begins, and its length is answered. It stands for good.
+#[unsafe(no_mangle)]
+pub extern "C" fn hongpilas_refusal_name(number: u32, name: &mut *const u8) -> usize
+    ensures length { result ≡ length (refusal_name number) }
+{
+    tell_start(name_of(number), name)
+}
+
+/// Copies the name of a refusal, as much as has room, and answers how much that is.
+#[unsafe(no_mangle)]
+pub extern "C" fn hongpilas_copy_refusal_name(number: u32, into: &mut [u8]) -> usize
+    ensures count { result ≡ count_copied (refusal_name number) 0 into.old }
+    ensures copied { into.new ≡ copied (refusal_name number) 0 into.old }
+{
+    copy_from(name_of(number), 0, into)
+}
+
+/// The version of this interface.
+#[unsafe(no_mangle)]
+pub extern "C" fn hongpilas_version() -> u32
+    ensures { result ≡ 1000 }
+{
+    VERSION
+}

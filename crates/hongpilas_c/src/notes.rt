@@ -1,0 +1,120 @@
+//! Notes of the last reply.
+
+ghost use Rattle.std.specs.Prelude.{◌≡◌, true, false, nat_lt, length, is_some, slice_get, IfSome};
+ghost use Rattle.ed_types.specs.Heard.{with_text};
+ghost use Rattle.hongpilas_c.specs.Calls.{reply_of};
+ghost use Rattle.hongpilas_c.specs.Told.{IsTold, text_told};
+ghost use Rattle.hongpilas_c.specs.Copies.{count_copied, copied};
+ghost use Rattle.hongpilas_c.specs.Starts.{start};
+
+use crate::copies::copy_from;
+use crate::handle::Handle;
+use crate::held::Held;
+use crate::starts::start_of;
+use ed_types::Note;
+
+/// A note, as C reads it. Fields that its code does not name are 0.
+#[repr(C)]
+#[derive(Drop)]
+pub struct NoteInC {
+    pub view: u32,
+    pub code: u32,
+    pub kind: u32,
+    pub message: u32,
+    pub position: i64,
+    pub length: i64,
+    pub lines: i64,
+    pub line: i64,
+    pub now: i64,
+    pub prev: i64,
+    pub token: i64,
+    pub w: i64,
+    pub l: i64,
+    pub text: *const u8,
+    pub text_length: usize,
+}
+
+/// A note with its text, as C reads it.
+fn in_c(note: &Note, text: &[u8]) -> NoteInC
+    ensures told { IsTold result (with_text note.entry.now text.now) }
+    ensures text { result.text ≡ start text.entry }
+{
+    NoteInC {
+        view: note.view,
+        code: note.code,
+        kind: note.kind,
+        message: note.message,
+        position: note.position,
+        length: note.length,
+        lines: note.lines,
+        line: note.line,
+        now: note.now,
+        prev: note.prev,
+        token: note.token,
+        w: note.w,
+        l: note.l,
+        text: start_of(text),
+        text_length: text.len(),
+    }
+}
+
+impl Held {
+    /// Writes a note of the reply to `out`, if there is such a note.
+    fn tell(&self, index: usize, out: &mut NoteInC) -> bool
+        ensures found { result ≡ nat_lt index (length self.now.reply.notes) }
+        ensures told { result ≡ true → IfSome (slice_get self.now.reply.notes index) (IsTold out.new) }
+        ensures kept { result ≡ false → out.new ≡ out.old }
+    {
+        if index < self.reply.note_count() {
+            let (note, text) = self.reply.note(index);
+            *out = in_c(note, text);
+            true
+        } else {
+            false
+        }
+    }
+
+    /// Copies the text of a note of the reply, which is none where there is no such note.
+    fn copy_note_text(&self, index: usize, start: usize, into: &mut [u8]) -> usize
+        ensures count { result ≡ count_copied (text_told (slice_get self.now.reply.notes index)) start into.old }
+        ensures copied { into.new ≡ copied (text_told (slice_get self.now.reply.notes index)) start into.old }
+    {
+        if index < self.reply.note_count() {
+            let (_, text) = self.reply.note(index);
+            copy_from(text, start, into)
+        } else {
+            copy_from(&[], start, into)
+        }
+    }
+}
+
+/// A note of the last reply, counted from 0, written to `note`; answers whether there is such a note.
+#[unsafe(no_mangle)]
+pub extern "C" fn hongpilas_note(handle: &mut Handle, index: usize, note: &mut NoteInC) -> bool
+    requires { is_some handle.old.held ≡ true }
+    ensures found { result ≡ nat_lt index (length (reply_of handle.old.held).notes) }
+    ensures told { result ≡ true → IfSome (slice_get (reply_of handle.old.held).notes index) (IsTold note.new) }
+    ensures same { handle.new.held ≡ handle.old.held }
+    ensures note_kept { result ≡ false → note.new ≡ note.old }
+{
+    let held = handle.held();
+    held.tell(index, note)
+}
+
+/// Copies the text of a note of the last reply from `start` on, as much as there is and has room, and answers how much that
+/// is: 0 where there is no such note.
+#[unsafe(no_mangle)]
+pub extern "C" fn hongpilas_copy_note_text(
+    handle: &mut Handle,
+    index: usize,
+    start: usize,
+    into: &mut [u8],
+) -> usize
+    requires { is_some handle.old.held ≡ true }
+    ensures count { result ≡ count_copied (text_told (slice_get (reply_of handle.old.held).notes index)) start into.old }
+    ensures copied { into.new ≡ copied (text_told (slice_get (reply_of handle.old.held).notes index)) start into.old }
+    ensures same { handle.new.held ≡ handle.old.held }
+{
+    let held = handle.held();
+    held.copy_note_text(index, start, into)
+}

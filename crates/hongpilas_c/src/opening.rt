@@ -1,0 +1,89 @@
+//! Opening a session, and giving it back.
+
+ghost use Rattle.std.specs.Prelude.{◌≡◌, ◌≢◌, true, is_some, Some};
+ghost use Rattle.ed_types.specs.declared.refusal.Refusal.TheVariants.{OutOfMemory};
+ghost use Rattle.ed_model.specs.Session.{new_session, greatest_limits};
+ghost use Rattle.ed_model.specs.Table.{limited};
+ghost use Rattle.ed_model.specs.Printed.{refusal_number};
+ghost use Rattle.hongpilas_c.specs.Answers.{refused_with};
+ghost use Rattle.hongpilas_c.specs.Opened.{fresh, limits_of, IsFresh};
+
+use crate::answers::{DONE, number_of};
+use crate::handle::Handle;
+use crate::held::Held;
+use ed_types::{Bytes, Limits, Refusal, Reply};
+use editor_session::Session;
+use std::alloc::Global;
+
+/// Limits of a session, as C gives them.
+#[repr(C)]
+#[derive(Drop)]
+pub struct LimitsInC {
+    pub doc_bytes: u64,
+    pub large_bytes: u64,
+    pub handles: u64,
+    pub ids: u64,
+    pub refs: u64,
+    pub views: u64,
+    pub depth: u64,
+}
+
+/// Puts the session behind the handle, with a reply that says nothing.
+fn hold(alloc: Global, session: Session, handle: &mut Handle) -> u32
+    ensures done { result ≡ 0 → handle.new.held ≡ Some (fresh session) }
+    ensures refused { result ≢ 0 → result ≡ refusal_number OutOfMemory }
+    ensures kept { result ≢ 0 → handle.new.held ≡ handle.old.held }
+{
+    let reply = Reply::quiet(alloc, 0, Bytes::empty(alloc));
+    match Handle::new(alloc, Held { session, reply }) {
+        Ok(opened) => {
+            *handle = opened;
+            DONE
+        }
+        Err(_) => number_of(Refusal::OutOfMemory),
+    }
+}
+
+/// Opens a session with the greatest limits.
+#[unsafe(no_mangle)]
+pub extern "C" fn hongpilas_new(alloc: Global, handle: &mut Handle) -> u32
+    ensures done { result ≡ 0 → handle.new.held ≡ Some (fresh (new_session greatest_limits)) }
+    ensures refused { result ≢ 0 → result ≡ refusal_number OutOfMemory }
+    ensures kept { result ≢ 0 → handle.new.held ≡ handle.old.held }
+{
+    hold(alloc, Session::new(alloc), handle)
+}
+
+/// Opens a session with lower limits.
+#[unsafe(no_mangle)]
+pub extern "C" fn hongpilas_new_with_limits(
+    alloc: Global,
+    handle: &mut Handle,
+    limits: &LimitsInC,
+) -> u32
+    ensures done { result ≡ 0 → IsFresh (limited (limits_of limits.now)) handle.new.held }
+    ensures refused { result ≢ 0 → result ≡ refused_with (limited (limits_of limits.now)) }
+    ensures kept { result ≢ 0 → handle.new.held ≡ handle.old.held }
+{
+    let limits = Limits {
+        doc_bytes: limits.doc_bytes,
+        large_bytes: limits.large_bytes,
+        handles: limits.handles,
+        ids: limits.ids,
+        refs: limits.refs,
+        views: limits.views,
+        depth: limits.depth,
+    };
+    match Session::with_limits(alloc, limits) {
+        Ok(session) => hold(alloc, session, handle),
+        Err(refusal) => number_of(refusal),
+    }
+}
+
+/// Gives a session back, with all that it has.
+#[unsafe(no_mangle)]
+pub extern "C" fn hongpilas_free(handle: Handle)
+    requires { is_some handle.held ≡ true }
+{
+    drop(handle.into_box());
+}

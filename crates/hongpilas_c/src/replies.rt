@@ -1,0 +1,54 @@
+//! The reply to the last message.
+
+ghost use Rattle.std.specs.Prelude.{◌≡◌, true, length, is_some};
+ghost use Rattle.hongpilas_c.specs.Calls.{reply_of};
+ghost use Rattle.hongpilas_c.specs.Copies.{count_copied, copied};
+
+use crate::copies::copy_from;
+use crate::handle::Handle;
+use crate::starts::tell_start;
+
+/// The value of the last reply.
+#[unsafe(no_mangle)]
+pub extern "C" fn hongpilas_value(handle: &mut Handle) -> i64
+    requires { is_some handle.old.held ≡ true }
+    ensures value { result ≡ (reply_of handle.old.held).value }
+    ensures same { handle.new.held ≡ handle.old.held }
+{
+    let held = handle.held();
+    held.reply.value()
+}
+
+/// Lends the text of the last reply: `text` is set to where it begins, and its length is answered.
+#[unsafe(no_mangle)]
+pub extern "C" fn hongpilas_text(handle: &mut Handle, text: &mut *const u8) -> usize
+    requires { is_some handle.old.held ≡ true }
+    ensures length { result ≡ length (reply_of handle.old.held).text }
+    ensures same { handle.new.held ≡ handle.old.held }
+{
+    let held = handle.held();
+    tell_start(held.reply.text(), text)
+}
+
+/// Copies the text of the last reply from `start` on, as much as there is and has room, and answers how much that is.
+#[unsafe(no_mangle)]
+pub extern "C" fn hongpilas_copy_text(handle: &mut Handle, start: usize, into: &mut [u8]) -> usize
+    requires { is_some handle.old.held ≡ true }
+    ensures count { result ≡ count_copied (reply_of handle.old.held).text start into.old }
+    ensures copied { into.new ≡ copied (reply_of handle.old.held).text start into.old }
+    ensures same { handle.new.held ≡ handle.old.held }
+{
+    let held = handle.held();
+    copy_from(held.reply.text(), start, into)
+}
+
+/// How many notes the last reply has.
+#[unsafe(no_mangle)]
+pub extern "C" fn hongpilas_note_count(handle: &mut Handle) -> usize
+    requires { is_some handle.old.held ≡ true }
+    ensures count { result ≡ length (reply_of handle.old.held).notes }
+    ensures same { handle.new.held ≡ handle.old.held }
+{
+    let held = handle.held();
+    held.reply.note_count()
+}
