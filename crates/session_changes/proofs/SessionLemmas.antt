@@ -31,12 +31,12 @@ use Rattle.message_plans.specs.declared.state.SessionState.{SessionState}
 use Rattle.session_changes.specs.Kept.{IsKept, DocumentsAreNamed}
 use Rattle.session_changes.specs.Asked.{IsAsked, CanChangeSession, CanChangeDocuments}
 use Rattle.session_changes.specs.Clipboard.{copied, CanCopy}
-use Rattle.session_changes.specs.Folding.{HasFoldRoomAt, changed_at}
+use Rattle.session_changes.specs.Folding.{HasFoldRoomAt, IsFoldRoomAtMost, IsRoomAtMostAt, changed_at}
 use Rattle.session_changes.specs.Moving.{DocumentsRise, CanMove}
 use Rattle.session_changes.specs.Ready.{IsReady, IsNewDocument, AwaitsView, IsHeld}
 use Rattle.session_changes.specs.declared.ready.SessionReady.{SessionReady}
 use Rattle.session_changes.specs.declared.ready.SessionReady.TheVariants as made
-use Rattle.session_changes.proofs.Finding.{document_in, id_of_document, own_at, holds_at, found_some, kept_as, for_replaced}
+use Rattle.session_changes.proofs.Finding.{document_in, id_of_document, own_at, holds_at, found_some, kept_as, for_replaced, value_replaced}
 use Rattle.session_changes.proofs.AskedLemmas.{of_document, view_found, on_document, document_found, kept_view, kept_document, stands, in_its_place}
 use Rattle.session_changes.proofs.MovingLemmas.{ChangesAlike, living_left}
 
@@ -49,6 +49,11 @@ pub fold_room_there : (entries : List (Entry KeptView)) (view : ℕ) (old new : 
 fold_room_there entries view old new change need at same is room =
     for_replaced (λ w. HasFoldRoom w.room (fold_need (length w.view.flags) change)) entries view old new at
     (subst (λ (v : View). HasFoldRoom new.room (fold_need (length v.flags) change)) (sym same) (subst (λ n. HasFoldRoom new.room n) is room))
+
+pub fold_room_most : (entries : List (Entry KeptView)) (view : ℕ) (old new : KeptView) (change : ViewChange) (need : FoldNeed) → value_at entries view ≡ Some old → need ≡ fold_need (length old.view.flags) change
+    → IsFoldRoomAtMost old new.room need → IsRoomAtMostAt entries (with_value_at view new entries) view change
+fold_room_most entries view old new change need at is most =
+    for_some _ _ old at (for_some _ _ new (value_replaced entries view old new at) (subst (λ n. IsFoldRoomAtMost old new.room n) is most))
 
 -- The clipboard.
 
@@ -63,8 +68,8 @@ starts_empty documents (change.Release id) bytes ready = absurd ready
 
 pub can_copy : (documents : Entries Kept) (what : SessionChange) (bytes : Vec ℕ) (r : Request) (text : List ℕ) → IsReady documents what (made.Clipboard bytes) → r.message.text ≡ text → IsFitSessionChange r what
     → CanCopy what (length r.document.cells) (length text) (vec_capacity bytes)
-can_copy documents (change.Copy start count) bytes r text ready is fit = (fit, ready.1)
-can_copy documents (change.CopyText count) bytes r text ready is fit = (subst (λ (t : List ℕ). count ≤ length t) is fit, ready.1)
+can_copy documents (change.Copy start count) bytes r text ready is fit = (fit, omega (arith, ready.1))
+can_copy documents (change.CopyText count) bytes r text ready is fit = (subst (λ (t : List ℕ). count ≤ length t) is fit, omega (arith, ready.1))
 can_copy documents (change.Attach id) bytes r text ready is fit = absurd ready.0
 can_copy documents change.AttachNew bytes r text ready is fit = absurd ready
 can_copy documents (change.Create options) bytes r text ready is fit = absurd ready

@@ -10,7 +10,7 @@ use Rattle.session_changes.specs.declared.ready.SessionReady.TheVariants as read
 
 -- no bytes yet, and room for so many
 abbrev pub IsClipboardFor : ℕ → SessionReady → Type 0
-IsClipboardFor count (ready.Clipboard bytes) = (bytes.items ≡ []) × (count ≤ vec_capacity bytes)
+IsClipboardFor count (ready.Clipboard bytes) = (bytes.items ≡ []) × (vec_capacity bytes ≡ count)
 IsClipboardFor count other = ⊥
 
 -- the document, and room for it in the table
