@@ -1,8 +1,5 @@
-use Rattle.std.proofs.Common.{sym, ap, ◌∙◌, OnOk}
+use Rattle.std.proofs.Common.{sym, ap, ◌∙◌}
 use Rattle.std.specs.Option.{option_copied_mut}
-use Rattle.std.specs.Prelude.{length}
-use Rattle.ed_view.specs.Folding.{fold_need, HasFoldRoom}
-use Rattle.ed_view.specs.declared.folding.FoldNeed.{FoldNeed}
 use Rattle.session_changes.proofs.Finding.{view_in, id_of_view, unchanged, named_with}
 use Rattle.session_changes.proofs.SessionLemmas.{when_ok, fold_room_there, fold_room_most}
 use Rattle.session_changes.proofs.views.reserve_in.Goals as goal
