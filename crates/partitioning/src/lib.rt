@@ -13,6 +13,7 @@
 //! Contracts see the starts and the length, and nothing of how they are stored.
 #![tactic(auto)]
 
+mod counted;
 mod edits;
 mod laws;
 mod lookups;
@@ -20,7 +21,7 @@ mod places;
 mod stepping;
 mod table;
 
+pub use counted::Probes;
 pub use laws::steps_add_up;
-pub use lookups::Probes;
 pub use places::Place;
 pub use table::Partitioning;

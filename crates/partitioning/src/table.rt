@@ -3,7 +3,8 @@ ghost use Rattle.std.specs.Prelude.{◌≡◌, ◌≤◌, ◌<◌, ◌+◌, ◌^
 ghost use Rattle.partitioning.specs.Partitions.{ArePartitions, IsLastAtMost, IsFloorLog};
 ghost use Rattle.split_vector.specs.Split.{counted, most_room};
 
-use crate::lookups::Probes;
+use crate::counted::{CountedStarts, Probes};
+use crate::lookups::last_at_most;
 use crate::places::Place;
 use split_vector::SplitVector;
 use std::alloc::{AllocError, Allocator, Global};
@@ -76,7 +77,7 @@ impl<P: Place, A: Allocator> Partitioning<P, A> {
     }
 
     // Returns where the partition starts, as it is stored as a place.
-    fn place_of(&self, index: usize) -> P
+    pub(crate) fn place_of(&self, index: usize) -> P
         requires { index < length self.now.starts }
         ensures { P.number result ≡ slice_index self.now.starts index }
     {
@@ -95,17 +96,6 @@ impl<P: Place, A: Allocator> Partitioning<P, A> {
     {
         let _ = &self.end;
         self.place_of(index).to_usize()
-    }
-
-    // Returns where the partition starts, for a look-up: this is the one call by which look-ups read a start.
-    fn probe(&self, index: usize, probes: &mut Probes) -> P
-        requires { index < length self.now.starts }
-        ensures start { P.number result ≡ slice_index self.now.starts index }
-        ensures probes { probes.new ≡ counted probes.old 1 }
-        ensures rises { probes.old ≤ probes.new }
-    {
-        probes.reads = probes.reads.saturating_add(1);
-        self.place_of(index)
     }
 
     /// Returns how many stored starts were changed for the step's sake so far, or `u64::MAX` for any number above it.
@@ -145,17 +135,6 @@ impl<P: Place, A: Allocator> Partitioning<P, A> {
         ensures few { (k : ℕ) → IsFloorLog k (length self.now.starts) → probes.new ≤ probes.old + (2 + k) }
         ensures many { (k : ℕ) → IsFloorLog k (length self.now.starts) → counted probes.old k ≤ probes.new }
     {
-        let wanted = P::from_usize(place.min(self.length()));
-        let mut low = 0;
-        let mut width = self.count();
-        'halving: while width > 1 {
-            let half = width / 2;
-            let middle = low + half;
-            width -= half;
-            if self.probe(middle, probes).is_at_most(wanted) {
-                low = middle;
-            }
-        }
-        low
+        last_at_most(&CountedStarts::of(self), place, probes)
     }
 }

@@ -1,5 +1,5 @@
 -- The view and the document of a request, as they are kept.
-use Rattle.std.proofs.Common.{◌≡◌, ℕ, ◌+◌, ◌<◌, ◌≤◌, ◌^◌, ◌==◌, List, [], ◌∷◌, map, length, refl, ap, sym, ◌∙◌, subst, arith, Option, Some, None, IsSomeAnd}
+use Rattle.std.proofs.Common.{◌≡◌, ℕ, ◌==◌, List, map, length, refl, ap, sym, ◌∙◌, subst, Some, None, IsSomeAnd}
 use Rattle.std.specs.Prelude.{if◌then◌else◌}
 use Rattle.ed_model.specs.declared.plan.ViewChange.{ViewChange}
 use Rattle.ed_model.specs.declared.plan.ViewChange.TheVariants as view_change
@@ -10,14 +10,14 @@ use Rattle.ed_model.specs.Changes.{changed_view, view_change_performed}
 use Rattle.ed_view.specs.Folding.{fold_need, FitChangesAreWithin, IsWithin, HasFoldRoom}
 use Rattle.ed_view.specs.Kept.{KeptView}
 use Rattle.document.specs.Kept.{Kept}
-use Rattle.id_table.specs.Entries.{Entries, Entry, value_at}
+use Rattle.id_table.specs.Entries.{Entries, value_at}
 use Rattle.scene.specs.Scenes.{views_of}
 use Rattle.message_plans.specs.Requested.{session_in}
 use Rattle.message_plans.specs.declared.state.SessionState.{SessionState}
 use Rattle.session_changes.specs.Kept.{IsKept}
 use Rattle.session_changes.specs.Asked.{IsAsked, CanChangeView}
 use Rattle.session_changes.specs.Folding.{HasFoldRoomAt, levels_of, changed_at, CanChange}
-use Rattle.session_changes.proofs.Finding.{view_in, id_of_view, document_in, id_of_document, IsKeptAs, kept_as, own_at, holds_at, found_once, one_changes, found_some}
+use Rattle.session_changes.proofs.Finding.{view_in, id_of_view, document_in, id_of_document, IsKeptAs, kept_as, own_at, holds_at, found_once, one_changes}
 
 module _ (s : SessionState) (document view : ℕ) (r : Request) (kept : IsKept s) (asked : IsAsked (session_in s) document view r) where
   pub view_found : view_at (session_in s).views view ≡ Some r.view

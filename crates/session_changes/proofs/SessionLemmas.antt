@@ -1,7 +1,7 @@
 -- Sessions, and results.
-use Rattle.std.proofs.Common.{◌≡◌, ◌≢◌, ℕ, ◌+◌, ◌-◌, ◌<◌, ◌≤◌, ◌==◌, ◌^◌, Bool, true, false, cond, List, [], ◌∷◌, ◌++◌, map, length, refl, ap, sym, ◌∙◌, subst, arith, Option, Some, None, option_map, Ok, Err, OnOk, IfSome, IsSomeAnd, ◌&&◌}
+use Rattle.std.proofs.Common.{◌≡◌, ◌≢◌, ℕ, ◌+◌, ◌-◌, ◌<◌, ◌≤◌, ◌==◌, ◌^◌, Bool, true, false, cond, List, [], ◌∷◌, ◌++◌, map, length, refl, ap, sym, ◌∙◌, subst, arith, Option, Some, None, Ok, Err, OnOk, IfSome, IsSomeAnd}
 use Rattle.std.specs.Global.{Vec}
-use Rattle.std.specs.Prelude.{Result, vec_capacity, filter, find, nat_le, nat_lt, if◌then◌else◌}
+use Rattle.std.specs.Prelude.{Result, vec_capacity, filter}
 use Rattle.std.specs.List.{AllByRecursion, range_with_len}
 use Rattle.std.proofs.lemmas.Bool.{eq-eqb, ne_eqb}
 use Rattle.std.proofs.lemmas.Bool.Decides.{nat_tests}
@@ -14,7 +14,7 @@ use Rattle.ed_model.specs.declared.plan.SessionChange.{SessionChange}
 use Rattle.ed_model.specs.declared.plan.SessionChange.TheVariants as change
 use Rattle.ed_model.specs.Text.{Cell}
 use Rattle.ed_model.specs.Lines.{line_count, is_line_start}
-use Rattle.ed_model.specs.Session.{Session, Document, View, view_at, document_at, text_of, lines_in, references, living, left_by, without, is_allowed, is_large, limit_of, attached_to, new_document, with_view}
+use Rattle.ed_model.specs.Session.{Session, Document, View, view_at, document_at, text_of, lines_in, references, living, left_by, without, is_allowed, is_large, attached_to, new_document, with_view}
 use Rattle.ed_model.specs.SoundLaws.{Rise, IsSoundDocument, IsViewOn, ListsItsViews}
 use Rattle.ed_model.specs.Requests.{Request}
 use Rattle.ed_model.specs.PlansFit.{IsFitSessionChange}
@@ -24,19 +24,18 @@ use Rattle.document_table.specs.Leaving.{documents_in as entries_in, let_go, rel
 use Rattle.ed_view.specs.Folding.{fold_need, HasFoldRoom}
 use Rattle.ed_view.specs.Kept.{KeptView}
 use Rattle.ed_view.specs.declared.folding.FoldNeed.{FoldNeed}
-use Rattle.id_table.specs.Entries.{Entry, Entries, entry, value_of, value_at, with_value_at}
+use Rattle.id_table.specs.Entries.{Entry, Entries, entry, value_at, with_value_at}
 use Rattle.scene.specs.Scenes.{views_of}
 use Rattle.message_plans.specs.Requested.{session_in, documents_in}
 use Rattle.message_plans.specs.declared.state.SessionState.{SessionState}
 use Rattle.session_changes.specs.Kept.{IsKept, DocumentsAreNamed}
-use Rattle.session_changes.specs.Asked.{IsAsked, CanChangeSession, CanChangeDocuments}
+use Rattle.session_changes.specs.Asked.{IsAsked, CanChangeSession}
 use Rattle.session_changes.specs.Clipboard.{copied, CanCopy}
-use Rattle.session_changes.specs.Folding.{HasFoldRoomAt, changed_at}
+use Rattle.session_changes.specs.Folding.{HasFoldRoomAt, IsFoldRoomAtMost, IsRoomAtMostAt, changed_at}
 use Rattle.session_changes.specs.Moving.{DocumentsRise, CanMove}
-use Rattle.session_changes.specs.Ready.{IsReady, IsNewDocument, AwaitsView, IsHeld}
-use Rattle.session_changes.specs.declared.ready.SessionReady.{SessionReady}
+use Rattle.session_changes.specs.Ready.{IsReady, AwaitsView, IsHeld}
 use Rattle.session_changes.specs.declared.ready.SessionReady.TheVariants as made
-use Rattle.session_changes.proofs.Finding.{document_in, id_of_document, own_at, holds_at, found_some, kept_as, for_replaced}
+use Rattle.session_changes.proofs.Finding.{document_in, id_of_document, own_at, holds_at, found_some, kept_as, for_replaced, value_replaced}
 use Rattle.session_changes.proofs.AskedLemmas.{of_document, view_found, on_document, document_found, kept_view, kept_document, stands, in_its_place}
 use Rattle.session_changes.proofs.MovingLemmas.{ChangesAlike, living_left}
 
@@ -44,11 +43,19 @@ pub when_ok : {A E : Type 0} (r : Result A E) (P Q : Type 0) → OnOk r P → (P
 when_ok (Ok a) P Q h f = f h
 when_ok (Err e) P Q h f = tt
 
+pub for_some : {V : Type 0} (P : V → Type 0) (o : Option V) (v : V) → o ≡ Some v → P v → IfSome o P
+for_some P o v e h = subst (λ x. IfSome x P) (sym e) h
+
 pub fold_room_there : (entries : List (Entry KeptView)) (view : ℕ) (old new : KeptView) (change : ViewChange) (need : FoldNeed) → value_at entries view ≡ Some old → new.view ≡ old.view
     → need ≡ fold_need (length old.view.flags) change → HasFoldRoom new.room need → HasFoldRoomAt (with_value_at view new entries) view change
 fold_room_there entries view old new change need at same is room =
     for_replaced (λ w. HasFoldRoom w.room (fold_need (length w.view.flags) change)) entries view old new at
     (subst (λ (v : View). HasFoldRoom new.room (fold_need (length v.flags) change)) (sym same) (subst (λ n. HasFoldRoom new.room n) is room))
+
+pub fold_room_most : (entries : List (Entry KeptView)) (view : ℕ) (old new : KeptView) (change : ViewChange) (need : FoldNeed) → value_at entries view ≡ Some old → need ≡ fold_need (length old.view.flags) change
+    → IsFoldRoomAtMost old new.room need → IsRoomAtMostAt entries (with_value_at view new entries) view change
+fold_room_most entries view old new change need at is most =
+    for_some _ _ old at (for_some _ _ new (value_replaced entries view old new at) (subst (λ n. IsFoldRoomAtMost old new.room n) is most))
 
 -- The clipboard.
 
@@ -63,8 +70,8 @@ starts_empty documents (change.Release id) bytes ready = absurd ready
 
 pub can_copy : (documents : Entries Kept) (what : SessionChange) (bytes : Vec ℕ) (r : Request) (text : List ℕ) → IsReady documents what (made.Clipboard bytes) → r.message.text ≡ text → IsFitSessionChange r what
     → CanCopy what (length r.document.cells) (length text) (vec_capacity bytes)
-can_copy documents (change.Copy start count) bytes r text ready is fit = (fit, ready.1)
-can_copy documents (change.CopyText count) bytes r text ready is fit = (subst (λ (t : List ℕ). count ≤ length t) is fit, ready.1)
+can_copy documents (change.Copy start count) bytes r text ready is fit = (fit, omega (arith, ready.1))
+can_copy documents (change.CopyText count) bytes r text ready is fit = (subst (λ (t : List ℕ). count ≤ length t) is fit, omega (arith, ready.1))
 can_copy documents (change.Attach id) bytes r text ready is fit = absurd ready.0
 can_copy documents change.AttachNew bytes r text ready is fit = absurd ready
 can_copy documents (change.Create options) bytes r text ready is fit = absurd ready
@@ -338,9 +345,6 @@ attached_old_so s new document view to r kept asked k at documents views next_do
     (in_its_place s document view r kept asked (attached_to k.document) refl ∙ ap (λ (x : Session). with_view (attached_to k.document r.view) x.views) asked.session)
     documents views next_document next_view clipboard limits
     ∙ ap (attached to r.view) (sym asked.session)
-
-pub for_some : {V : Type 0} (P : V → Type 0) (o : Option V) (v : V) → o ≡ Some v → P v → IfSome o P
-for_some P o v e h = subst (λ x. IfSome x P) (sym e) h
 
 pub some_of : {V : Type 0} (P : V → Type 0) (o : Option V) → IsSomeAnd o P → (v : V) × (o ≡ Some v)
 some_of P None h = absurd h

@@ -1,9 +1,12 @@
 -- Changes of a view, and the room in it that they need.
-use Rattle.std.specs.Prelude.{◌≡◌, ℕ, ◌==◌, if◌then◌else◌, Bool, true, false, not, List, map, length, IsSomeAnd}
+use Rattle.std.specs.Prelude.{◌≡◌, ℕ, ◌+◌, ◌*◌, ◌≤◌, max, ◌==◌, if◌then◌else◌, Bool, true, false, not, List, map, length, IfSome, IsSomeAnd}
 use Rattle.ed_model.specs.declared.plan.ViewChange.{ViewChange}
 use Rattle.ed_model.specs.declared.plan.ViewChange.TheVariants.{HideLines, SetExpanded, Contract, Expand, EnsureVisible}
 use Rattle.ed_model.specs.Rows.{Row}
 use Rattle.ed_model.specs.Session.{Document, View}
+use Rattle.split_vector.specs.Split.{most_room}
+use Rattle.contraction.specs.ViewLines.{FoldRoom, contracted_lines}
+use Rattle.ed_view.specs.declared.folding.FoldNeed.{FoldNeed}
 use Rattle.ed_view.specs.Folding.{fold_need, IsWithin, HasFoldRoom}
 use Rattle.ed_view.specs.Kept.{KeptView}
 use Rattle.id_table.specs.Entries.{Entry, value_at}
@@ -20,6 +23,16 @@ takes_fold_room other = false
 -- the view is there, and has the room
 abbrev pub HasFoldRoomAt : List (Entry KeptView) → ℕ → ViewChange → Type 0
 HasFoldRoomAt entries view change = IsSomeAnd (value_at entries view) (λ v. HasFoldRoom v.room (fold_need (length v.view.flags) change))
+
+-- the room is at most what making so much of it for a view comes to
+abbrev pub IsFoldRoomAtMost : KeptView → FoldRoom → FoldNeed → Type 0
+IsFoldRoomAtMost old room need =
+    (room.hidden ≤ max need.hidden (2 * old.room.hidden + 1)) × (room.contracted ≤ most_room (contracted_lines old.view.flags + 1) old.room.contracted need.contracted)
+
+-- .. and so is that of the view of that id, for the change
+abbrev pub IsRoomAtMostAt : List (Entry KeptView) → List (Entry KeptView) → ℕ → ViewChange → Type 0
+IsRoomAtMostAt old new view change =
+    IfSome (value_at old view) (λ before. IfSome (value_at new view) (λ after. IsFoldRoomAtMost before after.room (fold_need (length before.view.flags) change)))
 
 -- the fold levels of the document's lines
 abbrev pub levels_of : Document → List ℕ

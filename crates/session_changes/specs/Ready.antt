@@ -1,8 +1,8 @@
 -- What is made before a session changes, so that the change cannot fail.
-use Rattle.std.specs.Prelude.{◌≡◌, ℕ, ◌≤◌, ◌<◌, nat_lt, Bool, true, false, [], IfSome, vec_capacity}
+use Rattle.std.specs.Prelude.{◌≡◌, ℕ, ◌<◌, nat_lt, Bool, true, false, [], IfSome, vec_capacity}
 use Rattle.ed_model.specs.declared.plan.SessionChange.{SessionChange}
 use Rattle.ed_model.specs.declared.plan.SessionChange.TheVariants as change
-use Rattle.ed_model.specs.Session.{Document, new_document}
+use Rattle.ed_model.specs.Session.{new_document}
 use Rattle.id_table.specs.Entries.{Entries, value_at}
 use Rattle.document.specs.Kept.{Kept}
 use Rattle.session_changes.specs.declared.ready.SessionReady.{SessionReady}
@@ -10,7 +10,7 @@ use Rattle.session_changes.specs.declared.ready.SessionReady.TheVariants as read
 
 -- no bytes yet, and room for so many
 abbrev pub IsClipboardFor : ℕ → SessionReady → Type 0
-IsClipboardFor count (ready.Clipboard bytes) = (bytes.items ≡ []) × (count ≤ vec_capacity bytes)
+IsClipboardFor count (ready.Clipboard bytes) = (bytes.items ≡ []) × (vec_capacity bytes ≡ count)
 IsClipboardFor count other = ⊥
 
 -- the document, and room for it in the table

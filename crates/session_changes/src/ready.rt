@@ -35,7 +35,7 @@ fn clipboard_for(alloc: Global, count: usize) -> Result<SessionReady, AllocError
     ensures free { count ≡ 0 → IsOk result }
 {
     let mut bytes = Vec::new(alloc);
-    let Ok(()) = bytes.reserve(count) else {
+    let Ok(()) = bytes.reserve_exact(count) else {
         return Err(AllocError);
     };
     Ok(SessionReady::Clipboard { bytes })

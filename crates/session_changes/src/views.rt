@@ -9,7 +9,7 @@ ghost use Rattle.scene.specs.Scenes.{views_of, AreNamed};
 ghost use Rattle.message_plans.specs.Requested.{session_in};
 ghost use Rattle.session_changes.specs.Kept.{IsKept, ViewsRise};
 ghost use Rattle.session_changes.specs.Asked.{IsAsked, CanChangeView};
-ghost use Rattle.session_changes.specs.Folding.{takes_fold_room, HasFoldRoomAt, levels_of, changed_at, CanChange};
+ghost use Rattle.session_changes.specs.Folding.{takes_fold_room, HasFoldRoomAt, IsRoomAtMostAt, levels_of, changed_at, CanChange};
 
 use contraction::Levels;
 use document::Document;
@@ -32,6 +32,7 @@ fn reserve_in(views: &mut IdTable<View>, view: u32, change: ViewChange) -> Resul
     ensures named { AreNamed views.new.entries }
     ensures next { views.new.next ≡ views.old.next }
     ensures ok { OnOk result (HasFoldRoomAt views.new.entries view change) }
+    ensures at_most { IsRoomAtMostAt views.old.entries views.new.entries view change }
     ensures free { takes_fold_room change ≡ false → IsOk result }
 {
     let Some(view) = views.get_mut(view) else {
@@ -58,6 +59,7 @@ pub fn reserve_view_change(
     ensures documents { state.new.documents ≡ state.old.documents }
     ensures views { AreNamed state.new.views.entries }
     ensures ok { OnOk result (HasFoldRoomAt state.new.views.entries view change) }
+    ensures at_most { IsRoomAtMostAt state.old.views.entries state.new.views.entries view change }
     ensures free { takes_fold_room change ≡ false → IsOk result }
 {
     reserve_in(&mut state.views, view, change)

@@ -1,7 +1,7 @@
 -- One call after the other.
-use Rattle.std.proofs.Common.{arith, ◌≡◌, ℕ, ◌+◌, ◌≤◌, List, [], ◌∷◌}
+use Rattle.std.proofs.Common.{arith, ℕ, ◌+◌, ◌≤◌, List, [], ◌∷◌}
 use Rattle.split_vector.specs.Split.{apart}
-use Rattle.partitioning.specs.SumLaws.{Steps, KeepsTo, EachKeepsTo, steps_after, sum_of_ways}
+use Rattle.partitioning.specs.SumLaws.{Steps, EachKeepsTo, steps_after, sum_of_ways}
 use Rattle.partitioning.proofs.laws.steps_add_up.Goals as goal
 
 calls_change : (was : Steps) (calls : List (ℕ × Steps)) → EachKeepsTo was calls → (steps_after was calls).stepped ≤ was.stepped + sum_of_ways was calls

@@ -1,4 +1,4 @@
-use Rattle.std.proofs.Common.{sym, ap, ◌∙◌, ◌<◌, IfSome}
+use Rattle.std.proofs.Common.{sym, ap, ◌∙◌, ◌<◌}
 use Rattle.std.specs.Option.{option_copied_mut}
 use Rattle.document.specs.Kept.{Kept}
 use Rattle.session_changes.proofs.Finding.{document_in, id_of_document, unchanged, named_with, value_replaced}

@@ -1,10 +1,7 @@
-use Rattle.std.proofs.Common.{sym, ap, ◌∙◌, OnOk}
+use Rattle.std.proofs.Common.{sym, ap, ◌∙◌}
 use Rattle.std.specs.Option.{option_copied_mut}
-use Rattle.std.specs.Prelude.{length}
-use Rattle.ed_view.specs.Folding.{fold_need, HasFoldRoom}
-use Rattle.ed_view.specs.declared.folding.FoldNeed.{FoldNeed}
 use Rattle.session_changes.proofs.Finding.{view_in, id_of_view, unchanged, named_with}
-use Rattle.session_changes.proofs.SessionLemmas.{when_ok, fold_room_there}
+use Rattle.session_changes.proofs.SessionLemmas.{when_ok, fold_room_there, fold_room_most}
 use Rattle.session_changes.proofs.views.reserve_in.Goals as goal
 
 pub returns-clause-same : goal.returns-clause-same
@@ -22,3 +19,8 @@ returns-clause-ok c =
     when_ok c.reserve_folding.result _ _ c.reserve_folding.ensures.ok
     (fold_room_there c.args.views.now.entries c.args.view c.in-Some.view.now c.reserve_folding.new.self c.args.change c.fold_need-need.result
     (sym c.get_mut.ensures.value ∙ ap option_copied_mut c.in-Some.is) c.reserve_folding.ensures.same c.fold_need-need.ensures)
+
+pub returns-clause-at_most : goal.returns-clause-at_most
+returns-clause-at_most c =
+    fold_room_most c.args.views.now.entries c.args.view c.in-Some.view.now c.reserve_folding.new.self c.args.change c.fold_need-need.result
+    (sym c.get_mut.ensures.value ∙ ap option_copied_mut c.in-Some.is) c.fold_need-need.ensures (c.reserve_folding.ensures.at_most_hidden, c.reserve_folding.ensures.at_most_contracted)

@@ -1,0 +1,93 @@
+//! Starts that are read by look-ups, and a count of what they read.
+ghost use Rattle.std.specs.Prelude.{◌≡◌, ◌≤◌, ◌<◌, ◌+◌, ◌^◌, length, slice_index};
+ghost use Rattle.partitioning.specs.Partitions.{ArePartitions};
+ghost use Rattle.split_vector.specs.Split.{counted};
+
+use crate::places::Place;
+use crate::table::Partitioning;
+use std::alloc::Allocator;
+use std::marker::Model;
+
+/// How many starts look-ups have read so far, or `u64::MAX` for any number above it.
+#[derive(Drop)]
+pub struct Probes {
+    reads: u64,
+}
+
+impl Model for Probes {
+    ghost use Rattle.std.specs.Prelude.{ℕ};
+
+    ghost Value = { ℕ };
+
+    ghost view = { λ p. p.reads };
+}
+
+impl Probes {
+    /// Returns a count of 0.
+    pub fn new() -> Self
+        ensures { result ≡ 0 }
+    {
+        Probes { reads: 0 }
+    }
+
+    /// Returns how many starts were read.
+    pub fn count(&self) -> u64
+        ensures { result ≡ self.now }
+    {
+        self.reads
+    }
+}
+
+/// The starts of a partitioning, as a look-up is handed them: outside this module a start is read by `probe` alone, which counts it.
+#[derive(Drop)]
+pub(crate) struct CountedStarts<'a, P: Place, A: Allocator> {
+    table: &'a Partitioning<P, A>,
+}
+
+impl<'a, P: Place, A: Allocator> Model for CountedStarts<'a, P, A> {
+    ghost use Rattle.partitioning.specs.Partitions.{Partitions, partitions_code};
+
+    ghost Value = { Partitions };
+
+    ghost coded = { partitions_code };
+
+    ghost view = { λ c. c.table.now };
+}
+
+impl<'a, P: Place, A: Allocator> CountedStarts<'a, P, A> {
+    /// The starts of this partitioning.
+    pub(crate) fn of(table: &'a Partitioning<P, A>) -> Self
+        ensures { result ≡ table.now }
+    {
+        CountedStarts { table }
+    }
+
+    /// Returns the number of partitions, which is at least 1.
+    pub(crate) fn count(&self) -> usize
+        ensures count { result ≡ length self.now.starts }
+        ensures within { length self.now.starts + self.now.room < 2 ^ 63 }
+        ensures sound { ArePartitions self.now.starts self.now.length }
+    {
+        self.table.count()
+    }
+
+    /// Returns the length of the whole.
+    pub(crate) fn length(&self) -> usize
+        ensures length { result ≡ self.now.length }
+        ensures within { self.now.length ≤ P.GREATEST }
+        ensures sound { ArePartitions self.now.starts self.now.length }
+    {
+        self.table.length()
+    }
+
+    /// Returns where the partition starts, and counts that it was read.
+    pub(crate) fn probe(&self, index: usize, probes: &mut Probes) -> P
+        requires { index < length self.now.starts }
+        ensures start { P.number result ≡ slice_index self.now.starts index }
+        ensures probes { probes.new ≡ counted probes.old 1 }
+        ensures rises { probes.old ≤ probes.new }
+    {
+        probes.reads = probes.reads.saturating_add(1);
+        self.table.place_of(index)
+    }
+}
