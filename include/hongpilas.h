@@ -1,0 +1,355 @@
+/* Hongpilas: an editing component with the messages of Scintilla 5.
+ *
+ * A session has documents and views on them. It is reached by calls that are
+ * proved: what each answers and changes is what docs/MESSAGES.md states.
+ *
+ * Answers. A call of type hongpilas_answer answers HONGPILAS_DONE, or the number
+ * of a refusal. A refused call has changed nothing: neither the session, nor the
+ * last reply, nor what a pointer that it was given leads to.
+ *
+ * What the caller owes, which nothing checks:
+ *  - a session is set by hongpilas_new or hongpilas_new_with_limits alone, is not
+ *    copied, and is used by no call after hongpilas_free;
+ *  - a session is used by one call at a time, on the thread that made it;
+ *  - no pointer is null, also where the length beside it is 0. hongpilas_call, below,
+ *    takes a null text;
+ *  - bytes that were lent are only read, and not after the next call on the session;
+ *    where their length is 0, the address means nothing.
+ *
+ * Texts are bytes with a length. There is no closing NUL, and a NUL is an ordinary
+ * byte. Positions and lengths are in bytes and count from 0.
+ *
+ * The library has no global state. It takes memory by malloc, realloc and free. */
+#ifndef HONGPILAS_H
+#define HONGPILAS_H
+
+#include <stdbool.h>
+#include <stddef.h>
+#include <stdint.h>
+
+#ifdef __cplusplus
+extern "C" {
+#endif
+
+/* The version of this interface: the major number times 1000, and the minor one.
+ * hongpilas_version answers that of the library that is linked. */
+#define HONGPILAS_VERSION 1000
+uint32_t hongpilas_version(void);
+
+/* A session. One word, which means nothing to the caller. */
+typedef struct hongpilas {
+  void *at;
+} hongpilas;
+
+/* What a call answers. */
+typedef uint32_t hongpilas_answer;
+enum {
+  HONGPILAS_DONE = 0,
+  HONGPILAS_OUT_OF_MEMORY = 1,    /* a growth was refused */
+  HONGPILAS_NO_SUCH_VIEW = 2,     /* no view has that id now */
+  HONGPILAS_UNKNOWN_MESSAGE = 3,  /* the profile has no such message */
+  HONGPILAS_NO_SUCH_DOCUMENT = 4, /* no document has that id now, or the caller holds no reference to it */
+  HONGPILAS_TOO_LONG = 5,         /* the text would pass its limit after some step */
+  HONGPILAS_BAD_ARGUMENT = 6,     /* an argument is outside the range that the message states */
+  HONGPILAS_TOO_MANY = 7          /* handles, ids, references, the depth of groups or open views are used up */
+};
+
+/* The name of an answer, as "no such view". *name is set to where it begins, and its
+ * length is answered. It stands for good. The second form copies it, as far as
+ * there is room, and answers how many bytes that is. */
+size_t hongpilas_refusal_name(hongpilas_answer answer, const uint8_t **name);
+size_t hongpilas_copy_refusal_name(hongpilas_answer answer, uint8_t *into, size_t room);
+
+/* Limits of a session. Each is from 1 to the greatest, which stands behind it. */
+typedef struct hongpilas_limits {
+  uint64_t doc_bytes;   /* bytes of a document: 0x7FFFFFFF */
+  uint64_t large_bytes; /* bytes of a document that was made for large texts: 0x10000000000 */
+  uint64_t handles;     /* marker handles of one document, ever: 0x7FFFFFFF */
+  uint64_t ids;         /* document ids, ever; and view ids, ever: 0x7FFFFFFF */
+  uint64_t refs;        /* references to one document: 0x7FFFFFFF */
+  uint64_t views;       /* open views: 1024 */
+  uint64_t depth;       /* depth of undo groups: 255 */
+} hongpilas_limits;
+
+/* Opens a session without documents and views: with the greatest limits, or with
+ * lower ones. *session may be anything before. What a session had that was open is
+ * not given back by this.
+ * Refused: OUT_OF_MEMORY; BAD_ARGUMENT where a limit is 0 or above the greatest. */
+hongpilas_answer hongpilas_new(hongpilas *session);
+hongpilas_answer hongpilas_new_with_limits(hongpilas *session, const hongpilas_limits *limits);
+
+/* Gives an open session back, with all that it has. */
+void hongpilas_free(hongpilas session);
+
+/* Opens a view on a new document. *view is set to its id: 1, 2, 3 and so on, and none
+ * is given twice. Refused: TOO_MANY, OUT_OF_MEMORY. */
+hongpilas_answer hongpilas_new_view(hongpilas *session, uint32_t *view);
+
+/* Closes a view. A document that no view is attached to and no caller holds goes with
+ * it. Takes no memory. Refused: NO_SUCH_VIEW. */
+hongpilas_answer hongpilas_close_view(hongpilas *session, uint32_t view);
+
+/* Sends a message to a view. docs/MESSAGES.md says what w, l and the text stand for,
+ * what is done, and when it is refused. The text is read where it lies, and not kept.
+ * *value is set to the value that is answered. The reply's text and notes are kept
+ * until the next message that is done. */
+hongpilas_answer hongpilas_send(hongpilas *session, uint32_t view, uint32_t number, int64_t w, int64_t l,
+                                const uint8_t *text, size_t length, int64_t *value);
+
+/* The same, with a text that may be null where its length is 0, and a value that may
+ * be null where it is not asked for. A null text of another length is refused as
+ * BAD_ARGUMENT, and a null session as NO_SUCH_VIEW. */
+static inline hongpilas_answer hongpilas_call(hongpilas *session, uint32_t view, uint32_t number, int64_t w, int64_t l,
+                                              const void *text, size_t length, int64_t *value) {
+  static const uint8_t none = 0;
+  int64_t unasked = 0;
+  if (session == NULL) return HONGPILAS_NO_SUCH_VIEW;
+  if (text == NULL && length != 0) return HONGPILAS_BAD_ARGUMENT;
+  return hongpilas_send(session, view, number, w, l, text == NULL ? &none : (const uint8_t *)text, length,
+                        value == NULL ? &unasked : value);
+}
+
+/* The last reply: its value; 0 before the first message that was done. */
+int64_t hongpilas_value(hongpilas *session);
+
+/* The last reply's text, lent: *text is set to where it begins, and its length is
+ * answered. The second form copies the bytes from `start` on, as many as there are
+ * and as have room, and answers how many that is. */
+size_t hongpilas_text(hongpilas *session, const uint8_t **text);
+size_t hongpilas_copy_text(hongpilas *session, size_t start, uint8_t *into, size_t room);
+
+/* A note: what a view is told. Fields that its code does not name are 0. */
+typedef struct hongpilas_note_data {
+  uint32_t view;       /* the view that is told */
+  uint32_t code;       /* which note, as SCN_MODIFIED */
+  uint32_t kind;       /* Scintilla's modificationType */
+  uint32_t message;    /* the number of a recorded message */
+  int64_t position;    /* a position, in bytes */
+  int64_t length;      /* a length, in bytes */
+  int64_t lines;       /* Scintilla's linesAdded */
+  int64_t line;        /* a line, from 0 */
+  int64_t now;         /* a fold level after a change: foldLevelNow */
+  int64_t prev;        /* a fold level before it: foldLevelPrev */
+  int64_t token;       /* the token of a container's own undo step */
+  int64_t w;           /* the arguments of a recorded message */
+  int64_t l;
+  const uint8_t *text; /* the note's text, lent */
+  size_t text_length;  /* its length, in bytes */
+} hongpilas_note_data;
+
+/* How many notes the last reply has; and the one with this index, from 0, in the order
+ * in which they were told: true where there is one, else *note is as it was. */
+size_t hongpilas_note_count(hongpilas *session);
+bool hongpilas_note(hongpilas *session, size_t index, hongpilas_note_data *note);
+
+/* Copies a note's text from `start` on, as many bytes as there are and as have room,
+ * and answers how many that is; 0 where there is no such note. */
+size_t hongpilas_copy_note_text(hongpilas *session, size_t index, size_t start, uint8_t *into, size_t room);
+
+/* Lends the `count` bytes of the view's document from `start` on, with no copy: *bytes
+ * is set to where they begin. The second form copies as many bytes as it is given room
+ * for. Neither changes the session or the last reply, and neither takes memory.
+ * Refused: NO_SUCH_VIEW; BAD_ARGUMENT where the range ends past the end of the text. */
+hongpilas_answer hongpilas_lend_range(hongpilas *session, uint32_t view, size_t start, size_t count,
+                                      const uint8_t **bytes);
+hongpilas_answer hongpilas_copy_range(hongpilas *session, uint32_t view, size_t start, uint8_t *into, size_t count);
+
+/* Scintilla's names and numbers, as far as the profile has them. */
+/* Written by tools/header.py: begin */
+/* Messages. */
+#define SCI_ADDTEXT                2001
+#define SCI_INSERTTEXT             2003
+#define SCI_CLEARALL               2004
+#define SCI_GETLENGTH              2006
+#define SCI_GETCHARAT              2007
+#define SCI_GETCURRENTPOS          2008
+#define SCI_GETANCHOR              2009
+#define SCI_GETSTYLEAT             2010
+#define SCI_REDO                   2011
+#define SCI_SETUNDOCOLLECTION      2012
+#define SCI_SELECTALL              2013
+#define SCI_SETSAVEPOINT           2014
+#define SCI_GETSTYLEDTEXT          2015
+#define SCI_CANREDO                2016
+#define SCI_MARKERLINEFROMHANDLE   2017
+#define SCI_MARKERDELETEHANDLE     2018
+#define SCI_GETUNDOCOLLECTION      2019
+#define SCI_GOTOLINE               2024
+#define SCI_GOTOPOS                2025
+#define SCI_SETANCHOR              2026
+#define SCI_GETCURLINE             2027
+#define SCI_GETENDSTYLED           2028
+#define SCI_CONVERTEOLS            2029
+#define SCI_GETEOLMODE             2030
+#define SCI_SETEOLMODE             2031
+#define SCI_STARTSTYLING           2032
+#define SCI_SETSTYLING             2033
+#define SCI_MARKERADD              2043
+#define SCI_MARKERDELETE           2044
+#define SCI_MARKERDELETEALL        2045
+#define SCI_MARKERGET              2046
+#define SCI_MARKERNEXT             2047
+#define SCI_MARKERPREVIOUS         2048
+#define SCI_SETSTYLINGEX           2073
+#define SCI_BEGINUNDOACTION        2078
+#define SCI_ENDUNDOACTION          2079
+#define SCI_SETLINESTATE           2092
+#define SCI_GETLINESTATE           2093
+#define SCI_GETLINEENDPOSITION     2136
+#define SCI_GETREADONLY            2140
+#define SCI_SETCURRENTPOS          2141
+#define SCI_SETSELECTIONSTART      2142
+#define SCI_GETSELECTIONSTART      2143
+#define SCI_SETSELECTIONEND        2144
+#define SCI_GETSELECTIONEND        2145
+#define SCI_GETLINE                2153
+#define SCI_GETLINECOUNT           2154
+#define SCI_GETMODIFY              2159
+#define SCI_SETSEL                 2160
+#define SCI_GETSELTEXT             2161
+#define SCI_GETTEXTRANGE           2162
+#define SCI_LINEFROMPOSITION       2166
+#define SCI_POSITIONFROMLINE       2167
+#define SCI_REPLACESEL             2170
+#define SCI_SETREADONLY            2171
+#define SCI_CANPASTE               2173
+#define SCI_CANUNDO                2174
+#define SCI_EMPTYUNDOBUFFER        2175
+#define SCI_UNDO                   2176
+#define SCI_CUT                    2177
+#define SCI_COPY                   2178
+#define SCI_PASTE                  2179
+#define SCI_CLEAR                  2180
+#define SCI_SETTEXT                2181
+#define SCI_GETTEXT                2182
+#define SCI_GETTEXTLENGTH          2183
+#define SCI_SETTARGETSTART         2190
+#define SCI_GETTARGETSTART         2191
+#define SCI_SETTARGETEND           2192
+#define SCI_GETTARGETEND           2193
+#define SCI_REPLACETARGET          2194
+#define SCI_SEARCHINTARGET         2197
+#define SCI_SETSEARCHFLAGS         2198
+#define SCI_GETSEARCHFLAGS         2199
+#define SCI_VISIBLEFROMDOCLINE     2220
+#define SCI_DOCLINEFROMVISIBLE     2221
+#define SCI_SETFOLDLEVEL           2222
+#define SCI_GETFOLDLEVEL           2223
+#define SCI_GETLASTCHILD           2224
+#define SCI_GETFOLDPARENT          2225
+#define SCI_SHOWLINES              2226
+#define SCI_HIDELINES              2227
+#define SCI_GETLINEVISIBLE         2228
+#define SCI_SETFOLDEXPANDED        2229
+#define SCI_GETFOLDEXPANDED        2230
+#define SCI_TOGGLEFOLD             2231
+#define SCI_ENSUREVISIBLE          2232
+#define SCI_GETALLLINESVISIBLE     2236
+#define SCI_FOLDLINE               2237
+#define SCI_APPENDTEXT             2282
+#define SCI_TARGETFROMSELECTION    2287
+#define SCI_CHARLEFT               2304
+#define SCI_CHARLEFTEXTEND         2305
+#define SCI_CHARRIGHT              2306
+#define SCI_CHARRIGHTEXTEND        2307
+#define SCI_HOME                   2312
+#define SCI_HOMEEXTEND             2313
+#define SCI_LINEEND                2314
+#define SCI_LINEENDEXTEND          2315
+#define SCI_DOCUMENTSTART          2316
+#define SCI_DOCUMENTSTARTEXTEND    2317
+#define SCI_DOCUMENTEND            2318
+#define SCI_DOCUMENTENDEXTEND      2319
+#define SCI_DELETEBACK             2326
+#define SCI_NEWLINE                2329
+#define SCI_LINELENGTH             2350
+#define SCI_GETDOCPOINTER          2357
+#define SCI_SETDOCPOINTER          2358
+#define SCI_SETMODEVENTMASK        2359
+#define SCI_CREATEDOCUMENT         2375
+#define SCI_ADDREFDOCUMENT         2376
+#define SCI_RELEASEDOCUMENT        2377
+#define SCI_GETMODEVENTMASK        2378
+#define SCI_GETDOCUMENTOPTIONS     2379
+#define SCI_POSITIONBEFORE         2417
+#define SCI_POSITIONAFTER          2418
+#define SCI_COPYRANGE              2419
+#define SCI_COPYTEXT               2420
+#define SCI_MARKERADDSET           2466
+#define SCI_SETPASTECONVERTENDINGS 2467
+#define SCI_GETPASTECONVERTENDINGS 2468
+#define SCI_SETINDICATORCURRENT    2500
+#define SCI_GETINDICATORCURRENT    2501
+#define SCI_SETINDICATORVALUE      2502
+#define SCI_GETINDICATORVALUE      2503
+#define SCI_INDICATORFILLRANGE     2504
+#define SCI_INDICATORCLEARRANGE    2505
+#define SCI_INDICATORALLONFOR      2506
+#define SCI_INDICATORVALUEAT       2507
+#define SCI_INDICATORSTART         2508
+#define SCI_INDICATOREND           2509
+#define SCI_SETEMPTYSELECTION      2556
+#define SCI_ADDUNDOACTION          2560
+#define SCI_DELETERANGE            2645
+#define SCI_GETSELECTIONEMPTY      2650
+#define SCI_SETLINEENDTYPESALLOWED 2656
+#define SCI_GETLINEENDTYPESALLOWED 2657
+#define SCI_GETLINEENDTYPESACTIVE  2658
+#define SCI_SETTARGETRANGE         2686
+#define SCI_GETTARGETTEXT          2687
+#define SCI_TARGETWHOLEDOCUMENT    2690
+#define SCI_STARTRECORD            3001
+#define SCI_STOPRECORD             3002
+#define SCI_COLOURISE              4003
+
+/* Notes. */
+#define SCN_MACRORECORD      2009
+#define SCN_STYLENEEDED      2000
+#define SCN_SAVEPOINTREACHED 2002
+#define SCN_SAVEPOINTLEFT    2003
+#define SCN_MODIFYATTEMPTRO  2004
+#define SCN_MODIFIED         2008
+
+/* Constants. */
+#define SCFIND_MATCHCASE              4
+#define SCFIND_WHOLEWORD              2
+#define SCFIND_WORDSTART              0x100000
+#define SC_DOCUMENTOPTION_STYLES_NONE 1
+#define SC_DOCUMENTOPTION_TEXT_LARGE  0x100
+#define SC_EOL_CR                     1
+#define SC_EOL_CRLF                   0
+#define SC_EOL_LF                     2
+#define SC_FOLDACTION_CONTRACT        0
+#define SC_FOLDACTION_EXPAND          1
+#define SC_FOLDACTION_TOGGLE          2
+#define SC_FOLDLEVELBASE              0x400
+#define SC_FOLDLEVELHEADERFLAG        0x2000
+#define SC_FOLDLEVELNUMBERMASK        0xFFF
+#define SC_FOLDLEVELWHITEFLAG         0x1000
+#define SC_LASTSTEPINUNDOREDO         0x100
+#define SC_LINE_END_TYPE_DEFAULT      0
+#define SC_LINE_END_TYPE_UNICODE      1
+#define SC_MODEVENTMASKALL            0x7FFFFF
+#define SC_MOD_BEFOREDELETE           0x800
+#define SC_MOD_BEFOREINSERT           0x400
+#define SC_MOD_CHANGEFOLD             8
+#define SC_MOD_CHANGEINDICATOR        0x4000
+#define SC_MOD_CHANGELINESTATE        0x8000
+#define SC_MOD_CHANGEMARKER           0x200
+#define SC_MOD_CHANGESTYLE            4
+#define SC_MOD_CONTAINER              0x40000
+#define SC_MOD_DELETETEXT             2
+#define SC_MOD_INSERTTEXT             1
+#define SC_MULTILINEUNDOREDO          0x1000
+#define SC_MULTISTEPUNDOREDO          0x80
+#define SC_PERFORMED_REDO             0x40
+#define SC_PERFORMED_UNDO             0x20
+#define SC_PERFORMED_USER             0x10
+#define SC_STARTACTION                0x2000
+/* Written by tools/header.py: end */
+
+#ifdef __cplusplus
+}
+#endif
+
+#endif
