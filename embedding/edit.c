@@ -13,7 +13,7 @@
 #include <termios.h>
 #include <unistd.h>
 
-enum { TAB_COLUMNS = 4, MARGIN = 7, BOOKMARK = 1, DEEPEST = 1000 };
+enum { TAB_COLUMNS = 4, MARGIN = 8, BOOKMARK = 1, DEEPEST = 1000 };
 
 /* A view, and what part of it is shown. */
 typedef struct pane {
@@ -244,13 +244,14 @@ static void load(const char *name) {
   }
   heard.is_modified = false;
   heard.lines = 1;
-  heard.position = heard.from = heard.to = 0;
+  heard.from = heard.to = 0;
   command(SCI_SETUNDOCOLLECTION, false, 0);
   for (size_t count; file != NULL && (count = fread(part, 1, sizeof part, file)) > 0;)
     send_text(&panes[active], SCI_APPENDTEXT, (int64_t)count, 0, part, count);
   command(SCI_SETUNDOCOLLECTION, true, 0);
   command(SCI_EMPTYUNDOBUFFER, 0, 0);
   take_line_end();
+  heard.position = 0;
   snprintf(file_name, sizeof file_name, "%s", name);
   if (file == NULL || ferror(file)) say(file == NULL ? "A new file" : "The file was not read to its end");
   if (file != NULL) fclose(file);
@@ -562,7 +563,7 @@ static void draw_line(const pane *p, int64_t line, int64_t width) {
   bool is_marked = (ask_of(p, SCI_MARKERGET, line) >> BOOKMARK & 1) != 0;
   bool is_header = (ask_of(p, SCI_GETFOLDLEVEL, line) & SC_FOLDLEVELHEADERFLAG) != 0;
   char sign = !is_header ? ' ' : ask_of(p, SCI_GETFOLDEXPANDED, line) ? '-' : '+';
-  printf("%c%4lld%c ", is_marked ? '*' : ' ', (long long)(line + 1) % 10000, sign);
+  printf("%c%5lld%c ", is_marked ? '*' : ' ', (long long)(line + 1) % 100000, sign);
   draw_text(p, line, width - MARGIN);
 }
 
@@ -583,9 +584,10 @@ static void scroll(pane *p, int64_t row, int64_t column, int64_t width) {
 
 static void draw_status(int64_t line, int64_t column) {
   char text[sizeof file_name + 512];
-  snprintf(text, sizeof text, "%s%s  line %lld of %lld, column %lld, last change at %lld  %s",
-           file_name[0] == '\0' ? "no name" : file_name, heard.is_modified ? ", changed" : "", (long long)line + 1,
-           (long long)heard.lines, (long long)column + 1, (long long)heard.position, notice);
+  snprintf(text, sizeof text, "%s%s  %s%sline %lld of %lld, column %lld, last change at %lld",
+           file_name[0] == '\0' ? "no name" : file_name, heard.is_modified ? ", changed" : "", notice,
+           notice[0] == '\0' ? "" : "  ", (long long)line + 1, (long long)heard.lines, (long long)column + 1,
+           (long long)heard.position);
   printf("\x1b[%d;1H\x1b[7m%-*.*s\x1b[27m", rows, columns - 1, columns - 1, text);
 }
 

@@ -148,6 +148,7 @@ def main():
         print("appended:", session.gettext().decode(errors="replace"))
         session.undo()
         print("undone:", session.gettext(), "redo:", session.canredo())
+        session.redo()
         session.settargetrange(0, session.getlength())
         print("found at", session.searchintarget(3, "wor"), "to", session.gettargetend())
         for refused in (lambda: session.gettextrange(5, 99), lambda: session.send(9999), lambda: session.bytes(0, 99)):
