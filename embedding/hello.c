@@ -1,0 +1,79 @@
+/* Opens a session, writes a text, reads it back in each way, and closes. */
+#include <hongpilas.h>
+#include <stdio.h>
+#include <string.h>
+
+static hongpilas session;
+
+/* Says what was answered; a refusal by its name. */
+static void say(const char *what, hongpilas_answer answer, int64_t value) {
+  const uint8_t *name;
+  size_t length = hongpilas_refusal_name(answer, &name);
+  printf("%s: %.*s, %lld\n", what, (int)length, (const char *)name, (long long)value);
+}
+
+static void send(uint32_t view, const char *what, uint32_t number, int64_t w, int64_t l, const char *text) {
+  int64_t value = 0;
+  hongpilas_answer answer =
+      hongpilas_call(&session, view, number, w, l, text, text == NULL ? 0 : strlen(text), &value);
+  say(what, answer, value);
+}
+
+static void tell_notes(void) {
+  hongpilas_note_data note;
+  for (size_t i = 0; hongpilas_note(&session, i, &note); i++)
+    printf("  note %u of view %u: kind %u, position %lld, length %lld, lines %lld, \"%.*s\"\n", (unsigned)note.code,
+           (unsigned)note.view, (unsigned)note.kind, (long long)note.position, (long long)note.length,
+           (long long)note.lines, (int)note.text_length, (const char *)note.text);
+}
+
+int main(void) {
+  const hongpilas_limits low = {10, 10, 10, 10, 10, 10, 10};
+  const hongpilas_limits none = {0, 10, 10, 10, 10, 10, 10};
+  const uint8_t *bytes;
+  uint8_t buffer[8];
+  uint32_t view = 0;
+  size_t length;
+
+  if (hongpilas_version() != HONGPILAS_VERSION) return 1;
+  if (hongpilas_new(&session) != HONGPILAS_DONE) return 1;
+  hongpilas_answer opened = hongpilas_new_view(&session, &view);
+  say("view", opened, view);
+
+  send(view, "INSERTTEXT", SCI_INSERTTEXT, 0, 0, "hello,\nworld");
+  tell_notes();
+  length = hongpilas_copy_note_text(&session, 2, 3, buffer, 3);
+  printf("  copied %zu bytes of note 2: \"%.*s\"; of no note %zu\n", length, (int)length, (const char *)buffer,
+         hongpilas_copy_note_text(&session, 3, 0, buffer, sizeof buffer));
+  send(view, "GETLENGTH", SCI_GETLENGTH, 0, 0, NULL);
+  send(view, "LINEFROMPOSITION", SCI_LINEFROMPOSITION, 9, 0, NULL);
+  send(view, "GETTEXT", SCI_GETTEXT, 0, 0, NULL);
+  length = hongpilas_text(&session, &bytes);
+  printf("  lent %zu bytes: \"%.*s\"\n", length, (int)length, (const char *)bytes);
+  length = hongpilas_copy_text(&session, 7, buffer, sizeof buffer);
+  printf("  copied %zu bytes: \"%.*s\"\n", length, (int)length, (const char *)buffer);
+  printf("  value %lld, %zu notes\n", (long long)hongpilas_value(&session), hongpilas_note_count(&session));
+
+  if (hongpilas_lend_range(&session, view, 3, 6, &bytes) != HONGPILAS_DONE) return 1;
+  printf("lent range: \"%.*s\"\n", 6, (const char *)bytes);
+  if (hongpilas_copy_range(&session, view, 7, buffer, 5) != HONGPILAS_DONE) return 1;
+  printf("copied range: \"%.*s\"\n", 5, (const char *)buffer);
+
+  say("range past the end", hongpilas_lend_range(&session, view, 7, 6, &bytes), 0);
+  length = hongpilas_copy_refusal_name(HONGPILAS_TOO_MANY, buffer, sizeof buffer);
+  printf("copied name: %.*s\n", (int)length, (const char *)buffer);
+  send(view, "no such message", 9999, 0, 0, NULL);
+  send(view + 1, "no such view", SCI_GETLENGTH, 0, 0, NULL);
+  say("null text", hongpilas_call(&session, view, SCI_INSERTTEXT, 0, 0, NULL, 1, NULL), 0);
+  say("close", hongpilas_close_view(&session, view), 0);
+  say("close again", hongpilas_close_view(&session, view), 0);
+  hongpilas_free(session);
+
+  say("a limit of 0", hongpilas_new_with_limits(&session, &none), 0);
+  if (hongpilas_new_with_limits(&session, &low) != HONGPILAS_DONE) return 1;
+  if (hongpilas_new_view(&session, &view) != HONGPILAS_DONE) return 1;
+  send(view, "eleven bytes where ten may be", SCI_INSERTTEXT, 0, 0, "hello world");
+  send(view, "GETLENGTH", SCI_GETLENGTH, 0, 0, NULL);
+  hongpilas_free(session);
+  return 0;
+}

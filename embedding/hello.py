@@ -1,0 +1,161 @@
+#!/usr/bin/env python3
+"""Hongpilas in Python, by ctypes over the shared object: out/libhongpilas.so, or the one that HONGPILAS names."""
+import ctypes
+import os
+import re
+
+HERE = os.path.dirname(os.path.abspath(__file__))
+
+
+class Handle(ctypes.Structure):
+    """A session: one word, which means nothing to the caller."""
+
+    _fields_ = [("at", ctypes.c_void_p)]
+
+
+class Note(ctypes.Structure):
+    """What a view is told; hongpilas_note_data of the header."""
+
+    _fields_ = [
+        *((name, ctypes.c_uint32) for name in ("view", "code", "kind", "message")),
+        *((name, ctypes.c_int64) for name in ("position", "length", "lines", "line", "now", "prev", "token", "w", "l")),
+        ("bytes", ctypes.c_void_p),
+        ("byte_count", ctypes.c_size_t),
+    ]
+
+    @property
+    def text(self):
+        """Its text, copied. It is there until the next message."""
+        return lent(self.bytes, self.byte_count)
+
+
+class Refused(Exception):
+    """A call was refused, and has changed nothing."""
+
+
+def lent(address, length):
+    """A copy of bytes that were lent."""
+    return ctypes.string_at(address, length) if length else b""
+
+
+def constants():
+    """Scintilla's names and numbers, as the header has them."""
+    with open(os.path.join(HERE, "..", "include", "hongpilas.h"), encoding="utf-8") as header:
+        found = re.findall(r"^#define (SC\w+) +(0x[0-9A-F]+|\d+)$", header.read(), re.M)
+    return {name: int(number, 0) for name, number in found}
+
+
+def library():
+    """The shared object, with the types of its calls."""
+    lib = ctypes.CDLL(os.environ.get("HONGPILAS", os.path.join(HERE, "out", "libhongpilas.so")))
+    word, size, number = ctypes.POINTER(Handle), ctypes.c_size_t, ctypes.c_int64
+    address, view = ctypes.POINTER(ctypes.c_void_p), ctypes.c_uint32
+    types = {
+        "new": (view, [word]),
+        "free": (None, [Handle]),
+        "new_view": (view, [word, ctypes.POINTER(view)]),
+        "close_view": (view, [word, view]),
+        "send": (view, [word, view, view, number, number, ctypes.c_char_p, size, ctypes.POINTER(number)]),
+        "text": (size, [word, address]),
+        "note": (ctypes.c_bool, [word, size, ctypes.POINTER(Note)]),
+        "lend_range": (view, [word, view, size, size, address]),
+        "refusal_name": (size, [view, address]),
+    }
+    for name, (result, arguments) in types.items():
+        function = getattr(lib, "hongpilas_" + name)
+        function.restype, function.argtypes = result, arguments
+    return lib
+
+
+class Session:
+    """A session with one view, given back at the end of `with`.
+
+    Messages are methods by their names in lower case: session.gettextrange(3, 8). A text among the arguments is the message's text;
+    ADDTEXT and the like have its length as their first number. What is answered is the text that the message hands out, or else its value.
+    """
+
+    lib = library()
+    numbers = {name[4:].lower(): number for name, number in constants().items() if name.startswith("SCI_")}
+    hands_out = {"getline", "getcurline", "gettext", "gettextrange", "getseltext", "getstyledtext", "gettargettext"}
+
+    def __init__(self):
+        self.handle, self.view = Handle(), ctypes.c_uint32()
+        self.check(self.lib.hongpilas_new(self.handle))
+        self.check(self.lib.hongpilas_new_view(self.handle, self.view))
+
+    def __enter__(self):
+        return self
+
+    def __exit__(self, *_):
+        self.lib.hongpilas_free(self.handle)
+        self.handle = Handle()
+
+    def check(self, answer):
+        """Raises what a refusal's number stands for."""
+        if answer:
+            name = ctypes.c_void_p()
+            length = self.lib.hongpilas_refusal_name(answer, name)
+            raise Refused(lent(name.value, length).decode())
+
+    def send(self, number, w=0, l=0, text=b""):
+        """Sends a message, and answers its value."""
+        value = ctypes.c_int64()
+        self.check(self.lib.hongpilas_send(self.handle, self.view, number, w, l, text, len(text), value))
+        return value.value
+
+    def text(self):
+        """The text that the last message handed out."""
+        where = ctypes.c_void_p()
+        length = self.lib.hongpilas_text(self.handle, where)
+        return lent(where.value, length)
+
+    def notes(self):
+        """The notes of the last message."""
+        note, index = Note(), 0
+        while self.lib.hongpilas_note(self.handle, index, note):
+            yield note
+            note, index = Note(), index + 1
+
+    def bytes(self, start, end):
+        """Bytes of the document, without a message."""
+        where = ctypes.c_void_p()
+        self.check(self.lib.hongpilas_lend_range(self.handle, self.view, start, end - start, where))
+        return lent(where.value, end - start)
+
+    def __getattr__(self, name):
+        if name not in self.numbers:
+            raise AttributeError(name)
+
+        def message(*arguments):
+            texts = [argument.encode() if isinstance(argument, str) else argument for argument in arguments]
+            numbers = [argument for argument in texts if not isinstance(argument, bytes)]
+            text = b"".join(argument for argument in texts if isinstance(argument, bytes))
+            value = self.send(self.numbers[name], *numbers, text=text)
+            return self.text() if name in self.hands_out else value
+
+        return message
+
+
+def main():
+    names = {number: name for name, number in constants().items() if name.startswith("SCN_")}
+    with Session() as session:
+        session.inserttext(0, "hello,\nworld\n")
+        for note in session.notes():
+            print(f"{names[note.code]}: kind {note.kind:#x}, position {note.position}, lines {note.lines}, {note.text}")
+        print(session.getlength(), "bytes,", session.getlinecount(), "lines")
+        print(session.getline(1), session.gettextrange(3, 8), session.bytes(0, 5))
+        session.appendtext(8, "größer")
+        print("appended:", session.gettext().decode(errors="replace"))
+        session.undo()
+        print("undone:", session.gettext(), "redo:", session.canredo())
+        session.redo()
+        session.settargetrange(0, session.getlength())
+        print("found at", session.searchintarget(3, "wor"), "to", session.gettargetend())
+        for refused in (lambda: session.gettextrange(5, 99), lambda: session.send(9999), lambda: session.bytes(0, 99)):
+            try:
+                refused()
+            except Refused as refusal:
+                print("refused:", refusal)
+
+
+main()
