@@ -46,6 +46,11 @@ done
 kept 'no such command' 4000000 "$program" go
 kept 'no such script' 4000000 "$program" run missing.sci
 kept 'want of memory' 300 "$program" run "$top/examples/hello.sci"
+kept 'a run without notes' 4000000 "$program" run --quiet "$top/examples/a_long_walk.sci"
+kept 'a line at fault' 4000000 "$program" check "$top/examples/hello.out"
+cp "$top/examples/steps/tour.orders" "$work/in"
+kept 'a tour of steps' 4000000 "$program" step "$top/examples/steps/tour.sci" "$top/examples/steps/tour.file1"
+: >"$work/in"
 
 # 16 MiB of insertions, one megabyte put in at once, and 1,000 views.
 awk 'BEGIN { print "sci 1"; print "open"; for (i = 0; i < 100000; i++) printf "send 1 2003 %d 0 \"abcdefghi\\x0a\"\n", i * 10 }' >"$work/many.sci"

@@ -1,6 +1,6 @@
 #!/bin/sh
-# Checks the exit statuses of sci_console, what it prints and its line on standard error, as each compiler built it. Run it anywhere in the
-# repository: it takes the programs that `rt ci` left, and where there are none builds one first.
+# Checks the exit statuses of sci_console, what it prints and its lines on standard error, each fault of a script, and a session of steps, as
+# each compiler built it. Run it anywhere in the repository: it takes the programs that `rt ci` left, and where there are none builds one first.
 set -u
 top=$(cd "$(dirname "$0")/.." && pwd)
 out=$top/crates/sci_console/out
@@ -42,11 +42,15 @@ expect() {
     tell "$name" "$good"
 }
 
+nl='
+'
 printf 'sci 1\nopen\nsend 1 2003 0 0 "hello"\nsend 1 2006 0 0 ""\n' >good.sci
 # What it prints, with the notes of the insertion.
 answered='= 1 ""\n= 0 ""\n@ 1 2008 1040 0 5 0 0 0 0 0 0 0 0 "hello"\n@ 1 2003 0 0 0 0 0 0 0 0 0 0 0 ""\n@ 1 2008 8209 0 5 0 0 0 0 0 0 0 0 "hello"\n= 5 ""\n'
+quiet='= 1 ""\n= 0 ""\n= 5 ""\n'
 printf 'sci 2\nopen\nexpect 2\n' >unmet.sci
 printf 'sci 1\nopen\nexpect 1\n' >wrong.sci
+unknown="line 3: UnknownCommand$nl    expect 1"
 printf 'sci 1\nopen\nsend 1 2003 0 0 "a\n' >cut.sci
 printf 'sci 3\n' >three.sci
 : >empty.sci
@@ -63,12 +67,14 @@ check_statuses() {
     expect 'check' 0 'ok 3\n' '' check good.sci
     expect 'an expect that is not met' 4 '= 1 ""\n- 2\n' '' run unmet.sci
     expect 'a listing of expects' 0 'sci 2\nopen\nexpect 2\n' '' list unmet.sci
-    expect 'a fault of line 3' 1 '' 'line 3: UnknownCommand' run wrong.sci
-    expect 'a fault, listed' 1 '' 'line 3: UnknownCommand' list wrong.sci
-    expect 'a fault, checked' 1 '' 'line 3: UnknownCommand' check wrong.sci
+    expect 'a fault of line 3' 1 '' "$unknown" run wrong.sci
+    expect 'a fault, listed' 1 '' "$unknown" list wrong.sci
+    expect 'a fault, checked' 1 '' "$unknown" check wrong.sci
+    expect 'a fault, run without notes' 1 '' "$unknown" run --quiet wrong.sci
+    expect 'a fault, stepped' 1 '' "$unknown" step wrong.sci
     expect 'an empty script' 1 '' 'line 1: NoLineEnd' run -
-    expect 'a fault of a text' 1 '' 'line 3: BadText' run cut.sci
-    expect 'a fault of the first line' 1 '' 'line 1: BadVersion' list three.sci
+    expect 'a fault of a text' 1 '' "line 3: BadText$nl    send 1 2003 0 0 \"a" run cut.sci
+    expect 'a fault of the first line' 1 '' "line 1: BadVersion$nl    sci 3" list three.sci
     expect 'an empty file for a script' 1 '' 'line 1: NoLineEnd' check empty.sci
     expect 'a check does not run' 0 'ok 2\n' '' check unmet.sci
     expect 'a script that is too long' 1 '' 'script too long' check long.sci
@@ -87,7 +93,19 @@ check_statuses() {
     expect 'no script' 2 '' '*' run
     expect 'an unknown flag' 2 '' '*' run --fast good.sci
     expect 'help' 2 '' '*' --help
-    expect 'help of a command' 2 '' '*' run --help
+    for command in run list check step; do
+        expect "help of $command" 2 '' '*' "$command" --help
+        if grep -q "^  sci_console $command fill.sci" err; then tell "an example of $command" yes; else tell "an example of $command" "$(cat err)"; fi
+    done
+    expect 'run without notes' 0 "$quiet" '' run --quiet good.sci
+    expect 'run without notes, asked for behind the script' 0 "$quiet" '' run good.sci file --quiet
+    expect 'run without notes, an expect that is not met' 4 '= 1 ""\n- 2\n' '' run --quiet unmet.sci
+    expect 'run without notes, no such file' 3 '' 'read fault' run --quiet good.sci missing
+    expect 'a listing without notes' 2 '' '*' list --quiet good.sci
+    expect 'steps without notes' 2 '' '*' step --quiet good.sci
+    expect 'steps without a script' 2 '' '*' step
+    expect 'steps of no such script' 3 '' 'read fault' step missing.sci
+    expect 'steps without orders' 0 '' '' step good.sci file
     cp good.sci in
     expect 'run of standard input' 0 "$answered" '' run -
     expect 'run of standard input with a file' 0 "$answered" '' run - file
@@ -95,14 +113,14 @@ check_statuses() {
     : >in
 
     # A device that is full takes nothing, and what is closed neither takes nor gives.
-    for command in run list check; do
+    for command in run list check 'run --quiet'; do
         if [ -w /dev/full ]; then
-            "$program" "$command" good.sci >/dev/full 2>err
+            "$program" $command good.sci >/dev/full 2>err
             tell_fault "$command to a full device" $? 3 'write fault'
         fi
-        "$program" "$command" good.sci >&- 2>err
+        "$program" $command good.sci >&- 2>err
         tell_fault "$command to a closed output" $? 3 'write fault'
-        "$program" "$command" - <&- >out 2>err
+        "$program" $command - <&- >out 2>err
         tell_fault "$command of a closed input" $? 3 'read fault'
     done
     # A file that no load names is read all the same, and one that cannot be opened is no file.
@@ -114,8 +132,156 @@ check_statuses() {
     tell_fault 'little memory' $? 1 'out of memory'
 }
 
+# fault NAME SCRIPT LINE [SHOWN]: the script, as printf's %b spells it, is refused with this line, and SHOWN is what is shown of the line at fault.
+fault() {
+    printf '%b' "$2" >in
+    expect "$1" 1 '' "$3${4:+$nl    $4}" check -
+    : >in
+}
+
+# Each cause of a fault, and which one is named where there are several.
+check_faults() {
+    fault 'an LF alone' '\n' 'line 1: BadVersion'
+    fault 'a version without its LF' 'sci 1' 'line 1: NoLineEnd' 'sci 1'
+    fault 'no version and no LF' 'open' 'line 1: NoLineEnd' 'open'
+    fault 'a version with a space' 'sci 1 \n' 'line 1: BadVersion' 'sci 1 '
+    fault 'a version with a CR' 'sci 1\r\n' 'line 1: BadVersion' 'sci 1\x0d'
+    fault 'a version in capitals' 'SCI 1\n' 'line 1: BadVersion' 'SCI 1'
+    fault 'a version with a zero before it' 'sci 01\n' 'line 1: BadVersion' 'sci 01'
+    fault 'a command without its LF' 'sci 1\nopen' 'line 2: NoLineEnd' 'open'
+    fault 'no command, and no LF' 'sci 1\nopened' 'line 2: NoLineEnd' 'opened'
+    fault 'an empty line' 'sci 1\n\nopen\n' 'line 2: UnknownCommand'
+    fault 'a space before a command' 'sci 1\n open\n' 'line 2: UnknownCommand' ' open'
+    fault 'a command with a CR' 'sci 1\nopen\r\n' 'line 2: UnknownCommand' 'open\x0d'
+    fault 'a command in capitals' 'sci 1\nOPEN\n' 'line 2: UnknownCommand' 'OPEN'
+    fault 'a NUL' 'sci 1\n\0000\n' 'line 2: UnknownCommand' '\x00'
+    fault 'a command of version 2' 'sci 1\nexpect 0\n' 'line 2: UnknownCommand' 'expect 0'
+    fault 'the first line at fault' 'sci 1\nopen\nclose\nclos\nopen' 'line 3: BadShape' 'close'
+    fault 'a space behind a command' 'sci 1\nopen \n' 'line 2: BadShape' 'open '
+    fault 'a field too many' 'sci 1\nclose 1 1\n' 'line 2: BadShape' 'close 1 1'
+    fault 'an empty number' 'sci 1\nclose \n' 'line 2: BadShape' 'close '
+    fault 'two spaces' 'sci 1\nload  1 1\n' 'line 2: BadShape' 'load  1 1'
+    fault 'a field too few' 'sci 1\nload 1\n' 'line 2: BadShape' 'load 1'
+    fault 'no text' 'sci 1\nsend 1 2006 0 0\n' 'line 2: BadShape' 'send 1 2006 0 0'
+    fault 'no opening quote' 'sci 1\nsend 1 2006 0 0 a"\n' 'line 2: BadShape' 'send 1 2006 0 0 a"'
+    fault 'something behind a text' 'sci 1\nsend 1 2006 0 0 "" \n' 'line 2: BadShape' 'send 1 2006 0 0 "" '
+    fault 'an expect of two values' 'sci 2\nexpect 1 2\n' 'line 2: BadShape' 'expect 1 2'
+    for number in +5 05 -0 00 1e3 0x5 x 4294967296 -1 1.0; do
+        fault "the number $number of a view" "sci 1\nclose $number\n" 'line 2: BadNumber' "close $number"
+    done
+    for number in +5 05 -0 -05 - -- 9223372036854775808 -9223372036854775809 99999999999999999999999999; do
+        fault "the number $number of an expect" "sci 2\nexpect $number\n" 'line 2: BadNumber' "expect $number"
+    done
+    fault 'a number with a tab' 'sci 1\nclose 1\t\n' 'line 2: BadNumber' 'close 1\x09'
+    fault 'a number before a shape' 'sci 1\nload x\n' 'line 2: BadNumber' 'load x'
+    fault 'a shape before a number' 'sci 1\nload  x\n' 'line 2: BadShape' 'load  x'
+    fault 'a number before a text' 'sci 1\nsend 1 +5 0 0 "\0200\n' 'line 2: BadNumber' 'send 1 +5 0 0 "\x80'
+    for text in '\\x41' '\\x22' '\\x5c' '\\x8' '\\x' '\\x8G' '\\xFF' '\\X80' '\\n' '\\ '; do
+        fault "the text $text" "sci 1\nsend 1 1 0 0 \"$text\"\n" 'line 2: BadText' "send 1 1 0 0 \"$(printf '%b' "$text")\""
+    done
+    fault 'the byte 0x80 as it is' 'sci 1\nsend 1 1 0 0 "\0200"\n' 'line 2: BadText' 'send 1 1 0 0 "\x80"'
+    fault 'the byte 0x7F as it is' 'sci 1\nsend 1 1 0 0 "\0177"\n' 'line 2: BadText' 'send 1 1 0 0 "\x7f"'
+    fault 'a tab as it is' 'sci 1\nsend 1 1 0 0 "\t"\n' 'line 2: BadText' 'send 1 1 0 0 "\x09"'
+    fault 'no closing quote' 'sci 1\nsend 1 1 0 0 "a\\"\n' 'line 2: BadText' 'send 1 1 0 0 "a\"'
+    printf 'sci 2\nopen\nexpect -9223372036854775808\nexpect 9223372036854775807\nsend 4294967295 4294967295 0 -1 "\\x80\\"\\\\ ~"\n' >in
+    expect 'the least and the greatest numbers' 0 'ok 4\n' '' check -
+    cp in same.sci
+    expect 'what is listed is what was read' 0 "$(sed 's/\\/\\\\/g' same.sci)\n" '' list -
+}
+
+# bytes N: that many times the letter a.
+bytes() { head -c "$1" /dev/zero | tr '\0' a; }
+
+# Lines and scripts of the greatest lengths, and one byte more; and what is shown of long lines.
+check_lengths() {
+    { printf 'sci 1\nsend 1 2006 0 0 "'; bytes 65518; printf '"\n'; } >in
+    expect 'a line of 65,536 bytes' 0 'ok 1\n' '' check -
+    { printf 'sci 1\nsend 1 2006 0 0 "'; bytes 65519; printf '"\n'; } >in
+    expect 'a line of 65,537 bytes' 1 '' "line 2: LineTooLong$nl    send 1 2006 0 0 \"$(bytes 103)..." check -
+    { printf 'sci 1\n'; bytes 65536; printf '\n'; } >in
+    expect 'no command, of 65,536 bytes' 1 '' "line 2: UnknownCommand$nl    $(bytes 120)..." check -
+    { printf 'sci 1\n'; bytes 65537; } >in
+    expect 'a line too long, without its LF' 1 '' "line 2: LineTooLong$nl    $(bytes 120)..." check -
+    bytes 65537 >in
+    expect 'a version too long' 1 '' "line 1: LineTooLong$nl    $(bytes 120)..." check -
+    { printf 'sci 1\n'; bytes 120; printf '\n'; } >in
+    expect 'a line of 120 bytes is shown whole' 1 '' "line 2: UnknownCommand$nl    $(bytes 120)" check -
+    { printf 'sci 1\n'; bytes 117; printf '\200a\n'; } >in
+    expect 'no escape is cut' 1 '' "line 2: UnknownCommand$nl    $(bytes 117)..." check -
+    # 256 commands: 255 lines of 65,536 bytes, and one of what is left.
+    bytes 65518 >text
+    { printf 'sci 1\n'; for line in $(seq 255); do printf 'send 1 2006 0 0 "'; cat text; printf '"\n'; done; printf 'send 1 2006 0 0 "'; bytes 65256; printf '"\n'; } >longest.sci
+    [ "$(wc -c <longest.sci)" = 16777216 ] || tell 'the longest script' 'it was not made'
+    expect 'a script of 16,777,216 bytes' 0 'ok 256\n' '' check longest.sci
+    { printf 'x'; cat longest.sci; } >in
+    expect 'a script of 16,777,217 bytes' 1 '' 'script too long' check -
+    head -c 16777216 long.sci >in
+    expect 'no script, of 16,777,216 bytes' 1 '' 'line 1: BadVersion' check -
+    : >in
+}
+
+# Each prefix of a worked script: it ends with a line, or in the midst of one.
+check_prefixes() {
+    printf 'sci 2\nopen\nload 1 1\nsend 1 2003 -1 0 "a\\x80\\""\nexpect 0\nclose 1\n' >worked.sci
+    length=$(wc -c <worked.sci) count=0
+    while [ "$count" -le "$length" ]; do
+        head -c "$count" worked.sci >in
+        lines=$(wc -l <in)
+        head -n "$lines" in >lines
+        if [ "$lines" -gt 0 ] && cmp -s in lines; then
+            expect "the first $count bytes" 0 "ok $((lines - 1))\n" '' check -
+        else
+            line="line $((lines + 1)): NoLineEnd" rest=$(tail -n +$((lines + 1)) in)
+            expect "the first $count bytes" 1 '' "$line${rest:+$nl    $rest}" check -
+        fi
+        count=$((count + 1))
+    done
+    : >in
+}
+
+# What a session of steps shows, and how it ends.
+check_steps() {
+    tour=$top/examples/steps
+    cp "$tour/tour.orders" in
+    "$program" step "$tour/tour.sci" "$tour/tour.file1" <in >out 2>err
+    got=$?
+    if [ "$got" = 0 ] && [ ! -s err ] && cmp -s out "$tour/tour.shown"; then tell 'a tour of steps' yes; else tell 'a tour of steps' "status $got; $(diff out "$tour/tour.shown" | head -n 3) $(cat err)"; fi
+    printf 'n\nq\nn\n' >in
+    expect 'steps that are ended' 0 'command 1: open a view\n  answer 1, the id of the view\n' '' step good.sci
+    printf 'n' >in
+    expect 'an order without its LF' 0 'command 1: open a view\n  answer 1, the id of the view\n' '' step good.sci
+    printf 'b\ng 4\ng 99999999999999999999\n' >in
+    expect 'places that the script does not have' 0 'there is no such place; 0 of 3 commands are done\nthere is no such place; 0 of 3 commands are done\nn next, b back, g N go to N, t text, l lines, h history, q quit: each on a line of its own\n' '' step good.sci
+    bytes 100000 >in
+    expect 'a long line of orders' 0 'n next, b back, g N go to N, t text, l lines, h history, q quit: each on a line of its own\n' '' step good.sci
+    printf 'sci 2\nopen\nsend 1 2003 0 0 "ab"\nsend 1 2006 0 0 ""\nexpect 2\n' >expects.sci
+    printf 'g 3\nt\nl\nh\nn\n' >in
+    "$program" step expects.sci <in >out 2>err
+    if [ "$(tail -n 2 out)" = "command 4: expect 2$nl  met" ]; then tell 'looks leave what is expected' yes; else tell 'looks leave what is expected' "$(tail -n 2 out)"; fi
+    # The caret behind the last byte, behind an LF, and before a selection; each stands below one line alone.
+    printf 'sci 1\nopen\nsend 1 2003 0 0 "ab\\x0acd"\nsend 1 2025 5 0 ""\nsend 1 2025 3 0 ""\nsend 1 2160 4 1 ""\n' >carets.sci
+    printf 'g 3\nt\ng 4\nt\ng 5\nt\n' >in
+    "$program" step carets.sci <in 2>err | sed -e '/^[0-9v]/d' -e 's/^ *//' >out
+    printf '0 | ab\\x0a\n1 | cd\n^\n0 | ab\\x0a\n1 | cd\n^\n0 | ab\\x0a\n^~~~~\n1 | cd\n~\n' >want
+    if cmp -s out want; then tell 'carets' yes; else tell 'carets' "$(diff out want | head -n 4)"; fi
+    printf 'n\n' >in
+    "$program" step good.sci <in >&- 2>err
+    tell_fault 'steps to a closed output' $? 3 'write fault'
+    "$program" step good.sci <&- >out 2>err
+    tell_fault 'orders of a closed input' $? 3 'read fault'
+    cp good.sci in
+    expect 'a script of standard input leaves no orders' 0 '' '' step -
+    : >in
+}
+
 for program in "$out/sci_console" "$out/sci_console.by-rattle"; do
-    [ -x "$program" ] && check_statuses
+    if [ -x "$program" ]; then
+        check_statuses
+        check_faults
+        check_lengths
+        check_prefixes
+        check_steps
+    fi
 done
 echo "statuses: $passed passed, $failed failed"
 [ "$failed" = 0 ]

@@ -3,6 +3,8 @@ use Rattle.std.specs.Prelude.{◌≡◌, ⊤, ℕ, ◌==◌, not, if◌then◌el
 use Rattle.std.specs.List.{list_all}
 use Rattle.sci_console.specs.declared.words.Job.{Job}
 use Rattle.sci_console.specs.declared.words.Job.TheVariants.{Run, List as ListJob, Check}
+use Rattle.sci_console.specs.declared.words.Task.{Task}
+use Rattle.sci_console.specs.declared.words.Task.TheVariants.{Whole, Step}
 use Rattle.sci_console.specs.declared.words.WordFault.{WordFault}
 use Rattle.sci_console.specs.declared.words.WordFault.TheVariants.{Usage, OutOfMemory}
 
@@ -29,3 +31,23 @@ abbrev pub ReadsWords : List (List ℕ) → Result Job WordFault → Type 0
 ReadsWords words (Ok job) = job_of words ≡ Some job
 ReadsWords words (Err (Usage error)) = job_of words ≡ None
 ReadsWords words (Err OutOfMemory) = ⊤
+
+-- `step SCRIPT FILE..` asks for steps
+abbrev pub step_of : List (List ℕ) → Option Task
+step_of [] = None
+step_of (verb ∷ []) = None
+step_of (verb ∷ script ∷ files) = if bytes_eq verb (codes "step") then Some (Step script files) else None
+
+abbrev pub step_or_job : Option Task → Option Job → Option Task
+step_or_job (Some task) job = Some task
+step_or_job None (Some job) = Some (Whole job)
+step_or_job None None = None
+
+abbrev pub task_of : List (List ℕ) → Option Task
+task_of words = step_or_job (step_of words) (job_of words)
+
+-- the same of tasks: steps, or a job
+abbrev pub ReadsTask : List (List ℕ) → Result Task WordFault → Type 0
+ReadsTask words (Ok task) = task_of words ≡ Some task
+ReadsTask words (Err (Usage error)) = task_of words ≡ None
+ReadsTask words (Err OutOfMemory) = ⊤

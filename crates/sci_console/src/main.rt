@@ -1,19 +1,24 @@
-//! The program `sci_console`: runs editing scripts, lists them, and checks them.
+//! The program `sci_console`: runs editing scripts, lists them, checks them, and steps through them.
 //!
-//!     sci_console run SCRIPT [FILE...]
+//!     sci_console run [--quiet] SCRIPT [FILE...]
 //!     sci_console list SCRIPT
 //!     sci_console check SCRIPT
+//!     sci_console step SCRIPT [FILE...]
 //!
 //! SCRIPT and each FILE are paths; `-` for SCRIPT is standard input.
 #![tactic(auto)]
 
+mod command_line;
 mod ends;
 mod fault;
 #[cfg(test)]
 mod memory;
 mod output;
+mod quiet;
 mod reading;
 mod running;
+mod shown;
+mod stepping;
 mod streams;
 #[cfg(test)]
 mod tests;
@@ -23,15 +28,17 @@ ghost use Rattle.std.specs.Prelude.{◌≡◌, IfOk, false, length};
 ghost use Rattle.sci_console.specs.Status.{status};
 
 use ed_types::{Bytes, ScriptFault};
-use ends::Source;
 use fault::{RunFault, status_of};
-use reading::read_file;
+use quiet::run_quietly;
+use reading::{read_file, read_script, read_text};
 use running::do_job;
+use shown::show_line;
 use std::fs::File;
 use std::process::ExitCode;
 use std::{env, io};
-use streams::{ReaderSource, WriterSink};
-use words::{Job, Word, WordFault, Words, read_words};
+use stepping::step_commands;
+use streams::{ReaderSource, TextSource, WriterSink};
+use words::{Job, Task, Word, WordFault, Words, read_task};
 
 /// The exit status for words that are no job, and for a request for help.
 const USAGE: u8 = 2;
@@ -69,39 +76,61 @@ fn read_files(rt: &HostRuntime, paths: &Words) -> Result<Vec<Bytes>, RunFault>
     Ok(files)
 }
 
-/// Does a job whose script comes from this source, and prints to standard output.
-fn perform<S: Source>(
-    rt: &HostRuntime,
-    job: &Job,
-    files: Vec<Bytes>,
-    source: &mut S,
-) -> Result<u64, RunFault>
-    requires { S.has_failed source.old ≡ false }
-{
-    let mut sink = WriterSink::new(rt.stdout());
-    do_job(rt.alloc(), job, files, source, &mut sink)
-}
-
-/// Does a job: reads its files, and then its script.
-fn run_job(rt: &HostRuntime, job: &Job) -> Result<u64, RunFault> {
-    let (script, files) = match job {
-        Job::Run { script, files } => (script, read_files(rt, files)?),
-        Job::List { script } | Job::Check { script } => (script, Vec::new(rt.alloc())),
-    };
+/// Reads the bytes of the script at a path, or of standard input for `-`.
+fn read_script_at(rt: &HostRuntime, script: &Word) -> Result<Vec<u8>, RunFault> {
     if script.as_str() == "-" {
         let mut source = ReaderSource::new(rt.stdin());
-        return perform(rt, job, files, &mut source);
+        return read_text(rt.alloc(), &mut source);
     }
     let mut source = open(rt, script)?;
-    perform(rt, job, files, &mut source)
+    read_text(rt.alloc(), &mut source)
 }
 
-/// Prints the line of a fault on standard error, if there is one, and answers the exit status.
-fn finish(rt: &HostRuntime, answer: &Result<u64, RunFault>) -> u8
+/// Steps through the script of these bytes, by the lines of standard input, and shows what is to be seen on standard output.
+fn step(rt: &HostRuntime, files: &[Bytes], text: &[u8]) -> Result<u64, RunFault> {
+    let script = read_script(rt.alloc(), &mut TextSource::new(text))?;
+    let mut orders = ReaderSource::new(rt.stdin());
+    let mut sink = WriterSink::new(rt.stdout());
+    step_commands(rt.alloc(), script.commands(), files, &mut orders, &mut sink)
+}
+
+/// Does a task with the script of these bytes, and prints to standard output.
+fn do_task(rt: &HostRuntime, task: &Task, files: Vec<Bytes>, text: &[u8]) -> Result<u64, RunFault> {
+    let mut source = TextSource::new(text);
+    let mut sink = WriterSink::new(rt.stdout());
+    match task {
+        Task::Whole(job) => do_job(rt.alloc(), job, files, &mut source, &mut sink),
+        Task::RunQuietly { .. } => run_quietly(rt.alloc(), &mut source, &files, &mut sink),
+        Task::Step { .. } => step(rt, &files, text),
+    }
+}
+
+/// Does a task: reads its files, and then its script. Sets `shown` to the line at fault where the script has one.
+fn run_task(rt: &HostRuntime, task: &Task, shown: &mut String) -> Result<u64, RunFault> {
+    let (script, files) = match task {
+        Task::Whole(Job::Run { script, files })
+        | Task::RunQuietly { script, files }
+        | Task::Step { script, files } => (script, read_files(rt, files)?),
+        Task::Whole(Job::List { script } | Job::Check { script }) => (script, Vec::new(rt.alloc())),
+    };
+    let text = read_script_at(rt, script)?;
+    let answer = do_task(rt, task, files, &text);
+    if let Err(RunFault::Script(ScriptFault::BadLine { line, .. })) = &answer {
+        // Where memory runs out, less of the line is shown.
+        let _ = show_line(shown, &text, *line);
+    }
+    answer
+}
+
+/// Prints the line of a fault on standard error, if there is one, and below it the line at fault, if it has bytes. Answers the exit status.
+fn finish(rt: &HostRuntime, answer: &Result<u64, RunFault>, shown: &str) -> u8
     ensures { result ≡ status answer.now }
 {
     if let Err(fault) = answer {
         let _ = eprintln!(rt; "{fault}");
+    }
+    if !shown.is_empty() {
+        let _ = eprintln!(rt; "    {shown}");
     }
     status_of(answer)
 }
@@ -120,17 +149,24 @@ fn tell_no_text(rt: &HostRuntime) -> ExitCode {
     ExitCode::from(USAGE)
 }
 
+/// Does a task, and answers the exit status.
+fn do_and_finish(rt: &HostRuntime, task: &Task) -> u8 {
+    let mut shown = String::new(rt.alloc());
+    let answer = run_task(rt, task, &mut shown);
+    finish(rt, &answer, shown.as_str())
+}
+
 fn main(rt: HostRuntime) -> ExitCode {
-    let job = match words_of(&rt) {
-        Ok(words) => read_words(rt.alloc(), &words),
+    let task = match words_of(&rt) {
+        Ok(words) => read_task(rt.alloc(), &words),
         Err(error) if error.kind() == io::ErrorKind::OutOfMemory => Err(WordFault::OutOfMemory),
         Err(_) => return tell_no_text(&rt),
     };
-    let status = match job {
-        Ok(job) => finish(&rt, &run_job(&rt, &job)),
+    let status = match task {
+        Ok(task) => do_and_finish(&rt, &task),
         Err(WordFault::Usage(error)) => tell_usage(&rt, &error),
         Err(WordFault::OutOfMemory) => {
-            finish(&rt, &Err(RunFault::Script(ScriptFault::OutOfMemory)))
+            finish(&rt, &Err(RunFault::Script(ScriptFault::OutOfMemory)), "")
         }
     };
     ExitCode::from(status)

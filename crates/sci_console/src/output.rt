@@ -11,7 +11,7 @@ use ed_types::Outcome;
 use macro_script::printing::append_outcome;
 
 /// The length at which a buffer is written, in bytes.
-const FULL: usize = 65_536;
+pub const FULL: usize = 65_536;
 
 /// Writes all bytes.
 pub fn write_all<W: Sink>(sink: &mut W, bytes: &[u8]) -> Result<(), WriteFailed>

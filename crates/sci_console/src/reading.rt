@@ -66,6 +66,16 @@ fn read_up_to<S: Source>(alloc: Global, source: &mut S, limit: usize) -> Result<
     Ok(text)
 }
 
+/// Reads the bytes of a script, at most 16 MiB and one byte.
+pub fn read_text<S: Source>(alloc: Global, source: &mut S) -> Result<Vec<u8>, RunFault>
+    requires { S.has_failed source.old ≡ false }
+    ensures text { IfOk result (λ text. IfSome (S.remaining source.old) (λ bytes. text.items ≡ take 16777217 bytes)) }
+    ensures taken { TakesAtMost 16777217 (S.remaining source.old) (S.remaining source.new) }
+    ensures cause { ReadEnds result (S.has_failed source.new) }
+{
+    read_up_to(alloc, source, SCRIPT_LIMIT)
+}
+
 /// Reads a script and assembles it. At most 16 MiB and one byte are read.
 pub fn read_script<S: Source>(alloc: Global, source: &mut S) -> Result<Script, RunFault>
     requires { S.has_failed source.old ≡ false }

@@ -21,10 +21,10 @@ use macro_script::printing::append_number;
 use std::alloc::Global;
 
 /// The room that a buffer starts with, in bytes.
-const ROOM: usize = 65_536;
+pub const ROOM: usize = 65_536;
 
 /// Whether an expect was not met.
-fn is_unmet(outcome: &Outcome) -> bool
+pub fn is_unmet(outcome: &Outcome) -> bool
     ensures { result ≡ is_unmet_outcome outcome.now }
 {
     match outcome {

@@ -1,6 +1,6 @@
-//! Readers and writers of std as the ends of a run.
+//! Readers and writers of std, and bytes, as the ends of a run.
 
-ghost use Rattle.std.specs.Prelude.{◌≡◌, false};
+ghost use Rattle.std.specs.Prelude.{◌≡◌, Some, false};
 
 use crate::ends::{ReadFailed, Sink, Source, WriteFailed};
 use std::io::{Read, Write};
@@ -83,5 +83,32 @@ impl<W: Write> Sink for WriterSink<W> {
                 Err(WriteFailed)
             }
         }
+    }
+}
+
+/// Bytes as a source. No read of it fails.
+#[derive(Drop)]
+pub struct TextSource<'a> {
+    rest: &'a [u8],
+}
+
+impl<'a> TextSource<'a> {
+    /// These bytes.
+    pub fn new(text: &'a [u8]) -> Self {
+        TextSource { rest: text }
+    }
+}
+
+impl<'a> Source for TextSource<'a> {
+    ghost remaining = { λ source. Some source.rest.now };
+
+    ghost has_failed = { λ _. false };
+
+    fn read(&mut self, buf: &mut [u8]) -> Result<usize, ReadFailed> {
+        let count = self.rest.len().min(buf.len());
+        let (front, rest) = self.rest.split_at(count);
+        buf[..count].copy_from_slice(front);
+        self.rest = rest;
+        Ok(count)
     }
 }

@@ -5,10 +5,11 @@ ghost use Rattle.std.specs.Prelude.{◌≡◌, false};
 use crate::fault::{RunFault, status_of};
 use crate::memory::{MemorySink, MemorySource};
 use crate::reading::read_file;
-use crate::running::{check_script, list_script, run_script};
-use crate::words::{Job, WordFault, read_words};
+use crate::running::{check_script, do_job, list_script, run_script};
+use crate::words::{Job, Task, WordFault, read_task, read_words};
 use ed_types::{Cause, ScriptFault};
 use std::alloc::Global;
+use std::process::Abort;
 use std::test::Fail;
 
 /// The script `examples/hello.sci`, and what it prints. `tools/run_examples.py` runs all the examples.
@@ -76,29 +77,94 @@ fn refuses_what_is_no_script(rt: HostRuntime) {
     }
 }
 
-#[test]
-fn stops_where_a_read_fails(rt: HostRuntime) {
-    for good in 0..6usize {
-        let mut sink = MemorySink::new(rt.alloc(), 5, 1000, false);
-        let answer = run(rt.alloc(), HELLO, good, &mut sink);
+/// How many reads of 7 bytes it takes to read HELLO, and to meet its end.
+const HELLO_READS: usize = 12;
+
+/// A job that asks for HELLO.
+fn job_of_hello(alloc: Global, verb: &str) -> Result<Job, WordFault> {
+    job(alloc, &[verb, "hello.sci"])
+}
+
+/// What a job of HELLO answers, from memory to memory.
+fn do_hello(
+    alloc: Global,
+    verb: &str,
+    good_reads: usize,
+    sink: &mut MemorySink,
+) -> Result<Result<u64, RunFault>, WordFault>
+    requires { sink.old.failed ≡ false }
+{
+    let job = job_of_hello(alloc, verb)?;
+    let mut source = MemorySource::new(HELLO, 7, good_reads);
+    Ok(do_job(alloc, &job, Vec::new(alloc), &mut source, sink))
+}
+
+/// What a check writes of it.
+const HELLO_CHECKED: &[u8] = b"ok 4\n";
+
+/// Each job, and what it writes of HELLO.
+const JOBS: [(&str, &[u8]); 3] = [
+    ("run", HELLO_PRINTED),
+    ("list", HELLO_LISTING),
+    ("check", HELLO_CHECKED),
+];
+
+/// A job of HELLO whose reads fail after `good` of them.
+fn stops_at_read(rt: &impl Abort, alloc: Global, verb: &str, good: usize) -> Result<(), Fail> {
+    let mut sink = MemorySink::new(alloc, 5, 1000, false);
+    let answer = do_hello(alloc, verb, good, &mut sink)?;
+    if good < HELLO_READS {
         assert!(rt; answer == Err(RunFault::Read));
         assert!(rt; sink.bytes().is_empty());
         assert_eq!(rt; status_of(&answer), 3);
+    } else {
+        assert!(rt; answer == Ok(0));
     }
+    Ok(())
 }
 
 #[test]
-fn stops_where_a_write_fails(rt: HostRuntime) {
-    for stalls in [false, true] {
-        for good in 0..4usize {
-            let mut sink = MemorySink::new(rt.alloc(), 10, good, stalls);
-            let answer = run(rt.alloc(), HELLO, 1000, &mut sink);
-            assert!(rt; answer == Err(RunFault::Write));
-            assert_eq!(rt; sink.bytes().len(), 10 * good);
-            assert!(rt; HELLO_PRINTED.starts_with(sink.bytes()));
-            assert_eq!(rt; status_of(&answer), 3);
+fn stops_at_each_failed_read(rt: HostRuntime) -> Result<(), Fail> {
+    for (verb, _) in &JOBS {
+        for good in 0..=HELLO_READS {
+            stops_at_read(&rt, rt.alloc(), verb, good)?;
         }
     }
+    Ok(())
+}
+
+/// A job of HELLO whose writes of 10 bytes fail after `good` of them, or take nothing where the sink stalls.
+fn stops_at_write(
+    rt: &impl Abort,
+    alloc: Global,
+    verb: &str,
+    text: &[u8],
+    good: usize,
+    stalls: bool,
+) -> Result<(), Fail> {
+    let mut sink = MemorySink::new(alloc, 10, good, stalls);
+    let answer = do_hello(alloc, verb, 1000, &mut sink)?;
+    if good < text.len().div_ceil(10) {
+        assert!(rt; answer == Err(RunFault::Write));
+        assert_eq!(rt; sink.bytes().len(), good.saturating_mul(10));
+        assert!(rt; text.starts_with(sink.bytes()));
+        assert_eq!(rt; status_of(&answer), 3);
+    } else {
+        assert!(rt; answer == Ok(0));
+        assert!(rt; sink.bytes() == text);
+    }
+    Ok(())
+}
+
+#[test]
+fn stops_at_each_failed_write(rt: HostRuntime) -> Result<(), Fail> {
+    for (verb, text) in &JOBS {
+        for good in 0..=text.len().div_ceil(10) {
+            stops_at_write(&rt, rt.alloc(), verb, text, good, false)?;
+            stops_at_write(&rt, rt.alloc(), verb, text, good, true)?;
+        }
+    }
+    Ok(())
 }
 
 #[test]
@@ -119,13 +185,23 @@ fn lists_and_checks(rt: HostRuntime) -> Result<(), Fail> {
     Ok(())
 }
 
-/// Reads words.
-fn job(alloc: Global, words: &[&str]) -> Result<Job, WordFault> {
+/// Words of their own.
+fn copies(alloc: Global, words: &[&str]) -> Result<Vec<String>, WordFault> {
     let mut copies = Vec::new(alloc);
     for word in words {
         copies.push(String::from_str(alloc, word)?)?;
     }
-    read_words(alloc, &copies)
+    Ok(copies)
+}
+
+/// Reads words as a job.
+fn job(alloc: Global, words: &[&str]) -> Result<Job, WordFault> {
+    read_words(alloc, &copies(alloc, words)?)
+}
+
+/// Reads words as a task.
+fn task(alloc: Global, words: &[&str]) -> Result<Task, WordFault> {
+    read_task(alloc, &copies(alloc, words)?)
 }
 
 fn is_usage_fault(job: &Result<Job, WordFault>) -> bool {
@@ -154,4 +230,26 @@ fn reads_words(rt: HostRuntime) {
     assert!(rt; is_usage_fault(&job(rt.alloc(), &["go", "a"])));
     assert!(rt; is_usage_fault(&job(rt.alloc(), &["--help"])));
     assert!(rt; is_usage_fault(&job(rt.alloc(), &["run", "--wrong"])));
+}
+
+#[test]
+fn reads_tasks(rt: HostRuntime) {
+    let step = task(rt.alloc(), &["step", "s", "f"]);
+    assert!(rt;
+        matches!(&step, Ok(Task::Step { script, files })
+        if script.as_str() == "s" && files.as_slice().len() == 1 && files.as_slice()[0].as_str() == "f")
+    );
+    let quiet = task(rt.alloc(), &["run", "--quiet", "s", "f"]);
+    assert!(rt;
+        matches!(&quiet, Ok(Task::RunQuietly { script, files })
+        if script.as_str() == "s" && files.as_slice().len() == 1 && files.as_slice()[0].as_str() == "f")
+    );
+    let check = task(rt.alloc(), &["check", "s"]);
+    assert!(rt; matches!(&check, Ok(Task::Whole(Job::Check { script })) if script.as_str() == "s"));
+    let run = task(rt.alloc(), &["run", "-"]);
+    assert!(rt; matches!(&run, Ok(Task::Whole(Job::Run { script, .. })) if script.as_str() == "-"));
+    // No job is asked for by these, but tasks.
+    assert!(rt; is_usage_fault(&job(rt.alloc(), &["step", "s"])));
+    assert!(rt; is_usage_fault(&job(rt.alloc(), &["run", "--quiet", "s"])));
+    assert!(rt; matches!(&task(rt.alloc(), &["step"]), Err(WordFault::Usage(_))));
 }

@@ -1,10 +1,11 @@
 //! The words behind the program's name, read as a job.
 
 ghost use Rattle.std.specs.Prelude.{◌≡◌, map, IfOk, IsErr, true, string_bytes};
-ghost use Rattle.sci_console.specs.Jobs.{are_plain as are_plain_texts, is_plain as is_plain_text, job_of, ReadsWords};
+ghost use Rattle.sci_console.specs.Jobs.{are_plain as are_plain_texts, is_plain as is_plain_text, job_of, step_of, ReadsWords, ReadsTask};
 
+use crate::command_line::{no_job, parsed_job, parsed_task};
+use clap::Error;
 use clap::error::ErrorKind;
-use clap::{Arg, ArgAction, ArgMatches, Command, Error};
 use std::alloc::{AllocError, AllocFailed, Global};
 use std::convert::AsStr;
 use std::marker::Model;
@@ -81,6 +82,17 @@ pub enum Job {
     Check { script: Word },
 }
 
+/// What the program is asked to do: a job, or something beyond the three forms of jobs.
+#[derive(Debug, Drop)]
+pub enum Task {
+    /// A job.
+    Whole(Job),
+    /// Runs a script with files, and prints no notes.
+    RunQuietly { script: Word, files: Words },
+    /// Steps through a script with files.
+    Step { script: Word, files: Words },
+}
+
 /// Why words are no job.
 #[derive(Debug, Drop)]
 pub enum WordFault {
@@ -134,14 +146,14 @@ fn are_plain(words: &[String]) -> bool
 }
 
 /// A copy of a word.
-fn copy_word(alloc: Global, word: &str) -> Result<Word, AllocError>
+pub fn copy_word(alloc: Global, word: &str) -> Result<Word, AllocError>
     ensures { IfOk result (λ copy. copy ≡ word.now) }
 {
     Ok(Word::new(String::from_str(alloc, word)?))
 }
 
 /// A copy of a list of words.
-fn copy_words<S: AsStr>(alloc: Global, words: &[S]) -> Result<Words, AllocError>
+pub fn copy_words<S: AsStr>(alloc: Global, words: &[S]) -> Result<Words, AllocError>
     ensures { IfOk result (λ copy. copy ≡ map S.text words.now) }
 {
     let mut copies = Vec::new(alloc);
@@ -177,78 +189,6 @@ fn direct_job(alloc: Global, words: &[String]) -> Result<Option<Job>, AllocError
     Ok(None)
 }
 
-/// The argument of each subcommand.
-fn script_argument<'a>(alloc: Global) -> Arg<'a> {
-    Arg::new(alloc, "SCRIPT")
-        .required(true)
-        .help("The script's path; `-` is standard input")
-}
-
-/// The program's command line.
-fn command<'a>(alloc: Global) -> Result<Command<'a>, AllocError> {
-    let files = Arg::new(alloc, "FILE")
-        .action(ArgAction::Append)
-        .num_args(0..)
-        .help("Files that the script loads");
-    let run = Command::new(alloc, "run")
-        .about("Runs a script")
-        .arg(script_argument(alloc))?
-        .arg(files)?;
-    let list = Command::new(alloc, "list")
-        .about("Prints a script's listing")
-        .arg(script_argument(alloc))?;
-    let check = Command::new(alloc, "check")
-        .about("Prints the number of a script's commands")
-        .arg(script_argument(alloc))?;
-    Command::new(alloc, "sci_console")
-        .about("Runs, lists and checks editing scripts")
-        .no_binary_name(true)
-        .disable_help_subcommand(true)
-        .subcommand_required(true)
-        .subcommand(run)?
-        .subcommand(list)?
-        .subcommand(check)
-}
-
-/// The job of a subcommand, if it is one of the program's.
-fn job_of_matches(alloc: Global, matches: &ArgMatches<'_>) -> Result<Option<Job>, AllocError> {
-    let Some((name, arguments)) = matches.subcommand() else {
-        return Ok(None);
-    };
-    let Some(script) = arguments.get_str("SCRIPT") else {
-        return Ok(None);
-    };
-    let script = copy_word(alloc, script)?;
-    if name == "list" {
-        return Ok(Some(Job::List { script }));
-    }
-    if name == "check" {
-        return Ok(Some(Job::Check { script }));
-    }
-    let files = match arguments.get_strs("FILE") {
-        Some(files) => copy_words(alloc, files)?,
-        None => Words::new(Vec::new(alloc)),
-    };
-    Ok(Some(Job::Run { script, files }))
-}
-
-/// The fault of words that are no job, where `clap` finds none itself.
-fn no_job(alloc: Global) -> Result<Job, WordFault>
-    ensures { IsErr result }
-{
-    let error = command(alloc)?.error(ErrorKind::InvalidSubcommand, "no job")?;
-    Err(WordFault::Usage(error))
-}
-
-/// The job that `clap` reads in the words.
-fn parsed_job(alloc: Global, words: &[String]) -> Result<Job, WordFault> {
-    let matches = command(alloc)?.try_get_matches_from(words)?;
-    match job_of_matches(alloc, &matches)? {
-        Some(job) => Ok(job),
-        None => no_job(alloc),
-    }
-}
-
 /// Reads the words behind the program's name: `run SCRIPT FILE..`, `list SCRIPT` or `check SCRIPT`.
 ///
 /// Where each word is plain, not empty and without `-` at its front, the answer is the job that they ask for and no other. `clap` reads
@@ -263,6 +203,40 @@ pub fn read_words(alloc: Global, words: &[String]) -> Result<Job, WordFault>
         Ok(Some(job)) => Ok(job),
         Ok(None) => match parsed_job(alloc, words) {
             Ok(_) => no_job(alloc),
+            Err(fault) => Err(fault),
+        },
+        Err(_) => Err(WordFault::OutOfMemory),
+    }
+}
+
+/// The task of the words `step SCRIPT FILE..`.
+fn direct_step(alloc: Global, words: &[String]) -> Result<Option<Task>, AllocError>
+    ensures { IfOk result (λ task. task ≡ step_of (map string_bytes words.now)) }
+{
+    let [verb, script, files @ ..] = words else {
+        return Ok(None);
+    };
+    if verb.as_str() == "step" {
+        let script = copy_word(alloc, script.as_str())?;
+        let files = copy_words(alloc, files)?;
+        return Ok(Some(Task::Step { script, files }));
+    }
+    Ok(None)
+}
+
+/// Reads the words behind the program's name: those of a job, `step SCRIPT FILE..`, or `run --quiet SCRIPT FILE..`.
+///
+/// Where each word is plain, the answer is the task that they ask for and no other.
+pub fn read_task(alloc: Global, words: &[String]) -> Result<Task, WordFault>
+    ensures { are_plain_texts (map string_bytes words.now) ≡ true → ReadsTask (map string_bytes words.now) result }
+{
+    if !are_plain(words) {
+        return parsed_task(alloc, words);
+    }
+    match direct_step(alloc, words) {
+        Ok(Some(task)) => Ok(task),
+        Ok(None) => match read_words(alloc, words) {
+            Ok(job) => Ok(Task::Whole(job)),
             Err(fault) => Err(fault),
         },
         Err(_) => Err(WordFault::OutOfMemory),

@@ -1,0 +1,156 @@
+//! The program's command line, as `clap` reads it, and the texts of usage.
+
+ghost use Rattle.std.specs.Prelude.{IsErr};
+
+use crate::words::{Job, Task, Word, WordFault, Words, copy_word, copy_words};
+use clap::error::ErrorKind;
+use clap::{Arg, ArgAction, ArgMatches, Command};
+use std::alloc::{AllocError, Global};
+
+/// What stands below the help of each word.
+const RUN_HELP: &str =
+    "Example:\n  sci_console run fill.sci text.txt\nruns fill.sci, in which `load 1 1` sets the text of view 1 to that of text.txt. It prints a line for each\ncommand: `= VALUE \"TEXT\"` for an answer, `! NUMBER` for a refusal, `+` and `-` for what was expected and came\nor did not; and below it a line `@ ..` for each note. The status is 4 where something expected did not come.";
+
+const LIST_HELP: &str =
+    "Example:\n  sci_console list fill.sci > same.sci\nwrites the commands of fill.sci as a script of version 2, which does the same.";
+
+const CHECK_HELP: &str =
+    "Example:\n  sci_console check fill.sci\nprints `ok 3` for a script of three commands, and runs none of them.";
+
+const STEP_HELP: &str =
+    "Example:\n  sci_console step fill.sci text.txt\nreads one order a line from standard input, and ends with the input:\n  n    does the next command, and tells what comes of it in words\n  b    goes back by one command\n  g N  goes to where the first N commands are done\n  t    shows the text of each view with its lines, its caret (^) and its selection (~)\n  l    shows the fold level, the markers and the flags of each line\n  h    shows what can be undone and redone\n  q    ends";
+
+/// The argument of each subcommand.
+fn script_argument<'a>(alloc: Global) -> Arg<'a> {
+    Arg::new(alloc, "SCRIPT")
+        .required(true)
+        .help("The script's path; `-` is standard input")
+}
+
+/// The files of a run.
+fn file_arguments<'a>(alloc: Global) -> Arg<'a> {
+    Arg::new(alloc, "FILE")
+        .action(ArgAction::Append)
+        .num_args(0..)
+        .help("Files that the script loads")
+}
+
+/// The flag of a run without notes.
+fn quiet_flag<'a>(alloc: Global) -> Arg<'a> {
+    Arg::new(alloc, "quiet")
+        .long("quiet")
+        .action(ArgAction::SetTrue)
+        .help("Prints no notes: no line that begins with @")
+}
+
+/// A subcommand with a script.
+fn with_script<'a>(
+    alloc: Global,
+    name: &'a str,
+    about: &'a str,
+    example: &'a str,
+) -> Result<Command<'a>, AllocError> {
+    Command::new(alloc, name)
+        .about(about)
+        .after_help(example)
+        .arg(script_argument(alloc))
+}
+
+/// The subcommand that runs.
+fn run_command<'a>(alloc: Global) -> Result<Command<'a>, AllocError> {
+    with_script(alloc, "run", "Runs a script", RUN_HELP)?
+        .arg(file_arguments(alloc))?
+        .arg(quiet_flag(alloc))
+}
+
+/// The subcommand that lists.
+fn list_command<'a>(alloc: Global) -> Result<Command<'a>, AllocError> {
+    with_script(alloc, "list", "Prints a script's listing", LIST_HELP)
+}
+
+/// The subcommand that checks.
+fn check_command<'a>(alloc: Global) -> Result<Command<'a>, AllocError> {
+    let about = "Prints the number of a script's commands";
+    with_script(alloc, "check", about, CHECK_HELP)
+}
+
+/// The subcommand that steps.
+fn step_command<'a>(alloc: Global) -> Result<Command<'a>, AllocError> {
+    let about = "Steps through a script, and shows what each command does";
+    with_script(alloc, "step", about, STEP_HELP)?.arg(file_arguments(alloc))
+}
+
+/// The program's command line.
+fn command<'a>(alloc: Global) -> Result<Command<'a>, AllocError> {
+    Command::new(alloc, "sci_console")
+        .about("Runs, lists, checks and steps through editing scripts")
+        .no_binary_name(true)
+        .disable_help_subcommand(true)
+        .subcommand_required(true)
+        .subcommand(run_command(alloc)?)?
+        .subcommand(list_command(alloc)?)?
+        .subcommand(check_command(alloc)?)?
+        .subcommand(step_command(alloc)?)
+}
+
+/// The task of a subcommand that takes files.
+fn task_with_files(name: &str, is_quiet: bool, script: Word, files: Words) -> Task {
+    if name == "step" {
+        return Task::Step { script, files };
+    }
+    if is_quiet {
+        return Task::RunQuietly { script, files };
+    }
+    Task::Whole(Job::Run { script, files })
+}
+
+/// The task of a subcommand, if it is one of the program's.
+fn task_of_matches(alloc: Global, matches: &ArgMatches<'_>) -> Result<Option<Task>, AllocError> {
+    let Some((name, arguments)) = matches.subcommand() else {
+        return Ok(None);
+    };
+    let Some(script) = arguments.get_str("SCRIPT") else {
+        return Ok(None);
+    };
+    let script = copy_word(alloc, script)?;
+    if name == "list" {
+        return Ok(Some(Task::Whole(Job::List { script })));
+    }
+    if name == "check" {
+        return Ok(Some(Task::Whole(Job::Check { script })));
+    }
+    let files = match arguments.get_strs("FILE") {
+        Some(files) => copy_words(alloc, files)?,
+        None => Words::new(Vec::new(alloc)),
+    };
+    let is_quiet = arguments.get_flag("quiet");
+    Ok(Some(task_with_files(name, is_quiet, script, files)))
+}
+
+/// The fault of words that are no job, where `clap` finds none itself.
+pub fn no_job(alloc: Global) -> Result<Job, WordFault>
+    ensures { IsErr result }
+{
+    let error = command(alloc)?.error(ErrorKind::InvalidSubcommand, "no job")?;
+    Err(WordFault::Usage(error))
+}
+
+/// The task that `clap` reads in the words.
+pub fn parsed_task(alloc: Global, words: &[String]) -> Result<Task, WordFault> {
+    let matches = command(alloc)?.try_get_matches_from(words)?;
+    match task_of_matches(alloc, &matches)? {
+        Some(task) => Ok(task),
+        None => match no_job(alloc) {
+            Ok(job) => Ok(Task::Whole(job)),
+            Err(fault) => Err(fault),
+        },
+    }
+}
+
+/// The job that `clap` reads in the words.
+pub fn parsed_job(alloc: Global, words: &[String]) -> Result<Job, WordFault> {
+    match parsed_task(alloc, words)? {
+        Task::Whole(job) => Ok(job),
+        Task::RunQuietly { .. } | Task::Step { .. } => no_job(alloc),
+    }
+}
