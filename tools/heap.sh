@@ -60,8 +60,8 @@ done_within 'a hundred thousand insertions' 40000000 "$program" run "$work/many.
 kept 'a thousand views' 4000000 "$program" run "$work/views.sci"
 done_within 'a thousand views' 1000000 "$program" run "$work/views.sci"
 
-# The most bytes that a test of a large size may hold at once. The texts of all have 1,048,576 bytes, in 65,536 lines. Where a block grows, the old one of
-# half the size is there beside it. 40,000 bytes are for what the heap rounds up.
+# The most bytes that a test of a large size may hold at once. The texts of `large_tests` have 1,048,576 bytes, in 65,536 lines. Where a block grows, the old
+# one of half the size is there beside it. 40,000 bytes are for what the heap rounds up.
 bound() {
     case "$1" in
         # the text, its copy, the items one by one in a block that grew, which is gone when 65,536 numbers of 4 bytes come
@@ -83,6 +83,12 @@ bound() {
         a_long_script_is_listed_and_read) echo $((7340032 + 2400000 + 3200006 + 40000)) ;;
         # a text of 700,000 bytes that grew by doubling
         many_outcomes_are_printed) echo $((1048576 + 40000)) ;;
+        # a piece of 1 MiB, 8 MiB of bytes and as many of styles, and the 16 MiB that are handed out in a block that did not grow
+        styled_text_of_a_large_size) echo $((1048576 + 2 * 8388608 + 16777216 + 40000)) ;;
+        # 1,024 views of 200 bytes, of each 16 in the order of ids, 4 in its document's list and two blocks of 24, and 3,072 notes of 112
+        many_views_hear_one_document) echo $((1024 * (200 + 16 + 4 + 2 * 24) + 3072 * 112 + 40000)) ;;
+        # room for 1,024 documents of 840 bytes beside that for 512, with as many views of 200, and of both 16 in the order of ids and five blocks of 24
+        many_views_have_documents_of_their_own) echo $((1024 * 840 + 512 * (840 + 200 + 2 * 16 + 5 * 24) + 40000)) ;;
         *) echo 0 ;;
     esac
 }
@@ -94,9 +100,9 @@ for tests in "$top"/crates/*/out/*_tests; do
     for name in $("$tests" --list | sed -n 's/: test$//p'); do
         kept "$name" 2000000000 "$tests" "$name"
         case "$name" in
-            large_tests::*)
+            large_tests::* | large_session_tests::*)
                 large=$((large + 1))
-                HEAP_PEAK=$(bound "${name#large_tests::}")
+                HEAP_PEAK=$(bound "${name#*::}")
                 export HEAP_PEAK
                 done_within "$name, all in $HEAP_PEAK bytes and 4 seconds," 2000000000 timeout 4 "$tests" "$name"
                 unset HEAP_PEAK

@@ -7,7 +7,6 @@ use ed_view::{Target, View};
 use line_index::LineEdit;
 use line_rows::LineRows;
 use selection::{Movement, Selection};
-use std::alloc::AllocError;
 use std::process::Abort;
 use std::test::Fail;
 
@@ -27,16 +26,11 @@ fn assert_expanded(rt: &impl Abort, view: &View, wanted: &[bool]) {
     }
 }
 
-// Makes room for a change of a line's fold, and makes it.
-fn fold(
-    rt: &impl Abort,
-    view: &mut View,
-    levels: &Levels,
-    change: ViewChange,
-) -> Result<(), AllocError> {
+// Makes room for a change of a line's fold, which is there, and makes it.
+fn fold(rt: &impl Abort, view: &mut View, levels: &Levels, change: ViewChange) {
     let lines = view.lines().count();
     assert!(rt; levels.count() == lines);
-    view.reserve_folding(view.fold_need(change))?;
+    assert!(rt; view.reserve_folding(view.fold_need(change)).is_ok());
     match change {
         ViewChange::Contract { line } => assert!(rt; line < lines),
         ViewChange::Expand { line } => assert!(rt; line < lines),
@@ -47,7 +41,6 @@ fn fold(
         _ => {}
     }
     view.change(levels, change);
-    Ok(())
 }
 
 // A line end is put in at the place, so that a line comes before the line.
@@ -75,176 +68,165 @@ fn take_line_end_out(rt: &impl Abort, view: &mut View, place: usize, line: usize
     );
 }
 
-#[test]
-fn inner_folds_of_a_view_stay_contracted(rt: HostRuntime) -> Result<(), Fail> {
+// Of each test, one function owns the view on one way out, and another one, to which it is lent, does all else: what owns a view
+// on many ways out takes long to prove.
+
+fn assert_inner_folds(rt: &impl Abort, view: &mut View) {
     let before = [0x2400, 0x2401];
     let after = [0x402, 0x401];
     let levels = Levels::new(&before, &after, 4);
-    let mut view = View::new(rt.alloc(), 1, 1, 4)?;
-    fold(&rt, &mut view, &levels, ViewChange::Contract { line: 1 })?;
-    fold(&rt, &mut view, &levels, ViewChange::Contract { line: 0 })?;
-    assert_visible(&rt, &view, &[true, false, false, false]);
-    fold(&rt, &mut view, &levels, ViewChange::Expand { line: 0 })?;
-    assert_visible(&rt, &view, &[true, true, false, true]);
-    assert_expanded(&rt, &view, &[true, false, true, true]);
-    fold(
-        &rt,
-        &mut view,
-        &levels,
-        ViewChange::EnsureVisible { line: 2 },
-    )?;
-    assert_visible(&rt, &view, &[true, true, true, true]);
-    assert_expanded(&rt, &view, &[true, true, true, true]);
+    fold(rt, view, &levels, ViewChange::Contract { line: 1 });
+    fold(rt, view, &levels, ViewChange::Contract { line: 0 });
+    assert_visible(rt, view, &[true, false, false, false]);
+    fold(rt, view, &levels, ViewChange::Expand { line: 0 });
+    assert_visible(rt, view, &[true, true, false, true]);
+    assert_expanded(rt, view, &[true, false, true, true]);
+    fold(rt, view, &levels, ViewChange::EnsureVisible { line: 2 });
+    assert_visible(rt, view, &[true, true, true, true]);
+    assert_expanded(rt, view, &[true, true, true, true]);
     let contracted = ViewChange::SetExpanded { line: 3, on: false };
-    fold(&rt, &mut view, &levels, contracted)?;
-    assert_expanded(&rt, &view, &[true, true, true, false]);
+    fold(rt, view, &levels, contracted);
+    assert_expanded(rt, view, &[true, true, true, false]);
+}
+
+#[test]
+fn inner_folds_of_a_view_stay_contracted(rt: HostRuntime) -> Result<(), Fail> {
+    let mut view = View::new(rt.alloc(), 1, 1, 4)?;
+    assert_inner_folds(&rt, &mut view);
     Ok(())
 }
 
-// The levels that a document keeps of its lines, as they are lent.
+// Four lines, with the levels that a document keeps of them.
+fn make_rows(rt: &impl Abort, rows: &mut LineRows) {
+    assert!(rt; rows.count() == 1);
+    assert!(rt; rows.reserve(3).is_ok());
+    rows.carry(&[LineEdit::Come { line: 1, count: 3 }]);
+    assert!(rt; rows.count() == 4);
+    assert!(rt; rows.reserve_levels(3).is_ok());
+    rows.set_level(2, 0x401);
+    rows.set_level(1, 0x2400);
+}
+
+fn assert_folded_by_rows(rt: &impl Abort, rows: &LineRows, view: &mut View) {
+    let (first, second) = rows.levels().stored();
+    let levels = Levels::new(first, second, rows.count());
+    fold(rt, view, &levels, ViewChange::Contract { line: 1 });
+    assert_visible(rt, view, &[true, true, false, true]);
+    assert_expanded(rt, view, &[true, false, true, true]);
+}
+
+// The levels are lent.
 #[test]
 fn view_is_folded_by_the_levels_of_rows(rt: HostRuntime) -> Result<(), Fail> {
     let mut rows = LineRows::new(rt.alloc())?;
-    assert!(&rt; rows.count() == 1);
-    rows.reserve(3)?;
-    rows.carry(&[LineEdit::Come { line: 1, count: 3 }]);
-    assert!(&rt; rows.count() == 4);
-    rows.reserve_levels(3)?;
-    rows.set_level(2, 0x401);
-    rows.set_level(1, 0x2400);
-    let (first, second) = rows.levels().stored();
-    let levels = Levels::new(first, second, rows.count());
+    make_rows(&rt, &mut rows);
     let mut view = View::new(rt.alloc(), 1, 1, 4)?;
-    fold(&rt, &mut view, &levels, ViewChange::Contract { line: 1 })?;
-    assert_visible(&rt, &view, &[true, true, false, true]);
-    assert_expanded(&rt, &view, &[true, false, true, true]);
+    assert_folded_by_rows(&rt, &rows, &mut view);
     Ok(())
+}
+
+fn assert_first_line_stays(rt: &impl Abort, view: &mut View) {
+    let levels = Levels::new(&[], &[], 4);
+    let all = ViewChange::HideLines { first: 0, past: 4 };
+    fold(rt, view, &levels, all);
+    assert_visible(rt, view, &[true, false, false, false]);
+    let some = ViewChange::ShowLines { first: 1, past: 3 };
+    fold(rt, view, &levels, some);
+    assert_visible(rt, view, &[true, true, true, false]);
 }
 
 #[test]
 fn first_line_of_a_view_is_never_hidden(rt: HostRuntime) -> Result<(), Fail> {
-    let levels = Levels::new(&[], &[], 4);
     let mut view = View::new(rt.alloc(), 1, 1, 4)?;
-    let all = ViewChange::HideLines { first: 0, past: 4 };
-    fold(&rt, &mut view, &levels, all)?;
-    assert_visible(&rt, &view, &[true, false, false, false]);
-    let some = ViewChange::ShowLines { first: 1, past: 3 };
-    fold(&rt, &mut view, &levels, some)?;
-    assert_visible(&rt, &view, &[true, true, true, false]);
+    assert_first_line_stays(&rt, &mut view);
     Ok(())
 }
 
-#[test]
-fn folded_view_follows_steps(rt: HostRuntime) -> Result<(), Fail> {
+// Anchor and caret, and the ends of the target, stand here.
+fn assert_places(rt: &impl Abort, view: &View, anchor: usize, caret: usize, target: Target) {
+    assert!(rt; view.selection() == Selection { anchor, caret });
+    assert!(rt; view.target() == target);
+}
+
+fn assert_followed(rt: &impl Abort, view: &mut View) {
     let stored = [0x2400, 0x401, 0x401];
     let levels = Levels::new(&stored, &[], 4);
-    let mut view = View::new(rt.alloc(), 2, 1, 4)?;
-    fold(&rt, &mut view, &levels, ViewChange::Contract { line: 0 })?;
-    assert_visible(&rt, &view, &[true, false, false, true]);
+    fold(rt, view, &levels, ViewChange::Contract { line: 0 });
+    assert_visible(rt, view, &[true, false, false, true]);
     view.select(Selection {
         anchor: 2,
         caret: 7,
     });
     view.set_target(Target { start: 6, end: 1 });
-    put_line_end_in(&rt, &mut view, 2, 1);
-    assert_visible(&rt, &view, &[true, true, false, false, true]);
-    assert!(&rt;
-        view.selection()
-            == Selection {
-                anchor: 2,
-                caret: 8
-            }
-    );
-    assert!(&rt; view.target() == Target { start: 7, end: 1 });
-    take_line_end_out(&rt, &mut view, 2, 1);
-    assert_visible(&rt, &view, &[true, true, false, true]);
-    assert_expanded(&rt, &view, &[false, true, true, true]);
-    assert!(&rt;
-        view.selection()
-            == Selection {
-                anchor: 2,
-                caret: 7
-            }
-    );
-    assert!(&rt; view.target() == Target { start: 6, end: 1 });
-    take_line_end_out(&rt, &mut view, 1, 0);
-    assert_visible(&rt, &view, &[true, false, true]);
-    assert_expanded(&rt, &view, &[false, true, true]);
-    assert!(&rt;
-        view.selection()
-            == Selection {
-                anchor: 1,
-                caret: 6
-            }
-    );
-    assert!(&rt; view.target() == Target { start: 5, end: 1 });
-    Ok(())
+    put_line_end_in(rt, view, 2, 1);
+    assert_visible(rt, view, &[true, true, false, false, true]);
+    assert_places(rt, view, 2, 8, Target { start: 7, end: 1 });
+    take_line_end_out(rt, view, 2, 1);
+    assert_visible(rt, view, &[true, true, false, true]);
+    assert_expanded(rt, view, &[false, true, true, true]);
+    assert_places(rt, view, 2, 7, Target { start: 6, end: 1 });
+    take_line_end_out(rt, view, 1, 0);
+    assert_visible(rt, view, &[true, false, true]);
+    assert_expanded(rt, view, &[false, true, true]);
+    assert_places(rt, view, 1, 6, Target { start: 5, end: 1 });
 }
 
 #[test]
-fn attached_view_keeps_its_settings_alone(rt: HostRuntime) -> Result<(), Fail> {
+fn folded_view_follows_steps(rt: HostRuntime) -> Result<(), Fail> {
+    let mut view = View::new(rt.alloc(), 2, 1, 4)?;
+    assert_followed(&rt, &mut view);
+    Ok(())
+}
+
+fn assert_new(rt: &impl Abort, view: &View) {
+    assert!(rt; view.id() == 3 && view.document() == 1);
+    assert!(rt; view.mask() == 0x7F_FFFF && view.search_flags() == 0);
+    assert!(rt; view.indicator() == 0 && view.indicator_value() == 1);
+    assert!(rt; view.converts_pastes() && !view.records());
+}
+
+// Each setting of its own is another one than a new view has; it stands elsewhere, and its second line is hidden.
+fn change_all(rt: &impl Abort, view: &mut View) {
     let levels = Levels::new(&[], &[], 2);
-    let mut view = View::new(rt.alloc(), 3, 1, 2)?;
-    assert!(&rt; view.id() == 3 && view.document() == 1);
-    assert!(&rt; view.mask() == 0x7F_FFFF && view.search_flags() == 0);
-    assert!(&rt; view.indicator() == 0 && view.indicator_value() == 1);
-    assert!(&rt; view.converts_pastes() && !view.records());
-    fold(&rt, &mut view, &levels, ViewChange::SetMask { mask: 1 })?;
-    fold(
-        &rt,
-        &mut view,
-        &levels,
+    for change in [
+        ViewChange::SetMask { mask: 1 },
         ViewChange::SetSearchFlags { flags: 4 },
-    )?;
-    fold(
-        &rt,
-        &mut view,
-        &levels,
         ViewChange::SetIndicator { indicator: 8 },
-    )?;
-    fold(
-        &rt,
-        &mut view,
-        &levels,
         ViewChange::SetIndicatorValue { value: 9 },
-    )?;
-    fold(
-        &rt,
-        &mut view,
-        &levels,
         ViewChange::SetPasteConversion { on: false },
-    )?;
-    fold(
-        &rt,
-        &mut view,
-        &levels,
         ViewChange::SetRecording { on: true },
-    )?;
-    fold(
-        &rt,
-        &mut view,
-        &levels,
         ViewChange::Select {
             anchor: 1,
             caret: 2,
         },
-    )?;
-    fold(
-        &rt,
-        &mut view,
-        &levels,
         ViewChange::HideLines { first: 1, past: 2 },
-    )?;
-    assert_visible(&rt, &view, &[true, false]);
-    assert!(&rt; view.lines().count() == 2);
+    ] {
+        fold(rt, view, &levels, change);
+    }
+    assert_visible(rt, view, &[true, false]);
+}
+
+fn assert_attached(rt: &impl Abort, view: &mut View) {
+    assert!(rt; view.lines().count() == 2);
     view.attach_to(7, 3);
-    assert!(&rt; view.id() == 3 && view.document() == 7);
-    assert!(&rt; view.selection() == Selection::at(0));
-    assert!(&rt; view.target() == Target { start: 0, end: 0 });
-    assert_visible(&rt, &view, &[true, true, true]);
-    assert_expanded(&rt, &view, &[true, true, true]);
-    assert!(&rt; view.mask() == 1 && view.search_flags() == 4);
-    assert!(&rt; view.indicator() == 8 && view.indicator_value() == 9);
-    assert!(&rt; !view.converts_pastes() && view.records());
+    assert!(rt; view.id() == 3 && view.document() == 7);
+    assert_places(rt, view, 0, 0, Target { start: 0, end: 0 });
+    assert_visible(rt, view, &[true, true, true]);
+    assert_expanded(rt, view, &[true, true, true]);
+    assert!(rt; view.mask() == 1 && view.search_flags() == 4);
+    assert!(rt; view.indicator() == 8 && view.indicator_value() == 9);
+    assert!(rt; !view.converts_pastes() && view.records());
+}
+
+fn assert_settings_stay(rt: &impl Abort, view: &mut View) {
+    assert_new(rt, view);
+    change_all(rt, view);
+    assert_attached(rt, view);
+}
+
+#[test]
+fn attached_view_keeps_its_settings_alone(rt: HostRuntime) -> Result<(), Fail> {
+    let mut view = View::new(rt.alloc(), 3, 1, 2)?;
+    assert_settings_stay(&rt, &mut view);
     Ok(())
 }

@@ -1,196 +1,69 @@
 //! Each call that takes memory on its happy path, limits, and refusals in their order.
-use ed_types::{Bytes, Command, Kind, Limits, Message, Outcome, Refusal};
+
+use crate::exchanges::{
+    closed, first_unmet, first_unmet_in, first_unmet_within, not_closed, not_opened, opened,
+    refused, sent, unknown,
+};
+use ed_types::{Bytes, Command, Kind, Limits, Message, Outcome, Refusal, Reply};
 use editor_session::{Run, Session};
 use std::alloc::{AllocError, Global};
+use std::process::Abort;
 use std::test::Fail;
 
-fn message(alloc: Global, number: u32, w: i64, l: i64, text: &[u8]) -> Result<Message, AllocError> {
-    let mut bytes = Vec::with_capacity(alloc, text.len())?;
-    bytes.extend_from_slice(text)?;
-    Ok(Message {
-        number,
-        w,
-        l,
-        text: Bytes::new(bytes),
-    })
+#[test]
+fn text_goes_in_and_out(rt: HostRuntime) {
+    let rows = [
+        opened(1),
+        opened(2),
+        sent(Kind::InsertText, 0, 0, 0).with(b"ab\n"),
+        sent(Kind::GetLength, 0, 0, 3),
+        sent(Kind::GetCharAt, 1, 0, 98),
+        sent(Kind::GetCharAt, 3, 0, 0),
+        sent(Kind::GetCharAt, -1, 0, 0),
+        // The other view's document is another one.
+        sent(Kind::GetLength, 0, 0, 0).of_view(2),
+        // -1 is the caret, which stays before the text that is put in there.
+        sent(Kind::InsertText, -1, 0, 0).with(b"xy"),
+        sent(Kind::InsertText, -1, 0, 0).with(b"z"),
+        sent(Kind::GetText, 0, 0, 6).handing_out(b"zxyab\n"),
+        closed(),
+        not_closed(Refusal::NoSuchView),
+        opened(3),
+    ];
+    assert_eq!(rt; first_unmet(rt.alloc(), rows.as_slice()), None);
 }
 
-/// The value that a message answers, or the number of its refusal below 0.
-fn sent(
-    session: &mut Session,
-    view: u32,
-    number: u32,
-    w: i64,
-    l: i64,
-    text: &[u8],
-    alloc: Global,
-) -> Result<i64, AllocError> {
-    let m = message(alloc, number, w, l, text)?;
-    match session.send(view, &m) {
-        Ok(reply) => Ok(reply.value()),
-        Err(refusal) => Ok(-i64::from(refusal as u8)),
-    }
-}
-
-fn limits(doc_bytes: u64, views: u64) -> Limits {
-    Limits {
-        doc_bytes,
-        views,
+#[test]
+fn limits_are_kept(rt: HostRuntime) {
+    let limits = Limits {
+        doc_bytes: 4,
+        views: 1,
         ..Limits::GREATEST
-    }
-}
-
-#[test]
-fn text_goes_in_and_out(rt: HostRuntime) -> Result<(), Fail> {
-    let alloc = rt.alloc();
-    let mut session = Session::new(alloc);
-    assert_eq!(rt; session.new_view(), Ok(1));
-    assert_eq!(rt; session.new_view(), Ok(2));
-    assert_eq!(rt;
-        sent(
-            &mut session,
-            1,
-            Kind::InsertText.number(),
-            0,
-            0,
-            b"ab\n",
-            alloc
-        )?,
-        0
-    );
-    assert_eq!(rt;
-        sent(&mut session, 1, Kind::GetLength.number(), 0, 0, b"", alloc)?,
-        3
-    );
-    assert_eq!(rt;
-        sent(&mut session, 1, Kind::GetCharAt.number(), 1, 0, b"", alloc)?,
-        98
-    );
-    assert_eq!(rt;
-        sent(&mut session, 1, Kind::GetCharAt.number(), 3, 0, b"", alloc)?,
-        0
-    );
-    assert_eq!(rt;
-        sent(&mut session, 1, Kind::GetCharAt.number(), -1, 0, b"", alloc)?,
-        0
-    );
-    // The other view's document is another one.
-    assert_eq!(rt;
-        sent(&mut session, 2, Kind::GetLength.number(), 0, 0, b"", alloc)?,
-        0
-    );
-    // -1 is the caret, which stays before the text that is put in there.
-    assert_eq!(rt;
-        sent(
-            &mut session,
-            1,
-            Kind::InsertText.number(),
-            -1,
-            0,
-            b"xy",
-            alloc
-        )?,
-        0
-    );
-    assert_eq!(rt;
-        sent(
-            &mut session,
-            1,
-            Kind::InsertText.number(),
-            -1,
-            0,
-            b"z",
-            alloc
-        )?,
-        0
-    );
-    let all = message(alloc, Kind::GetText.number(), 0, 0, b"")?;
-    match session.send(1, &all) {
-        Ok(reply) => {
-            assert_eq!(rt; reply.value(), 6);
-            assert!(rt; reply.text() == b"zxyab\n".as_slice());
-        }
-        Err(_) => assert!(rt; false),
-    }
-    assert_eq!(rt; session.close_view(1), Ok(()));
-    assert_eq!(rt; session.close_view(1), Err(Refusal::NoSuchView));
-    assert_eq!(rt; session.new_view(), Ok(3));
-    Ok(())
-}
-
-#[test]
-fn limits_are_kept(rt: HostRuntime) -> Result<(), Fail> {
-    let alloc = rt.alloc();
-    let Ok(mut session) = Session::with_limits(alloc, limits(4, 1)) else {
-        assert!(rt; false);
-        return Ok(());
     };
-    assert_eq!(rt; session.new_view(), Ok(1));
-    assert_eq!(rt; session.new_view(), Err(Refusal::TooMany));
+    let rows = [
+        opened(1),
+        not_opened(Refusal::TooMany),
+        sent(Kind::InsertText, 0, 0, 0).with(b"abcd"),
+        refused(Kind::InsertText, 4, 0, Refusal::TooLong).with(b"e"),
+        refused(Kind::DeleteRange, 1, 4, Refusal::BadArgument),
+        sent(Kind::DeleteRange, 1, 2, 0),
+        sent(Kind::GetText, 0, 0, 2).handing_out(b"ad"),
+        unknown(9999, Refusal::UnknownMessage),
+        unknown(9999, Refusal::NoSuchView).of_view(2),
+    ];
     assert_eq!(rt;
-        sent(
-            &mut session,
-            1,
-            Kind::InsertText.number(),
-            0,
-            0,
-            b"abcd",
-            alloc
-        )?,
-        0
+        first_unmet_within(rt.alloc(), limits, rows.as_slice()),
+        None
     );
-    assert_eq!(rt;
-        sent(
-            &mut session,
-            1,
-            Kind::InsertText.number(),
-            4,
-            0,
-            b"e",
-            alloc
-        )?,
-        -5
-    );
-    assert_eq!(rt;
-        sent(
-            &mut session,
-            1,
-            Kind::DeleteRange.number(),
-            1,
-            4,
-            b"",
-            alloc
-        )?,
-        -6
-    );
-    assert_eq!(rt;
-        sent(
-            &mut session,
-            1,
-            Kind::DeleteRange.number(),
-            1,
-            2,
-            b"",
-            alloc
-        )?,
-        0
-    );
-    assert_eq!(rt;
-        sent(&mut session, 1, Kind::GetCharAt.number(), 0, 0, b"", alloc)?,
-        97
-    );
-    assert_eq!(rt;
-        sent(&mut session, 1, Kind::GetCharAt.number(), 1, 0, b"", alloc)?,
-        100
-    );
-    assert_eq!(rt;
-        sent(&mut session, 1, Kind::GetLength.number(), 0, 0, b"", alloc)?,
-        2
-    );
-    assert_eq!(rt; sent(&mut session, 1, 9999, 0, 0, b"", alloc)?, -3);
-    assert_eq!(rt; sent(&mut session, 2, 9999, 0, 0, b"", alloc)?, -2);
-    assert!(rt; Session::with_limits(alloc, limits(4, 0)).is_err());
-    Ok(())
+}
+
+fn message(alloc: Global, number: u32) -> Message {
+    Message {
+        number,
+        w: 0,
+        l: 0,
+        text: Bytes::empty(alloc),
+    }
 }
 
 /// Every kind of command, with expects that are met and one that is not.
@@ -200,7 +73,7 @@ fn commands(alloc: Global) -> Result<Vec<Command>, AllocError> {
     commands.push(Command::Expect { value: 1 })?;
     commands.push(Command::SendMessage {
         view: 1,
-        message: message(alloc, Kind::GetLength.number(), 0, 0, b"")?,
+        message: message(alloc, Kind::GetLength.number()),
     })?;
     commands.push(Command::Expect { value: 3 })?;
     commands.push(Command::LoadFile { view: 9, file: 1 })?;
@@ -208,6 +81,12 @@ fn commands(alloc: Global) -> Result<Vec<Command>, AllocError> {
     commands.push(Command::CloseView { view: 1 })?;
     commands.push(Command::Expect { value: 0 })?;
     Ok(commands)
+}
+
+/// What comes of commands in a new session, without files.
+fn outcomes(alloc: Global, commands: &[Command]) -> Result<Vec<Outcome>, AllocError> {
+    let mut run = Run::new(Session::new(alloc));
+    run.run(alloc, &[], commands)
 }
 
 /// Whether an outcome is that of an expect of this value.
@@ -220,10 +99,8 @@ fn is_expected(outcome: &Outcome, was_met: bool, wanted: i64) -> bool {
 
 #[test]
 fn commands_run(rt: HostRuntime) -> Result<(), Fail> {
-    let alloc = rt.alloc();
-    let commands = commands(alloc)?;
-    let mut run = Run::new(Session::new(alloc));
-    let done = run.run(alloc, &[], &commands)?;
+    let commands = commands(rt.alloc())?;
+    let done = outcomes(rt.alloc(), &commands)?;
     assert_eq!(rt; done.len(), 8);
     assert!(rt; matches!(done[0], Outcome::Opened(1)));
     assert!(rt; is_expected(&done[1], true, 1));
@@ -236,191 +113,119 @@ fn commands_run(rt: HostRuntime) -> Result<(), Fail> {
 }
 
 #[test]
-fn lines_follow_the_text(rt: HostRuntime) -> Result<(), Fail> {
-    let alloc = rt.alloc();
-    let mut session = Session::new(alloc);
+fn lines_follow_the_text(rt: HostRuntime) {
+    let rows = [
+        opened(1),
+        sent(Kind::GetLineCount, 0, 0, 1),
+        sent(Kind::InsertText, 0, 0, 0).with(b"x\r\na"),
+        sent(Kind::GetLineCount, 0, 0, 2),
+        // Between CR and LF, and taken out again.
+        sent(Kind::InsertText, 2, 0, 0).with(b"z"),
+        sent(Kind::GetLineCount, 0, 0, 3),
+        sent(Kind::DeleteRange, 2, 1, 0),
+        sent(Kind::GetLineCount, 0, 0, 2),
+        sent(Kind::GetTextLength, 0, 0, 4),
+        sent(Kind::LineFromPosition, 99, 0, 1),
+        sent(Kind::LineLength, 0, 0, 3),
+        sent(Kind::LineLength, 2, 0, 0),
+        sent(Kind::GetTextRange, 1, -1, 3).handing_out(b"\r\na"),
+    ];
+    assert_eq!(rt; first_unmet(rt.alloc(), rows.as_slice()), None);
+}
+
+/// What a note tells of a step.
+#[derive(Clone, Copy)]
+struct Told {
+    kind: u32,
+    position: i64,
+    length: i64,
+    lines: i64,
+    text: &'static [u8],
+}
+
+/// The note there is that of a change which view 1 is told.
+fn assert_change(rt: &impl Abort, reply: &Reply, index: usize, told: Told) {
+    assert!(rt; index < reply.note_count());
+    let (note, text) = reply.note(index);
+    assert_eq!(rt; (note.view, note.code, note.kind), (1, 2008, told.kind));
+    assert_eq!(rt;
+        (note.position, note.length, note.lines),
+        (told.position, told.length, told.lines)
+    );
+    assert!(rt; text == told.text);
+}
+
+// Before the step, that the save point is left, and after it.
+fn assert_insertion(rt: &impl Abort, session: &mut Session) {
+    let reply = session.send_lent(1, Kind::InsertText.number(), 0, 0, b"a\nb");
+    let reply = reply.expect(rt, "a reply");
+    assert_eq!(rt; reply.note_count(), 3);
+    let before = Told {
+        kind: 0x410,
+        position: 0,
+        length: 3,
+        lines: 0,
+        text: b"a\nb",
+    };
+    assert_change(rt, &reply, 0, before);
+    assert_eq!(rt; reply.note(1).0.code, 2003);
+    let after = Told {
+        kind: 0x2011,
+        position: 0,
+        length: 3,
+        lines: 1,
+        text: b"a\nb",
+    };
+    assert_change(rt, &reply, 2, after);
+}
+
+// Before a deletion its text is not told.
+fn assert_deletion(rt: &impl Abort, session: &mut Session) {
+    let reply = session.send_lent(1, Kind::DeleteRange.number(), 1, 1, b"");
+    let reply = reply.expect(rt, "a reply");
+    assert_eq!(rt; reply.note_count(), 2);
+    let before = Told {
+        kind: 0x810,
+        position: 1,
+        length: 1,
+        lines: 0,
+        text: b"",
+    };
+    assert_change(rt, &reply, 0, before);
+    let after = Told {
+        kind: 0x2012,
+        position: 1,
+        length: 1,
+        lines: -1,
+        text: b"\n",
+    };
+    assert_change(rt, &reply, 1, after);
+}
+
+fn assert_steps(rt: &impl Abort, session: &mut Session) {
     assert_eq!(rt; session.new_view(), Ok(1));
-    assert_eq!(rt;
-        sent(
-            &mut session,
-            1,
-            Kind::GetLineCount.number(),
-            0,
-            0,
-            b"",
-            alloc
-        )?,
-        1
-    );
-    assert_eq!(rt;
-        sent(
-            &mut session,
-            1,
-            Kind::InsertText.number(),
-            0,
-            0,
-            b"x\r\na",
-            alloc
-        )?,
-        0
-    );
-    assert_eq!(rt;
-        sent(
-            &mut session,
-            1,
-            Kind::GetLineCount.number(),
-            0,
-            0,
-            b"",
-            alloc
-        )?,
-        2
-    );
-    // Between CR and LF, and taken out again.
-    assert_eq!(rt;
-        sent(
-            &mut session,
-            1,
-            Kind::InsertText.number(),
-            2,
-            0,
-            b"z",
-            alloc
-        )?,
-        0
-    );
-    assert_eq!(rt;
-        sent(
-            &mut session,
-            1,
-            Kind::GetLineCount.number(),
-            0,
-            0,
-            b"",
-            alloc
-        )?,
-        3
-    );
-    assert_eq!(rt;
-        sent(
-            &mut session,
-            1,
-            Kind::DeleteRange.number(),
-            2,
-            1,
-            b"",
-            alloc
-        )?,
-        0
-    );
-    assert_eq!(rt;
-        sent(
-            &mut session,
-            1,
-            Kind::GetLineCount.number(),
-            0,
-            0,
-            b"",
-            alloc
-        )?,
-        2
-    );
-    assert_eq!(rt;
-        sent(
-            &mut session,
-            1,
-            Kind::GetTextLength.number(),
-            0,
-            0,
-            b"",
-            alloc
-        )?,
-        4
-    );
-    assert_eq!(rt;
-        sent(
-            &mut session,
-            1,
-            Kind::LineFromPosition.number(),
-            99,
-            0,
-            b"",
-            alloc
-        )?,
-        1
-    );
-    assert_eq!(rt;
-        sent(&mut session, 1, Kind::LineLength.number(), 0, 0, b"", alloc)?,
-        3
-    );
-    assert_eq!(rt;
-        sent(&mut session, 1, Kind::LineLength.number(), 2, 0, b"", alloc)?,
-        0
-    );
-    let range = message(alloc, Kind::GetTextRange.number(), 1, -1, b"")?;
-    match session.send(1, &range) {
-        Ok(reply) => assert!(rt; reply.text() == b"\r\na".as_slice()),
-        Err(_) => assert!(rt; false),
-    }
-    Ok(())
+    assert_insertion(rt, session);
+    assert_deletion(rt, session);
+    let reply = session.send_lent(1, Kind::DeleteRange.number(), 1, 0, b"");
+    assert_eq!(rt; reply.expect(rt, "a reply").note_count(), 0);
 }
 
 #[test]
-fn steps_are_told_of(rt: HostRuntime) -> Result<(), Fail> {
-    let alloc = rt.alloc();
-    let mut session = Session::new(alloc);
-    assert_eq!(rt; session.new_view(), Ok(1));
-    // Before the step, that the save point is left, and after it.
-    match session.send_lent(1, Kind::InsertText.number(), 0, 0, b"a\nb") {
-        Ok(reply) => {
-            assert_eq!(rt; reply.note_count(), 3);
-            let (before, text) = reply.note(0);
-            assert_eq!(rt; (before.view, before.code, before.kind), (1, 2008, 0x410));
-            assert!(rt; text == b"a\nb".as_slice());
-            assert_eq!(rt; reply.note(1).0.code, 2003);
-            let (after, text) = reply.note(2);
-            assert_eq!(rt; (after.kind, after.length, after.lines), (0x2011, 3, 1));
-            assert!(rt; text == b"a\nb".as_slice());
-        }
-        Err(_) => assert!(rt; false),
-    }
-    // Before a deletion its text is not told.
-    match session.send_lent(1, Kind::DeleteRange.number(), 1, 1, b"") {
-        Ok(reply) => {
-            assert_eq!(rt; reply.note_count(), 2);
-            assert!(rt; reply.note(0).1.is_empty());
-            let (after, text) = reply.note(1);
-            assert_eq!(rt; (after.kind, after.position, after.lines), (0x2012, 1, -1));
-            assert!(rt; text == b"\n".as_slice());
-        }
-        Err(_) => assert!(rt; false),
-    }
-    match session.send_lent(1, Kind::DeleteRange.number(), 1, 0, b"") {
-        Ok(reply) => assert_eq!(rt; reply.note_count(), 0),
-        Err(_) => assert!(rt; false),
-    }
-    Ok(())
+fn steps_are_told_of(rt: HostRuntime) {
+    let mut session = Session::new(rt.alloc());
+    assert_steps(&rt, &mut session);
 }
 
-#[test]
-fn ranges_are_lent(rt: HostRuntime) -> Result<(), Fail> {
-    let alloc = rt.alloc();
-    let mut session = Session::new(alloc);
-    assert_eq!(rt; session.new_view(), Ok(1));
-    assert_eq!(rt;
-        sent(
-            &mut session,
-            1,
-            Kind::InsertText.number(),
-            0,
-            0,
-            b"abcd",
-            alloc
-        )?,
-        0
-    );
+fn assert_lent(rt: &impl Abort, session: &mut Session) {
+    let rows = [opened(1), sent(Kind::InsertText, 0, 0, 0).with(b"abcd")];
+    assert_eq!(rt; first_unmet_in(session, rows.as_slice()), None);
     assert!(rt; session.lend_range(1, 1, 2) == Ok(b"bc".as_slice()));
     assert!(rt; session.lend_range(1, 2, 3) == Err(Refusal::BadArgument));
     assert!(rt; session.lend_range(2, 0, 0) == Err(Refusal::NoSuchView));
-    Ok(())
+}
+
+#[test]
+fn ranges_are_lent(rt: HostRuntime) {
+    let mut session = Session::new(rt.alloc());
+    assert_lent(&rt, &mut session);
 }

@@ -3,11 +3,9 @@
 
 use crate::line_index_tests::insert;
 use cell_buffer::Cells;
-use decorations::Decorations;
 use ed_model::LineEndTypes;
 use ed_types::{Bytes, Kind, Message, Outcome};
-use line_index::{LineEdit, LineIndex};
-use line_rows::LineRows;
+use line_index::LineIndex;
 use macro_script::printing::append_outcome;
 use macro_script::{Command, Script, assemble, list};
 use partitioning::{Partitioning, Place, Probes};
@@ -139,47 +137,6 @@ fn lines_of_a_large_text(rt: HostRuntime) -> Result<(), Fail> {
         let (_, _) = insert(&rt, rt.alloc(), &mut index, text.as_slice(), 8, b"\n", 9)?;
         assert_eq!(rt; index.count(), 65_538);
     }
-    Ok(())
-}
-
-#[test]
-fn rows_of_many_lines(rt: HostRuntime) -> Result<(), Fail> {
-    let mut rows = LineRows::new(rt.alloc())?;
-    rows.reserve(LINES)?;
-    rows.reserve_levels(LINES)?;
-    rows.reserve_states(LINES)?;
-    rows.reserve_markers(LINES)?;
-    assert_eq!(rt; rows.count(), 1);
-    rows.carry(&[LineEdit::Come {
-        line: 1,
-        count: LINES - 1,
-    }]);
-    assert_eq!(rt; rows.count(), LINES);
-    for line in 0..LINES {
-        assert_eq!(rt; rows.count(), LINES);
-        rows.reserve_levels(line + 1)?;
-        let _ = rows.set_level(line, 0x401);
-    }
-    assert!(rt; rows.count() == LINES && rows.level(LINES - 1) == 0x401);
-    Ok(())
-}
-
-#[test]
-fn ranges_of_a_large_text(rt: HostRuntime) -> Result<(), Fail> {
-    let mut indicators = Decorations::<u32>::new(rt.alloc());
-    indicators.reserve(1000)?;
-    assert_eq!(rt; indicators.length(), 0);
-    indicators.insert(0, LARGE);
-    for line in 0..LINES {
-        let start = LINE * line;
-        assert!(rt; indicators.length() == LARGE && LINE / 2 <= LARGE - start.min(LARGE));
-        indicators.reserve_fill(31)?;
-        let changed = indicators.fill(31, start, LINE / 2, 7);
-        assert!(rt; changed == Some((start, LINE / 2)));
-    }
-    assert_eq!(rt; indicators.length(), LARGE);
-    assert_eq!(rt; indicators.value(31, LARGE - LINE), 7);
-    assert_eq!(rt; indicators.value(31, LARGE - 1), 0);
     Ok(())
 }
 

@@ -5,7 +5,7 @@ ghost use Rattle.std.specs.Prelude.{◌≡◌};
 use ed_types::{Bytes, Kind, Message, Refusal};
 use editor_session::Session;
 use std::alloc::{AllocError, Global};
-use std::test::Fail;
+use std::process::Abort;
 
 /// Puts bytes in at a place of the first view's document. Answers whether that was done.
 fn put(session: &mut Session, place: i64, bytes: &[u8], alloc: Global) -> Result<bool, AllocError> {
@@ -35,14 +35,15 @@ fn count_lent(
     }
 }
 
-#[test]
-fn ranges_are_lent_or_refused(rt: HostRuntime) -> Result<(), Fail> {
-    let alloc = rt.alloc();
-    let mut session = Session::new(alloc);
+fn assert_lent_or_refused(
+    rt: &impl Abort,
+    session: &mut Session,
+    alloc: Global,
+) -> Result<(), AllocError> {
     assert_eq!(rt; session.new_view(), Ok(1));
-    assert!(rt; put(&mut session, 0, b"a\r\nb\nd", alloc)?);
+    assert!(rt; put(session, 0, b"a\r\nb\nd", alloc)?);
     // The gap lies before the last LF then.
-    assert!(rt; put(&mut session, 4, b"\rc", alloc)?);
+    assert!(rt; put(session, 4, b"\rc", alloc)?);
     assert_eq!(rt; session.lend_range(1, 3, 2), Ok(b"b\r".as_slice()));
     assert_eq!(rt; session.lend_range(1, 0, 8), Ok(b"a\r\nb\rc\nd".as_slice()));
     assert_eq!(rt; session.lend_range(1, 8, 0), Ok(b"".as_slice()));
@@ -54,6 +55,12 @@ fn ranges_are_lent_or_refused(rt: HostRuntime) -> Result<(), Fail> {
     );
     assert_eq!(rt; session.lend_range(2, 0, 0), Err(Refusal::NoSuchView));
     assert_eq!(rt; session.lend_range(2, 9, 9), Err(Refusal::NoSuchView));
-    assert_eq!(rt; count_lent(&mut session, 1, 2, 6), Ok(6));
+    assert_eq!(rt; count_lent(session, 1, 2, 6), Ok(6));
     Ok(())
+}
+
+#[test]
+fn ranges_are_lent_or_refused(rt: HostRuntime) -> Result<(), AllocError> {
+    let mut session = Session::new(rt.alloc());
+    assert_lent_or_refused(&rt, &mut session, rt.alloc())
 }

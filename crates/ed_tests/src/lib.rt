@@ -16,7 +16,11 @@ mod ed_view_tests;
 #[cfg(test)]
 mod editor_session_tests;
 #[cfg(test)]
+mod exchanges;
+#[cfg(test)]
 mod id_table_tests;
+#[cfg(test)]
+mod large_session_tests;
 #[cfg(test)]
 mod large_tests;
 #[cfg(test)]
@@ -29,6 +33,8 @@ mod line_rows_tests;
 mod macro_script_tests;
 #[cfg(test)]
 mod marker_store_tests;
+#[cfg(test)]
+mod message_tests;
 #[cfg(test)]
 mod notify_tests;
 #[cfg(test)]

@@ -83,3 +83,23 @@ fn rows_through_edits(rt: HostRuntime) -> Result<(), Fail> {
     has(&rt, &rows, 0, 0, BASE_LEVEL, 0);
     Ok(())
 }
+
+// Room for many lines, and for all that they can have, is made at once.
+#[test]
+fn rows_of_many_lines(rt: HostRuntime) -> Result<(), Fail> {
+    let mut rows = LineRows::new(rt.alloc())?;
+    rows.reserve(100_000)?;
+    rows.reserve_levels(100_000)?;
+    rows.reserve_states(100_000)?;
+    rows.reserve_markers(100_000)?;
+    let lines = rows.count();
+    assert!(rt; lines == 1);
+    rows.carry(&[LineEdit::Come {
+        line: 1,
+        count: 99_999,
+    }]);
+    assert!(rt; rows.count() == 100_000);
+    let _ = rows.set_level(99_999, 0x401);
+    assert!(rt; rows.level(99_999) == 0x401);
+    Ok(())
+}

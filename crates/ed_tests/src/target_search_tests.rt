@@ -149,64 +149,35 @@ fn long_texts(rt: HostRuntime) -> Result<(), Fail> {
     Ok(())
 }
 
-#[test]
-fn many_candidates(rt: HostRuntime) -> Result<(), Fail> {
-    let mut text = Vec::new(rt.alloc());
-    for _ in 0..2000 {
+// So many times `ab`, one after the other, then ` AB `, and as many again.
+fn text_of_candidates(alloc: Global, count: usize) -> Result<Vec<u8>, AllocError> {
+    let mut text = Vec::new(alloc);
+    for _ in 0..count {
         text.extend_from_slice(b"ab")?;
     }
     text.extend_from_slice(b" AB ")?;
-    for _ in 0..2000 {
+    for _ in 0..count {
         text.extend_from_slice(b"ab")?;
     }
+    Ok(text)
+}
+
+#[test]
+fn many_candidates(rt: HostRuntime) -> Result<(), Fail> {
+    let text = text_of_candidates(rt.alloc(), 2000)?;
     let text = text.as_slice();
     let end = text.len();
     assert_eq!(rt; end, 8004);
+    let exact = MATCH_CASE | WHOLE_WORD;
     for middle in [0, 3999, 4001, 4002, 4003, end] {
         assert_found_at(&rt, WHOLE_WORD, text, middle, b"ab", 0, end, Some(4001));
         assert_found_at(&rt, WHOLE_WORD, text, middle, b"ab", end, 0, Some(4001));
         assert_found_at(&rt, WORD_START, text, middle, b"ab", 1, end, Some(4001));
         assert_found_at(&rt, WORD_START, text, middle, b"ab", 4004, 0, Some(4001));
-        assert_found_at(
-            &rt,
-            MATCH_CASE | WHOLE_WORD,
-            text,
-            middle,
-            b"ab",
-            0,
-            end,
-            None,
-        );
-        assert_found_at(
-            &rt,
-            MATCH_CASE | WHOLE_WORD,
-            text,
-            middle,
-            b"AB",
-            0,
-            end,
-            Some(4001),
-        );
-        assert_found_at(
-            &rt,
-            MATCH_CASE | WHOLE_WORD,
-            text,
-            middle,
-            b"ab",
-            end,
-            0,
-            None,
-        );
-        assert_found_at(
-            &rt,
-            MATCH_CASE | WHOLE_WORD,
-            text,
-            middle,
-            b"AB",
-            end,
-            0,
-            Some(4001),
-        );
+        assert_found_at(&rt, exact, text, middle, b"ab", 0, end, None);
+        assert_found_at(&rt, exact, text, middle, b"AB", 0, end, Some(4001));
+        assert_found_at(&rt, exact, text, middle, b"ab", end, 0, None);
+        assert_found_at(&rt, exact, text, middle, b"AB", end, 0, Some(4001));
     }
     Ok(())
 }

@@ -1,0 +1,166 @@
+//! Sessions of large sizes: 16 MiB that are handed out, and as many views as may be open. `tools/heap.sh` runs
+//! each of these tests once more where the heap may hold no more than the sizes justify, as its table says.
+
+use ed_types::{Kind, Refusal, Reply};
+use editor_session::Session;
+use std::alloc::{AllocError, Global};
+use std::process::Abort;
+use std::test::Fail;
+
+/// What a message without text answers, or the number of its refusal below 0.
+fn value_of(session: &mut Session, view: u32, kind: Kind, w: i64, l: i64) -> i64 {
+    match session.send_lent(view, kind.number(), w, l, &[]) {
+        Ok(reply) => reply.value(),
+        Err(refusal) => -i64::from(refusal as u8),
+    }
+}
+
+/// The length of a large text, in bytes: 8 MiB. Each byte is handed out with its style behind it.
+const TEXT: i64 = 8_388_608;
+
+/// It is put in piece by piece: the length of one in bytes, and how many there are.
+const PIECE: i64 = 1_048_576;
+
+const PIECES: i64 = 8;
+
+/// A piece, without line ends.
+fn piece(alloc: Global) -> Result<Vec<u8>, AllocError> {
+    let mut piece = Vec::with_capacity(alloc, 1_048_576)?;
+    for _ in 0..65_536 {
+        piece.extend_from_slice(b"no end of a line")?;
+    }
+    Ok(piece)
+}
+
+// Neither notes nor a history keep what is put in.
+fn put_pieces_in(rt: &impl Abort, session: &mut Session, piece: &[u8]) {
+    assert_eq!(rt; session.new_view(), Ok(1));
+    assert_eq!(rt; value_of(session, 1, Kind::SetModEventMask, 0, 0), 0);
+    assert_eq!(rt; value_of(session, 1, Kind::SetUndoCollection, 0, 0), 0);
+    for _ in 0..PIECES {
+        let put = session.send_lent(1, Kind::AppendText.number(), PIECE, 0, piece);
+        assert!(rt; put.is_ok());
+    }
+    assert_eq!(rt; value_of(session, 1, Kind::GetLength, 0, 0), TEXT);
+}
+
+// The last byte has a style, so that one is stored for each.
+fn assert_styled(rt: &impl Abort, session: &mut Session) {
+    assert_eq!(rt; value_of(session, 1, Kind::StartStyling, TEXT - 1, 0), 0);
+    assert_eq!(rt; value_of(session, 1, Kind::SetStyling, 1, 5), 0);
+    let reply = session.send_lent(1, Kind::GetStyledText.number(), 0, -1, &[]);
+    let reply = reply.expect(rt, "the styled text");
+    assert_eq!(rt; reply.value(), 2 * TEXT);
+    assert_eq!(rt; reply.text().len(), 16_777_216);
+    assert!(rt; reply.text().starts_with(b"n\0o\0 \0e\0"));
+    assert!(rt; reply.text().ends_with(b"i\0n\0e\x05"));
+}
+
+fn assert_large_text_styled(rt: &impl Abort, session: &mut Session, piece: &[u8]) {
+    put_pieces_in(rt, session, piece);
+    assert_styled(rt, session);
+}
+
+#[test]
+fn styled_text_of_a_large_size(rt: HostRuntime) -> Result<(), Fail> {
+    let piece = piece(rt.alloc())?;
+    let mut session = Session::new(rt.alloc());
+    assert_large_text_styled(&rt, &mut session, &piece);
+    Ok(())
+}
+
+/// How many views may be open, and the one that is typed in.
+const VIEWS: u32 = 1024;
+
+const TYPED_IN: u32 = 512;
+
+/// What a view is told: by which code and kind of change.
+#[derive(Clone, Copy)]
+struct Told {
+    view: u32,
+    code: u32,
+    kind: u32,
+    text: &'static [u8],
+}
+
+/// The note there tells this, and a text that it has is the one that the reply keeps.
+fn assert_note(rt: &impl Abort, reply: &Reply, index: usize, told: Told) {
+    assert!(rt; index < reply.note_count());
+    let (note, text) = reply.note(index);
+    assert_eq!(rt;
+        (note.view, note.code, note.kind),
+        (told.view, told.code, told.kind)
+    );
+    assert!(rt; text == told.text);
+    assert!(rt; text.is_empty() || (note.text.start == 0 && note.text.end == 1));
+}
+
+/// All views from `first` to `last` are told of a typed `x`, that the save point is left, and of the `x` again.
+fn assert_told(rt: &impl Abort, reply: &Reply, first: u32, last: u32) {
+    let mut index = 0;
+    for (code, kind, text) in [
+        (2008, 0x410, b"x".as_slice()),
+        (2003, 0, b""),
+        (2008, 0x2011, b"x"),
+    ] {
+        for view in first..=last {
+            let told = Told {
+                view,
+                code,
+                kind,
+                text,
+            };
+            assert_note(rt, reply, index, told);
+            index += 1;
+        }
+    }
+    assert_eq!(rt; reply.note_count(), index);
+}
+
+/// Types an `x` in a view, of which the views from `first` to `last` are told.
+fn assert_typed(rt: &impl Abort, session: &mut Session, first: u32, last: u32) {
+    let reply = session.send_lent(TYPED_IN, Kind::AddText.number(), 1, 0, b"x");
+    assert_told(rt, &reply.expect(rt, "a reply"), first, last);
+}
+
+/// All views have this value, but for the one that was typed in.
+fn assert_values(rt: &impl Abort, session: &mut Session, kind: Kind, typed_in: i64, other: i64) {
+    for view in 1..=VIEWS {
+        let wanted = if view == TYPED_IN { typed_in } else { other };
+        assert_eq!(rt; value_of(session, view, kind, 0, 0), wanted);
+    }
+}
+
+fn assert_one_document_is_heard(rt: &impl Abort, session: &mut Session) {
+    for view in 1..=VIEWS {
+        assert_eq!(rt; session.new_view(), Ok(view));
+        assert_eq!(rt; value_of(session, view, Kind::SetDocPointer, 0, 1), 0);
+    }
+    assert_eq!(rt; session.new_view(), Err(Refusal::TooMany));
+    assert_typed(rt, session, 1, VIEWS);
+    assert_values(rt, session, Kind::GetLength, 1, 1);
+    assert_values(rt, session, Kind::GetCurrentPos, 1, 0);
+}
+
+#[test]
+fn many_views_hear_one_document(rt: HostRuntime) {
+    let mut session = Session::new(rt.alloc());
+    assert_one_document_is_heard(&rt, &mut session);
+}
+
+fn assert_documents_are_apart(rt: &impl Abort, session: &mut Session) {
+    for view in 1..=VIEWS {
+        assert_eq!(rt; session.new_view(), Ok(view));
+    }
+    assert_eq!(rt; session.new_view(), Err(Refusal::TooMany));
+    assert_typed(rt, session, TYPED_IN, TYPED_IN);
+    assert_values(rt, session, Kind::GetLength, 1, 0);
+    assert_values(rt, session, Kind::GetCurrentPos, 1, 0);
+    assert_values(rt, session, Kind::GetModify, 1, 0);
+}
+
+#[test]
+fn many_views_have_documents_of_their_own(rt: HostRuntime) {
+    let mut session = Session::new(rt.alloc());
+    assert_documents_are_apart(&rt, &mut session);
+}
