@@ -1,0 +1,149 @@
+//! Sessions: bytes typed, questions about places, and whole texts in and out.
+
+use crate::sessions::{
+    LINE, Series, far_apart, measure, measure_once, measure_ranges, measure_typing, open, open_on,
+    send, text_of,
+};
+use crate::tell;
+use ed_types::Kind;
+use editor_session::Session;
+use memchr::memchr_iter;
+use std::io;
+use std::time::Instant;
+
+/// Every kind of change is heard.
+pub const WHOLE_MASK: i64 = 0x7F_FFFF;
+
+/// Types in the midst of a text, heard by none, and then by one view.
+pub fn typing(
+    rt: &HostRuntime,
+    session: &mut Session,
+    lines: usize,
+    count: usize,
+) -> io::Result<()> {
+    let view = open_on(rt, session, LINE, lines)?;
+    measure_typing(rt, session, view, "a byte typed, heard by none", count)?;
+    send(session, view, Kind::SetModEventMask, WHOLE_MASK, 0, &[]);
+    measure_typing(rt, session, view, "a byte typed, heard by one view", count)
+}
+
+/// Asks for the length, bytes, lines and ranges of 40 bytes.
+pub fn look_up(
+    rt: &HostRuntime,
+    session: &mut Session,
+    lines: usize,
+    count: usize,
+) -> io::Result<()> {
+    let view = open_on(rt, session, LINE, lines)?;
+    // A range of 40 bytes from each of these places on lies in the text.
+    let inner = lines.saturating_sub(1);
+    measure(
+        rt,
+        session,
+        view,
+        "the length asked for",
+        far_apart(Kind::GetLength, count, inner),
+        &[],
+    )?;
+    measure(
+        rt,
+        session,
+        view,
+        "a byte asked for",
+        far_apart(Kind::GetCharAt, count, inner),
+        &[],
+    )?;
+    measure(
+        rt,
+        session,
+        view,
+        "a line asked for",
+        far_apart(Kind::LineFromPosition, count, inner),
+        &[],
+    )?;
+    let ranges = Series {
+        l: 40,
+        ..far_apart(Kind::GetTextRange, count, inner)
+    };
+    measure_ranges(rt, session, view, "40 bytes handed out, far apart", ranges)?;
+    let near = Series {
+        stride: 40,
+        ..ranges
+    };
+    measure_ranges(
+        rt,
+        session,
+        view,
+        "40 bytes handed out, one behind the other",
+        near,
+    )
+}
+
+/// Copies a text `times` times into one block, and counts the line ends there.
+fn copy(rt: &HostRuntime, text: &[u8], times: usize) -> io::Result<()> {
+    let start = Instant::now(rt)?;
+    let copied = text_of(rt.alloc(), text, times)?;
+    tell(rt, "as many bytes copied", start, copied.len())?;
+    let ends = memchr_iter(b'\n', copied.as_slice()).count();
+    tell(
+        rt,
+        "as many bytes copied, and line ends counted",
+        start,
+        copied.len(),
+    )?;
+    println!(rt; "copied {} {ends}", copied.len())
+}
+
+/// How often the whole text is handed out: what comes first takes new memory.
+const ROUNDS: usize = 3;
+
+/// Hands out the whole text, beside a copy of as many bytes, in turn.
+pub fn hand_out(rt: &HostRuntime, session: &mut Session, lines: usize) -> io::Result<()> {
+    let view = open_on(rt, session, LINE, lines)?;
+    let text = text_of(rt.alloc(), LINE, lines)?;
+    for _ in 0..ROUNDS {
+        copy(rt, text.as_slice(), 1)?;
+        measure_once(
+            rt,
+            session,
+            view,
+            "the whole text handed out",
+            Kind::GetText,
+            &[],
+            text.len(),
+        )?;
+    }
+    Ok(())
+}
+
+/// Sets a text while no history is kept.
+pub fn load(rt: &HostRuntime, session: &mut Session, lines: usize) -> io::Result<()> {
+    let view = open(session);
+    send(session, view, Kind::SetUndoCollection, 0, 0, &[]);
+    let text = text_of(rt.alloc(), LINE, lines)?;
+    measure_once(
+        rt,
+        session,
+        view,
+        "a text set where none was",
+        Kind::SetText,
+        text.as_slice(),
+        lines,
+    )
+}
+
+/// Sets a text over another one of as many bytes.
+pub fn set_over(rt: &HostRuntime, session: &mut Session, lines: usize) -> io::Result<()> {
+    let view = open_on(rt, session, LINE, lines)?;
+    let text = text_of(rt.alloc(), LINE, lines)?;
+    measure_once(
+        rt,
+        session,
+        view,
+        "a text set over another",
+        Kind::SetText,
+        text.as_slice(),
+        lines,
+    )?;
+    copy(rt, text.as_slice(), 2)
+}

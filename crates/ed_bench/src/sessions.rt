@@ -1,0 +1,222 @@
+//! Sessions: messages through the door that a program uses, to a view that hears nothing where nothing else is said.
+
+use crate::tell;
+use ed_types::Kind;
+use editor_session::Session;
+use std::alloc::{AllocError, Global};
+use std::io;
+use std::time::Instant;
+
+/// A line of 40 bytes.
+pub const LINE: &[u8] = b"the quick brown fox jumps over the dog.\n";
+
+/// How many bytes that is.
+pub const LINE_SIZE: usize = 40;
+
+/// A line of 8 bytes, for texts of many lines.
+pub const SHORT_LINE: &[u8] = b"7 bytes\n";
+
+/// Messages of one kind: `w` goes from 0 on by a stride, kept below a size.
+#[derive(Clone, Copy)]
+pub struct Series {
+    /// Which message.
+    pub kind: Kind,
+    /// How many there are.
+    pub count: usize,
+    /// By how much `w` goes on.
+    pub stride: i64,
+    /// `w` stays below it.
+    pub size: i64,
+    /// The same `l` for all, or by how much it is greater than `w`.
+    pub l: i64,
+}
+
+/// A number as an argument of a message.
+pub fn argument(number: usize) -> i64 {
+    i64::try_from(number).unwrap_or(i64::MAX)
+}
+
+/// Messages with `w` one behind the other, as for each line.
+pub fn each(kind: Kind, count: usize, l: i64) -> Series {
+    Series {
+        kind,
+        count,
+        stride: 1,
+        size: i64::MAX,
+        l,
+    }
+}
+
+/// How many bytes so many lines have.
+fn size_of_lines(lines: usize) -> i64 {
+    argument(lines.saturating_mul(LINE_SIZE))
+}
+
+/// Messages at places that lie far apart in a text of so many lines: the stride is a prime, and no round number of lines.
+pub fn far_apart(kind: Kind, count: usize, lines: usize) -> Series {
+    Series {
+        kind,
+        count,
+        stride: 300_007,
+        size: size_of_lines(lines),
+        l: 0,
+    }
+}
+
+/// Messages on one line after the other, so that no two insertions there join.
+pub fn line_by_line(kind: Kind, count: usize, lines: usize) -> Series {
+    Series {
+        kind,
+        count,
+        stride: 41,
+        size: size_of_lines(lines),
+        l: 0,
+    }
+}
+
+/// Sends one message, and answers its value: -1 where it is refused.
+pub fn send(session: &mut Session, view: u32, kind: Kind, w: i64, l: i64, text: &[u8]) -> i64 {
+    match session.send_lent(view, kind.number(), w, l, text) {
+        Ok(reply) => reply.value(),
+        Err(_) => -1,
+    }
+}
+
+/// The `w` after this one.
+fn next_place(series: Series, w: i64) -> i64 {
+    let next = w.wrapping_add(series.stride);
+    if next < series.size {
+        next
+    } else {
+        next.wrapping_rem(series.size.max(1))
+    }
+}
+
+/// Sends a series with the same `l` and text, and answers the sum of the values.
+pub fn send_each(session: &mut Session, view: u32, series: Series, text: &[u8]) -> i64 {
+    let mut sum = 0i64;
+    let mut w = 0i64;
+    for _ in 0..series.count {
+        sum = sum.wrapping_add(send(session, view, series.kind, w, series.l, text));
+        w = next_place(series, w);
+    }
+    sum
+}
+
+/// Sends a series whose `l` goes with `w`, and answers the sum of the values.
+pub fn send_ranges(session: &mut Session, view: u32, series: Series) -> i64 {
+    let mut sum = 0i64;
+    let mut w = 0i64;
+    for _ in 0..series.count {
+        let l = w.wrapping_add(series.l);
+        sum = sum.wrapping_add(send(session, view, series.kind, w, l, &[]));
+        w = next_place(series, w);
+    }
+    sum
+}
+
+/// Types bytes at the caret, a newline each 40, one message each, and answers the sum of the values.
+pub fn type_bytes(session: &mut Session, view: u32, count: usize) -> i64 {
+    let mut sum = 0i64;
+    for typed in 0..count {
+        let byte = if typed % 40 == 39 { b'\n' } else { b'x' };
+        sum = sum.wrapping_add(send(session, view, Kind::AddText, 1, 0, &[byte]));
+    }
+    sum
+}
+
+/// How many bytes the text has.
+pub fn length(session: &mut Session, view: u32) -> i64 {
+    send(session, view, Kind::GetLength, 0, 0, &[])
+}
+
+/// Sends a series with the same `l` and text, and tells how long a message took.
+pub fn measure(
+    rt: &HostRuntime,
+    session: &mut Session,
+    view: u32,
+    what: &str,
+    series: Series,
+    text: &[u8],
+) -> io::Result<()> {
+    let start = Instant::now(rt)?;
+    let sum = send_each(session, view, series, text);
+    tell(rt, what, start, series.count)?;
+    println!(rt; "{what}: {sum}")
+}
+
+/// Sends a series whose `l` goes with `w`, and tells how long a message took.
+pub fn measure_ranges(
+    rt: &HostRuntime,
+    session: &mut Session,
+    view: u32,
+    what: &str,
+    series: Series,
+) -> io::Result<()> {
+    let start = Instant::now(rt)?;
+    let sum = send_ranges(session, view, series);
+    tell(rt, what, start, series.count)?;
+    println!(rt; "{what}: {sum}")
+}
+
+/// Sends one message that does a work of `count` pieces, and tells how long one of these took.
+pub fn measure_once(
+    rt: &HostRuntime,
+    session: &mut Session,
+    view: u32,
+    what: &str,
+    kind: Kind,
+    text: &[u8],
+    count: usize,
+) -> io::Result<()> {
+    let start = Instant::now(rt)?;
+    let value = send(session, view, kind, 0, 0, text);
+    tell(rt, what, start, count)?;
+    println!(rt; "{what}: {value} {}", length(session, view))
+}
+
+/// Types in the midst of the text, and tells how long a byte took.
+pub fn measure_typing(
+    rt: &HostRuntime,
+    session: &mut Session,
+    view: u32,
+    what: &str,
+    count: usize,
+) -> io::Result<()> {
+    let middle = length(session, view) / 2;
+    send(session, view, Kind::GotoPos, middle, 0, &[]);
+    let start = Instant::now(rt)?;
+    let sum = type_bytes(session, view, count);
+    tell(rt, what, start, count)?;
+    println!(rt; "{what}: {sum} {}", length(session, view))
+}
+
+/// A text of so many equal lines.
+pub fn text_of(alloc: Global, line: &[u8], lines: usize) -> Result<Vec<u8>, AllocError> {
+    let mut text = Vec::with_capacity(alloc, line.len().saturating_mul(lines))?;
+    for _ in 0..lines {
+        text.extend_from_slice(line)?;
+    }
+    Ok(text)
+}
+
+/// Opens a view that hears nothing.
+pub fn open(session: &mut Session) -> u32 {
+    let view = session.new_view().unwrap_or(0);
+    send(session, view, Kind::SetModEventMask, 0, 0, &[]);
+    view
+}
+
+/// Opens a view that hears nothing on a text of so many equal lines, with nothing to undo.
+pub fn open_on(
+    rt: &HostRuntime,
+    session: &mut Session,
+    line: &[u8],
+    lines: usize,
+) -> io::Result<u32> {
+    let view = open(session);
+    let text = text_of(rt.alloc(), line, lines)?;
+    send(session, view, Kind::SetText, 0, 0, text.as_slice());
+    send(session, view, Kind::EmptyUndoBuffer, 0, 0, &[]);
+    Ok(view)
+}
