@@ -7,6 +7,7 @@ use Rattle.std.specs.Prelude.{slice_index}
 use Rattle.ed_model.specs.Lines.{line_of}
 use Rattle.ed_model.specs.NeighbourLaws.{count_before}
 use Rattle.ed_model.specs.proved.Rising.{Climbs, Climbs_from_rises, count_is, count_back, rises_from_increasing}
+use Rattle.ed_model.specs.proved.Neighbours.{count_agree}
 use Rattle.line_index.specs.declared.change.NearLines.{NearLines}
 use Rattle.line_index.specs.Change.{near_lines}
 use Rattle.partitioning.specs.Partitions.{ArePartitions, IsLastAtMost}
