@@ -1,23 +1,13 @@
 -- The smallest range that holds all changes is the model's.
-use Rattle.std.proofs.Common.{◌≡◌, ◌≢◌, ℕ, zero, suc, ◌+◌, ◌-◌, ◌<◌, ◌≤◌, ◌==◌, not, Bool, true, false, List, [], ◌∷◌, ◌++◌, length, get_or, filter, Option, Some, None, IfNone, IfSome, refl, sym, ap, ◌∙◌, arith, eq-eqb, add-zero, zero-add, append-nil}
+use Rattle.std.proofs.Common.{◌≡◌, ◌≢◌, ℕ, zero, suc, ◌+◌, ◌-◌, ◌<◌, ◌≤◌, ◌==◌, not, Bool, true, false, List, ◌∷◌, length, get_or, filter, Option, Some, None, IfNone, IfSome, refl, sym, ap, ◌∙◌, arith, eq-eqb, add-zero, zero-add, append-nil}
 use Rattle.std.specs.List.{range_with_len, last_or, slice_get}
 use Rattle.std.proofs.lemmas.Option.{slice_get-get_or}
 use Rattle.std.proofs.lemmas.List.{get_or-take, get_or-drop}
 use Rattle.std.proofs.lemmas.List.Elements.{filter-append}
 use Rattle.std.proofs.lemmas.Bool.{ne_eqb, cond_both}
 use Rattle.ed_model.specs.Indicators.{changed_range, extent}
+use Rattle.ed_model.specs.proved.Rising.{range-append, filter_range_none}
 use Rattle.run_styles.specs.Runs.{IsChangedRange}
-
-pub range-append : (a m n : ℕ) → range_with_len a (m + n) ≡ range_with_len a m ++ range_with_len (a + m) n
-range-append a zero n = rw (zero-add, add-zero)
-range-append a (suc m) n =
-    let e : suc m + n ≡ suc (m + n) = omega arith in
-    let f : a + suc m ≡ (a + 1) + m = omega arith in
-    rw (e, f) (ap (λ l. a ∷ l) (range-append (a + 1) m n))
-
-filter_none : (p : ℕ → Bool) (a n : ℕ) → ((k : ℕ) → a ≤ k → k < a + n → p k ≡ false) → filter p (range_with_len a n) ≡ []
-filter_none p a zero h = refl
-filter_none p a (suc n) h = rw (h a (omega arith) (omega arith)) (filter_none p (a + 1) n (λ k l m. h k (omega arith) (omega arith)))
 
 -- the last number of a range passes, so it is the last that does
 last_passes : (p : ℕ → Bool) (a n x : ℕ) → p (a + n) ≡ true → last_or (Some x) (filter p (range_with_len a (suc n))) ≡ Some (a + n)
@@ -42,7 +32,7 @@ extent_is p a n first last =
 -- all that passes lies between
 extent_within : (p : ℕ → Bool) (a n r : ℕ) → p a ≡ true → p (a + n) ≡ true → ((k : ℕ) → k < a → p k ≡ false) → ((k : ℕ) → a + suc n ≤ k → p k ≡ false) → extent (filter p (range_with_len 0 (a + (suc n + r)))) ≡ Some (a, suc n)
 extent_within p a n r first last before behind =
-    rw (range-append 0 a (suc n + r), zero-add a, range-append a (suc n) r, filter-append p, filter-append p, filter_none p 0 a (λ k l m. before k (omega arith)), filter_none p (a + suc n) r (λ k l m. behind k l), append-nil (filter p (range_with_len a (suc n))))
+    rw (range-append 0 a (suc n + r), zero-add a, range-append a (suc n) r, filter-append p, filter-append p, filter_range_none p 0 a (λ k l m. before k (omega arith)), filter_range_none p (a + suc n) r (λ k l m. behind k l), append-nil (filter p (range_with_len a (suc n))))
     (extent_is p a n first last)
 
 same_place : (old new : List ℕ) (k : ℕ) → get_or old k 0 ≡ get_or new k 0 → not (get_or old k 0 == get_or new k 0) ≡ false
@@ -54,7 +44,7 @@ other_place old new k h e apart =
 
 -- nothing changed
 pub unchanged : (values : List ℕ) → changed_range values values ≡ None
-unchanged values = ap extent (filter_none (λ k. not (get_or values k 0 == get_or values k 0)) 0 (length values) (λ k l m. same_place values values k refl))
+unchanged values = ap extent (filter_range_none (λ k. not (get_or values k 0 == get_or values k 0)) 0 (length values) (λ k l m. same_place values values k refl))
 
 pub changed_is : (old new : List ℕ) (range : ℕ × ℕ) → length new ≡ length old → IsChangedRange old new range → changed_range old new ≡ Some range
 changed_is old new (a, zero) e range = absurd (omega (arith, range.some))

@@ -10,7 +10,7 @@ use Rattle.std.proofs.lemmas.Nat.{pow-add, one_shl}
 use Rattle.std.proofs.Math.Pow.{pow_mono}
 use Rattle.ed_model.specs.TextPlans.{at_place}
 use Rattle.decorations.specs.Decorated.{indicators, values_of, mask_of}
-use Rattle.decorations.proofs.Changed.{range-append}
+use Rattle.ed_model.specs.proved.Rising.{range-append}
 
 -- whether an indicator is not 0 at the place
 abbrev pub is_on : List (List ℕ) → ℕ → ℕ → Bool

@@ -7,8 +7,8 @@ use Rattle.ed_model.specs.Text.{Cell, bytes_of}
 use Rattle.ed_model.specs.Lines.{line_starts, line_count, line_end_length, start_after_line, end_of_line}
 use Rattle.ed_model.specs.MergeLaws.{end_of, put_in}
 use Rattle.ed_model.specs.Steps.{Step, Insert, Delete, place_of, edited, edited_cells}
-use Rattle.ed_model.proofs.LineLemmas.{line_starts_in_range}
-use Rattle.ed_model.proofs.StepLemmas.{bytes_of_edited_cells}
+use Rattle.ed_model.specs.proved.Lines.{line_starts_in_range}
+use Rattle.ed_model.specs.proved.Steps.{bytes_of_edited_cells}
 use Rattle.line_index.specs.Index.{Index, IsIndexOf, IsInsertion, IsDeletion, bytes_near}
 use Rattle.line_index.specs.RoomLaws.{lines_for_insertion, lines_for_deletion, InsertionAddsFewLines, DeletionAddsFewLines}
 use Rattle.line_index.specs.Change.{change_about}

@@ -1,116 +1,24 @@
 -- Bytes that are put in piece after piece: the text after each, and how many lines it has.
-use Rattle.std.proofs.Common.{◌≡◌, ℕ, zero, suc, ◌+◌, ◌-◌, ◌<◌, ◌≤◌, ◌==◌, Bool, true, false, List, ◌++◌, length, take, drop, slice_range, refl, ap, sym, ◌∙◌, inl, inr, arith, append_assoc, length-append}
-use Rattle.std.proofs.lemmas.Bool.{ne_eqb, true≢false, cases_lt}
-use Rattle.std.proofs.lemmas.List.{length-map, length-take-le, map-append}
-use Rattle.std.proofs.lemmas.Option.{slice_get_past}
+use Rattle.std.proofs.Common.{◌≡◌, ℕ, ◌+◌, ◌-◌, ◌≤◌, List, ◌++◌, length, take, drop, slice_range, ap, ◌∙◌, arith, append_assoc, length-append}
+use Rattle.std.proofs.lemmas.List.{take_at, drop_at, length-map, length-take-le, map-append}
+use Rattle.std.proofs.Math.Seq.{take-add}
 use Rattle.ed_model.specs.declared.plan.LineEndTypes.{LineEndTypes}
-use Rattle.ed_model.specs.Numbers.{is_number}
-use Rattle.ed_model.specs.Text.{Cell, bytes_of, plain_cell, plain_cells, stands}
-use Rattle.ed_model.specs.Lines.{is_line_start, line_count}
+use Rattle.ed_model.specs.Text.{Cell, bytes_of, plain_cell, plain_cells}
+use Rattle.ed_model.specs.Lines.{line_count}
 use Rattle.ed_model.specs.Steps.{Insert, edited_cells}
-use Rattle.ed_model.proofs.NeighbourLemmas.{slice_get_take, take_and_next}
-use Rattle.ed_model.proofs.RisingLemmas.{filter_range_agree}
-use Rattle.ed_model.proofs.StepLemmas.{bytes_of_edited_cells}
-use Rattle.line_index.specs.Index.{Index, starts_within}
-use Rattle.line_index.specs.RoomLaws.{lines_for_insertion, InsertionAddsFewLines}
-use Rattle.line_index.proofs.Added.{front_of, back_of}
-use Rattle.line_index.proofs.StartLists.{starts_apart, one_start, no_starts}
+use Rattle.ed_model.specs.proved.Steps.{bytes_of_edited_cells}
+use Rattle.line_index.specs.Index.{Index}
+use Rattle.line_index.specs.RoomLaws.{lines_for_insertion, InsertionAddsFewLines, FirstBytesHaveFewLines}
 use Rattle.document.specs.Parts.{HasLinesOf}
 use Rattle.document.proofs.LineSteps.{lines_of_index}
 
--- The first bytes of a text have no more lines than all.
-
--- what stands in the first bytes
-stands_at_first : (byte : ℕ) (bytes : List ℕ) (n k : ℕ) → k < n → stands byte (take n bytes) k ≡ stands byte bytes k
-stands_at_first byte bytes n k h = ap (is_number byte) (slice_get_take n bytes k h)
-
--- a line starts at a place of both texts or of none, where the same bytes stand in front and an LF behind in both or in none
-alike : (types : LineEndTypes) (text other : List ℕ) (p : ℕ) → (0 < p → (byte k : ℕ) → k < p → stands byte text k ≡ stands byte other k) → stands 10 text p ≡ stands 10 other p
-    → is_line_start types text p ≡ is_line_start types other p
-alike types text other zero front here = refl
-alike types text other (suc q) front here =
-    let same : (byte k : ℕ) → k < suc q → stands byte text k ≡ stands byte other k = front (omega arith) in
-    let p : ℕ = suc q in
-    rw (
-      here,
-      same 10 (p - 1) (omega arith),
-      same 13 (p - 1) (omega arith),
-      same 0x85 (p - 1) (omega arith),
-      same 0xC2 (p - 2) (omega arith),
-      same 0xA8 (p - 1) (omega arith),
-      same 0xA9 (p - 1) (omega arith),
-      same 0x80 (p - 2) (omega arith),
-      same 0xE2 (p - 3) (omega arith),
-    )
-    refl
-
--- in front of the end of the first bytes the same lines start
-same_in_front : (types : LineEndTypes) (bytes : List ℕ) (n : ℕ) → n ≤ length bytes → starts_within types (take n bytes) 0 n ≡ starts_within types bytes 0 n
-same_in_front types bytes n l =
-    filter_range_agree (is_line_start types bytes) (is_line_start types (take n bytes)) 0 (n - 0)
-    (λ k a b. sym (alike types (take n bytes) bytes k (λ some byte i h. stands_at_first byte bytes n i (omega arith)) (stands_at_first 10 bytes n k (omega arith))))
-
--- where a line starts between two places, there is one
-some_within : (types : LineEndTypes) (text : List ℕ) (from to k : ℕ) → from ≤ k → k < to → is_line_start types text k ≡ true → 1 ≤ length (starts_within types text from to)
-some_within types text from to k a b here =
-    omega (
-      arith,
-      ap length (starts_apart types text from k to a (omega arith)),
-      ap length (starts_apart types text k (k + 1) to (omega arith) (omega arith)),
-      ap length (one_start types text k here),
-      length-append (starts_within types text from k) (starts_within types text k to),
-      length-append (starts_within types text k (k + 1)) (starts_within types text (k + 1) to),
-    )
-
-behind_line_feed : (types : LineEndTypes) (text : List ℕ) (p : ℕ) → stands 10 text p ≡ true → is_line_start types text (p + 1) ≡ true
-behind_line_feed types text p e =
-    let one : p + 1 - 1 ≡ p = omega arith in
-    let some : (p + 1 == 0) ≡ false = ne_eqb (p + 1) 0 (λ z. omega arith) in
-    rw (some, one, e) refl
-
-stands_inside : (byte : ℕ) (text : List ℕ) (p : ℕ) → stands byte text p ≡ true → p < length text
-stands_inside byte text p e =
-    elim (cases_lt p (length text)) [
-      | inl inside ↦ inside
-      | inr past ↦ absurd (true≢false (sym e ∙ ap (is_number byte) (slice_get_past text p past)))
-    ]
-
--- a line that starts at the end of the first bytes starts there in all of them too, or behind the LF that stands there
-some_at_end : (types : LineEndTypes) (bytes : List ℕ) (n : ℕ) → n ≤ length bytes → is_line_start types (take n bytes) n ≡ true → (b : Bool) → stands 10 bytes n ≡ b
-    → 1 ≤ length (starts_within types bytes n (length bytes + 1))
-some_at_end types bytes n l here true e =
-    some_within types bytes n (length bytes + 1) (n + 1) (omega arith) (omega (arith, stands_inside 10 bytes n e)) (behind_line_feed types bytes n e)
-some_at_end types bytes n l here false e =
-    let past : stands 10 (take n bytes) n ≡ false = ap (is_number 10) (slice_get_past (take n bytes) n (omega (arith, length-take-le n bytes l))) in
-    some_within types bytes n (length bytes + 1) n (omega arith) (omega arith)
-    (sym (alike types (take n bytes) bytes n (λ some byte i h. stands_at_first byte bytes n i h) (past ∙ sym e)) ∙ here)
-
-at_end : (types : LineEndTypes) (bytes : List ℕ) (n : ℕ) → n ≤ length bytes → (here : Bool) → is_line_start types (take n bytes) n ≡ here
-    → length (starts_within types (take n bytes) n (n + 1)) ≤ length (starts_within types bytes n (length bytes + 1))
-at_end types bytes n l true e = omega (arith, ap length (one_start types (take n bytes) n e), some_at_end types bytes n l e (stands 10 bytes n) refl)
-at_end types bytes n l false e =
-    omega (arith, ap length (no_starts types (take n bytes) n (n + 1) (λ k a b. let same : k ≡ n = omega arith in rw same e)))
-
-all_starts : (types : LineEndTypes) (text : List ℕ) (n : ℕ) → length text ≡ n → line_count types text ≡ length (starts_within types text 0 (n + 1))
-all_starts types text n e =
-    let whole : length text + 1 - 0 ≡ length text + 1 = omega arith in
-    rw (← e, whole) refl
-
-pub fewer_at_first : (types : LineEndTypes) (bytes : List ℕ) (n : ℕ) → n ≤ length bytes → line_count types (take n bytes) ≤ line_count types bytes
-fewer_at_first types bytes n l =
-    omega (
-      arith,
-      all_starts types (take n bytes) n (length-take-le n bytes l),
-      all_starts types bytes (length bytes) refl,
-      ap length (starts_apart types (take n bytes) 0 n (n + 1) (omega arith) (omega arith)),
-      ap length (starts_apart types bytes 0 n (length bytes + 1) (omega arith) (omega arith)),
-      ap length (same_in_front types bytes n l),
-      at_end types bytes n l (is_line_start types (take n bytes) n) refl,
-      length-append (starts_within types (take n bytes) 0 n) (starts_within types (take n bytes) n (n + 1)),
-      length-append (starts_within types bytes 0 n) (starts_within types bytes n (length bytes + 1)),
-    )
-
 -- The text after each piece.
+
+-- the front of a list, and what comes next of it
+take_and_next : {X : Type 0} (xs : List X) (n m : ℕ) → n ≤ m → take m xs ≡ take n xs ++ slice_range xs n m
+take_and_next xs n m h =
+    let apart : m ≡ n + (m - n) = omega arith in
+    ap (λ k. take k xs) apart ∙ take-add n (m - n) xs
 
 -- a piece behind those that are in
 pub piece_behind :
@@ -120,28 +28,28 @@ piece_behind cells now place done end bytes p d e is =
     let front : List Cell = take place cells ++ plain_cells (take done bytes) in
     let long : length front ≡ place + done =
     omega (arith, length-append (take place cells) (plain_cells (take done bytes)), length-take-le place cells p, length-map (take done bytes) plain_cell, length-take-le done bytes (omega arith)) in
-    rw (is, take_and_next bytes done end d, front_of front (drop place cells) (place + done) long, back_of front (drop place cells) (place + done) long)
+    rw (is, take_and_next bytes done end d, take_at front (drop place cells) (place + done) long, drop_at front (drop place cells) (place + done) long)
     (simp (map-append, append_assoc))
 
 -- The lines that there are with the first bytes.
 
 pub lines_with_first :
-    (types : LineEndTypes) (cells now : List Cell) (place n : ℕ) (bytes : List ℕ) → InsertionAddsFewLines → place ≤ length cells → n ≤ length bytes → now ≡ edited_cells (Insert place (take n bytes)) cells
+    (types : LineEndTypes) (cells now : List Cell) (place n : ℕ) (bytes : List ℕ) → InsertionAddsFewLines → FirstBytesHaveFewLines → place ≤ length cells → n ≤ length bytes → now ≡ edited_cells (Insert place (take n bytes)) cells
     → line_count types (bytes_of now) ≤ line_count types (bytes_of cells) + lines_for_insertion types bytes
-lines_with_first types cells now place n bytes few p l is =
+lines_with_first types cells now place n bytes few first p l is =
     let text = ap (λ cs. line_count types (bytes_of cs)) is ∙ ap (line_count types) (bytes_of_edited_cells (Insert place (take n bytes)) cells) in
-    omega (arith, text, few types place (take n bytes) (bytes_of cells) (omega (arith, length-map cells (λ (c : Cell). c.byte))), fewer_at_first types bytes n l)
+    omega (arith, text, few types place (take n bytes) (bytes_of cells) (omega (arith, length-map cells (λ (c : Cell). c.byte))), first types bytes n l)
 
 -- so a piece's lines fit in where those of all bytes do
 pub piece_fits :
-    (types : LineEndTypes) (cells now : List Cell) (old lines : Index) (place done end : ℕ) (bytes : List ℕ) → InsertionAddsFewLines → HasLinesOf types cells old → place ≤ length cells → done ≤ end → end ≤ length bytes
+    (types : LineEndTypes) (cells now : List Cell) (old lines : Index) (place done end : ℕ) (bytes : List ℕ) → InsertionAddsFewLines → FirstBytesHaveFewLines → HasLinesOf types cells old → place ≤ length cells → done ≤ end → end ≤ length bytes
     → now ≡ edited_cells (Insert place (take done bytes)) cells → lines.room + length lines.starts ≡ old.room + length old.starts → lines_for_insertion types bytes ≤ old.room
     → line_count types (bytes_of (edited_cells (Insert (place + done) (slice_range bytes done end)) now)) ≤ length lines.starts + lines.room
-piece_fits types cells now old lines place done end bytes few has p d e is sum room =
+piece_fits types cells now old lines place done end bytes few first has p d e is sum room =
     omega (
       arith,
       sum,
       room,
       lines_of_index types (bytes_of cells) old has.index has.types_are,
-      lines_with_first types cells (edited_cells (Insert (place + done) (slice_range bytes done end)) now) place end bytes few p e (piece_behind cells now place done end bytes p d e is),
+      lines_with_first types cells (edited_cells (Insert (place + done) (slice_range bytes done end)) now) place end bytes few first p e (piece_behind cells now place done end bytes p d e is),
     )

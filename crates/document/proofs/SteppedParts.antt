@@ -10,7 +10,7 @@ use Rattle.ed_model.specs.Rows.{Row}
 use Rattle.ed_model.specs.Session.{Document}
 use Rattle.ed_model.specs.Performing.{document_after}
 use Rattle.ed_model.specs.MergeLaws.{end_of}
-use Rattle.ed_model.proofs.StepLemmas.{bytes_of_edited_cells}
+use Rattle.ed_model.specs.proved.Steps.{bytes_of_edited_cells}
 use Rattle.line_index.specs.declared.change.LineChange.{LineChange}
 use Rattle.line_index.specs.RoomLaws.{lines_for_step}
 use Rattle.line_index.specs.StepEdits.{change_of}

@@ -1,28 +1,14 @@
 -- Cells whose styles change: their bytes stay, and so do the other parts of a document.
-use Rattle.std.proofs.Common.{◌≡◌, ℕ, ◌==◌, not, Bool, false, List, [], ◌∷◌, ◌++◌, length, take, drop, filter, None, refl, ap, sym, subst, ◌∙◌, arith}
+use Rattle.std.proofs.Common.{◌≡◌, ℕ, ◌==◌, not, Bool, false, List, [], ◌∷◌, length, filter, None, refl, ap, sym, subst, ◌∙◌, arith}
 use Rattle.std.specs.List.{range_with_len}
 use Rattle.std.specs.Prelude.{slice_index}
 use Rattle.std.proofs.lemmas.Bool.{eq-eqb}
-use Rattle.std.proofs.lemmas.List.{map-append, take-append-drop}
 use Rattle.ed_model.specs.Text.{Cell, bytes_of}
-use Rattle.ed_model.specs.Changes.{restyled}
 use Rattle.ed_model.specs.Indicators.{extent, changed_range}
 use Rattle.line_index.specs.Index.{IsIndexOf}
 use Rattle.line_rows.specs.Kept.{KeptRows}
 use Rattle.document.specs.Places.{LinesOf, IndicatorsOf}
 use Rattle.document.specs.Parts.{ArePartsOf}
-
-bytes_of_restyled : (styles : List ℕ) (cells : List Cell) → bytes_of (restyled styles cells) ≡ bytes_of cells
-bytes_of_restyled [] cells = refl
-bytes_of_restyled (s ∷ ss) [] = refl
-bytes_of_restyled (s ∷ ss) (c ∷ cells) = ap (λ rest. c.byte ∷ rest) (bytes_of_restyled ss cells)
-
-pub bytes_stay : (start : ℕ) (styles : List ℕ) (cells : List Cell) → bytes_of (take start cells ++ restyled styles (drop start cells)) ≡ bytes_of cells
-bytes_stay start styles cells =
-    map-append (λ (c : Cell). c.byte) (take start cells) (restyled styles (drop start cells))
-    ∙ ap (λ rest. bytes_of (take start cells) ++ rest) (bytes_of_restyled styles (drop start cells))
-    ∙ sym (map-append (λ (c : Cell). c.byte) (take start cells) (drop start cells))
-    ∙ ap bytes_of (take-append-drop start cells)
 
 -- the parts of a document whose cells have other styles
 pub parts_restyled :

@@ -1,6 +1,6 @@
 -- Texts that undo goes back to, over the changes of a document.
 use Rattle.std.proofs.Common.{◌≡◌, ℕ, zero, suc, ◌+◌, ◌-◌, ◌<◌, ◌≤◌, ◌==◌, nat_lt, not, ◌&&◌, ◌||◌, Bool, true, false, ℤ, List, [], ◌∷◌, ◌++◌, length, take, drop, map, replicate, refl, ap, ◌∙◌, sym, subst, arith, Some}
-use Rattle.std.proofs.lemmas.List.{length-map, map-append, take-append-drop}
+use Rattle.std.proofs.lemmas.List.{length-map}
 use Rattle.ed_model.specs.declared.plan.DocumentChange.TheVariants as change
 use Rattle.ed_model.specs.Text.{Cell, bytes_of}
 use Rattle.ed_model.specs.Steps.{Step, edited}
@@ -14,7 +14,7 @@ use Rattle.ed_model.specs.InverseLaws.{Fits, FitInTurn, text_of_scene, history_o
 use Rattle.ed_model.specs.HistoryLaws.{SameButForSeals}
 use Rattle.ed_model.specs.UndoLaws.{undone_text}
 use Rattle.ed_model.specs.EarlierTextLaws.{KeepsEarlierTexts, EditsKeepEarlierTexts, UndoKeepsTheTextsBefore, RedoKeepsTheTextsBefore, DocumentChangesKeepEarlierTexts, latest_with, GoesBackAtFirst, GoesBackAfterwards}
-use Rattle.ed_model.proofs.StepLemmas.{bytes_of_edited_cells}
+use Rattle.ed_model.specs.proved.Steps.{bytes_of_edited_cells, bytes_behind_restyled}
 use Rattle.ed_model.proofs.HistoryLemmas.{both_hold, where_true, where_false, where_collecting, apart, itself, joined_last, joined_open, append_begins, append_leaves_the_save_point, not_collecting_appends_nothing, seals_change_no_change, group_begun_changes_no_change, group_ended_changes_no_change, undo_moves_to_the_future, redo_moves_to_the_past}
 use Rattle.ed_model.proofs.TransactionLemmas.{undo_makes_its_steps, redo_makes_its_steps}
 use Rattle.ed_model.proofs.UndoLemmas.{undo_keeps_earlier_texts, redo_is_one_transaction_more, seals_keep_earlier_texts, begun_step_is_one_transaction_more, joined_step_keeps_earlier_texts, begun_container_step_is_one_transaction_more, joined_container_step_keeps_earlier_texts}
@@ -277,18 +277,6 @@ pub redo_keeps_the_texts_before : RedoKeepsTheTextsBefore
 redo_keeps_the_texts_before scene fits = redo_keeps scene (history_of scene).future refl fits
 
 -- Changes that are no edit.
-
-bytes_of_restyled : (styles : List ℕ) (cells : List Cell) → bytes_of (restyled styles cells) ≡ bytes_of cells
-bytes_of_restyled [] cells = refl
-bytes_of_restyled (s ∷ ss) [] = refl
-bytes_of_restyled (s ∷ ss) (c ∷ cells) = ap (λ rest. c.byte ∷ rest) (bytes_of_restyled ss cells)
-
-bytes_behind_restyled : (n : ℕ) (styles : List ℕ) (cells : List Cell) → bytes_of (take n cells ++ restyled styles (drop n cells)) ≡ bytes_of cells
-bytes_behind_restyled n styles cells =
-    map-append (λ (c : Cell). c.byte) (take n cells) (restyled styles (drop n cells))
-    ∙ ap (λ rest. bytes_of (take n cells) ++ rest) (bytes_of_restyled styles (drop n cells))
-    ∙ sym (map-append (λ (c : Cell). c.byte) (take n cells) (drop n cells))
-    ∙ ap bytes_of (take-append-drop n cells)
 
 -- styling changes no byte
 pub text_of_styled : (styles : List ℕ) (d : Document) → text_of (styled styles d) ≡ text_of d

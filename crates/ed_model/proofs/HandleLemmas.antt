@@ -1,14 +1,12 @@
 -- Handles are given once: what a change of a document does to how often they stand in its rows.
-use Rattle.std.proofs.Common.{◌≡◌, ℕ, ◌+◌, ◌<◌, ◌≤◌, List, [], ◌∷◌, ◌++◌, length, map, ap, ◌∙◌, arith}
+use Rattle.std.proofs.Common.{ℕ, ◌<◌, ◌≤◌, List, [], ◌∷◌, ◌++◌, map, ap, ◌∙◌, arith}
 use Rattle.std.specs.Prelude.{slice_index_or}
 use Rattle.std.proofs.lemmas.List.{map-append}
-use Rattle.ed_model.specs.declared.plan.LineEndTypes.{LineEndTypes}
-use Rattle.ed_model.specs.declared.plan.DocumentChange.{DocumentChange}
 use Rattle.ed_model.specs.declared.plan.DocumentChange.TheVariants as change
 use Rattle.ed_model.specs.Lines.{line_starts}
-use Rattle.ed_model.specs.Rows.{Row, Marker, fresh_row, rows_together}
+use Rattle.ed_model.specs.Rows.{Marker, fresh_row}
 use Rattle.ed_model.specs.Session.{Document, text_of}
-use Rattle.ed_model.specs.Changes.{changed_document, with_markers, new_markers, with_new_markers, without_marker, is_of_number}
+use Rattle.ed_model.specs.Changes.{new_markers, with_new_markers, without_marker, is_of_number}
 use Rattle.ed_model.specs.LinePlans.{numbers_in}
 use Rattle.ed_model.specs.SoundLaws.{occurrences, handles_in}
 use Rattle.ed_model.specs.HandleLaws.{StepsGiveNoHandle, ChangesGiveNoOldHandle, NextHandlesNeverFall}

@@ -7,8 +7,8 @@ use Rattle.std.proofs.Math.Seq.{take-append_seam, drop-append_seam, drop-append-
 use Rattle.ed_model.specs.Text.{bytes_of, plain_cells}
 use Rattle.ed_model.specs.Steps.{Step, Insert, Delete, edited, edited_cells, inverse_of}
 use Rattle.ed_model.specs.LineEnds.{after_steps}
-use Rattle.ed_model.proofs.StepLemmas.{bytes_of_edited_cells}
 use Rattle.ed_model.specs.InverseLaws.{FitInTurn, inverses, InverseOfInverse, InverseGivesBackTheText, InverseFits, InverseGivesBackTheBytesOfCells, InsertionTakenBackGivesBackTheCells, InversesGiveBackTheText, InversesFitInTurn}
+use Rattle.ed_model.specs.proved.Steps.{bytes_of_edited_cells}
 
 pub inverse_of_inverse : InverseOfInverse
 inverse_of_inverse (Insert p bytes) = refl

@@ -1,13 +1,14 @@
 -- The walk over old lines and new ones goes part by part: rows of lines that stay are as they were, a line that comes has a
 -- fresh row, and where a line goes two rows are joined.
-use Rattle.std.proofs.Common.{ℕ, zero, suc, ◌≡◌, ◌+◌, ◌-◌, ◌<◌, ◌≤◌, Bool, true, false, cond, List, [], ◌∷◌, ◌++◌, map, length, take, drop, filter, zip, count_by, get_or, slice_range, eqb, leb, ltb, sym, refl, ap, ap₂, ◌∙◌, inl, inr, arith, ◌≢◌, add-one, one-add, le_refl}
+use Rattle.std.proofs.Common.{ℕ, zero, suc, ◌≡◌, ◌+◌, ◌-◌, ◌<◌, ◌≤◌, Bool, true, false, cond, List, [], ◌∷◌, ◌++◌, map, length, take, drop, filter, zip, count_by, get_or, slice_range, eqb, leb, ltb, sym, refl, ap, ap₂, ◌∙◌, inl, inr, arith, ◌≢◌, one-add, le_refl}
 use Rattle.std.specs.List.{prefix_len, AllByRecursion}
-use Rattle.std.specs.List.Sorted.{IsNonDecreasing, IsStrictlyIncreasing}
+use Rattle.std.specs.List.Sorted.{IsNonDecreasing}
 use Rattle.std.proofs.lemmas.Bool.{cases_order, eq-eqb, ne_eqb, lt-ltb, le-ltb, le-leb, lt-leb}
 use Rattle.std.proofs.lemmas.List.{length-drop, take_at, drop_at, take-append-le, drop-append-le}
 use Rattle.std.proofs.lemmas.List.Sums.{prefix_len-le-length}
 use Rattle.ed_model.specs.MergeLaws.{lines_before, merged}
-use Rattle.ed_model.proofs.RisingLemmas.{Rises, Climbs, Climbs_weaker, Rises_weaker, count-cons}
+use Rattle.ed_model.specs.proved.Lists.{each_weaker}
+use Rattle.ed_model.specs.proved.Rising.{Rises, Climbs, Climbs_weaker, Rises_weaker, count-cons}
 
 -- what holds of each element
 
@@ -16,11 +17,6 @@ pub each_drop : {X : Type 0} (P : X → Type 0) (k : ℕ) (xs : List X) → AllB
 each_drop P zero xs h = h
 each_drop P (suc k) [] h = h
 each_drop P (suc k) (x ∷ xs) h = each_drop P k xs h.1
-
--- .. and so does what follows from it
-pub each_weaker : {X : Type 0} (P Q : X → Type 0) (xs : List X) → ((x : X) → P x → Q x) → AllByRecursion P xs → AllByRecursion Q xs
-each_weaker P Q [] f h = h
-each_weaker P Q (x ∷ xs) f h = (f x h.0, each_weaker P Q xs f h.1)
 
 -- what rises before a number is below it
 pub rises_before : (low t : ℕ) (xs ys : List ℕ) → Rises low (xs ++ t ∷ ys) → AllByRecursion (λ x. x < t) xs × (low ≤ t)
@@ -100,15 +96,6 @@ merged_joined together alone moved low s a b (o ∷ old) x y rows r f g h =
     (ap (λ l. together (x ∷ y ∷ []) ∷ l) (merged_same together alone moved low (o ∷ old) rows r h))
 
 -- std's words for lists in order
-
--- a rising list, from std's words
-pub rises_from_increasing : (low : ℕ) (xs : List ℕ) → (0 < length xs → low ≤ get_or xs 0 0) → IsStrictlyIncreasing xs → Rises low xs
-rises_from_increasing low [] h r = tt
-rises_from_increasing low (x ∷ []) h r = (h (omega arith), tt)
-rises_from_increasing low (x ∷ y ∷ xs) h r = (
-  h (omega arith),
-  rises_from_increasing (x + 1) (y ∷ xs) (λ _. omega (arith, r 0 (omega arith))) (λ k l. rw (add-one k) (rw (add-one (k + 1), add-one k) at (r (k + 1) (omega arith)))),
-)
 
 -- a list that does not fall, from std's words
 pub climbs_from_non_decreasing : (low : ℕ) (xs : List ℕ) → (0 < length xs → low ≤ get_or xs 0 0) → IsNonDecreasing xs → Climbs low xs

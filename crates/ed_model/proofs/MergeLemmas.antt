@@ -7,7 +7,7 @@ use Rattle.std.proofs.lemmas.List.Elements.{filter_agree}
 use Rattle.ed_model.specs.Lines.{line_of}
 use Rattle.ed_model.specs.Carry.{rows_on, carried}
 use Rattle.ed_model.specs.MergeLaws.{lines_before, merged}
-use Rattle.ed_model.proofs.RisingLemmas.{Rises, Climbs, Climbs_weaker, Climbs_from_rises, count-cons, count_none}
+use Rattle.ed_model.specs.proved.Rising.{Rises, Climbs, Climbs_weaker, Climbs_from_rises, count-cons, count_none}
 
 -- lists
 

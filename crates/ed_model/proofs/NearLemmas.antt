@@ -1,23 +1,24 @@
 -- A step carries rows by the walk, which may stay about the step.
-use Rattle.std.proofs.Common.{ℕ, zero, suc, ◌≡◌, ◌+◌, ◌-◌, ◌<◌, ◌≤◌, Bool, true, cond, List, [], ◌∷◌, ◌++◌, map, length, take, drop, count_by, get_or, slice_range, leb, ltb, sym, refl, ap, ap₂, subst, ◌∙◌, inl, inr, arith, le_refl, append-nil, append_assoc, map-id}
+use Rattle.std.proofs.Common.{ℕ, zero, suc, ◌≡◌, ◌+◌, ◌-◌, ◌<◌, ◌≤◌, true, cond, List, [], ◌∷◌, ◌++◌, map, length, take, drop, get_or, slice_range, leb, ltb, sym, refl, ap, ap₂, subst, ◌∙◌, inl, inr, arith, le_refl, append-nil, append_assoc, map-id}
 use Rattle.std.specs.List.{AllByRecursion}
-use Rattle.std.proofs.lemmas.Bool.{cases_lt, lt-ltb, le-ltb, le-leb, ltb-true, leb-true}
+use Rattle.std.proofs.lemmas.Bool.{cases_lt, lt-ltb, le-ltb, ltb-true, leb-true}
 use Rattle.std.proofs.lemmas.Bool.Decides.{nat_tests}
 use Rattle.std.proofs.lemmas.List.{length-append, length-take, length-drop, drop-take, take-append-drop, drop-drop, take-take, get_or-take, get_or-drop, get_or_append_left}
 use Rattle.std.proofs.lemmas.List.Elements.{recursion_from_All, filter_passes}
-use Rattle.std.proofs.lemmas.List.Sums.{count_by-le-length, sum_by-le-sum_by}
+use Rattle.std.proofs.lemmas.List.Sums.{count_by-le-length}
 use Rattle.ed_model.specs.declared.plan.LineEndTypes.{LineEndTypes}
-use Rattle.ed_model.specs.Lines.{line_starts, line_of, line_count}
+use Rattle.ed_model.specs.Lines.{line_starts, line_count}
 use Rattle.ed_model.specs.Steps.{Step, Insert, Delete, place_of, edited, moved_start, moved_back}
 use Rattle.ed_model.specs.Carry.{carried, carried_by, carried_unless_empty, regrouped}
 use Rattle.ed_model.specs.NeighbourLaws.{starts_before, starts_from, starts_about, count_before}
 use Rattle.ed_model.specs.MergeLaws.{merged, JoinsRows, end_of, put_in, first_line_about, first_line_behind, new_starts_about}
-use Rattle.ed_model.proofs.RisingLemmas.{Rises, Climbs, Climbs_weaker, Climbs_from_rises, count-cons, count_at}
+use Rattle.ed_model.specs.proved.Lists.{each_weaker}
+use Rattle.ed_model.specs.proved.Rising.{Rises, Climbs, Climbs_weaker, Climbs_from_rises}
+use Rattle.ed_model.specs.proved.Lines.{line_starts_rise, first_line_start, some_line}
+use Rattle.ed_model.specs.proved.Neighbours.{starts_after_insertion, starts_after_deletion, starts_about_is, starts_before_first, starts_from_others, count_before_monotone, some_before}
 use Rattle.ed_model.proofs.StepLemmas.{start_keeps_order}
-use Rattle.ed_model.proofs.LineLemmas.{line_starts_rise, first_line_start, some_line}
-use Rattle.ed_model.proofs.NeighbourLemmas.{starts_after_insertion, starts_after_deletion, starts_about_is, starts_before_first, starts_from_others}
 use Rattle.ed_model.proofs.MergeLemmas.{carried_is_merged}
-use Rattle.ed_model.proofs.JoinLemmas.{each_drop, each_weaker, rises_front, rises_before, rises_rest, climbs_each, climbs_of_keys, merged-append, merged_same}
+use Rattle.ed_model.proofs.JoinLemmas.{each_drop, rises_front, rises_before, rises_rest, climbs_each, climbs_of_keys, merged-append, merged_same}
 
 -- what a step does to starts before it and behind it
 
@@ -138,15 +139,6 @@ climbs_on : (low k : ℕ) (xs : List ℕ) → Climbs low xs → k < length xs �
 climbs_on low k [] c l = absurd (omega arith)
 climbs_on low zero (x ∷ xs) c l = (le_refl x, c.1)
 climbs_on low (suc k) (x ∷ xs) c l = climbs_on x k xs c.1 (omega arith)
-
--- counts of starts before a place
-
-count_before_monotone : (p q : ℕ) (xs : List ℕ) → p ≤ q → count_before p xs ≤ count_before q xs
-count_before_monotone p q xs h = sum_by-le-sum_by (λ s. cond (ltb s p) 1 0) (λ s. cond (ltb s q) 1 0) xs (λ s. grind (arith, nat_tests))
-
-some_before : (p : ℕ) (xs : List ℕ) → 0 < length xs → get_or xs 0 0 ≡ 0 → 0 < p → 0 < count_before p xs
-some_before p [] h e l = absurd (omega arith)
-some_before p (x ∷ xs) h e l = rw (count-cons (λ s. ltb s p) x xs, lt-ltb x p (omega arith)) (omega arith)
 
 place_upto_end : (step : Step) → place_of step ≤ end_of step
 place_upto_end (Insert p bytes) = omega arith
@@ -318,45 +310,6 @@ step_carries_nearby {R} together j types step text rows h fits some =
     ∙ ap (λ (l : List R). merged together moved (front ++ (mid ++ back)) (front ++ (news ++ map moved back)) l) row_parts
     ∙ walk
     ∙ sym (append_assoc (take first rows) (merged together moved mid news (slice_range rows first last)) (drop last rows))
-
--- counts by the line of a place
-
-count_agree : (p q : ℕ → Bool) (xs : List ℕ) → ((x : ℕ) → p x ≡ q x) → count_by p xs ≡ count_by q xs
-count_agree p q [] h = refl
-count_agree p q (x ∷ xs) h = rw (count-cons p x xs, count-cons q x xs, h x, count_agree p q xs h) refl
-
-below_next : (s p q : ℕ) → q ≡ p + 1 → ltb s q ≡ leb s p
-below_next s p q e = grind (arith, nat_tests)
-
-count_before_next : (p q : ℕ) (xs : List ℕ) → q ≡ p + 1 → count_before q xs ≡ count_by (λ s. leb s p) xs
-count_before_next p q xs e = count_agree (λ s. ltb s q) (λ s. leb s p) xs (λ s. below_next s p q e)
-
-some_upto : (p : ℕ) (xs : List ℕ) → 0 < length xs → get_or xs 0 0 ≡ 0 → 0 < count_by (λ s. leb s p) xs
-some_upto p [] h e = absurd (omega arith)
-some_upto p (x ∷ xs) h e = rw (count-cons (λ s. leb s p) x xs, le-leb x p (omega arith)) (omega arith)
-
-one_at_zero : (types : LineEndTypes) (text : List ℕ) → (count_before 1 (line_starts types text) ≡ 1) × (line_of (line_starts types text) 0 ≡ 0)
-one_at_zero types text =
-    let starts : List ℕ = line_starts types text in
-    let one : count_by (λ s. leb s 0) starts ≡ 1 = subst (λ m. count_by (λ s. leb s m) starts ≡ 1) (first_line_start types text) (count_at 0 starts 0 (line_starts_rise types text) (some_line types text)) in
-    (count_before_next 0 1 starts refl ∙ one, omega arith)
-
--- the first line about a step is that of the byte before it
-pub first_line_about_is : (types : LineEndTypes) (step : Step) (text : List ℕ) → first_line_about step (line_starts types text) ≡ line_of (line_starts types text) (place_of step - 1)
-first_line_about_is types step text =
-    let starts : List ℕ = line_starts types text in
-    elim (cases_lt 0 (place_of step)) [
-      | inl some ↦ omega (arith, count_before_next (place_of step - 1) (place_of step) starts (omega arith))
-      | inr least ↦
-          let upto_one : count_before (place_of step) starts ≤ count_before 1 starts = count_before_monotone (place_of step) 1 starts (omega arith) in
-          let zero_place : place_of step - 1 ≡ 0 = omega arith in
-          rw zero_place (omega (arith, one_at_zero types text))
-    ]
-
--- the first line behind a step is the one after that of the third byte behind it
-pub first_line_behind_is : (types : LineEndTypes) (step : Step) (text : List ℕ) → first_line_behind step (line_starts types text) ≡ line_of (line_starts types text) (end_of step + 2) + 1
-first_line_behind_is types step text =
-    omega (arith, count_before_next (end_of step + 2) (end_of step + 3) (line_starts types text) (omega arith), some_upto (end_of step + 2) (line_starts types text) (some_line types text) (first_line_start types text))
 
 -- where the document comes to know other line ends, rows are carried by the walk too
 pub regrouping_carries_by_walking : {R : Type 0} (together : List R → R) (old new : LineEndTypes) (text : List ℕ) (rows : List R) → length rows ≡ line_count old text → regrouped together old new text rows ≡ merged together (λ start. start) (line_starts old text) (line_starts new text) rows

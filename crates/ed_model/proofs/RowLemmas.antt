@@ -10,10 +10,10 @@ use Rattle.ed_model.specs.Lines.{line_starts, line_of}
 use Rattle.ed_model.specs.Rows.{rows_together, flags_together}
 use Rattle.ed_model.specs.Carry.{rows_on, carried}
 use Rattle.ed_model.specs.MergeLaws.{merged, JoinsRows}
-use Rattle.ed_model.proofs.RisingLemmas.{Rises, Climbs, Climbs_weaker, Climbs_from_rises, Rises_weaker}
-use Rattle.ed_model.proofs.LineLemmas.{line_starts_rise, first_line_start, some_line, line_of_monotone, line_of_lt, start_from_line, line_from_start}
+use Rattle.ed_model.specs.proved.Rising.{Rises, Climbs, Climbs_weaker, Climbs_from_rises, Rises_weaker, rises_from_increasing}
+use Rattle.ed_model.specs.proved.Lines.{line_starts_rise, first_line_start, some_line, line_of_monotone, line_of_lt, start_from_line, line_from_start}
 use Rattle.ed_model.proofs.MergeLemmas.{carried_is_merged}
-use Rattle.ed_model.proofs.JoinLemmas.{rises_front, rises_before, rises_rest, climbs_each, merged-append, merged_same, merged_fresh, merged_joined, rises_from_increasing, climbs_from_non_decreasing, climbs_of_keys, none_on, block_of_rows}
+use Rattle.ed_model.proofs.JoinLemmas.{rises_front, rises_before, rises_rest, climbs_each, merged-append, merged_same, merged_fresh, merged_joined, climbs_from_non_decreasing, climbs_of_keys, none_on, block_of_rows}
 
 -- rows that meet
 

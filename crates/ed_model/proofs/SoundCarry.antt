@@ -12,7 +12,7 @@ use Rattle.ed_model.specs.Carry.{rows_on, carried, carried_by, carried_unless_em
 use Rattle.ed_model.specs.Rows.{Row, Marker, Flags, flags_together, rows_together}
 use Rattle.ed_model.specs.Folding.{is_visible}
 use Rattle.ed_model.specs.SoundLaws.{Rise, occurrences, handles_in}
-use Rattle.ed_model.proofs.LineLemmas.{line_of_monotone}
+use Rattle.ed_model.specs.proved.Lines.{line_of_monotone}
 use Rattle.ed_model.proofs.StepLemmas.{start_keeps_order}
 use Rattle.ed_model.proofs.SoundLists.{rise_range, starts_rise}
 

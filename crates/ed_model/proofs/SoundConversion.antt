@@ -1,20 +1,13 @@
 -- The steps that turn line ends into one kind fit the text one after another.
 use Rattle.std.proofs.Common.{◌≡◌, ℕ, ◌+◌, ◌-◌, ◌≤◌, ◌<◌, Bool, true, false, List, [], ◌∷◌, ◌++◌, length, take, drop, refl, ap, sym, ◌∙◌, subst, arith, append_assoc, length-append}
-use Rattle.std.specs.Prelude.{slice_range, ◌==◌, ◌&&◌, not, if◌then◌else◌}
+use Rattle.std.specs.Prelude.{slice_range, ◌==◌}
 use Rattle.std.proofs.lemmas.List.{take_at, drop_at}
-use Rattle.std.proofs.lemmas.Bool.{cond_both, eqb-true, and_parts}
 use Rattle.ed_model.specs.declared.plan.LineEnd.{LineEnd}
 use Rattle.ed_model.specs.Text.{line_feed, carriage_return}
-use Rattle.ed_model.specs.Steps.{Insert, Delete}
 use Rattle.ed_model.specs.LineEnds.{after_steps, conversion_steps, lacks_return, lacks_feed, missing_at, missing_from, is_unwanted, unwanted_at, place_after, unwanted_from}
 use Rattle.ed_model.specs.SoundLaws.{IsStepOf, AreStepsOf}
+use Rattle.ed_model.specs.proved.Lists.{inserted_between}
 use Rattle.ed_model.proofs.SoundSteps.{fit_append}
-
-inserted_between : (p : ℕ) (front new rest : List ℕ) → length front ≡ p → take p (front ++ rest) ++ new ++ drop p (front ++ rest) ≡ front ++ (new ++ rest)
-inserted_between p front new rest e =
-    let a = take_at front rest p e in
-    let b = drop_at front rest p e in
-    rw (a, b) (append_assoc front new rest)
 
 missing_fits : (to : LineEnd) (rest : List ℕ) (after : Bool) (p : ℕ) (front : List ℕ) → length front ≡ p → AreStepsOf (front ++ rest) (missing_from p after to rest)
 missing_fits to [] after p front e = tt

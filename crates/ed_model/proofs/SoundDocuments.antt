@@ -13,7 +13,8 @@ use Rattle.ed_model.specs.Edits.{size_after}
 use Rattle.ed_model.specs.Session.{Document, View, text_of, limit_of}
 use Rattle.ed_model.specs.Performing.{document_after, moved_view}
 use Rattle.ed_model.specs.SoundLaws.{IsStepOf, FitsText, IsSoundDocument, StandsOn}
-use Rattle.ed_model.proofs.StepLemmas.{bytes_of_edited_cells, position_stays_in_range}
+use Rattle.ed_model.specs.proved.Steps.{bytes_of_edited_cells}
+use Rattle.ed_model.proofs.StepLemmas.{position_stays_in_range}
 use Rattle.ed_model.proofs.CarryLemmas.{length-carried_by}
 use Rattle.ed_model.proofs.SoundLists.{are_line_starts}
 use Rattle.ed_model.proofs.SoundSteps.{InRange, fits_range, length_edited, length_deleted}

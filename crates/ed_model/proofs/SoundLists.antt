@@ -5,7 +5,7 @@ use Rattle.std.specs.List.{range_with_len}
 use Rattle.ed_model.specs.declared.plan.LineEndTypes.{LineEndTypes}
 use Rattle.ed_model.specs.Lines.{line_starts, is_line_start}
 use Rattle.ed_model.specs.SoundLaws.{Rise, AreLineStarts}
-use Rattle.ed_model.proofs.LineLemmas.{first_line_start, line_starts_increase, line_starts_in_range}
+use Rattle.ed_model.specs.proved.Lines.{first_line_start, line_starts_increase, line_starts_in_range}
 
 pub rise_from : (low low' high : ℕ) (xs : List ℕ) → low' ≤ low → Rise low high xs → Rise low' high xs
 rise_from low low' high [] le r = tt

@@ -37,7 +37,7 @@ use Rattle.ed_model.specs.SelectionPlans.{selected, select}
 use Rattle.ed_model.specs.KeyPlans.{place_left, place_right, place_home, place_line_end}
 use Rattle.ed_model.specs.UndoPlans.{act_on_history, text_steps}
 use Rattle.ed_model.specs.LinePlans.{has_handles, numbers_in, int_within}
-use Rattle.ed_model.specs.StylePlans.{unstyled, fill_indicator}
+use Rattle.ed_model.specs.StylePlans.{unstyled}
 use Rattle.ed_model.specs.TargetPlans.{found_target, replacement_length, search_flags}
 use Rattle.ed_model.specs.FoldingPlans.{past_line, fold_by, fold_at, levels}
 use Rattle.ed_model.specs.SessionPlans.{document_named, has_document_ids, with_reference, release_of, is_zero, document_options}

@@ -1,30 +1,8 @@
 -- Steps: the length of the new text, and positions that stay in it in their order.
-use Rattle.std.proofs.Common.{ℕ, ◌≡◌, ◌+◌, ◌-◌, ◌≤◌, min, Bool, true, false, cond, List, [], ◌∷◌, length, leb, ltb, refl, ap, arith}
+use Rattle.std.proofs.Common.{ℕ, ◌+◌, ◌-◌, ◌≤◌, min, Bool, true, false, cond, List, length, leb, ltb, arith}
 use Rattle.std.proofs.lemmas.Bool.Decides.{nat_tests}
-use Rattle.std.proofs.lemmas.List.{length-append, length-take, length-drop, map-append, take-map, drop-map}
-use Rattle.ed_model.specs.Text.{Cell, bytes_of, plain_cells}
-use Rattle.ed_model.specs.Steps.{Step, Insert, Delete, edited, edited_cells, moved_back, moved_start, moved_position}
-
--- an insertion makes a text longer by its bytes
-pub length-inserted : (p : ℕ) (bytes text : List ℕ) → length (edited (Insert p bytes) text) ≡ length text + length bytes
-length-inserted p bytes text = simp (length-append, length-take, length-drop) (omega arith)
-
--- a deletion leaves what stands before and behind it
-pub length-deleted : (p : ℕ) (bytes text : List ℕ) → length (edited (Delete p bytes) text) ≡ min p (length text) + (length text - (p + length bytes))
-length-deleted p bytes text = simp (length-append, length-take, length-drop)
-
--- a deletion of bytes that are there makes a text shorter by them
-pub length-deleted_within : (p : ℕ) (bytes text : List ℕ) → p + length bytes ≤ length text → length (edited (Delete p bytes) text) ≡ length text - length bytes
-length-deleted_within p bytes text h = omega (arith, length-deleted p bytes text)
-
-bytes_of_plain : (bytes : List ℕ) → bytes_of (plain_cells bytes) ≡ bytes
-bytes_of_plain [] = refl
-bytes_of_plain (b ∷ bs) = ap (λ l. b ∷ l) (bytes_of_plain bs)
-
--- a step does with the bytes of cells what it does with cells
-pub bytes_of_edited_cells : (step : Step) (cells : List Cell) → bytes_of (edited_cells step cells) ≡ edited step (bytes_of cells)
-bytes_of_edited_cells (Insert p bytes) cells = simp (map-append, take-map, drop-map, bytes_of_plain)
-bytes_of_edited_cells (Delete p bytes) cells = simp (map-append, take-map, drop-map)
+use Rattle.ed_model.specs.Steps.{Step, Insert, Delete, edited, moved_back, moved_start, moved_position}
+use Rattle.ed_model.specs.proved.Steps.{length-inserted, length-deleted}
 
 moved_back_in_range : (p n l q : ℕ) → q ≤ l → moved_back p n q ≤ min p l + (l - (p + n))
 moved_back_in_range p n l q h = grind (arith, nat_tests)

@@ -9,7 +9,7 @@ use Rattle.ed_model.specs.Session.{text_of}
 use Rattle.ed_model.specs.Notes.{performed_undo, performed_redo, multi_step, bit_if}
 use Rattle.ed_model.specs.Performing.{Scene, changes_performed, change_performed, changes_lines, is_last}
 use Rattle.ed_model.specs.InverseLaws.{inverses, text_of_scene, after_undo, after_redo, UndoMakesItsSteps, RedoMakesItsSteps, UndoThenRedoGivesBackTheText, RedoThenUndoGivesBackTheText}
-use Rattle.ed_model.proofs.StepLemmas.{bytes_of_edited_cells}
+use Rattle.ed_model.specs.proved.Steps.{bytes_of_edited_cells}
 use Rattle.ed_model.proofs.InverseLemmas.{inverses_give_back_the_text}
 
 -- The steps among changes.

@@ -1,4 +1,4 @@
--- Lemmas that the crates above cite.
+-- Lemmas on how scripts are spelled and read.
 pub mod Spelling
 pub mod Texts
 pub mod Fields

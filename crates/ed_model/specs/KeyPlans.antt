@@ -4,7 +4,6 @@ use Rattle.std.specs.Prelude.{ℕ, ◌-◌, ◌==◌, if◌then◌else◌}
 use Rattle.ed_model.specs.declared.plan.Source.TheVariants as source
 use Rattle.ed_model.specs.Requests.{Request, Planned, text, selection_start, selection_end}
 use Rattle.ed_model.specs.Edits.{replace_plan, replace_and_go}
-use Rattle.ed_model.specs.declared.plan.LineEnd.{LineEnd}
 use Rattle.ed_model.specs.Characters.{cut_before, cut_after}
 use Rattle.ed_model.specs.TextPlans.{line_start, line_end, caret_line}
 use Rattle.ed_model.specs.SelectionPlans.{select, go_to, selected}

@@ -67,3 +67,4 @@ pub mod RunUndoLaws
 pub mod UndoMessageLaws
 pub mod RepeatedUndoLaws
 pub mod StandingLaws
+pub mod proved

@@ -3,7 +3,7 @@ use Rattle.std.specs.Prelude.{◌≡◌, ℕ, pos, List, [], ◌∷◌, map, len
 use Rattle.ed_model.specs.declared.plan.LineEndTypes.TheVariants.{Default}
 use Rattle.ed_model.specs.Steps.{Step, Insert, Delete}
 use Rattle.ed_model.specs.declared.plan.LineEnd.TheVariants.{CrLf, Cr, Lf}
-use Rattle.ed_model.specs.LineEnds.{converted, conversion_steps, after_steps}
+use Rattle.ed_model.specs.LineEnds.{conversion_steps, after_steps}
 use Rattle.ed_model.specs.Carry.{carried_by}
 use Rattle.ed_model.specs.Rows.{Row, Marker, Flags, rows_together, base_level}
 use Rattle.ed_model.specs.Indicators.{indicator_after, inserted_value}

@@ -2,12 +2,12 @@
 use Rattle.std.proofs.Common.{◌≡◌, ℕ, ◌+◌, Bool, true, false, cond, ◌==◌, ◌||◌, ◌&&◌, List, [], ◌∷◌, ◌++◌, length, take, drop, refl, ap, ◌∙◌, sym, arith, append_assoc, length-append}
 use Rattle.std.specs.Prelude.{count_by, not}
 use Rattle.std.proofs.lemmas.Bool.{true≢false, or_from, and_right, eqb-true}
-use Rattle.std.proofs.lemmas.List.{take_at, drop_at}
 use Rattle.std.proofs.lemmas.List.Recursion.{is_count_by}
 use Rattle.std.proofs.lemmas.List.Sums.{sum_by-append}
 use Rattle.ed_model.specs.declared.plan.LineEnd.{LineEnd}
 use Rattle.ed_model.specs.declared.plan.LineEnd.TheVariants.{CrLf, Cr, Lf}
 use Rattle.ed_model.specs.LineEnds.{begins_with_line_feed, lacks_return, lacks_feed, missing_at, missing_from, is_unwanted, unwanted_at, place_after, unwanted_from, after_steps}
+use Rattle.ed_model.specs.proved.Lists.{inserted_between}
 use Rattle.line_ends.specs.Conversion.{completed}
 
 -- the text with what is missing, byte by byte
@@ -19,12 +19,6 @@ put false false b rest = b ∷ rest
 abbrev filled : Bool → LineEnd → List ℕ → List ℕ
 filled f to [] = []
 filled f to (b ∷ bs) = put (lacks_return f to b) (lacks_feed to b bs) b (filled (b == 13) to bs)
-
-inserted_between : (p : ℕ) (front new rest : List ℕ) → length front ≡ p → take p (front ++ rest) ++ new ++ drop p (front ++ rest) ≡ front ++ (new ++ rest)
-inserted_between p front new rest e =
-    let a = take_at front rest p e in
-    let b = drop_at front rest p e in
-    rw (a, b) (append_assoc front new rest)
 
 fills : (to : LineEnd) (rest : List ℕ) (f : Bool) (p : ℕ) (front : List ℕ) → length front ≡ p
     → after_steps (missing_from p f to rest) (front ++ rest) ≡ front ++ filled f to rest

@@ -1,10 +1,11 @@
 -- Bytes of a text in two halves.
-use Rattle.std.proofs.Common.{◌≡◌, ℕ, ◌+◌, ◌-◌, ◌<◌, ◌≤◌, false, ◌==◌, drop, List, ◌++◌, length, get_or, slice_range, min, inl, inr, ap, ◌∙◌, arith, length-append}
+use Rattle.std.proofs.Common.{◌≡◌, ℕ, ◌+◌, ◌-◌, ◌<◌, ◌≤◌, false, ◌==◌, List, ◌++◌, length, get_or, slice_range, inl, inr, ap, ◌∙◌, arith, length-append}
 use Rattle.std.proofs.lemmas.Option.{slice_get_past, slice_get-get_or}
 use Rattle.std.proofs.lemmas.Bool.{cases_lt}
-use Rattle.std.proofs.lemmas.List.{length-take, length-drop, get_or-take, get_or-drop, get_or-append-add, get_or_append_left}
+use Rattle.std.proofs.lemmas.List.{get_or-append-add, get_or_append_left}
 use Rattle.ed_model.specs.Numbers.{is_number}
 use Rattle.ed_model.specs.Text.{stands}
+use Rattle.ed_model.specs.proved.Lists.{within_part, read_part}
 use Rattle.line_ends.specs.Conversion.{is_end}
 
 pub stands_at : (byte : ℕ) (xs : List ℕ) (p : ℕ) → p < length xs → stands byte xs p ≡ (get_or xs p 0 == byte)
@@ -30,14 +31,6 @@ stands_nowhere byte xs ys p i h e l = stands_past byte (xs ++ ys) p (omega (arit
 -- no CR or LF stands from one place up to another
 abbrev pub Quiet : List ℕ → ℕ → ℕ → Type 0
 Quiet text from to = (k : ℕ) → from ≤ k → k < to → is_end (get_or text k 0) ≡ false
-
-within_part : (xs : List ℕ) (from to k : ℕ) → k < length (slice_range xs from to) → (k < to - from) × (from + k < length xs)
-within_part xs from to k h =
-    let size : length (slice_range xs from to) ≡ min (to - from) (length xs - from) = simp (length-take, length-drop) in
-    (omega arith, omega arith)
-
-read_part : (xs : List ℕ) (from to k : ℕ) → k < length (slice_range xs from to) → get_or (slice_range xs from to) k 0 ≡ get_or xs (from + k) 0
-read_part xs from to k h = get_or-take (to - from) (drop from xs) k 0 (within_part xs from to k h).0 ∙ get_or-drop from xs k 0
 
 -- what stands in a part of one half stands in the text
 pub quiet_in_first : (xs ys : List ℕ) (from to c : ℕ) → c ≤ length (slice_range xs from to)

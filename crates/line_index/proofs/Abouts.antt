@@ -5,7 +5,7 @@ use Rattle.std.proofs.lemmas.Bool.{cases_lt, cases_eq, eq-eqb, ne_eqb, lt-ltb, l
 use Rattle.std.proofs.lemmas.List.{map-append, take_all, take_more, length-take-le, take-append-drop, length-replicate}
 use Rattle.std.proofs.lemmas.List.Sums.{fold-append}
 use Rattle.ed_model.specs.MergeLaws.{JoinsRows}
-use Rattle.ed_model.proofs.RisingLemmas.{range-append}
+use Rattle.ed_model.specs.proved.Rising.{range-append}
 use Rattle.line_index.specs.declared.change.LineChange.{LineChange}
 use Rattle.line_index.specs.declared.edit.LineEdit.{LineEdit}
 use Rattle.line_index.specs.Change.{line_after}

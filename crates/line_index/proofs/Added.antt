@@ -3,9 +3,8 @@ use Rattle.std.proofs.Common.{◌≡◌, ℕ, ◌+◌, ◌-◌, ◌<◌, ◌≤�
 use Rattle.std.specs.Int.{bit_at}
 use Rattle.std.proofs.lemmas.Bool.{cases_lt, cases_order}
 use Rattle.std.proofs.lemmas.Nat.Bits.{bit_at-zero}
-use Rattle.std.proofs.lemmas.List.{length-take-le, get_or-take, get_or-drop, get_or-append-add, take-append-drop}
+use Rattle.std.proofs.lemmas.List.{take_at, drop_at, length-take-le, get_or-take, get_or-drop, get_or-append-add, take-append-drop}
 use Rattle.std.proofs.Math.ListN.{get_or-append}
-use Rattle.std.proofs.Math.Seq.{take-append_seam, drop-append_seam}
 use Rattle.ed_model.specs.declared.plan.LineEndTypes.{LineEndTypes}
 use Rattle.ed_model.specs.Lines.{is_line_start}
 use Rattle.partitioning.specs.Partitions.{Partitions}
@@ -74,12 +73,6 @@ can_go_on types text base from mid last to at next was now can added a b d =
           );
     }
 
-pub front_of : {X : Type 0} (xs ys : List X) (n : ℕ) → length xs ≡ n → take n (xs ++ ys) ≡ xs
-front_of xs ys n e = rw (← e) (take-append_seam xs ys)
-
-pub back_of : {X : Type 0} (xs ys : List X) (n : ℕ) → length xs ≡ n → drop n (xs ++ ys) ≡ ys
-back_of xs ys n e = rw (← e) (drop-append_seam xs ys)
-
 -- one part and the next
 pub added_both :
     (types : LineEndTypes) (text : List ℕ) (base : ℕ) (from mid last at next behind : ℕ) (was now later : Partitions) → at ≤ length was.starts → from ≤ mid → mid ≤ last
@@ -93,7 +86,7 @@ added_both types text base from mid last at next behind was now later w a b p q 
     record {
       starts =
           q.starts
-          ∙ rw (p.starts, front_of (take at was.starts ++ first) (drop at was.starts) next front, back_of (take at was.starts ++ first) (drop at was.starts) next front, apart)
+          ∙ rw (p.starts, take_at (take at was.starts ++ first) (drop at was.starts) next front, drop_at (take at was.starts ++ first) (drop at was.starts) next front, apart)
           (simp append_assoc);
       end = q.end ∙ p.end;
       room = omega (arith, size, p.room, q.room);

@@ -1,15 +1,25 @@
 -- The last start at a place or before it is that of the place's line.
-use Rattle.std.proofs.Common.{◌≡◌, ℕ, ◌+◌, ◌-◌, ◌^◌, ◌<◌, ◌≤◌, min, Bool, List, [], ◌∷◌, length, count_by, leb, ltb, refl, sym, ◌∙◌, inl, inr, arith}
+use Rattle.std.proofs.Common.{◌≡◌, ℕ, ◌+◌, ◌-◌, ◌^◌, ◌<◌, ◌≤◌, min, List, length, count_by, leb, ltb, refl, sym, ◌∙◌, inl, inr, arith}
 use Rattle.std.proofs.lemmas.Bool.{cases_lt, lt-ltb, le-ltb, le-leb, lt-leb}
+use Rattle.std.proofs.lemmas.List.Kept.{AllPairs-from_increasing}
+use Rattle.std.specs.List.Sorted.{IsStrictlyIncreasing}
 use Rattle.std.specs.Prelude.{slice_index}
 use Rattle.ed_model.specs.Lines.{line_of}
 use Rattle.ed_model.specs.NeighbourLaws.{count_before}
-use Rattle.ed_model.proofs.RisingLemmas.{Climbs, Climbs_from_rises, count-cons, count_is, count_back}
-use Rattle.ed_model.proofs.JoinLemmas.{rises_from_increasing}
+use Rattle.ed_model.specs.proved.Rising.{Climbs, Climbs_from_rises, count_is, count_back, rises_from_increasing}
+use Rattle.ed_model.specs.proved.Neighbours.{count_agree}
 use Rattle.line_index.specs.declared.change.NearLines.{NearLines}
 use Rattle.line_index.specs.Change.{near_lines}
 use Rattle.partitioning.specs.Partitions.{ArePartitions, IsLastAtMost}
-use Rattle.partitioning.proofs.Parts.{rising_or_same}
+use Rattle.line_index.proofs.StepLists.{none_below_zero}
+
+-- of rising starts an earlier one is not above a later one, nor above itself
+not_above : (starts : List ℕ) → IsStrictlyIncreasing starts → (j k : ℕ) → j ≤ k → k < length starts → slice_index starts j ≤ slice_index starts k
+not_above starts rising j k h l =
+    elim (cases_lt j k) [
+      | inl below ↦ omega (arith, AllPairs-from_increasing starts rising j k 0 below l)
+      | inr same ↦ let e : j ≡ k = omega arith in rw e (omega arith)
+    ]
 
 -- the lines of a place and of the two behind it, as numbers
 abbrev pub near_at : ℕ → ℕ → ℕ → NearLines
@@ -47,13 +57,13 @@ pub next_behind : (starts : List ℕ) (end place line : ℕ) → ArePartitions s
 next_behind starts end place line sound low inside high = record {
   within = omega arith;
   at_most = low;
-  last = λ k a b. omega (arith, rising_or_same starts sound.rising (line + 1) k (omega arith) b);
+  last = λ k a b. omega (arith, not_above starts sound.rising (line + 1) k (omega arith) b);
 }
 
 -- where a line holds a place, no line but the next starts at the place behind
 pub none_past_next : (starts : List ℕ) (end place line behind : ℕ) → ArePartitions starts end → IsLastAtMost starts place line → behind ≤ place + 1 → (k : ℕ) → line + 1 < k → k < length starts → behind < slice_index starts k
 none_past_next starts end place line behind sound last near k a b =
-    omega (arith, last.last (line + 1) (omega arith) (omega arith), sound.rising (line + 1) (omega arith), rising_or_same starts sound.rising (line + 1 + 1) k (omega arith) b)
+    omega (arith, last.last (line + 1) (omega arith) (omega arith), sound.rising (line + 1) (omega arith), not_above starts sound.rising (line + 1 + 1) k (omega arith) b)
 
 -- .. so it is that line or the next
 pub next_holds : (starts : List ℕ) (place line : ℕ) → line + 1 < length starts → slice_index starts (line + 1) ≤ place → ((k : ℕ) → line + 1 < k → k < length starts → place < slice_index starts k) → IsLastAtMost starts place (line + 1)
@@ -81,10 +91,6 @@ near_lines_are starts end place one two a b c sound small e f p q r =
     three : {i j k i' j' k' : ℕ} → i ≡ i' → j ≡ j' → k ≡ k' → near_at i j k ≡ near_at i' j' k'
     three {i} {j} {k} {i'} {j'} {k'} e f g = rw (e, f, g) refl
 
-count_same : (p q : ℕ → Bool) (xs : List ℕ) → ((x : ℕ) → p x ≡ q x) → count_by p xs ≡ count_by q xs
-count_same p q [] h = refl
-count_same p q (x ∷ xs) h = rw (count-cons p x xs, count-cons q x xs, h x, count_same p q xs h) refl
-
 below_is_upto : (place s : ℕ) → 0 < place → ltb s place ≡ leb s (place - 1)
 below_is_upto place s h =
     elim (cases_lt s place) [
@@ -95,15 +101,11 @@ below_is_upto place s h =
 -- as many lines start in front of a place as there are up to that of the byte before it
 pub lines_in_front : (starts : List ℕ) (end place line : ℕ) → ArePartitions starts end → 0 < place → line ≡ line_of starts (place - 1) → line + 1 ≡ count_before place starts
 lines_in_front starts end place line sound h e =
-    let same : count_before place starts ≡ count_by (λ s. leb s (place - 1)) starts = count_same (λ s. ltb s place) (λ s. leb s (place - 1)) starts (λ s. below_is_upto place s h) in
+    let same : count_before place starts ≡ count_by (λ s. leb s (place - 1)) starts = count_agree (λ s. ltb s place) (λ s. leb s (place - 1)) starts (λ s. below_is_upto place s h) in
     elim (cases_lt 0 (count_by (λ s. leb s (place - 1)) starts)) [
       | inl some ↦ omega arith
       | inr none ↦ absurd (omega (arith, sound.first, count_back 0 (place - 1) starts 0 (climbs starts end sound) (omega arith) sound.some))
     ]
 
-none_below : (xs : List ℕ) → count_before 0 xs ≡ 0
-none_below [] = refl
-none_below (x ∷ xs) = rw (count-cons (λ s. ltb s 0) x xs, le-ltb x 0 (omega arith), none_below xs) refl
-
 pub none_in_front : (starts : List ℕ) (place : ℕ) → place ≡ 0 → 0 ≡ count_before place starts
-none_in_front starts place e = rw e (sym (none_below starts))
+none_in_front starts place e = rw e (sym (none_below_zero starts))

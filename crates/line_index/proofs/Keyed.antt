@@ -6,8 +6,8 @@ use Rattle.std.proofs.lemmas.List.{map-append, length-replicate}
 use Rattle.ed_model.specs.Lines.{line_of}
 use Rattle.ed_model.specs.Carry.{carried}
 use Rattle.ed_model.specs.MergeLaws.{JoinsRows}
-use Rattle.ed_model.proofs.RisingLemmas.{range-append}
-use Rattle.ed_model.proofs.JoinLemmas.{each_weaker, none_on}
+use Rattle.ed_model.specs.proved.Lists.{each_weaker}
+use Rattle.ed_model.specs.proved.Rising.{range-append}
 
 -- functions of the numbers of a range
 
@@ -56,7 +56,9 @@ keyed_append line (k ∷ ks) ls (r ∷ rows) rest h =
     ]
 
 keyed_none : {R : Type 0} (line : ℕ) (ks : List ℕ) (rows : List R) → AllByRecursion (λ k. k ≢ line) ks → keyed line ks rows ≡ []
-keyed_none {R} line ks rows h = ap (map (λ (e : ℕ × R). e.1)) (none_on (λ k. k) line ks rows h)
+keyed_none line [] rows h = refl
+keyed_none line (k ∷ ks) [] h = refl
+keyed_none line (k ∷ ks) (r ∷ rows) h = rw (ne_eqb k line h.0) (keyed_none line ks rows h.1)
 
 keyed_all : {R : Type 0} (line : ℕ) (rows : List R) (n : ℕ) → length rows ≡ n → keyed line (replicate n line) rows ≡ rows
 keyed_all line [] zero h = refl

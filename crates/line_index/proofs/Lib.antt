@@ -9,6 +9,7 @@ pub mod MarkedBytes
 pub mod MovedLines
 pub mod NearBytes
 pub mod RoomLemmas
+pub mod FirstBytes
 pub mod SettingEdits
 pub mod SettingLists
 pub mod Settling

@@ -7,8 +7,8 @@ use Rattle.ed_model.specs.declared.plan.LineEndTypes.{LineEndTypes}
 use Rattle.ed_model.specs.Lines.{line_starts, line_of}
 use Rattle.ed_model.specs.Steps.{Insert, Delete, moved_back}
 use Rattle.ed_model.specs.NeighbourLaws.{count_before}
-use Rattle.ed_model.proofs.RisingLemmas.{Climbs_from_rises, count_is, increasing_at}
-use Rattle.ed_model.proofs.LineLemmas.{line_starts_rise, line_of_start, line_of_monotone, line_of_lt, line_from_start, some_line}
+use Rattle.ed_model.specs.proved.Rising.{Climbs_from_rises, count_is, increasing_at}
+use Rattle.ed_model.specs.proved.Lines.{line_starts_rise, line_of_start, line_of_monotone, line_of_lt, line_from_start, some_line}
 use Rattle.line_index.specs.Index.{index, starts_within}
 use Rattle.line_index.specs.declared.change.LineChange.{LineChange}
 use Rattle.line_index.specs.Change.{MovesLines, change_about, moved_on, near_lines}

@@ -5,8 +5,8 @@ use Rattle.std.proofs.lemmas.List.{take_all, take_min, take-append-le, drop-appe
 use Rattle.std.proofs.Math.Seq.{take-append-add, drop-append-add}
 use Rattle.ed_model.specs.declared.plan.LineEndTypes.{LineEndTypes}
 use Rattle.ed_model.specs.Lines.{is_line_start}
-use Rattle.ed_model.proofs.LineLemmas.{same_start}
-use Rattle.ed_model.proofs.NeighbourLemmas.{slice_get_take, slice_get_drop}
+use Rattle.ed_model.specs.proved.Lists.{slice_get_take, slice_get_drop}
+use Rattle.ed_model.specs.proved.Lines.{same_start}
 use Rattle.line_index.specs.Index.{bytes_near, starts_near, starts_within}
 use Rattle.line_index.proofs.StartLists.{near_is_within}
 

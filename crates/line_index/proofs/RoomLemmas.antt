@@ -6,10 +6,10 @@ use Rattle.std.proofs.lemmas.List.{length-take-le, length-map}
 use Rattle.ed_model.specs.declared.plan.LineEndTypes.{LineEndTypes}
 use Rattle.ed_model.specs.Lines.{is_line_start, line_starts, line_count, line_of}
 use Rattle.ed_model.specs.Steps.{Insert, edited}
-use Rattle.ed_model.proofs.LineLemmas.{moved_start_test, some_line}
-use Rattle.ed_model.proofs.RisingLemmas.{filter_range_moved}
-use Rattle.ed_model.proofs.StepLemmas.{length-inserted}
-use Rattle.ed_model.proofs.NeighbourLemmas.{slice_get_append_left, slice_get_append_right}
+use Rattle.ed_model.specs.proved.Lists.{slice_get_append_left, slice_get_append_right}
+use Rattle.ed_model.specs.proved.Rising.{filter_range_moved}
+use Rattle.ed_model.specs.proved.Lines.{moved_start_test, some_line}
+use Rattle.ed_model.specs.proved.Steps.{length-inserted}
 use Rattle.line_index.specs.Index.{Index, index, bytes_near, starts_within}
 use Rattle.line_index.specs.RoomLaws.{lines_for_insertion, lines_for_deletion, InsertionAddsFewLines, DeletionAddsFewLines}
 use Rattle.line_index.proofs.StartLists.{starts_apart, one_start, no_starts, one_more}

@@ -1,15 +1,13 @@
 -- The edits of another setting of line ends carry rows as the model regroups them.
 use Rattle.std.proofs.Common.{◌≡◌, ℕ, suc, ◌+◌, ◌-◌, ◌<◌, ◌≤◌, true, false, List, [], ◌∷◌, ◌++◌, length, map, take, drop, replicate, refl, sym, ap, ◌∙◌, arith, append_assoc, length-append}
+use Rattle.std.specs.List.Sorted.{IsStrictlyIncreasing}
 use Rattle.std.proofs.lemmas.List.{map-append, map-id, length-take, length-drop, take-append-drop, length-replicate}
 use Rattle.ed_model.specs.declared.plan.LineEndTypes.{LineEndTypes}
 use Rattle.ed_model.specs.declared.plan.LineEndTypes.TheVariants.{Default, Unicode}
 use Rattle.ed_model.specs.Lines.{is_line_start, line_starts, line_of, line_count}
-use Rattle.ed_model.specs.Carry.{regrouped}
-use Rattle.ed_model.specs.MergeLaws.{JoinsRows, merged}
-use Rattle.ed_model.proofs.LineLemmas.{line_starts_rise}
-use Rattle.ed_model.proofs.RisingLemmas.{Rises, Climbs_from_rises}
-use Rattle.ed_model.proofs.MergeLemmas.{carried_is_merged}
-use Rattle.ed_model.proofs.JoinLemmas.{merged_same}
+use Rattle.ed_model.specs.Carry.{carried, regrouped}
+use Rattle.ed_model.specs.MergeLaws.{JoinsRows, RowsOfLinesThatStay}
+use Rattle.ed_model.specs.proved.Lines.{line_starts_increase}
 use Rattle.line_index.specs.Edits.{after_edits, FitLines, fresh_lines}
 use Rattle.line_index.specs.Index.{starts_within}
 use Rattle.line_index.specs.StepEdits.{joined, came}
@@ -187,23 +185,22 @@ all_from_first text = sym (all_within Unicode text)
 none_upto : (types : LineEndTypes) (text : List ℕ) → starts_upto types text 0 ≡ 0
 none_upto types text = ap length (none_to_itself types text 0)
 
-regrouped_same : {R : Type 0} (t : List R → R) → JoinsRows t → (types : LineEndTypes) (text : List ℕ) (rows : List R) → length rows ≡ line_count types text → regrouped t types types text rows ≡ rows
-regrouped_same t j types text rows h =
+regrouped_same : {R : Type 0} → RowsOfLinesThatStay R → (t : List R → R) → JoinsRows t → (types : LineEndTypes) (text : List ℕ) (rows : List R) → length rows ≡ line_count types text → regrouped t types types text rows ≡ rows
+regrouped_same {R} stay t j types text rows h =
     let starts : List ℕ = line_starts types text in
     let same : map (λ s. s) starts ≡ starts = map-id starts in
-    let rises : Rises 0 (map (λ s. s) starts) = rw same (line_starts_rise types text) in
-    let walk = carried_is_merged t (λ s. s) 0 starts starts rows (Climbs_from_rises 0 (map (λ s. s) starts) rises) (line_starts_rise types text) (sym h) in
-    let stay : merged t (λ s. s) starts (map (λ s. s) starts) rows ≡ rows = merged_same t j.alone (λ s. s) 0 starts rows rises (sym h) in
-    walk ∙ (rw same at stay)
+    let rises : IsStrictlyIncreasing (map (λ s. s) starts) = rw same (line_starts_increase types text) in
+    let stays : carried t (λ s. s) starts (map (λ s. s) starts) rows ≡ rows = stay t j (λ s. s) starts rows rises (sym h) in
+    rw same at stays
 
-pub setting_edits_carry : {R : Type 0} (t : List R → R) → JoinsRows t → (old new : LineEndTypes) (text : List ℕ) (rows : List R) → length rows ≡ line_count old text → regrouped t old new text rows ≡ after_edits t (edits_of_setting old new text) rows
-setting_edits_carry t j Default Default text rows h = regrouped_same t j Default text rows h
-setting_edits_carry t j Unicode Unicode text rows h = regrouped_same t j Unicode text rows h
-setting_edits_carry t j Unicode Default text rows h =
+pub setting_edits_carry : {R : Type 0} → RowsOfLinesThatStay R → (t : List R → R) → JoinsRows t → (old new : LineEndTypes) (text : List ℕ) (rows : List R) → length rows ≡ line_count old text → regrouped t old new text rows ≡ after_edits t (edits_of_setting old new text) rows
+setting_edits_carry stay t j Default Default text rows h = regrouped_same stay t j Default text rows h
+setting_edits_carry stay t j Unicode Unicode text rows h = regrouped_same stay t j Unicode text rows h
+setting_edits_carry stay t j Unicode Default text rows h =
     let made : Joined t text (line_starts Default text) 0 0 rows = all_joined t j text (line_starts Default text) 0 0 rows (lines_from_first text) (none_upto Default text) (rw (all_from_first text) h) in
     let keys : by_keys t 0 (line_count Default text) (map (line_of (line_starts Default text)) (line_starts Unicode text)) rows ≡ made.out = rw (all_from_first text) at made.carries.made in
     carried_by_keys t (λ s. s) (line_starts Unicode text) (line_starts Default text) rows ∙ keys ∙ sym (made.edits [] refl)
-setting_edits_carry t j Default Unicode text rows h =
+setting_edits_carry stay t j Default Unicode text rows h =
     let made : Came t text (line_starts Default text) 0 0 rows = all_came t j text (line_starts Default text) 0 0 rows (lines_from_first text) (none_upto Unicode text) h in
     let keys : by_keys t 0 (line_count Unicode text) (map (line_of (line_starts Unicode text)) (line_starts Default text)) rows ≡ made.out = rw (all_from_first text) at made.carries.made in
     carried_by_keys t (λ s. s) (line_starts Default text) (line_starts Unicode text) rows ∙ keys ∙ sym (made.edits [] refl)

@@ -9,8 +9,8 @@ use Rattle.ed_model.specs.declared.plan.LineEndTypes.{LineEndTypes}
 use Rattle.ed_model.specs.declared.plan.LineEndTypes.TheVariants.{Default, Unicode}
 use Rattle.ed_model.specs.Text.{stands}
 use Rattle.ed_model.specs.Lines.{is_line_start, line_starts, line_of, line_count, unicode_end_before}
-use Rattle.ed_model.proofs.LineLemmas.{line_starts_rise, first_line_start, some_line}
-use Rattle.ed_model.proofs.RisingLemmas.{Climbs_from_rises, count_is}
+use Rattle.ed_model.specs.proved.Rising.{Climbs_from_rises, count_is}
+use Rattle.ed_model.specs.proved.Lines.{line_starts_rise, first_line_start, some_line}
 use Rattle.partitioning.specs.Partitions.{Partitions}
 use Rattle.line_index.specs.Index.{CanAdd, IsFree, starts_within, starts_near}
 use Rattle.line_index.specs.declared.edit.LineEdit.{LineEdit}

@@ -6,7 +6,7 @@ use Rattle.std.proofs.lemmas.List.Edits.{remove-append_right}
 use Rattle.std.proofs.lemmas.List.Elements.{filter-append}
 use Rattle.ed_model.specs.declared.plan.LineEndTypes.{LineEndTypes}
 use Rattle.ed_model.specs.Lines.{is_line_start}
-use Rattle.ed_model.proofs.RisingLemmas.{range-append, filter_range_none, filter_range_agree}
+use Rattle.ed_model.specs.proved.Rising.{range-append, filter_range_none, filter_range_agree}
 use Rattle.line_index.specs.Index.{starts_within, starts_near}
 
 drop_suc : (line : ℕ) (xs : List ℕ) → drop 1 (drop line xs) ≡ drop (suc line) xs

@@ -2,7 +2,7 @@
 -- missing.
 use Rattle.std.proofs.Common.{◌≡◌, ℕ, zero, suc, ◌+◌, ◌-◌, ◌<◌, ◌≤◌, min, max, List, [], ◌∷◌, ◌++◌, length, get_or, take, drop, slice_range, map, filter, ltb, refl, sym, ap, subst, ◌∙◌, inl, inr, arith, append_assoc, length-append, length-drop, append-nil}
 use Rattle.std.specs.List.{range_with_len}
-use Rattle.std.proofs.lemmas.Bool.{cases_lt, cases_eq, lt-ltb, le-ltb}
+use Rattle.std.proofs.lemmas.Bool.{cases_lt, cases_eq, le-ltb}
 use Rattle.std.proofs.lemmas.List.{length-take, length-take-le, length-map, get_or-take, get_or-drop, get_or-map, get_or-append-add}
 use Rattle.std.proofs.Math.ListN.{get_or-append}
 use Rattle.ed_model.specs.declared.plan.LineEndTypes.{LineEndTypes}
@@ -10,11 +10,10 @@ use Rattle.ed_model.specs.Lines.{is_line_start, line_starts, line_of, line_count
 use Rattle.ed_model.specs.Steps.{Step, Insert, Delete, place_of, edited}
 use Rattle.ed_model.specs.NeighbourLaws.{starts_before, starts_from, starts_about, count_before}
 use Rattle.ed_model.specs.MergeLaws.{end_of}
-use Rattle.ed_model.proofs.RisingLemmas.{count-cons}
-use Rattle.ed_model.proofs.LineLemmas.{no_start_past, first_line_start, some_line, line_of_monotone, line_of_lt, line_of_last_start}
-use Rattle.ed_model.proofs.StepLemmas.{length-inserted, length-deleted_within}
-use Rattle.ed_model.proofs.NeighbourLemmas.{starts_after_insertion, starts_after_deletion, starts_about_insertion, starts_about_deletion, starts_before_first, starts_from_others}
-use Rattle.ed_model.proofs.NearLemmas.{first_line_about_is, first_line_behind_is}
+use Rattle.ed_model.specs.proved.Rising.{count-cons}
+use Rattle.ed_model.specs.proved.Lines.{no_start_past, first_line_start, some_line, line_of_monotone, line_of_lt, line_of_last_start}
+use Rattle.ed_model.specs.proved.Steps.{length-inserted, length-deleted_within}
+use Rattle.ed_model.specs.proved.Neighbours.{some_before, starts_after_insertion, starts_after_deletion, starts_about_insertion, starts_about_deletion, starts_before_first, starts_from_others, first_line_about_is, first_line_behind_is}
 use Rattle.partitioning.specs.Partitions.{CanLose, map_from}
 use Rattle.line_index.specs.Index.{Index, IsFree, IsIndexOf, IsInsertion, IsDeletion, index, starts_within}
 use Rattle.line_index.proofs.StartLists.{starts_apart, no_starts, one_start}
@@ -121,10 +120,6 @@ module _ (types : LineEndTypes) (text : List ℕ) (p e i j : ℕ) (o : p ≤ e)
             rw first (omega (arith, next, here));
         before_end = omega (arith, here);
       }
-
-some_before : (p : ℕ) (xs : List ℕ) → 0 < length xs → get_or xs 0 0 ≡ 0 → 0 < p → 0 < count_before p xs
-some_before p [] h e l = absurd (omega arith)
-some_before p (x ∷ xs) h e l = rw (count-cons (λ s. ltb s p) x xs, lt-ltb x p (omega arith)) (omega arith)
 
 pub none_below_zero : (xs : List ℕ) → count_before 0 xs ≡ 0
 none_below_zero [] = refl

@@ -1,17 +1,17 @@
 -- Bytes of a text in two halves.
-use Rattle.std.proofs.Common.{◌≡◌, ℕ, zero, suc, ◌+◌, ◌-◌, ◌<◌, ◌≤◌, Bool, true, false, ◌==◌, ◌||◌, ◌&&◌, not, take, drop, List, [], ◌∷◌, ◌++◌, length, get_or, slice_range, min, inl, inr, refl, ap, ◌∙◌, arith, length-append}
+use Rattle.std.proofs.Common.{◌≡◌, ℕ, zero, suc, ◌+◌, ◌-◌, ◌<◌, ◌≤◌, Bool, true, false, ◌==◌, ◌||◌, ◌&&◌, not, take, List, [], ◌∷◌, ◌++◌, length, get_or, slice_range, inl, inr, refl, ap, ◌∙◌, arith, length-append}
 use Rattle.std.proofs.lemmas.Option.{slice_get_past}
 use Rattle.std.proofs.lemmas.Bool.{ne_eqb, true≢false, cases_lt, cases_order}
-use Rattle.std.proofs.lemmas.List.{length-take, length-drop, get_or-take, get_or-drop, get_or-append-add}
+use Rattle.std.proofs.lemmas.List.{get_or-append-add}
 use Rattle.std.proofs.Math.ListN.{get_or-append}
 use Rattle.ed_model.specs.declared.plan.LineEndTypes.{LineEndTypes}
 use Rattle.ed_model.specs.Numbers.{is_number}
 use Rattle.ed_model.specs.Text.{stands}
 use Rattle.ed_model.specs.Lines.{is_line_start, knows_unicode}
+use Rattle.ed_model.specs.proved.Lists.{slice_get_append_left, slice_get_append_right, within_part, read_part}
 use Rattle.std.specs.Int.{bit_at}
 use Rattle.line_index.specs.Ends.{may_end}
 use Rattle.line_index.specs.Index.{MarkStarts}
-use Rattle.ed_model.proofs.NeighbourLemmas.{slice_get_append_left, slice_get_append_right}
 
 pub stands_within : (byte : ℕ) (xs : List ℕ) (p : ℕ) → p < length xs → stands byte xs p ≡ (get_or xs p 0 == byte)
 stands_within byte [] p h = absurd (omega arith)
@@ -62,14 +62,6 @@ NoStart types text from to = (k : ℕ) → from ≤ k → k < to → is_line_sta
 none_in_quiet : (types : LineEndTypes) (text : List ℕ) (from to : ℕ) → to ≤ length text → Quiet types text from to → (k : ℕ) → from < k → k < to + 1 → is_line_start types text k ≡ false
 none_in_quiet types text from to w quiet k a b =
     no_start_behind types text (k - 1) k (omega arith) (omega arith) (quiet (k - 1) (omega arith) (omega arith))
-
-within_part : (xs : List ℕ) (from to k : ℕ) → k < length (slice_range xs from to) → (k < to - from) × (from + k < length xs)
-within_part xs from to k h =
-    let size : length (slice_range xs from to) ≡ min (to - from) (length xs - from) = simp (length-take, length-drop) in
-    (omega arith, omega arith)
-
-read_part : (xs : List ℕ) (from to k : ℕ) → k < length (slice_range xs from to) → get_or (slice_range xs from to) k 0 ≡ get_or xs (from + k) 0
-read_part xs from to k h = get_or-take (to - from) (drop from xs) k 0 (within_part xs from to k h).0 ∙ get_or-drop from xs k 0
 
 -- what stands in a part of one half stands in the text
 in_first : (types : LineEndTypes) (xs ys : List ℕ) (from to c : ℕ) → c ≤ length (slice_range xs from to) → ((k : ℕ) → k < c → may_end types (get_or (slice_range xs from to) k 0) ≡ false) → Quiet types (xs ++ ys) from (from + c)

@@ -5,3 +5,4 @@ pub mod StepEdits
 pub mod Ends
 pub mod RoomLaws
 pub mod Settings
+pub mod proved

@@ -26,3 +26,7 @@ abbrev pub DeletionAddsFewLines : Type 0
 DeletionAddsFewLines =
     (types : LineEndTypes) (place count : ℕ) (text : List ℕ) → place + count ≤ length text
     → line_count types (take place text ++ drop (place + count) text) ≤ line_count types text + lines_for_deletion
+
+-- the first bytes of a text have no more lines than all of it
+abbrev pub FirstBytesHaveFewLines : Type 0
+FirstBytesHaveFewLines = (types : LineEndTypes) (bytes : List ℕ) (count : ℕ) → count ≤ length bytes → line_count types (take count bytes) ≤ line_count types bytes

@@ -1,8 +1,10 @@
-//! Laws, each a public function with an empty body whose contract says what holds of all texts, steps and rows.
+//! Laws, each a public function that does nothing, whose contract says what holds of all texts, steps and rows.
 
 ghost use Rattle.ed_model.specs.Rows.{Flags, Row};
 ghost use Rattle.line_index.specs.Settings.{SettingsBringAll, SettingsBringFewLines, SettingsCarryRows, SettingsFitLines};
 ghost use Rattle.line_index.specs.StepEdits.{EditsBringFewLines, EditsCarryRows, EditsFitLines};
+
+use ed_model::single_rows;
 
 /// The edits of what a step did to lines make of the rows of the old lines those of the new ones, and so with a view's
 /// flags. They name lines that there are, and bring no more fresh ones than there has to be room for.
@@ -22,4 +24,6 @@ pub fn edits_of_settings()
     ensures fit { SettingsFitLines }
     ensures all { SettingsBringAll }
     ensures few { SettingsBringFewLines }
-{}
+{
+    single_rows();
+}

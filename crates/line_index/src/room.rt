@@ -4,7 +4,7 @@ ghost use Rattle.std.specs.Prelude.{◌≡◌, ◌≤◌, ◌<◌, ◌+◌, ◌-
 ghost use Rattle.ed_model.specs.Lines.{line_count};
 ghost use Rattle.ed_model.specs.Text.{carriage_return, line_feed};
 ghost use Rattle.line_index.specs.Index.{starts_within};
-ghost use Rattle.line_index.specs.RoomLaws.{DeletionAddsFewLines, InsertionAddsFewLines, lines_for_deletion, lines_for_insertion};
+ghost use Rattle.line_index.specs.RoomLaws.{DeletionAddsFewLines, FirstBytesHaveFewLines, InsertionAddsFewLines, lines_for_deletion, lines_for_insertion};
 
 use crate::halves::next_start;
 use crate::unicode_blocks;
@@ -19,6 +19,9 @@ const BLOCKS: usize = 64;
 
 // How many bytes a row has.
 const ROW: usize = BLOCKS * BLOCK;
+
+// How many bytes the longest line end has: a line may start up to so many places behind a byte because of it.
+const LONGEST_END: usize = 3;
 
 // How many lines end with the byte, where line ends of Unicode do not count: 1 or 0. No branch is taken, so that many
 // bytes are tested at once.
@@ -130,12 +133,13 @@ pub fn lines_in(types: LineEndTypes, bytes: &[u8]) -> usize
 }
 
 /// Returns for how many lines there has to be room before the bytes are put in: as many as they have by themselves and
-/// five, as line ends may come about on either side.
+/// five. At the front of the bytes and behind them line ends may come about, and a line may start at each place that is
+/// told by bytes of both sides; the first line of the bytes is one of these.
 pub fn lines_for_insertion(types: LineEndTypes, bytes: &[u8]) -> usize
     ensures lines { result ≡ lines_for_insertion types bytes.now }
     ensures within { result ≤ length bytes.now + 6 }
 {
-    lines_in(types, bytes) + 5
+    lines_in(types, bytes) + 2 * LONGEST_END - 1
 }
 
 /// Returns for how many lines there has to be room before bytes are deleted: three, as a line end may come about of what
@@ -143,11 +147,12 @@ pub fn lines_for_insertion(types: LineEndTypes, bytes: &[u8]) -> usize
 pub const fn lines_for_deletion() -> usize
     ensures { result ≡ lines_for_deletion }
 {
-    3
+    LONGEST_END
 }
 
-/// No step adds more lines than that.
+/// No step adds more lines than that, and the first of some bytes have no more lines than all of them.
 pub fn room_for_steps()
     ensures insertion { InsertionAddsFewLines }
     ensures deletion { DeletionAddsFewLines }
+    ensures first { FirstBytesHaveFewLines }
 {}

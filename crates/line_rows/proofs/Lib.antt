@@ -1,4 +1,3 @@
-pub mod Edits
 pub mod Padded
 pub mod RowParts
 pub mod RowReads

@@ -10,9 +10,8 @@ use Rattle.ed_types.specs.declared.script.Command.{Command}
 use Rattle.ed_types.specs.declared.script.Command.TheVariants.{SendMessage}
 use Rattle.ed_model.specs.Spelling.{space, spelled_int, spelled_text}
 use Rattle.ed_model.specs.Listing.{listed_command, ended_line, version_line, listing}
-use Rattle.ed_model.specs.ScriptLaws.{IsScript}
+use Rattle.ed_model.specs.ScriptLaws.{ListingsAreRead, IsScript}
 use Rattle.ed_model.specs.Reading.{reading}
-use Rattle.ed_model.proofs.lemmas.Scripts.{listings_are_read}
 use Rattle.macro_script.specs.Notes.{numbers_of_note}
 use Rattle.macro_script.specs.Appending.{line_of, number_fields}
 
@@ -49,6 +48,6 @@ pub answer_line : (value : ℤ) (text : List ℕ) → line_of (codes "=") (value
 answer_line value text = line_with_text (codes "=") text (value ∷ [])
 
 -- a whole listing is read back
-pub whole_read_back : (text : List ℕ) (items commands : List Command) (i : ℕ) → text ≡ listing 2 (take i items) → length items ≤ i → items ≡ commands → IsScript 2 commands → reading text ≡ Ok commands
-whole_read_back text items commands i is done same script =
-    ap reading (is ∙ ap (listing 2) (take_all i items done ∙ same)) ∙ listings_are_read 2 commands script
+pub whole_read_back : ListingsAreRead → (text : List ℕ) (items commands : List Command) (i : ℕ) → text ≡ listing 2 (take i items) → length items ≤ i → items ≡ commands → IsScript 2 commands → reading text ≡ Ok commands
+whole_read_back law text items commands i is done same script =
+    ap reading (is ∙ ap (listing 2) (take_all i items done ∙ same)) ∙ law 2 commands script

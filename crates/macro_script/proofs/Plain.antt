@@ -9,7 +9,7 @@ use Rattle.macro_script.specs.Fronts.{IsFront}
 use Rattle.macro_script.specs.declared.texts.Front.TheVariants.{Closing, Byte, Wrong}
 use Rattle.ed_model.specs.Spelling.{quote, backslash, spelled_byte}
 use Rattle.ed_model.specs.Reading.{text_past, with_byte}
-use Rattle.ed_model.proofs.lemmas.Texts.{text_past-spelled_byte}
+use Rattle.ed_model.specs.proved.Texts.{text_past-spelled_byte}
 
 abbrev pub ArePlainBefore : List ℕ → ℕ → Type 0
 ArePlainBefore text i = (k : ℕ) → k < i → spelled_byte (get_or text k 0) ≡ get_or text k 0 ∷ []

@@ -9,7 +9,7 @@ use Rattle.std.proofs.lemmas.Int.Digits.{digits_more, digits_value_more}
 use Rattle.std.proofs.lemmas.Bool.{ltb-true}
 use Rattle.ed_model.specs.Spelling.{spelled, spelled_int, is_64_bits}
 use Rattle.ed_model.specs.Reading.{natural, integer}
-use Rattle.ed_model.proofs.lemmas.Spelling.{spelled-decimal, digits_value-spelled, AllDigits-spelled, length-spelled-pos, natural-spelled, natural-is, integer-spelled, integer-is}
+use Rattle.ed_model.specs.proved.Spelling.{spelled-decimal, digits_value-spelled, AllDigits-spelled, length-spelled-pos, natural-spelled, natural-is, integer-spelled, integer-is}
 
 pub option_cases : {A : Type 0} (o : Option A) → (o ≡ None) ⊎ ((x : A) × (o ≡ Some x))
 option_cases None = inl refl

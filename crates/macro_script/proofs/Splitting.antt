@@ -12,7 +12,7 @@ use Rattle.ed_types.specs.declared.script.ScriptFault.{ScriptFault}
 use Rattle.ed_types.specs.declared.script.ScriptFault.TheVariants.{OutOfMemory}
 use Rattle.ed_model.specs.Text.{line_feed}
 use Rattle.ed_model.specs.Reading.{◌>>=◌, at_line, read_command, read_lines}
-use Rattle.ed_model.proofs.lemmas.Scripts.{read_from, read_first, read_lines-first}
+use Rattle.ed_model.specs.proved.Reading.{read_from, read_first, read_lines-first}
 use Rattle.macro_script.specs.Lines.{OrMemory}
 use Rattle.macro_script.proofs.Plain.{tail}
 

@@ -8,7 +8,8 @@ use Rattle.ed_types.specs.declared.script.ScriptFault.{ScriptFault}
 use Rattle.ed_model.specs.Text.{line_feed}
 use Rattle.ed_model.specs.Listing.{listing}
 use Rattle.ed_model.specs.Reading.{◌>>=◌, at_line, read_version, read_script, reading}
-use Rattle.ed_model.proofs.lemmas.Scripts.{read_from, read_script-first, reads_within, versions, only_listings_are_read}
+use Rattle.ed_model.specs.proved.Reading.{read_from, read_script-first, reads_within, versions}
+use Rattle.ed_model.specs.ScriptLaws.{OnlyListingsAreRead}
 use Rattle.macro_script.specs.Lines.{OrMemory}
 use Rattle.macro_script.specs.Scripts.{IsProper}
 
@@ -40,7 +41,7 @@ length_either : (version : ℕ) (commands : List Command) → (version ≡ 2) �
 length_either version commands (inl second) = ap (λ v. length (listing v commands)) second
 length_either version commands (inr first) = ap (λ v. length (listing v commands)) first
 
-pub proper_read : (text : List ℕ) (commands : List Command) → reading text ≡ Ok commands → IsProper commands (length text)
-proper_read text commands h =
-    let is = only_listings_are_read text commands h in
+pub proper_read : OnlyListingsAreRead → (text : List ℕ) (commands : List Command) → reading text ≡ Ok commands → IsProper commands (length text)
+proper_read law text commands h =
+    let is = law text commands h in
     record { typed = is.2.typed; within = is.2.within; length_is = ap length is.1 ∙ length_either is.0 commands (versions is.0 commands is.2.spoken) }

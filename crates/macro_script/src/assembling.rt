@@ -6,6 +6,7 @@ ghost use Rattle.ed_model.specs.Reading.{reading};
 
 use crate::lines::{read_lines, read_version, split_line, unended};
 use crate::script::{SCRIPT_LIMIT, Script};
+use ed_model::laws_of_scripts;
 use ed_types::ScriptFault;
 use std::alloc::Global;
 
@@ -13,6 +14,7 @@ use std::alloc::Global;
 pub fn assemble(alloc: Global, bytes: &[u8]) -> Result<Script, ScriptFault>
     ensures { (result ≡ reading bytes.now) ⊎ (result ≡ Err OutOfMemory) }
 {
+    laws_of_scripts();
     if bytes.len() > SCRIPT_LIMIT {
         return Err(ScriptFault::TooLong);
     }

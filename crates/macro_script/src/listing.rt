@@ -9,6 +9,7 @@ ghost use Rattle.macro_script.specs.Appending.{Appends};
 
 use crate::appending::append_line;
 use crate::script::Script;
+use ed_model::laws_of_scripts;
 use ed_types::{Command, Message, ScriptFault};
 use std::alloc::{AllocError, Global};
 
@@ -52,6 +53,7 @@ pub fn list(alloc: Global, script: &Script) -> Result<Vec<u8>, ScriptFault>
     ensures read_back { IfOk result (λ text. reading text.items ≡ Ok script.now) }
     ensures listed { MatchResult result (λ text. text.items ≡ listing 2 script.now) (λ fault. fault ≡ OutOfMemory) }
 {
+    laws_of_scripts();
     let Ok(mut text) = Vec::with_capacity(alloc, script.listed_len()) else {
         return Err(ScriptFault::OutOfMemory);
     };

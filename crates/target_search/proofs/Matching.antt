@@ -2,29 +2,21 @@
 use Rattle.std.proofs.Common.{◌≡◌, ℕ, ◌+◌, ◌-◌, ◌<◌, ◌≤◌, min, Bool, true, false, eqb, ◌&&◌, ◌||◌, not, List, ◌++◌, length, map, get_or, take, drop, slice_range, refl, sym, ap, ◌∙◌, subst, arith, inl, inr}
 use Rattle.std.specs.List.{starts_with}
 use Rattle.std.proofs.lemmas.Bool.{cases_Bool, cases_lt, cond-true, false≢true}
-use Rattle.std.proofs.lemmas.List.{length-take, length-drop, length-append, length-take-le, get_or-take, get_or-drop, get_or_append_left, get_or-append_right, ext_get_or, take-append-drop}
+use Rattle.std.proofs.lemmas.List.{length-take, length-drop, length-append, length-take-le, get_or-take, get_or_append_left, get_or-append_right, ext_get_or, take-append-drop}
 use Rattle.memchr.specs.Find.{OccursAt}
 use Rattle.ed_model.specs.Numbers.{meets}
 use Rattle.ed_model.specs.Matches.{folded, match_case, whole_word, word_start, word_before, word_after, is_match}
+use Rattle.ed_model.specs.proved.Lists.{read_part}
 use Rattle.target_search.specs.Cases.{is_either}
 use Rattle.target_search.specs.Rare.{IsRareOf}
 use Rattle.target_search.specs.declared.rare.RareByte.{RareByte}
 use Rattle.target_search.specs.Found.{stands_at, words_pass, IsPart}
 use Rattle.target_search.proofs.Fronts.{and_assoc, and_both, and_false, and_true, and_first, front_true, front_long, front_reads, front_pieces}
 
--- bytes of a part
-within_part : (xs : List ℕ) (from to k : ℕ) → k < length (slice_range xs from to) → (k < to - from) × (from + k < length xs)
-within_part xs from to k h =
-    let size : length (slice_range xs from to) ≡ min (to - from) (length xs - from) = simp (length-take, length-drop) in
-    (omega arith, omega arith)
-
 pub length_part : (xs : List ℕ) (from to : ℕ) → from ≤ to → to ≤ length xs → from + length (slice_range xs from to) ≡ to
 length_part xs from to a b =
     let size : length (slice_range xs from to) ≡ min (to - from) (length xs - from) = simp (length-take, length-drop) in
     omega arith
-
-read_part : (xs : List ℕ) (from to k : ℕ) → k < length (slice_range xs from to) → get_or (slice_range xs from to) k 0 ≡ get_or xs (from + k) 0
-read_part xs from to k h = get_or-take (to - from) (drop from xs) k 0 (within_part xs from to k h).0 ∙ get_or-drop from xs k 0
 
 -- a part of a part
 pub part_of_part : (text part : List ℕ) (offset from to base : ℕ) → base ≡ offset + from → from ≤ to → to ≤ length part → IsPart text part offset → IsPart text (slice_range part from to) base

@@ -10,7 +10,8 @@ use Rattle.ed_types.specs.declared.script.Cause.TheVariants.{UnknownCommand}
 use Rattle.ed_model.specs.Spelling.{space, quote, spelled, spelled_int, spelled_bytes, spelled_text, is_64_bits}
 use Rattle.ed_model.specs.Listing.{listed_command, FitsTypes, is_expect}
 use Rattle.ed_model.specs.Reading.{◌>>=◌, natural, integer, behind, word_of, behind_word, number_field, text_field, ended, Verb, opens, closes, loads, sends, expects, verb_in, verbs, verbs_of, command_of, read_command}
-use Rattle.ed_model.proofs.lemmas.Spelling.{AreWordBytes, AreWordBytes-spelled, AreWordBytes-spelled_int, length-spelled-pos, natural-spelled, natural-is, integer-spelled, integer-is, bytes_eq-true}
+use Rattle.ed_model.specs.proved.Spelling.{length-spelled-pos, natural-spelled, natural-is, integer-spelled, integer-is, bytes_eq-true}
+use Rattle.ed_model.proofs.lemmas.Spelling.{AreWordBytes, AreWordBytes-spelled, AreWordBytes-spelled_int}
 use Rattle.ed_model.proofs.lemmas.Texts.{AreBytes, text_past-spelled, text_past-is}
 use Rattle.ed_model.proofs.lemmas.Fields.{EndsWord, Spells, word_of-word, behind_word-word, word_and_rest, bind-is, behind-is, ok_or-is, number_field-spelled, number_field-is}
 

@@ -1,8 +1,8 @@
 -- How whole scripts are listed, and read back.
 use Rattle.std.proofs.Common.{◌≡◌, ℕ, ◌+◌, ◌≤◌, ◌⊎◌, inl, inr, Bool, true, false, cond, List, [], ◌∷◌, ◌++◌, refl, sym, ◌∙◌, ap, subst, arith, Result, Ok, Err, append_assoc, codes, flat_map, nat_le}
-use Rattle.std.specs.Prelude.{◌==◌, ◌&&◌, not, bytes_eq, slice_index}
+use Rattle.std.specs.Prelude.{◌==◌, not, bytes_eq, slice_index}
 use Rattle.std.specs.List.{AllByRecursion, list_all, slice_split, onto_first, join_with_byte}
-use Rattle.std.proofs.lemmas.Bool.{and_parts, and_from, leb-true, eqb-true, ne_eqb, or_cases, cases_Bool, cond-true, cond-false, agree_below_at}
+use Rattle.std.proofs.lemmas.Bool.{and_parts, and_from, leb-true, ne_eqb, cases_Bool, cond-true, cond-false, agree_below_at}
 use Rattle.std.proofs.lemmas.List.Splits.{join_with_byte-slice_split}
 use Rattle.ed_types.specs.declared.script.Command.{Command}
 use Rattle.ed_types.specs.declared.script.Command.TheVariants.{OpenView, CloseView, LoadFile, SendMessage, Expect}
@@ -15,7 +15,9 @@ use Rattle.ed_model.specs.Spelling.{space, spelled, spelled_int, spelled_byte, s
 use Rattle.ed_model.specs.Listing.{listed_command, listing, ended_line, version_line, FitsTypes, is_expect, speaks, fits_line, fits_script}
 use Rattle.ed_model.specs.Reading.{◌>>=◌, read_command, read_version, at_line, read_lines, read_script, reading}
 use Rattle.ed_model.specs.ScriptLaws.{IsScript, ListingsAreRead, OnlyListingsAreRead, ScriptsHaveOneSpelling, ListingsKeepLimits, first_line}
-use Rattle.ed_model.proofs.lemmas.Spelling.{bytes_eq-true, AreWordBytes, AreWordBytes-spelled, AreWordBytes-spelled_int}
+use Rattle.ed_model.specs.proved.Spelling.{bytes_eq-true}
+use Rattle.ed_model.proofs.lemmas.Spelling.{AreWordBytes, AreWordBytes-spelled, AreWordBytes-spelled_int}
+use Rattle.ed_model.specs.proved.Reading.{read_from, read_first, read_lines-first, read_script-first, reads_within, versions}
 use Rattle.ed_model.proofs.lemmas.Texts.{AreBytes}
 use Rattle.ed_model.proofs.lemmas.Fields.{bind-is}
 use Rattle.ed_model.proofs.lemmas.Commands.{read_command-listed, read_command-is, IsLineOf}
@@ -75,34 +77,6 @@ split_line (b ∷ bs) rest all =
     let parts = slice_split (λ b. b == line_feed) (bs ++ line_feed ∷ rest) in
     let other : b == line_feed ≡ false = ne_eqb b line_feed (λ e. absurd (omega (arith, all.0))) in
     cond-false (b == line_feed) ([] ∷ parts) (onto_first b parts) other ∙ ap (onto_first b) (split_line bs rest all.1)
-
--- what is split has a first part
-onto_first-some : (b : ℕ) (parts : List (List ℕ)) → (first : List ℕ) × (rest : List (List ℕ)) × (onto_first b parts ≡ first ∷ rest)
-onto_first-some b [] = (b ∷ [], [], refl)
-onto_first-some b (part ∷ parts) = (b ∷ part, parts, refl)
-
-pub split-some : (text : List ℕ) → (first : List ℕ) × (rest : List (List ℕ)) × (slice_split (λ b. b == line_feed) text ≡ first ∷ rest)
-split-some [] = ([], [], refl)
-split-some (b ∷ bs) =
-    let parts = slice_split (λ b. b == line_feed) bs in
-    elim (cases_Bool (b == line_feed)) [
-      | inl ends ↦ ([], parts, cond-true (b == line_feed) ([] ∷ parts) (onto_first b parts) ends)
-      | inr other ↦ let some = onto_first-some b parts in (some.0, some.1, cond-false (b == line_feed) ([] ∷ parts) (onto_first b parts) other ∙ some.2)
-    ]
-
--- the commands of a text from line `number` on
-abbrev pub read_from : ℕ → ℕ → List ℕ → Result (List Command) ScriptFault
-read_from version number text = read_lines version number (slice_split (λ b. b == line_feed) text)
-
--- what the first line says, and then the lines behind it
-abbrev pub read_first : ℕ → ℕ → List ℕ → List (List ℕ) → Result (List Command) ScriptFault
-read_first version number line parts = at_line number line (read_command version line) >>= (λ command. read_lines version (number + 1) parts >>= (λ commands. Ok (command ∷ commands)))
-
-pub read_lines-first : (version number : ℕ) (line text : List ℕ) → read_lines version number (line ∷ slice_split (λ b. b == line_feed) text) ≡ read_first version number line (slice_split (λ b. b == line_feed) text)
-read_lines-first version number line text =
-    let some = split-some text in
-    let P : List (List ℕ) → Type 0 = λ parts. read_lines version number (line ∷ parts) ≡ read_first version number line parts in
-    subst P (sym some.2) refl
 
 pub read_from-line : (version number : ℕ) (line rest : List ℕ) → AreLineBytes line → read_from version number (line ++ line_feed ∷ rest) ≡ read_first version number line (slice_split (λ b. b == line_feed) rest)
 read_from-line version number line rest all = ap (read_lines version number) (split_line line rest all) ∙ read_lines-first version number line rest
@@ -180,16 +154,6 @@ read_lines-is version number (line ∷ next ∷ parts) commands h =
       spoken = λ first. and_from _ _ (no_expect version line command.0 read first) (rest.spoken first);
     })
 
--- The first line, and what stands behind it.
-pub read_script-first : (line text : List ℕ) → read_script (line ∷ slice_split (λ b. b == line_feed) text) ≡ (at_line 1 line (read_version line) >>= (λ version. read_from version 2 text))
-read_script-first line text =
-    let some = split-some text in
-    let P : List (List ℕ) → Type 0 = λ parts. read_script (line ∷ parts) ≡ (at_line 1 line (read_version line) >>= (λ version. read_lines version 2 parts)) in
-    subst P (sym some.2) refl
-
-pub reads_within : (text : List ℕ) (read : Result (List Command) ScriptFault) → fits_script text ≡ true → read_script (slice_split (λ b. b == line_feed) text) ≡ read → reading text ≡ read
-reads_within text read fits h = cond-true (fits_script text) (read_script (slice_split (λ b. b == line_feed) text)) (Err TooLong) fits ∙ h
-
 listing_2_is_read : (commands : List Command) → IsScript 2 commands → reading (listing 2 commands) ≡ Ok commands
 listing_2_is_read commands script =
     let tests = and_parts (list_all (λ c. fits_line (listed_command c)) commands) (fits_script (listing 2 commands)) script.within in
@@ -199,14 +163,6 @@ listing_1_is_read : (commands : List Command) → IsScript 1 commands → readin
 listing_1_is_read commands script =
     let tests = and_parts (list_all (λ c. fits_line (listed_command c)) commands) (fits_script (listing 2 commands)) script.within in
     reads_within (listing 1 commands) (Ok commands) tests.1 (read_script-first (codes "sci 1") (lines_of commands) ∙ read_from-listed 1 2 commands (inr script.spoken) script.typed tests.0)
-
--- there are versions 1 and 2
-pub versions : (version : ℕ) (commands : List Command) → speaks version commands ≡ true → (version ≡ 2) ⊎ (version ≡ 1)
-versions version commands h =
-    elim (or_cases (version == 2) (version == 1 && list_all (λ c. not (is_expect c)) commands) h) [
-      | inl second ↦ inl (eqb-true version 2 second)
-      | inr first ↦ inr (eqb-true version 1 (and_parts (version == 1) (list_all (λ c. not (is_expect c)) commands) first).0)
-    ]
 
 pub listings_are_read : ListingsAreRead
 listings_are_read version commands script =

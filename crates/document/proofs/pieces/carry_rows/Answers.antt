@@ -3,7 +3,8 @@ use Rattle.ed_model.specs.Rows.{rows_together}
 use Rattle.line_index.specs.declared.edit.LineEdit.{LineEdit}
 use Rattle.line_index.specs.Edits.{after_edits, FitLines, fresh_lines}
 use Rattle.line_index.specs.StepEdits.{edits_of, change_of}
-use Rattle.document.proofs.CarrySteps.{edits_add, few_lines}
+use Rattle.ed_model.specs.proved.Lines.{few_lines}
+use Rattle.document.proofs.CarrySteps.{edits_add}
 use Rattle.document.proofs.pieces.carry_rows.Goals as goal
 
 pub carry-requires-clause-lines : goal.carry-requires-clause-lines

@@ -12,7 +12,7 @@ pub put_piece-requires-in-putting-clause-line_room : goal.put_piece-requires-in-
 put_piece-requires-in-putting-clause-line_room c =
     let inv = c.putting.invariant in
     let text = bytes_of (edited_cells (Insert (c.args.place + c.putting.done) (slice_range c.args.bytes.now c.putting.done c.min-end.result)) c.putting.cells.cells) in
-    let fits = piece_fits c.args.lines.now.index.types c.args.cells.now.cells c.putting.cells.cells c.args.lines.now.index c.putting.lines.index c.args.place c.putting.done c.min-end.result c.args.bytes.now c.room_for_steps.ensures.insertion
+    let fits = piece_fits c.args.lines.now.index.types c.args.cells.now.cells c.putting.cells.cells c.args.lines.now.index c.putting.lines.index c.args.place c.putting.done c.min-end.result c.args.bytes.now c.room_for_steps.ensures.insertion c.room_for_steps.ensures.first
     (record { types_are = refl; index = c.requires.lines }) c.requires.place (omega arith) (omega arith) inv.cells inv.line_room c.requires.line_room in
     omega (arith, fits, ap (λ t. line_count t text) inv.lines.types_are)
 

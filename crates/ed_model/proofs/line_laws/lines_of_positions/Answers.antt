@@ -1,6 +1,6 @@
 -- Each clause is a lemma on the line of a position.
 use Rattle.ed_model.specs.Lines.{line_starts}
-use Rattle.ed_model.proofs.LineLemmas.{line_of_lt, some_line, line_of_monotone, line_of_start, line_starts_rise, line_of_last_start}
+use Rattle.ed_model.specs.proved.Lines.{line_of_lt, some_line, line_of_monotone, line_of_start, line_starts_rise, line_of_last_start}
 use Rattle.ed_model.proofs.line_laws.lines_of_positions.Goals as goal
 
 pub returns-clause-in_range : goal.returns-clause-in_range

@@ -1,5 +1,6 @@
 -- Each clause is a lemma on steps.
-use Rattle.ed_model.proofs.StepLemmas.{length-inserted, length-deleted_within, bytes_of_edited_cells, position_stays_in_range, start_stays_in_range, position_keeps_order, start_keeps_order}
+use Rattle.ed_model.specs.proved.Steps.{length-inserted, length-deleted_within, bytes_of_edited_cells}
+use Rattle.ed_model.proofs.StepLemmas.{position_stays_in_range, start_stays_in_range, position_keeps_order, start_keeps_order}
 use Rattle.ed_model.proofs.line_laws.positions_after_a_step.Goals as goal
 
 pub returns-clause-insertions_lengthen : goal.returns-clause-insertions_lengthen

@@ -1,5 +1,5 @@
 -- Each clause is a lemma on where lines start.
-use Rattle.ed_model.proofs.LineLemmas.{some_line, first_line_start, line_starts_increase, line_starts_in_range, start_from_contains, contains_from_start, local_start, moved_start_test}
+use Rattle.ed_model.specs.proved.Lines.{some_line, first_line_start, line_starts_increase, line_starts_in_range, start_from_contains, contains_from_start, local_start, moved_start_test}
 use Rattle.ed_model.proofs.line_laws.starts_of_lines.Goals as goal
 
 pub returns-clause-some_line : goal.returns-clause-some_line

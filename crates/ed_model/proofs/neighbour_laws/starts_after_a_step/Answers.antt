@@ -1,5 +1,5 @@
 -- Each clause is a lemma on line starts under a change.
-use Rattle.ed_model.proofs.NeighbourLemmas.{starts_after_insertion, starts_after_deletion, starts_about_insertion, starts_about_deletion}
+use Rattle.ed_model.specs.proved.Neighbours.{starts_after_insertion, starts_after_deletion, starts_about_insertion, starts_about_deletion}
 use Rattle.ed_model.proofs.neighbour_laws.starts_after_a_step.Goals as goal
 
 pub returns-clause-after_insertion : goal.returns-clause-after_insertion

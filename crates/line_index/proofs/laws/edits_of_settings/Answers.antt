@@ -3,10 +3,10 @@ use Rattle.line_index.proofs.SettingEdits.{setting_edits_carry, setting_edits_fi
 use Rattle.line_index.proofs.laws.edits_of_settings.Goals as goal
 
 pub returns-clause-rows : goal.returns-clause-rows
-returns-clause-rows c = setting_edits_carry
+returns-clause-rows c = setting_edits_carry c.single_rows.ensures.rows_stay
 
 pub returns-clause-flags : goal.returns-clause-flags
-returns-clause-flags c = setting_edits_carry
+returns-clause-flags c = setting_edits_carry c.single_rows.ensures.flags_stay
 
 pub returns-clause-fit : goal.returns-clause-fit
 returns-clause-fit c = setting_edits_fit

@@ -4,7 +4,7 @@ use Rattle.line_index.specs.declared.edit.LineEdit.{LineEdit}
 use Rattle.line_index.specs.declared.edit.LineEdit.TheVariants.{Come}
 use Rattle.line_index.specs.Edits.{after_edits, FitLines, lines_after_edit, fresh_by, fresh_lines}
 use Rattle.line_rows.specs.Rows.{markers_together}
-use Rattle.line_rows.proofs.Edits.{edit_length, edit_adds}
+use Rattle.line_index.specs.proved.Edits.{length_after_edit, edit_adds}
 use Rattle.line_rows.proofs.rows.carry_markers.Goals as goal
 
 pub loop-edit-preserved : goal.loop-edit-preserved
@@ -19,7 +19,7 @@ loop-edit-preserved c =
     let P : List LineEdit → Type 0 = λ es. FitLines (length old) es in
     let fit = subst P next c.loop-edit.invariant.lines in
     let fresh : fresh_lines (drop i edits) ≡ fresh_by edit + fresh_lines left = ap fresh_lines next in
-    let long : length c.carry_one.new.markers.lines ≡ lines_after_edit (length old) edit = ap length c.carry_one.ensures.lines ∙ edit_length markers_together old edit fit.0 in
+    let long : length c.carry_one.new.markers.lines ≡ lines_after_edit (length old) edit = ap length c.carry_one.ensures.lines ∙ length_after_edit markers_together old edit fit.0 in
     let adds = edit_adds (length old) edit in
     record {
       markers = ap (after_edits markers_together left) c.carry_one.ensures.lines ∙ ap (λ es. after_edits markers_together es old) (sym next) ∙ c.loop-edit.invariant.markers;

@@ -1,5 +1,5 @@
 use Rattle.std.proofs.Common.{sym, ◌∙◌, arith}
-use Rattle.ed_model.proofs.lemmas.Spelling.{spelled-decimal}
+use Rattle.ed_model.specs.proved.Spelling.{spelled-decimal}
 use Rattle.macro_script.proofs.Pieces.{in_words}
 use Rattle.macro_script.proofs.appending.append_number.Goals as goal
 

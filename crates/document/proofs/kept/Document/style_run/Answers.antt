@@ -1,7 +1,8 @@
 use Rattle.std.proofs.Common.{replicate, ap, sym, ◌∙◌}
 use Rattle.cell_buffer.specs.Buffer.{Buffer}
 use Rattle.ed_model.specs.Text.{bytes_of, styles_of}
-use Rattle.document.proofs.StyledCells.{bytes_stay, none_changed, parts_restyled}
+use Rattle.ed_model.specs.proved.Steps.{bytes_behind_restyled}
+use Rattle.document.proofs.StyledCells.{none_changed, parts_restyled}
 use Rattle.document.proofs.kept.Document.style_run.Goals as goal
 
 pub returns-then-keeps_none-clause-changed : goal.returns-then-keeps_none-clause-changed
@@ -12,4 +13,4 @@ invariant_of-self-2 c =
     let d = c.self.inside in
     let is = c.set_style_run.ensures.cells in
     parts_restyled d.cells.cells c.set_style_run.new.self.cells d.cells.room c.set_style_run.new.self.room d.options d.lines d.rows d.indicators c.self.invariant
-    (ap (λ (b : Buffer). bytes_of b.cells) is ∙ bytes_stay d.end_styled (replicate c.args.count c.args.style) d.cells.cells) c.set_style_run.ensures.len (ap (λ (b : Buffer). b.room) is)
+    (ap (λ (b : Buffer). bytes_of b.cells) is ∙ bytes_behind_restyled d.end_styled (replicate c.args.count c.args.style) d.cells.cells) c.set_style_run.ensures.len (ap (λ (b : Buffer). b.room) is)

@@ -4,7 +4,7 @@ use Rattle.line_index.specs.declared.edit.LineEdit.{LineEdit}
 use Rattle.line_index.specs.declared.edit.LineEdit.TheVariants.{Come}
 use Rattle.line_index.specs.Edits.{after_edit, after_edits, FitLines, lines_after_edit, fresh_by, fresh_lines}
 use Rattle.line_rows.specs.Values.{first_or}
-use Rattle.line_rows.proofs.Edits.{edit_length, edit_adds}
+use Rattle.line_index.specs.proved.Edits.{length_after_edit, edit_adds}
 use Rattle.line_rows.proofs.values.LineValues.carry.Goals as goal
 
 pub loop-edit-preserved : goal.loop-edit-preserved
@@ -20,7 +20,7 @@ loop-edit-preserved g c =
     let fit = subst P next c.loop-edit.invariant.lines in
     let fresh : fresh_lines (drop i edits) ≡ fresh_by edit + fresh_lines left = ap fresh_lines next in
     let long : length c.carry_one.new.self.values ≡ lines_after_edit (length old.values) edit =
-    ap length c.carry_one.ensures.values ∙ edit_length (first_or old.default) old.values edit fit.0 in
+    ap length c.carry_one.ensures.values ∙ length_after_edit (first_or old.default) old.values edit fit.0 in
     let adds = edit_adds (length old.values) edit in
     let room = c.carry_one.ensures.room in
     let before = c.loop-edit.invariant.room in

@@ -6,12 +6,12 @@ use Rattle.std.proofs.lemmas.Bool.{cases_lt, ne_eqb, false≢true}
 use Rattle.std.proofs.lemmas.Option.{slice_get_past}
 use Rattle.std.proofs.lemmas.List.Elements.{All-contains, All-filter, All-from_get_or, filter_passes, filter-append}
 use Rattle.std.proofs.lemmas.List.FromFn.{length-range_with_len, get_or-range_with_len}
-use Rattle.std.proofs.lemmas.List.Sums.{count_by-le-length}
+use Rattle.std.proofs.lemmas.List.Sums.{count_by-le-length, length-filter}
 use Rattle.ed_model.specs.declared.plan.LineEndTypes.{LineEndTypes}
 use Rattle.ed_model.specs.Numbers.{is_number}
 use Rattle.ed_model.specs.Text.{stands}
 use Rattle.ed_model.specs.Lines.{is_line_start, unicode_end_before, line_starts, line_of, line_count, start_of_line, knows_unicode}
-use Rattle.ed_model.proofs.RisingLemmas.{Rises, Climbs, Climbs_from_rises, Rises-filter_range, increasing_from_rises, Contains-filter, Contains-range, range-append, filter_range_none, count_front, count_back, count_at, count_monotone}
+use Rattle.ed_model.specs.proved.Rising.{Rises, Climbs, Climbs_from_rises, Rises-filter_range, increasing_from_rises, Contains-filter, Contains-range, range-append, filter_range_none, count_front, count_back, count_at, count_monotone}
 
 -- no byte stands past the end
 stands_past : (byte : ℕ) (text : List ℕ) (i : ℕ) → length text ≤ i → stands byte text i ≡ false
@@ -62,6 +62,12 @@ first_line_start types text = rw (starts_with_zero types text) refl
 -- every text has a line
 pub some_line : (types : LineEndTypes) (text : List ℕ) → 0 < line_count types text
 some_line types text = rw (starts_with_zero types text) (omega arith)
+
+-- .. and at most one line more than bytes
+pub few_lines : (types : LineEndTypes) (text : List ℕ) → line_count types text ≤ length text + 1
+few_lines types text =
+    let places : List ℕ = range_with_len 0 (length text + 1) in
+    omega (arith, length-filter (is_line_start types text) places, count_by-le-length (is_line_start types text) places, length-range_with_len 0 (length text + 1))
 
 -- no line starts past the end
 pub line_starts_in_range : (types : LineEndTypes) (text : List ℕ) → All (λ s. s ≤ length text) (line_starts types text)

@@ -1,51 +1,20 @@
 -- Line starts under a change: those before it stay, those three bytes behind it move, and those between are told by the bytes
 -- about it.
-use Rattle.std.proofs.Common.{ℕ, zero, suc, ◌≡◌, ◌+◌, ◌-◌, ◌<◌, ◌≤◌, min, Bool, List, [], ◌∷◌, ◌++◌, map, length, take, drop, filter, eqb, leb, ltb, slice_get, slice_range, sym, refl, ap, ◌∙◌, inl, inr, arith, append-nil, append_assoc, zero-add, one-add}
+use Rattle.std.proofs.Common.{ℕ, ◌≡◌, ◌+◌, ◌-◌, ◌<◌, ◌≤◌, min, Bool, cond, List, [], ◌∷◌, ◌++◌, map, length, take, drop, filter, count_by, get_or, eqb, leb, ltb, slice_get, slice_range, sym, refl, ap, subst, ◌∙◌, inl, inr, arith, append-nil, append_assoc, zero-add, one-add}
 use Rattle.std.specs.List.{range_with_len}
 use Rattle.std.proofs.lemmas.Bool.{cases_lt, cases_eq, eq-eqb, ne_eqb, lt-ltb, le-ltb, le-leb, lt-leb}
+use Rattle.std.proofs.lemmas.Bool.Decides.{nat_tests}
 use Rattle.std.proofs.lemmas.List.{length-append, length-take-le, length-drop}
 use Rattle.std.proofs.lemmas.List.Elements.{filter-append}
-use Rattle.std.proofs.Math.Seq.{take-add}
+use Rattle.std.proofs.lemmas.List.Sums.{sum_by-le-sum_by}
 use Rattle.ed_model.specs.declared.plan.LineEndTypes.{LineEndTypes}
-use Rattle.ed_model.specs.Lines.{is_line_start, line_starts}
-use Rattle.ed_model.specs.Steps.{Insert, Delete, edited}
+use Rattle.ed_model.specs.Lines.{is_line_start, line_starts, line_of}
+use Rattle.ed_model.specs.Steps.{Step, Insert, Delete, place_of, edited}
 use Rattle.ed_model.specs.NeighbourLaws.{count_before, bytes_about, starts_about, starts_before, starts_from}
-use Rattle.ed_model.proofs.RisingLemmas.{Climbs, Climbs_from_rises, count-cons, range-append, filter_range_both, filter_range_neither, filter_range_moved, filter_range_agree}
-use Rattle.ed_model.proofs.LineLemmas.{line_starts_rise, starts_in_range, same_start, local_start, moved_start_test}
-
--- bytes at places
-
--- what stands in the first of two lists
-pub slice_get_append_left : {X : Type 0} (xs ys : List X) (i : ℕ) → i < length xs → slice_get (xs ++ ys) i ≡ slice_get xs i
-slice_get_append_left [] ys i h = absurd (omega arith)
-slice_get_append_left (x ∷ xs) ys zero h = refl
-slice_get_append_left (x ∷ xs) ys (suc i) h = slice_get_append_left xs ys i (omega arith)
-
--- what stands in the second of two lists
-pub slice_get_append_right : {X : Type 0} (xs ys : List X) (i j : ℕ) → j ≡ length xs + i → slice_get (xs ++ ys) j ≡ slice_get ys i
-slice_get_append_right [] ys i j e = rw (e, zero-add i)
-slice_get_append_right (x ∷ xs) ys i zero e = absurd (omega arith)
-slice_get_append_right (x ∷ xs) ys i (suc j) e = slice_get_append_right xs ys i j (omega arith)
-
--- what stands in the front of a list
-pub slice_get_take : {X : Type 0} (n : ℕ) (xs : List X) (i : ℕ) → i < n → slice_get (take n xs) i ≡ slice_get xs i
-slice_get_take zero xs i h = absurd (omega arith)
-slice_get_take (suc n) [] i h = refl
-slice_get_take (suc n) (x ∷ xs) zero h = refl
-slice_get_take (suc n) (x ∷ xs) (suc i) h = slice_get_take n xs i (omega arith)
-
--- the front of a list, and what comes next of it
-pub take_and_next : {X : Type 0} (xs : List X) (n m : ℕ) → n ≤ m → take m xs ≡ take n xs ++ slice_range xs n m
-take_and_next xs n m h =
-    let apart : m ≡ n + (m - n) = omega arith in
-    ap (λ k. take k xs) apart ∙ take-add n (m - n) xs
-
--- what stands in the rest of a list
-pub slice_get_drop : {X : Type 0} (n : ℕ) (xs : List X) (i j : ℕ) → j ≡ n + i → slice_get (drop n xs) i ≡ slice_get xs j
-slice_get_drop zero xs i j e = rw (e, zero-add i)
-slice_get_drop (suc n) [] i j e = refl
-slice_get_drop (suc n) (x ∷ xs) i zero e = absurd (omega arith)
-slice_get_drop (suc n) (x ∷ xs) i (suc j) e = slice_get_drop n xs i j (omega arith)
+use Rattle.ed_model.specs.MergeLaws.{end_of, first_line_about, first_line_behind}
+use Rattle.ed_model.specs.proved.Lists.{slice_get_append_left, slice_get_append_right, slice_get_take, slice_get_drop}
+use Rattle.ed_model.specs.proved.Rising.{Climbs, Climbs_from_rises, count-cons, range-append, filter_range_both, filter_range_neither, filter_range_moved, filter_range_agree, count_at}
+use Rattle.ed_model.specs.proved.Lines.{line_starts_rise, starts_in_range, same_start, local_start, moved_start_test, first_line_start, some_line}
 
 -- the text with `bytes` in the place of what stands from `start` to `end`
 abbrev pub replaced : ℕ → ℕ → List ℕ → List ℕ → List ℕ
@@ -247,3 +216,52 @@ starts_before_first types place text = before_is_front 0 place (line_starts type
 -- so for the starts of a text
 pub starts_from_others : (types : LineEndTypes) (place : ℕ) (text : List ℕ) → starts_from place (line_starts types text) ≡ drop (count_before place (line_starts types text)) (line_starts types text)
 starts_from_others types place text = from_is_rest 0 place (line_starts types text) (Climbs_from_rises 0 (line_starts types text) (line_starts_rise types text))
+
+-- counts by the line of a place
+
+-- there are as many before a later place, and more
+pub count_before_monotone : (p q : ℕ) (xs : List ℕ) → p ≤ q → count_before p xs ≤ count_before q xs
+count_before_monotone p q xs h = sum_by-le-sum_by (λ s. cond (ltb s p) 1 0) (λ s. cond (ltb s q) 1 0) xs (λ s. grind (arith, nat_tests))
+
+-- there is one before each place but the first
+pub some_before : (p : ℕ) (xs : List ℕ) → 0 < length xs → get_or xs 0 0 ≡ 0 → 0 < p → 0 < count_before p xs
+some_before p [] h e l = absurd (omega arith)
+some_before p (x ∷ xs) h e l = rw (count-cons (λ s. ltb s p) x xs, lt-ltb x p (omega arith)) (omega arith)
+
+-- tests that agree count the same
+pub count_agree : (p q : ℕ → Bool) (xs : List ℕ) → ((x : ℕ) → p x ≡ q x) → count_by p xs ≡ count_by q xs
+count_agree p q [] h = refl
+count_agree p q (x ∷ xs) h = rw (count-cons p x xs, count-cons q x xs, h x, count_agree p q xs h) refl
+
+below_next : (s p q : ℕ) → q ≡ p + 1 → ltb s q ≡ leb s p
+below_next s p q e = grind (arith, nat_tests)
+
+count_before_next : (p q : ℕ) (xs : List ℕ) → q ≡ p + 1 → count_before q xs ≡ count_by (λ s. leb s p) xs
+count_before_next p q xs e = count_agree (λ s. ltb s q) (λ s. leb s p) xs (λ s. below_next s p q e)
+
+some_upto : (p : ℕ) (xs : List ℕ) → 0 < length xs → get_or xs 0 0 ≡ 0 → 0 < count_by (λ s. leb s p) xs
+some_upto p [] h e = absurd (omega arith)
+some_upto p (x ∷ xs) h e = rw (count-cons (λ s. leb s p) x xs, le-leb x p (omega arith)) (omega arith)
+
+one_at_zero : (types : LineEndTypes) (text : List ℕ) → (count_before 1 (line_starts types text) ≡ 1) × (line_of (line_starts types text) 0 ≡ 0)
+one_at_zero types text =
+    let starts : List ℕ = line_starts types text in
+    let one : count_by (λ s. leb s 0) starts ≡ 1 = subst (λ m. count_by (λ s. leb s m) starts ≡ 1) (first_line_start types text) (count_at 0 starts 0 (line_starts_rise types text) (some_line types text)) in
+    (count_before_next 0 1 starts refl ∙ one, omega arith)
+
+-- the first line about a step is that of the byte before it
+pub first_line_about_is : (types : LineEndTypes) (step : Step) (text : List ℕ) → first_line_about step (line_starts types text) ≡ line_of (line_starts types text) (place_of step - 1)
+first_line_about_is types step text =
+    let starts : List ℕ = line_starts types text in
+    elim (cases_lt 0 (place_of step)) [
+      | inl some ↦ omega (arith, count_before_next (place_of step - 1) (place_of step) starts (omega arith))
+      | inr least ↦
+          let upto_one : count_before (place_of step) starts ≤ count_before 1 starts = count_before_monotone (place_of step) 1 starts (omega arith) in
+          let zero_place : place_of step - 1 ≡ 0 = omega arith in
+          rw zero_place (omega (arith, one_at_zero types text))
+    ]
+
+-- the first line behind a step is the one after that of the third byte behind it
+pub first_line_behind_is : (types : LineEndTypes) (step : Step) (text : List ℕ) → first_line_behind step (line_starts types text) ≡ line_of (line_starts types text) (end_of step + 2) + 1
+first_line_behind_is types step text =
+    omega (arith, count_before_next (end_of step + 2) (end_of step + 3) (line_starts types text) (omega arith), some_upto (end_of step + 2) (line_starts types text) (some_line types text) (first_line_start types text))

@@ -53,6 +53,15 @@ increasing_at low (x ∷ y ∷ xs) (suc k) r h = rw add-one (rw add-one at (incr
 pub increasing_from_rises : (low : ℕ) (xs : List ℕ) → Rises low xs → IsStrictlyIncreasing xs
 increasing_from_rises low xs r = λ k h. increasing_at low xs k r h
 
+-- a rising list, from std's words
+pub rises_from_increasing : (low : ℕ) (xs : List ℕ) → (0 < length xs → low ≤ get_or xs 0 0) → IsStrictlyIncreasing xs → Rises low xs
+rises_from_increasing low [] h r = tt
+rises_from_increasing low (x ∷ []) h r = (h (omega arith), tt)
+rises_from_increasing low (x ∷ y ∷ xs) h r = (
+  h (omega arith),
+  rises_from_increasing (x + 1) (y ∷ xs) (λ _. omega (arith, r 0 (omega arith))) (λ k l. rw (add-one k) (rw (add-one (k + 1), add-one k) at (r (k + 1) (omega arith)))),
+)
+
 -- membership
 
 -- an element of the rest is one of the whole
