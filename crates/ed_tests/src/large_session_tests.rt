@@ -1,6 +1,8 @@
 //! Sessions of large sizes: 16 MiB that are handed out, and as many views as may be open. `tools/heap.sh` runs
 //! each of these tests once more where the heap may hold no more than the sizes justify, as its table says.
 
+ghost use Rattle.std.specs.Prelude.{◌<◌, length};
+
 use ed_types::{Kind, Refusal, Reply};
 use editor_session::Session;
 use std::alloc::{AllocError, Global};
@@ -84,8 +86,9 @@ struct Told {
 }
 
 /// The note there tells this, and a text that it has is the one that the reply keeps.
-fn assert_note(rt: &impl Abort, reply: &Reply, index: usize, told: Told) {
-    assert!(rt; index < reply.note_count());
+fn assert_note(rt: &impl Abort, reply: &Reply, index: usize, told: Told)
+    requires { index < length reply.now.notes }
+{
     let (note, text) = reply.note(index);
     assert_eq!(rt;
         (note.view, note.code, note.kind),
@@ -110,6 +113,7 @@ fn assert_told(rt: &impl Abort, reply: &Reply, first: u32, last: u32) {
                 kind,
                 text,
             };
+            assert!(rt; index < reply.note_count());
             assert_note(rt, reply, index, told);
             index += 1;
         }
