@@ -14,8 +14,13 @@ IsClipboardFor count (ready.Clipboard bytes) = (bytes.items ≡ []) × (vec_capa
 IsClipboardFor count other = ⊥
 
 -- the document, and room for it in the table
+-- this document
+abbrev pub IsDocument : Kept → SessionReady → Type 0
+IsDocument k (ready.NewDocument made) = made.value ≡ k
+IsDocument k other = ⊥
+
 abbrev pub IsNewDocument : Entries Kept → (Kept → Type 0) → SessionReady → Type 0
-IsNewDocument table IsSo (ready.NewDocument k) = (0 < table.room) × IsSo k
+IsNewDocument table IsSo (ready.NewDocument made) = (0 < table.room) × IsSo made.value
 IsNewDocument table IsSo other = ⊥
 
 abbrev pub IsNothing : SessionReady → Type 0

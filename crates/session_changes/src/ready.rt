@@ -6,7 +6,7 @@ ghost use Rattle.scene.specs.Scenes.{AreNamed};
 ghost use Rattle.message_plans.specs.Requested.{session_in, documents_in};
 ghost use Rattle.session_changes.specs.Kept.{IsKept, DocumentsAreNamed};
 ghost use Rattle.session_changes.specs.Moving.{DocumentsRise};
-ghost use Rattle.session_changes.specs.Ready.{IsReady, IsClipboardFor, IsNewDocument, AwaitsView, IsHeld, takes_memory};
+ghost use Rattle.session_changes.specs.Ready.{IsReady, IsClipboardFor, IsDocument, IsNewDocument, AwaitsView, IsHeld, takes_memory};
 
 use document::Document;
 use document_table::DocumentTable;
@@ -21,8 +21,8 @@ pub enum SessionReady {
     Nothing,
     /// Room for the bytes that the clipboard becomes.
     Clipboard { bytes: Vec<u8> },
-    /// A new document, for which the session's table has room.
-    NewDocument { document: Document },
+    /// A new document, for which the session's table has room. It lies on the heap, so that what other changes need is small.
+    NewDocument { document: Box<Document> },
 }
 
 /// Room for so many bytes that go to the clipboard.
@@ -60,6 +60,20 @@ fn reserve_view_in(documents: &mut DocumentTable, document: u32) -> Result<(), A
     document.reserve_view()
 }
 
+/// A new document with these, for which the session's table has room.
+///
+/// # Errors
+///
+/// `AllocError` where memory is refused.
+fn new_document(alloc: Global, document: Document) -> Result<SessionReady, AllocError>
+    ensures ok { IfOk result (IsDocument document) }
+{
+    match Box::new(alloc, document) {
+        Ok(document) => Ok(SessionReady::NewDocument { document }),
+        Err(_) => Err(AllocError),
+    }
+}
+
 /// A new document with the table's next id, which has a place for a view; and room for it in the table.
 ///
 /// # Errors
@@ -80,7 +94,7 @@ fn document_for_view(
     let Ok(()) = documents.reserve(1) else {
         return Err(AllocError);
     };
-    Ok(SessionReady::NewDocument { document })
+    new_document(alloc, document)
 }
 
 /// A new document with the table's next id and these options, which a caller holds; and room for it in the table.
@@ -102,7 +116,7 @@ fn document_for_caller(
         return Err(AllocError);
     };
     document.hold();
-    Ok(SessionReady::NewDocument { document })
+    new_document(alloc, document)
 }
 
 /// Makes all that a change of the session needs.

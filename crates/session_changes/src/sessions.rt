@@ -117,7 +117,7 @@ fn add_document(
     document: u32,
     view: u32,
     change: SessionChange,
-    new: Document,
+    new: Box<Document>,
 )
     requires kept { IsKept state.old }
     requires can { CanChangeDocuments (session_in state.old) document view change }
@@ -127,7 +127,7 @@ fn add_document(
     ensures documents { DocumentsAreNamed state.new.documents.entries }
     ensures views { AreNamed state.new.views.entries }
 {
-    let id = state.documents.insert_reserved(new);
+    let id = state.documents.insert_reserved(Box::into_inner(new));
     if let SessionChange::AttachNew = change {
         attach(state, document, view, id);
     }
