@@ -1,7 +1,7 @@
 -- Sessions, and results.
 use Rattle.std.proofs.Common.{◌≡◌, ◌≢◌, ℕ, ◌+◌, ◌-◌, ◌<◌, ◌≤◌, ◌==◌, ◌^◌, Bool, true, false, cond, List, [], ◌∷◌, ◌++◌, map, length, refl, ap, sym, ◌∙◌, subst, arith, Option, Some, None, Ok, Err, OnOk, IfSome, IsSomeAnd}
-use Rattle.std.specs.Global.{Vec}
-use Rattle.std.specs.Prelude.{Result, Box, vec_capacity, filter}
+use Rattle.std.specs.Global.{Vec, Box}
+use Rattle.std.specs.Prelude.{Result, vec_capacity, filter}
 use Rattle.std.specs.List.{AllByRecursion, range_with_len}
 use Rattle.std.proofs.lemmas.Bool.{eq-eqb, ne_eqb}
 use Rattle.std.proofs.lemmas.Bool.Decides.{nat_tests}
@@ -20,6 +20,7 @@ use Rattle.ed_model.specs.Requests.{Request}
 use Rattle.ed_model.specs.PlansFit.{IsFitSessionChange}
 use Rattle.ed_model.specs.Changes.{session_changed, held_less, attached, attached_last, with_attached, with_new_document}
 use Rattle.document.specs.Kept.{Kept}
+use Rattle.document.specs.declared.kept.Document.{Document as KeptDocument}
 use Rattle.document_table.specs.Leaving.{documents_in as entries_in, let_go, released, LeavesTheLiving}
 use Rattle.ed_view.specs.Folding.{fold_need, HasFoldRoom}
 use Rattle.ed_view.specs.Kept.{KeptView}
@@ -365,7 +366,7 @@ pub record IsCreation (documents : Entries Kept) (what : SessionChange) (k : Kep
   pub is : what ≡ change.Create options
   pub held : IsHeld documents.next options k
 
-pub is_creation : {A : Type 0} (documents : Entries Kept) (what : SessionChange) (boxed : Box Kept A) → (what ≡ change.AttachNew → ⊥) → IsReady documents what (made.NewDocument boxed) → IsCreation documents what boxed.value
+pub is_creation : (documents : Entries Kept) (what : SessionChange) (boxed : Box KeptDocument) → (what ≡ change.AttachNew → ⊥) → IsReady documents what (made.NewDocument boxed) → IsCreation documents what boxed.value
 is_creation documents (change.Copy start count) k other ready = absurd ready
 is_creation documents (change.CopyText count) k other ready = absurd ready
 is_creation documents (change.Attach id) k other ready = absurd ready.0

@@ -6,7 +6,7 @@ use Rattle.scene.specs.Scenes.{views_of}
 use Rattle.message_plans.specs.Requested.{documents_in}
 use Rattle.session_changes.specs.Folding.{changed_at}
 use Rattle.session_changes.specs.Moving.{CanMove}
-use Rattle.session_changes.specs.Ready.{IsReady}
+use Rattle.session_changes.specs.Ready.{IsReady, AwaitsView, IsHeld}
 use Rattle.session_changes.specs.declared.ready.SessionReady.TheVariants as made
 use Rattle.session_changes.proofs.SessionLemmas.{can_attach_new, few_flags, attached_new_so, created_so, all_named, is_creation}
 use Rattle.session_changes.proofs.sessions.add_document.Goals as goal
@@ -18,7 +18,7 @@ attach-requires-clause-can c =
     let put = c.insert_reserved-id in
     let ready = subst (λ w. IsReady s.documents w (made.NewDocument c.args.new)) c.in-AttachNew.is c.requires.ready in
     subst (CanMove put.new.self c.args.document c.args.view) (sym put.ensures.id)
-    (can_attach_new s c.args.document c.args.view can.request c.requires.kept can.asked put.new.self c.args.new.value put.ensures.entries put.ensures.next ready.1)
+    (can_attach_new s c.args.document c.args.view can.request c.requires.kept can.asked put.new.self c.into_inner.result put.ensures.entries put.ensures.next (subst (AwaitsView s.documents.next) (sym c.into_inner.ensures) ready.1))
 
 pub attach-requires-clause-few : goal.attach-requires-clause-few
 attach-requires-clause-few c =
@@ -32,7 +32,7 @@ returns-in-AttachNew-clause-changed c = λ r asked.
     let done = c.attach.ensures in
     let new = c.attach.new.state in
     let ready = subst (λ w. IsReady s.documents w (made.NewDocument c.args.new)) c.in-AttachNew.is c.requires.ready in
-    attached_new_so s c.args.document c.args.view r c.requires.kept asked put.new.self c.args.new.value put.ensures.entries put.ensures.next new ready.1
+    attached_new_so s c.args.document c.args.view r c.requires.kept asked put.new.self c.into_inner.result put.ensures.entries put.ensures.next new (subst (AwaitsView s.documents.next) (sym c.into_inner.ensures) ready.1)
     (done.documents ∙ ap (λ n. living (map (attached_last c.args.view n) (documents_in put.new.self))) put.ensures.id)
     (subst (λ n. IfSome (value_at put.new.self.entries n) (λ k. views_of new.views.entries ≡ changed_at c.args.view (attached_to k.document) (views_of s.views.entries))) put.ensures.id done.views)
     done.next_document done.next_view done.clipboard done.limits
@@ -44,11 +44,12 @@ returns-in_default c =
     let can = c.requires.can in
     let put = c.insert_reserved-id in
     let made_for = is_creation s.documents c.args.change c.args.new c.in_default.not-AttachNew c.requires.ready in
+    let held = subst (IsHeld s.documents.next made_for.options) (sym c.into_inner.ensures) made_for.held in
     record {
       changed = λ r asked.
-          created_so s c.args.document c.args.view r c.requires.kept asked put.new.self c.args.new.value put.ensures.entries put.ensures.next made_for.options made_for.held
+          created_so s c.args.document c.args.view r c.requires.kept asked put.new.self c.into_inner.result put.ensures.entries put.ensures.next made_for.options held
           ∙ ap (session_changed r) (sym made_for.is);
       limits = refl;
-      documents = all_named s c.args.document c.args.view can.request c.requires.kept can.asked put.new.self c.args.new.value put.ensures.entries put.ensures.next (ap (λ (d : Document). d.id) made_for.held);
+      documents = all_named s c.args.document c.args.view can.request c.requires.kept can.asked put.new.self c.into_inner.result put.ensures.entries put.ensures.next (ap (λ (d : Document). d.id) held);
       views = c.requires.kept.views;
     }
