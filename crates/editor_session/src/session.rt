@@ -6,8 +6,7 @@ ghost use Rattle.ed_model.specs.Session.{new_session, greatest_limits, is_betwee
 ghost use Rattle.ed_model.specs.Table.{table, limited, opened, closed};
 ghost use Rattle.message_plans.specs.Requested.{session_in};
 ghost use Rattle.message_plans.specs.TableSoFar.{table_so_far};
-ghost use Rattle.scene.specs.Scenes.{AreNamed};
-ghost use Rattle.session_changes.specs.Kept.{IsKept, DocumentsAreNamed};
+ghost use Rattle.session_changes.specs.Kept.{IsKept};
 ghost use Rattle.editor_session.specs.Answers.{AnswersBy, message_with};
 ghost use Rattle.editor_session.specs.Plans.{is_free};
 ghost use Rattle.editor_session.specs.Lent.{lent_range};
@@ -85,11 +84,11 @@ fn carry_out(
     requires task { IsTask (session_in state.old) task.now.view (message_with number w l text.now) task.now }
     ensures answer { IfOk result (λ reply. table table_so_far (session_in state.old) task.now.view (message_with number w l text.now) ≡ Ok (session_in state.new, reply)) }
     ensures same { OnErr result (session_in state.new ≡ session_in state.old) }
-    ensures limits { state.new.limits ≡ state.old.limits }
-    ensures documents { DocumentsAreNamed state.new.documents.entries }
-    ensures views { AreNamed state.new.views.entries }
+    ensures kept { IsKept state.new }
     ensures free { is_free (session_in state.old) task.now.view (message_with number w l text.now) ≡ true → IsOk result }
 {
+    // The law that the session stays sound.
+    soundness_is_kept();
     let prepared = prepare(alloc, state, task, text)?;
     Ok(perform(state, task, number, w, l, text, prepared))
 }
@@ -215,8 +214,6 @@ impl Session {
         ensures refused { IfErr (table table_so_far self.old view (message_with number w l text.now)) (λ refusal. result ≡ Err refusal) }
         ensures free { is_free self.old view (message_with number w l text.now) ≡ true → IfErr result (λ refusal. refusal ≢ OutOfMemory) }
     {
-        // The law that the session stays sound.
-        soundness_is_kept();
         let task = match find_task(&self.state, view, number, w, l, text) {
             Ok(task) => task,
             Err(refusal) => return Err(refusal),

@@ -1,15 +1,21 @@
-use Rattle.std.proofs.Common.{rules, ◌≡◌, false, true, sym, subst, to_z, of_z, w64}
-use Rattle.ed_model.specs.SoundLaws.{IsSound}
+use Rattle.std.proofs.Common.{◌≡◌, false, true, subst}
 use Rattle.message_plans.specs.Requested.{session_in}
 use Rattle.editor_session.specs.Answers.{message_with}
-use Rattle.editor_session.specs.Plans.{is_free}
-use Rattle.editor_session.specs.Tasks.{IsTask}
+use Rattle.editor_session.specs.Tasks.{IsAskedBy}
 use Rattle.editor_session.proofs.TableWay.{free_task}
-use Rattle.editor_session.proofs.Performing.{planned, asked_by}
-use Rattle.editor_session.proofs.Keeping.{kept_with, kept_after_message}
+use Rattle.editor_session.proofs.Performing.{asked_by}
 use Rattle.editor_session.proofs.session.carry_out.Goals as goal
 
-pub prepare-requires-clause-planned : goal.prepare-requires-clause-planned
-prepare-requires-clause-planned c =
+pub returns-in_err-prepared-clause-free : goal.returns-in_err-prepared-clause-free
+returns-in_err-prepared-clause-free c free =
     let a = c.args in
-    planned a.state.now a.task.now.view (message_with a.number (to_z w64 (of_z w64 a.w)) (to_z w64 (of_z w64 a.l)) a.text.now) a.task.now c.requires.task
+    let task = a.task.now in
+    let s = session_in a.state.now in
+    let m = message_with a.number a.w a.l a.text.now in
+    let needs = free_task s task.view m task c.requires.task free in
+    let bad : false ≡ true = c.in_err-prepared.ensures.free c.requires.task.request (asked_by a.state.now task.view m task c.requires.task) needs.0 needs.1 in
+    absurd (cc)
+
+pub perform-requires-clause-prepared : goal.perform-requires-clause-prepared
+perform-requires-clause-prepared c = λ r asked.
+    c.in_ok-prepared.ensures.ok r (subst (λ s. IsAskedBy s c.args.task.now c.args.text.now r) c.prepare.ensures.same asked)
