@@ -1,5 +1,5 @@
 -- The way of a message through the table.
-use Rattle.std.proofs.Common.{◌&&◌, ◌≡◌, ◌≢◌, ℕ, Bool, true, false, cond, ◌==◌, List, refl, ap, sym, ◌∙◌, subst, Option, Some, None, Ok, Err}
+use Rattle.std.proofs.Common.{◌&&◌, ◌≡◌, ◌≢◌, ℕ, Bool, true, false, cond, ◌==◌, List, [], ◌∷◌, ℤ, refl, ap, sym, ◌∙◌, subst, Option, Some, None, Ok, Err}
 use Rattle.std.specs.Prelude.{Result, not}
 use Rattle.ed_types.specs.declared.message.Message.{Message}
 use Rattle.ed_types.specs.declared.kind.Kind.{Kind}
@@ -10,9 +10,11 @@ use Rattle.ed_types.specs.Messages.{kind_of, marks_of}
 use Rattle.ed_model.specs.Session.{Session, View, Document, document_at, view_at, watching}
 use Rattle.ed_model.specs.SoundLaws.{IsSound}
 use Rattle.ed_model.specs.Requests.{Request, Planned}
+use Rattle.ed_model.specs.PlansFit.{IsFitPlan, IsFitPlanned}
+use Rattle.ed_model.specs.Performing.{quiet}
 use Rattle.ed_model.specs.declared.plan.Plan.{Plan}
 use Rattle.ed_model.specs.declared.plan.Plan.TheVariants as plan
-use Rattle.ed_model.specs.Table.{table, table_from_view, table_from_kind, table_if_known, table_from_document, answered, request, plan_of}
+use Rattle.ed_model.specs.Table.{table, record_note, table_from_view, table_from_kind, table_if_known, table_from_document, answered, request, plan_of}
 use Rattle.message_plans.specs.TableSoFar.{table_so_far}
 use Rattle.editor_session.proofs.Finding.{id_of_view_at}
 use Rattle.editor_session.specs.declared.find.Task.{Task}
@@ -84,6 +86,17 @@ is_found s id m v kind d sound found known there =
       message = refl;
       answer = to_document s id m v kind found known ∙ ap (table_from_document s v kind m) there;
     }
+
+pub fit_of : {what : Plan} (kind : Kind) (r : Request) → plan_of kind r ≡ Ok what → IsFitPlanned r (plan_of kind r) → IsFitPlan r what
+fit_of kind r planned fit = subst (IsFitPlanned r) planned fit
+
+-- a message that only answers a number, and is not recorded
+pub plain_answer : (s : Session) (view : ℕ) (m : Message) (kind : Kind) (r : Request) (value : ℤ) → IsFound s view m kind r → plan_of kind r ≡ Ok (plan.Answer value) → (r.view.records && (marks_of kind).r) ≡ false
+    → table table_so_far s view m ≡ Ok (s, quiet value)
+plain_answer s view m kind r value f planned unheard =
+    f.answer ∙ ap (answered kind r) planned
+    ∙ ap (λ b. Ok (r.session, cond b (record (quiet value) { notes = record_note r ∷ [] }) (quiet value))) unheard
+    ∙ ap (λ (x : Session). Ok (x, quiet value)) f.session
 
 -- Messages that need no memory.
 

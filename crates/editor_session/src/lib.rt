@@ -18,6 +18,7 @@ mod perform;
 mod prepare;
 mod ready;
 mod run;
+mod sending;
 mod session;
 
 pub use laws::marked_messages_are_free;

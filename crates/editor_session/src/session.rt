@@ -1,28 +1,23 @@
 //! `Session` and its calls.
 
-ghost use Rattle.std.specs.Prelude.{◌≡◌, ◌≢◌, ◌⊎◌, true, OnOk, OnErr, IfOk, IfErr, IsOk, Ok, Err, is_some};
+ghost use Rattle.std.specs.Prelude.{◌≡◌, ◌≢◌, ◌⊎◌, true, OnOk, OnErr, IfOk, IfErr, Ok, Err, is_some};
 ghost use Rattle.ed_types.specs.declared.refusal.Refusal.TheVariants.{BadArgument, NoSuchView, OutOfMemory};
 ghost use Rattle.ed_model.specs.Session.{new_session, greatest_limits, is_between_one_and, is_allowed, view_at};
 ghost use Rattle.ed_model.specs.Table.{table, limited, opened, closed};
-ghost use Rattle.message_plans.specs.Requested.{session_in};
 ghost use Rattle.message_plans.specs.TableSoFar.{table_so_far};
-ghost use Rattle.session_changes.specs.Kept.{IsKept};
 ghost use Rattle.editor_session.specs.Answers.{AnswersBy, message_with};
 ghost use Rattle.editor_session.specs.Plans.{is_free};
 ghost use Rattle.editor_session.specs.Lent.{lent_range};
-ghost use Rattle.editor_session.specs.Tasks.{IsTask};
 
-use crate::find::{Task, find_task};
 use crate::lending::{document_with, lend};
 use crate::opening::{close, open};
-use crate::perform::perform;
-use crate::prepare::prepare;
+use crate::sending::answer_message;
 use document_table::DocumentTable;
-use ed_model::{Plan, soundness_is_kept};
-use ed_types::{Bytes, Limits, Message, Refusal, Reply};
+use ed_model::soundness_is_kept;
+use ed_types::{Limits, Message, Refusal, Reply};
 use id_table::IdTable;
 use message_plans::SessionState;
-use std::alloc::{AllocError, Global};
+use std::alloc::Global;
 use std::marker::Model;
 
 /// A session: documents, and the views on them. Contracts see it as the session of the message table.
@@ -62,35 +57,6 @@ fn is_allowed(limits: &Limits) -> bool
         && is_between_one_and(Limits::REFS, limits.refs)
         && is_between_one_and(Limits::VIEWS, limits.views)
         && is_between_one_and(Limits::DEPTH, limits.depth)
-}
-
-/// Makes room for the plan of a task, and performs it. It stands apart, so that a message that only answers a number sets up
-/// nothing of what others need.
-///
-/// # Errors
-///
-/// `AllocError` where memory is refused. The session is then as it was.
-#[inline(never)]
-fn carry_out(
-    alloc: Global,
-    state: &mut SessionState,
-    task: &Task,
-    number: u32,
-    w: i64,
-    l: i64,
-    text: &[u8],
-) -> Result<Reply, AllocError>
-    requires kept { IsKept state.old }
-    requires task { IsTask (session_in state.old) task.now.view (message_with number w l text.now) task.now }
-    ensures answer { IfOk result (λ reply. table table_so_far (session_in state.old) task.now.view (message_with number w l text.now) ≡ Ok (session_in state.new, reply)) }
-    ensures same { OnErr result (session_in state.new ≡ session_in state.old) }
-    ensures kept { IsKept state.new }
-    ensures free { is_free (session_in state.old) task.now.view (message_with number w l text.now) ≡ true → IsOk result }
-{
-    // The law that the session stays sound.
-    soundness_is_kept();
-    let prepared = prepare(alloc, state, task, text)?;
-    Ok(perform(state, task, number, w, l, text, prepared))
 }
 
 impl Session {
@@ -214,17 +180,7 @@ impl Session {
         ensures refused { IfErr (table table_so_far self.old view (message_with number w l text.now)) (λ refusal. result ≡ Err refusal) }
         ensures free { is_free self.old view (message_with number w l text.now) ≡ true → IfErr result (λ refusal. refusal ≢ OutOfMemory) }
     {
-        let task = match find_task(&self.state, view, number, w, l, text) {
-            Ok(task) => task,
-            Err(refusal) => return Err(refusal),
-        };
-        if let (Plan::Answer { value }, false) = (task.plan, task.is_recorded) {
-            return Ok(Reply::quiet(self.alloc, value, Bytes::empty(self.alloc)));
-        }
-        match carry_out(self.alloc, &mut self.state, &task, number, w, l, text) {
-            Ok(reply) => Ok(reply),
-            Err(_) => Err(Refusal::OutOfMemory),
-        }
+        answer_message(self.alloc, &mut self.state, view, number, w, l, text)
     }
 
     /// Lends the `count` bytes of the view's document from `start` on as one slice, which is not copied. The session stays as

@@ -1,0 +1,67 @@
+use Rattle.std.proofs.Common.{rules, ◌≡◌, false, true, Ok, Err, refl, sym, ap, subst, ◌∙◌, to_z, of_z, w64}
+use Rattle.std.specs.Prelude.{◌&&◌}
+use Rattle.ed_types.specs.Messages.{marks_of}
+use Rattle.ed_model.specs.declared.plan.Plan.TheVariants.{Answer}
+use Rattle.ed_model.specs.PlansFit.{IsFitPlanned}
+use Rattle.ed_model.specs.Table.{table, plan_of}
+use Rattle.message_plans.specs.Requested.{session_in}
+use Rattle.message_plans.specs.TableSoFar.{table_so_far}
+use Rattle.editor_session.specs.Answers.{message_with}
+use Rattle.editor_session.specs.Plans.{is_free}
+use Rattle.editor_session.proofs.TableWay.{plain_answer, fit_of}
+use Rattle.editor_session.proofs.sending.answer_message.Goals as goal
+
+pub returns-in-Ok-Answer-clause-answer : goal.returns-in-Ok-Answer-clause-answer
+returns-in-Ok-Answer-clause-answer c =
+    let a = c.args in
+    let kind = c.in-Ok.found.0 in
+    let r = c.in-Ok.found.1 in
+    let planned : plan_of kind r ≡ Ok (Answer c.in-Ok-Answer.value) = search rules in
+    let unheard : (r.view.records && (marks_of kind).r) ≡ false = search rules in
+    let same : message_with a.number (to_z w64 (of_z w64 a.w)) (to_z w64 (of_z w64 a.l)) a.text.now ≡ message_with a.number a.w a.l a.text.now = search rules in
+    ap (table table_so_far (session_in a.state.now) a.view) (sym same)
+    ∙ plain_answer (session_in a.state.now) a.view (message_with a.number (to_z w64 (of_z w64 a.w)) (to_z w64 (of_z w64 a.l)) a.text.now) kind r c.in-Ok-Answer.value c.in-Ok.ensures.found planned unheard
+    ∙ ap (λ x. Ok (session_in a.state.now, x)) (search rules)
+
+pub returns-in-Ok-Answer-clause-refused : goal.returns-in-Ok-Answer-clause-refused
+returns-in-Ok-Answer-clause-refused c =
+    let a = c.args in
+    let answer = returns-in-Ok-Answer-clause-answer c in
+    rw answer (search rules)
+
+pub returns-in-Err-plan_of-clause-free : goal.returns-in-Err-plan_of-clause-free
+returns-in-Err-plan_of-clause-free c free =
+    let kind = c.in-Ok.found.0 in
+    let r = c.in-Ok.found.1 in
+    let planned : plan_of kind r ≡ Err c.in-Err-plan_of.refusal = search rules in
+    subst (IsFitPlanned r) planned (c.plans_are_fit.ensures.in_range kind r c.in-Ok.ensures.found.sound)
+
+pub carry_out-requires-clause-task : goal.carry_out-requires-clause-task
+carry_out-requires-clause-task c =
+    let kind = c.in-Ok.found.0 in
+    let r = c.in-Ok.found.1 in
+    record {
+      kind = kind;
+      request = r;
+      found = c.in-Ok.ensures.found;
+      planned = search rules;
+      view_id = refl;
+      document_id = search rules;
+      recorded = search rules;
+      fit = fit_of kind r (search rules) (c.plans_are_fit.ensures.in_range kind r c.in-Ok.ensures.found.sound);
+    }
+
+pub returns-in-Ok-carry_out-clause-answer : goal.returns-in-Ok-carry_out-clause-answer
+returns-in-Ok-carry_out-clause-answer c =
+    let a = c.args in
+    let s = session_in a.state.now in
+    let same : message_with a.number (to_z w64 (of_z w64 a.w)) (to_z w64 (of_z w64 a.l)) a.text.now ≡ message_with a.number a.w a.l a.text.now = search rules in
+    subst (λ x. table table_so_far s a.view x ≡ Ok (session_in c.carry_out.new.state, c.in-Ok-carry_out.reply)) same c.in-Ok-carry_out.ensures.answer
+
+pub returns-in-Err-carry_out-clause-free : goal.returns-in-Err-carry_out-clause-free
+returns-in-Err-carry_out-clause-free c free =
+    let a = c.args in
+    let s = session_in a.state.now in
+    let same : message_with a.number (to_z w64 (of_z w64 a.w)) (to_z w64 (of_z w64 a.l)) a.text.now ≡ message_with a.number a.w a.l a.text.now = search rules in
+    let bad : false ≡ true = c.in-Err-carry_out.ensures.free (subst (λ x. is_free s a.view x ≡ true) (sym same) free) in
+    absurd (cc)

@@ -1,0 +1,103 @@
+//! A message on its way through a session: found, planned, and answered at once or carried out.
+
+ghost use Rattle.std.specs.Prelude.{◌≡◌, ◌≢◌, ◌&&◌, true, OnErr, IfOk, IfErr, IsOk, Ok, Err};
+ghost use Rattle.ed_types.specs.declared.refusal.Refusal.TheVariants.{OutOfMemory};
+ghost use Rattle.ed_types.specs.Messages.{marks_of};
+ghost use Rattle.ed_model.specs.Table.{table};
+ghost use Rattle.message_plans.specs.Requested.{session_in};
+ghost use Rattle.message_plans.specs.TableSoFar.{table_so_far};
+ghost use Rattle.session_changes.specs.Kept.{IsKept};
+ghost use Rattle.editor_session.specs.Answers.{AnswersBy, message_with};
+ghost use Rattle.editor_session.specs.Plans.{is_free};
+ghost use Rattle.editor_session.specs.Tasks.{IsTask};
+
+use crate::find::{Task, find};
+use crate::perform::perform;
+use crate::prepare::prepare;
+use ed_model::{Plan, plans_are_fit, soundness_is_kept};
+use ed_types::{Bytes, Kind, Refusal, Reply};
+use message_plans::{Request, SessionState, plan_of};
+use std::alloc::{AllocError, Global};
+
+/// Makes room for the plan of a task, and performs it. It stands apart, so that a message that only answers a number sets up
+/// nothing of what others need.
+///
+/// # Errors
+///
+/// `AllocError` where memory is refused. The session is then as it was.
+#[inline(never)]
+fn carry_out(
+    alloc: Global,
+    state: &mut SessionState,
+    task: &Task,
+    number: u32,
+    w: i64,
+    l: i64,
+    text: &[u8],
+) -> Result<Reply, AllocError>
+    requires kept { IsKept state.old }
+    requires task { IsTask (session_in state.old) task.now.view (message_with number w l text.now) task.now }
+    ensures answer { IfOk result (λ reply. table table_so_far (session_in state.old) task.now.view (message_with number w l text.now) ≡ Ok (session_in state.new, reply)) }
+    ensures same { OnErr result (session_in state.new ≡ session_in state.old) }
+    ensures kept { IsKept state.new }
+    ensures free { is_free (session_in state.old) task.now.view (message_with number w l text.now) ≡ true → IsOk result }
+{
+    // The law that the session stays sound.
+    soundness_is_kept();
+    let prepared = prepare(alloc, state, task, text)?;
+    Ok(perform(state, task, number, w, l, text, prepared))
+}
+
+/// Whether the view of a message hears of it, since it records.
+fn is_recorded(kind: Kind, request: &Request) -> bool
+    ensures { result ≡ (request.now.view.records && (marks_of kind).r) }
+{
+    request.view.records() && kind.columns().r
+}
+
+/// Answers a message to the view of an id.
+///
+/// # Errors
+///
+/// The refusal of the message table; `OutOfMemory` where memory is refused. The session is then as it was.
+pub(crate) fn answer_message(
+    alloc: Global,
+    state: &mut SessionState,
+    view: u32,
+    number: u32,
+    w: i64,
+    l: i64,
+    text: &[u8],
+) -> Result<Reply, Refusal>
+    requires kept { IsKept state.old }
+    ensures answer { AnswersBy (table table_so_far (session_in state.old) view (message_with number w l text.now)) (session_in state.old) (session_in state.new) result }
+    ensures refused { IfErr (table table_so_far (session_in state.old) view (message_with number w l text.now)) (λ refusal. result ≡ Err refusal) }
+    ensures kept { IsKept state.new }
+    ensures free { is_free (session_in state.old) view (message_with number w l text.now) ≡ true → IfErr result (λ refusal. refusal ≢ OutOfMemory) }
+{
+    // The laws that a plan's numbers are in range, and that no refusal is for want of memory.
+    plans_are_fit();
+    let (kind, request) = match find(state, view, number, w, l, text) {
+        Ok(found) => found,
+        Err(refusal) => return Err(refusal),
+    };
+    let is_recorded = is_recorded(kind, &request);
+    // A plan is not small: one that is only an answer is read where it stands.
+    let plan = match plan_of(kind, &request) {
+        Ok(Plan::Answer { value }) if !is_recorded => {
+            return Ok(Reply::quiet(alloc, value, Bytes::empty(alloc)));
+        }
+        Ok(plan) => plan,
+        Err(refusal) => return Err(refusal),
+    };
+    let task = Task {
+        view,
+        document: request.document.id(),
+        plan,
+        is_recorded,
+    };
+    match carry_out(alloc, state, &task, number, w, l, text) {
+        Ok(reply) => Ok(reply),
+        Err(_) => Err(Refusal::OutOfMemory),
+    }
+}
