@@ -1,17 +1,17 @@
 -- The way of a message through the table.
-use Rattle.std.proofs.Common.{◌&&◌, ◌≡◌, ◌≢◌, ℕ, Bool, true, false, cond, ◌==◌, List, [], ◌∷◌, ℤ, refl, ap, sym, ◌∙◌, subst, Option, Some, None, Ok, Err}
-use Rattle.std.specs.Prelude.{Result, not}
+use Rattle.std.proofs.Common.{inl, ◌&&◌, ◌≡◌, ◌≢◌, ℕ, Bool, true, false, cond, ◌==◌, List, [], ◌∷◌, ℤ, refl, ap, sym, ◌∙◌, subst, Option, Some, None, Ok, Err}
+use Rattle.std.specs.Prelude.{Result, not, ◌+◌, slice_range, IsOk, IfOk, IfErr}
 use Rattle.ed_types.specs.declared.message.Message.{Message}
 use Rattle.ed_types.specs.declared.kind.Kind.{Kind}
 use Rattle.ed_types.specs.declared.refusal.Refusal.{Refusal}
 use Rattle.ed_types.specs.declared.refusal.Refusal.TheVariants.{NoSuchView, UnknownMessage, NoSuchDocument, OutOfMemory}
 use Rattle.ed_types.specs.Notices.{Response}
 use Rattle.ed_types.specs.Messages.{kind_of, marks_of}
-use Rattle.ed_model.specs.Session.{Session, View, Document, document_at, view_at, watching}
+use Rattle.ed_model.specs.Session.{Session, View, Document, document_at, view_at, watching, text_of}
 use Rattle.ed_model.specs.SoundLaws.{IsSound}
 use Rattle.ed_model.specs.Requests.{Request, Planned}
 use Rattle.ed_model.specs.PlansFit.{IsFitPlan, IsFitPlanned}
-use Rattle.ed_model.specs.Performing.{quiet}
+use Rattle.ed_model.specs.Performing.{quiet, response}
 use Rattle.ed_model.specs.declared.plan.Plan.{Plan}
 use Rattle.ed_model.specs.declared.plan.Plan.TheVariants as plan
 use Rattle.ed_model.specs.Table.{table, record_note, table_from_view, table_from_kind, table_if_known, table_from_document, answered, request, plan_of}
@@ -19,6 +19,7 @@ use Rattle.message_plans.specs.TableSoFar.{table_so_far}
 use Rattle.editor_session.proofs.Finding.{id_of_view_at}
 use Rattle.editor_session.specs.declared.find.Task.{Task}
 use Rattle.editor_session.specs.Plans.{needs_no_memory, planned_without_memory, is_free, is_free_request, is_free_from_document, is_free_if_known, is_free_from_kind, is_free_from_view, is_marked_free, is_recorded_by, MarkedMessagesAreFree}
+use Rattle.editor_session.specs.Answers.{AnswersBy}
 use Rattle.editor_session.specs.Tasks.{known_kind, IsFound, IsTask}
 use Rattle.ed_model.specs.FreePlans.{IsFreeDocumentChange, IsFreeViewChange, IsFreeSessionChange, IsFreePlan, IsFreePlanned, MarkedPlansAreFree}
 use Rattle.ed_model.specs.declared.plan.DocumentChange.{DocumentChange}
@@ -98,6 +99,24 @@ plain_answer s view m kind r value f planned unheard =
     ∙ ap (λ b. Ok (r.session, cond b (record (quiet value) { notes = record_note r ∷ [] }) (quiet value))) unheard
     ∙ ap (λ (x : Session). Ok (x, quiet value)) f.session
 
+-- the same with a text
+pub text_handed_out : (s : Session) (view : ℕ) (m : Message) (kind : Kind) (r : Request) (value : ℤ) (start count : ℕ) → IsFound s view m kind r → plan_of kind r ≡ Ok (plan.HandOut value start count)
+    → (r.view.records && (marks_of kind).r) ≡ false → table table_so_far s view m ≡ Ok (s, response value (slice_range (text_of r.document) start (start + count)) [])
+text_handed_out s view m kind r value start count f planned unheard =
+    let reply = response value (slice_range (text_of r.document) start (start + count)) [] in
+    f.answer ∙ ap (answered kind r) planned
+    ∙ ap (λ b. Ok (r.session, cond b (record reply { notes = record_note r ∷ [] }) reply)) unheard
+    ∙ ap (λ (x : Session). Ok (x, reply)) f.session
+
+-- what hands out this reply or is refused memory, where the table says this reply
+pub handed_so : (says : Result (Session × Response) Refusal) (s : Session) (reply : Response) (result : Result Response Refusal) → says ≡ Ok (s, reply) → IfOk result (λ x. x ≡ reply) → IfErr result (λ e. e ≡ OutOfMemory) → AnswersBy says s s result
+handed_so says s reply (Ok x) is ok err = is ∙ ap (λ y. Ok (s, y)) (sym ok)
+handed_so says s reply (Err e) is ok err = (refl, inl err)
+
+pub never_refused : (result : Result Response Refusal) → IsOk result → IfErr result (λ e. e ≢ OutOfMemory)
+never_refused (Ok x) h = tt
+never_refused (Err e) h = absurd (cc)
+
 -- Messages that need no memory.
 
 both_true : (a b : Bool) → (a && b) ≡ true → (a ≡ true) × (b ≡ true)
@@ -108,17 +127,21 @@ not_true : (b : Bool) → not b ≡ true → b ≡ false
 not_true true h = absurd (cc)
 not_true false h = refl
 
-pub free_task : (s : Session) (view : ℕ) (m : Message) (task : Task) (t : IsTask s view m task) → is_free s view m ≡ true → (needs_no_memory t.request task.plan ≡ true) × (task.is_recorded ≡ false)
-free_task s view m task t free =
-    let r = t.request in
-    let f = t.found in
+-- a message that needs no memory, when it is found
+pub free_found : (s : Session) (view : ℕ) (m : Message) (kind : Kind) (r : Request) → IsFound s view m kind r → is_free s view m ≡ true → (planned_without_memory r (plan_of kind r) ≡ true) × ((r.view.records && (marks_of kind).r) ≡ false)
+free_found s view m kind r f free =
     let seen : view_at s.views view ≡ Some r.view = subst (λ (x : Session). view_at x.views view ≡ Some r.view) f.session (ap (view_at r.session.views) (sym f.view_id) ∙ f.sound.view) in
     let there : document_at s.documents r.view.document ≡ Some r.document = subst (λ (x : Session). document_at x.documents r.view.document ≡ Some r.document) f.session f.sound.document in
     let same : request s r.view r.document m ≡ r = ap (λ x. request x r.view r.document m) (sym f.session) ∙ ap (λ x. request r.session r.view r.document x) (sym f.message) in
-    let is : is_free s view m ≡ is_free_request t.kind r =
-    ap (is_free_from_view s m) seen ∙ ap (is_free_from_kind s r.view m) f.decoded ∙ ap (λ b. is_free_if_known b s r.view t.kind m) f.known ∙ ap (is_free_from_document s r.view t.kind m) there ∙ ap (is_free_request t.kind) same in
-    let parts = both_true (planned_without_memory r (plan_of t.kind r)) (not (r.view.records && (marks_of t.kind).r)) (sym is ∙ free) in
-    (subst (λ p. planned_without_memory r p ≡ true) t.planned parts.0, t.recorded ∙ not_true (r.view.records && (marks_of t.kind).r) parts.1)
+    let is : is_free s view m ≡ is_free_request kind r =
+    ap (is_free_from_view s m) seen ∙ ap (is_free_from_kind s r.view m) f.decoded ∙ ap (λ b. is_free_if_known b s r.view kind m) f.known ∙ ap (is_free_from_document s r.view kind m) there ∙ ap (is_free_request kind) same in
+    let parts = both_true (planned_without_memory r (plan_of kind r)) (not (r.view.records && (marks_of kind).r)) (sym is ∙ free) in
+    (parts.0, not_true (r.view.records && (marks_of kind).r) parts.1)
+
+pub free_task : (s : Session) (view : ℕ) (m : Message) (task : Task) (t : IsTask s view m task) → is_free s view m ≡ true → (needs_no_memory t.request task.plan ≡ true) × (task.is_recorded ≡ false)
+free_task s view m task t free =
+    let parts = free_found s view m t.kind t.request t.found free in
+    (subst (λ p. planned_without_memory t.request p ≡ true) t.planned parts.0, t.recorded ∙ parts.1)
 
 free_change : (change : DocumentChange) (h : History) (views : List View) → IsFreeDocumentChange change → (not (needs_room change) && (notes_of_change change h views == 0)) ≡ true
 free_change (document_change.SetReadOnly on) h views f = refl

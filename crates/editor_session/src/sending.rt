@@ -1,8 +1,10 @@
 //! A message on its way through a session: found, planned, and answered at once or carried out.
 
-ghost use Rattle.std.specs.Prelude.{◌≡◌, ◌≢◌, ◌&&◌, true, OnErr, IfOk, IfErr, IsOk, Ok, Err};
+ghost use Rattle.std.specs.Prelude.{◌≡◌, ◌≢◌, ◌&&◌, ◌≤◌, ◌+◌, [], length, slice_range, true, OnErr, IfOk, IfErr, IsOk, Ok, Err};
 ghost use Rattle.ed_types.specs.declared.refusal.Refusal.TheVariants.{OutOfMemory};
 ghost use Rattle.ed_types.specs.Messages.{marks_of};
+ghost use Rattle.ed_model.specs.Performing.{response};
+ghost use Rattle.ed_model.specs.Session.{text_of};
 ghost use Rattle.ed_model.specs.Table.{table};
 ghost use Rattle.message_plans.specs.Requested.{session_in};
 ghost use Rattle.message_plans.specs.TableSoFar.{table_so_far};
@@ -14,6 +16,7 @@ ghost use Rattle.editor_session.specs.Tasks.{IsTask};
 use crate::find::{Task, find};
 use crate::perform::perform;
 use crate::prepare::prepare;
+use document::Document;
 use ed_model::{Plan, plans_are_fit, soundness_is_kept};
 use ed_types::{Bytes, Kind, Refusal, Reply};
 use message_plans::{Request, SessionState, plan_of};
@@ -46,6 +49,34 @@ fn carry_out(
     soundness_is_kept();
     let prepared = prepare(alloc, state, task, text)?;
     Ok(perform(state, task, number, w, l, text, prepared))
+}
+
+/// Hands out the `count` bytes of a document from `start` on, with a value. It takes memory for these bytes alone.
+///
+/// # Errors
+///
+/// `OutOfMemory` where memory is refused.
+#[inline(never)]
+fn hand_out(
+    alloc: Global,
+    document: &Document,
+    value: i64,
+    start: usize,
+    count: usize,
+) -> Result<Reply, Refusal>
+    requires range { start + count ≤ length document.now.document.cells }
+    ensures reply { IfOk result (λ reply. reply ≡ response value (slice_range (text_of document.now.document) start (start + count)) []) }
+    ensures refused { IfErr result (λ refusal. refusal ≡ OutOfMemory) }
+    ensures free { count ≡ 0 → IsOk result }
+{
+    let mut text = Vec::new(alloc);
+    let Ok(()) = text.reserve_exact(count) else {
+        return Err(Refusal::OutOfMemory);
+    };
+    let Ok(()) = document.append_text_to(start, count, &mut text) else {
+        unreachable!()
+    };
+    Ok(Reply::quiet(alloc, value, Bytes::new(text)))
 }
 
 /// Whether the view of a message hears of it, since it records.
@@ -82,11 +113,18 @@ pub(crate) fn answer_message(
         Err(refusal) => return Err(refusal),
     };
     let is_recorded = is_recorded(kind, &request);
-    // A plan is not small: one that is only an answer is read where it stands.
+    // A plan is not small: those of the messages that are sent most are read where they stand.
     let plan = match plan_of(kind, &request) {
         Ok(Plan::Answer { value }) if !is_recorded => {
             return Ok(Reply::quiet(alloc, value, Bytes::empty(alloc)));
         }
+        Ok(
+            Plan::HandOut {
+                value,
+                start,
+                count,
+            },
+        ) if !is_recorded => return hand_out(alloc, request.document, value, start, count),
         Ok(plan) => plan,
         Err(refusal) => return Err(refusal),
     };

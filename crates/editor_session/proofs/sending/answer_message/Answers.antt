@@ -1,14 +1,16 @@
 use Rattle.std.proofs.Common.{rules, ◌≡◌, false, true, Ok, Err, refl, sym, ap, subst, ◌∙◌, to_z, of_z, w64}
-use Rattle.std.specs.Prelude.{◌&&◌}
+use Rattle.std.specs.Prelude.{◌&&◌, ◌+◌, ◌==◌, [], IfOk, IfErr, slice_range}
 use Rattle.ed_types.specs.Messages.{marks_of}
-use Rattle.ed_model.specs.declared.plan.Plan.TheVariants.{Answer}
+use Rattle.ed_model.specs.declared.plan.Plan.TheVariants.{Answer, HandOut}
+use Rattle.ed_model.specs.Performing.{response}
 use Rattle.ed_model.specs.PlansFit.{IsFitPlanned}
+use Rattle.ed_model.specs.Session.{text_of}
 use Rattle.ed_model.specs.Table.{table, plan_of}
 use Rattle.message_plans.specs.Requested.{session_in}
 use Rattle.message_plans.specs.TableSoFar.{table_so_far}
 use Rattle.editor_session.specs.Answers.{message_with}
-use Rattle.editor_session.specs.Plans.{is_free}
-use Rattle.editor_session.proofs.TableWay.{plain_answer, fit_of}
+use Rattle.editor_session.specs.Plans.{is_free, planned_without_memory}
+use Rattle.editor_session.proofs.TableWay.{plain_answer, text_handed_out, handed_so, never_refused, free_found, fit_of}
 use Rattle.editor_session.proofs.sending.answer_message.Goals as goal
 
 pub returns-in-Ok-Answer-clause-answer : goal.returns-in-Ok-Answer-clause-answer
@@ -65,3 +67,43 @@ returns-in-Err-carry_out-clause-free c free =
     let same : message_with a.number (to_z w64 (of_z w64 a.w)) (to_z w64 (of_z w64 a.l)) a.text.now ≡ message_with a.number a.w a.l a.text.now = search rules in
     let bad : false ≡ true = c.in-Err-carry_out.ensures.free (subst (λ x. is_free s a.view x ≡ true) (sym same) free) in
     absurd (cc)
+
+pub returns-in-Ok-HandOut-clause-answer : goal.returns-in-Ok-HandOut-clause-answer
+returns-in-Ok-HandOut-clause-answer c =
+    let a = c.args in
+    let kind = c.in-Ok.found.0 in
+    let r = c.in-Ok.found.1 in
+    let h = c.in-Ok-HandOut in
+    let planned : plan_of kind r ≡ Ok (HandOut h.value h.start h.count) = search rules in
+    let unheard : (r.view.records && (marks_of kind).r) ≡ false = search rules in
+    let same : message_with a.number (to_z w64 (of_z w64 a.w)) (to_z w64 (of_z w64 a.l)) a.text.now ≡ message_with a.number a.w a.l a.text.now = search rules in
+    let is = ap (table table_so_far (session_in a.state.now) a.view) (sym same)
+        ∙ text_handed_out (session_in a.state.now) a.view (message_with a.number (to_z w64 (of_z w64 a.w)) (to_z w64 (of_z w64 a.l)) a.text.now) kind r h.value h.start h.count c.in-Ok.ensures.found planned unheard in
+    let reply : IfOk c.hand_out.result (λ x. x ≡ response h.value (slice_range (text_of r.document) h.start (h.start + h.count)) []) = search rules in
+    handed_so (table table_so_far (session_in a.state.now) a.view (message_with a.number a.w a.l a.text.now)) (session_in a.state.now) (response h.value (slice_range (text_of r.document) h.start (h.start + h.count)) []) c.hand_out.result is reply c.hand_out.ensures.refused
+
+pub returns-in-Ok-HandOut-clause-refused : goal.returns-in-Ok-HandOut-clause-refused
+returns-in-Ok-HandOut-clause-refused c =
+    let a = c.args in
+    let kind = c.in-Ok.found.0 in
+    let r = c.in-Ok.found.1 in
+    let h = c.in-Ok-HandOut in
+    let planned : plan_of kind r ≡ Ok (HandOut h.value h.start h.count) = search rules in
+    let unheard : (r.view.records && (marks_of kind).r) ≡ false = search rules in
+    let same : message_with a.number (to_z w64 (of_z w64 a.w)) (to_z w64 (of_z w64 a.l)) a.text.now ≡ message_with a.number a.w a.l a.text.now = search rules in
+    let is = ap (table table_so_far (session_in a.state.now) a.view) (sym same)
+        ∙ text_handed_out (session_in a.state.now) a.view (message_with a.number (to_z w64 (of_z w64 a.w)) (to_z w64 (of_z w64 a.l)) a.text.now) kind r h.value h.start h.count c.in-Ok.ensures.found planned unheard in
+    subst (λ t. IfErr t (λ refusal. c.hand_out.result ≡ Err refusal)) (sym is) tt
+
+pub returns-in-Ok-HandOut-clause-free : goal.returns-in-Ok-HandOut-clause-free
+returns-in-Ok-HandOut-clause-free c free =
+    let a = c.args in
+    let kind = c.in-Ok.found.0 in
+    let r = c.in-Ok.found.1 in
+    let h = c.in-Ok-HandOut in
+    let planned : plan_of kind r ≡ Ok (HandOut h.value h.start h.count) = search rules in
+    let same : message_with a.number (to_z w64 (of_z w64 a.w)) (to_z w64 (of_z w64 a.l)) a.text.now ≡ message_with a.number a.w a.l a.text.now = search rules in
+    let parts = free_found (session_in a.state.now) a.view (message_with a.number (to_z w64 (of_z w64 a.w)) (to_z w64 (of_z w64 a.l)) a.text.now) kind r c.in-Ok.ensures.found (subst (λ x. is_free (session_in a.state.now) a.view x ≡ true) (sym same) free) in
+    let none : (h.count == 0) ≡ true = subst (λ p. planned_without_memory r p ≡ true) planned parts.0 in
+    let zero : h.count ≡ 0 = search rules in
+    never_refused c.hand_out.result (c.hand_out.ensures.free zero)
