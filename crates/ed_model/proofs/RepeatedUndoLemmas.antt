@@ -1,8 +1,7 @@
 -- Undo and redo, message after message.
-use Rattle.std.proofs.Common.{◌≡◌, ℕ, zero, suc, ◌+◌, ◌<◌, ◌≤◌, Bool, true, false, nat_lt, ◌&&◌, List, [], ◌∷◌, length, refl, ap, ◌∙◌, sym, arith, Option, Some}
+use Rattle.std.proofs.Common.{◌≡◌, ℕ, zero, suc, ◌+◌, ◌<◌, ◌≤◌, true, false, nat_lt, ◌&&◌, List, [], ◌∷◌, length, refl, ap, ◌∙◌, sym, arith, Option, Some}
 use Rattle.std.specs.Prelude.{◌==◌}
 use Rattle.std.proofs.lemmas.Bool.{lt-ltb}
-use Rattle.ed_types.specs.declared.kind.Kind.{Kind}
 use Rattle.ed_types.specs.declared.kind.Kind.TheVariants.{Undo, Redo}
 use Rattle.ed_types.specs.declared.message.Message.{Message}
 use Rattle.ed_model.specs.History.{History, Transaction, seal_first, undone, undone_to, redone, redone_from, can_undo, can_redo}
@@ -69,35 +68,35 @@ redone_there scene d e stands is = record {
 
 -- So messages go with scenes.
 
-undos_there : (known : Kind → Bool) (id : ℕ) (sent : List (ℕ × Message)) (scene : Scene) (s t : Session) → IsThere id scene s → scene.document.history.depth ≡ 0
-    → length sent ≤ length scene.document.history.past → AreAnswered known Undo id sent s t → IsThere id (undos (length sent) scene) t
-undos_there known id [] scene s t there depth enough left = left_there id scene s t there left
-undos_there known id (m ∷ rest) scene s t there depth enough h =
+undos_there : (id : ℕ) (sent : List (ℕ × Message)) (scene : Scene) (s t : Session) → IsThere id scene s → scene.document.history.depth ≡ 0
+    → length sent ≤ length scene.document.history.past → AreAnswered Undo id sent s t → IsThere id (undos (length sent) scene) t
+undos_there id [] scene s t there depth enough left = left_there id scene s t there left
+undos_there id (m ∷ rest) scene s t there depth enough h =
     let between = h.0 in
     let at = left_there id scene s between there h.1 in
     let done = h.2 in
     let is = h.3 in
     let past : 0 < length scene.document.history.past = omega arith in
     let can : can_undo at.0.history ≡ true = rw at.2.history (can_act scene.document.history.depth (length scene.document.history.past) depth past) in
-    let made = undo_undoes known between m.0 m.1 is.view at.0 done is.is_kind is.found (ap (document_at between.documents) is.document ∙ at.1) can at.2.written is.answered in
+    let made = undo_undoes between m.0 m.1 is.view at.0 done is.is_kind is.found (ap (document_at between.documents) is.document ∙ at.1) can at.2.written is.answered in
     let numbers = undone_from scene.document.history scene.document.history.past past in
-    undos_there known id rest (after_undo scene) done.0 t
+    undos_there id rest (after_undo scene) done.0 t
     (made.0, sym (ap (document_at done.0.documents) is.document) ∙ made.1, undone_there scene at.0 made.0 at.2 made.2)
     (numbers.0 ∙ depth) (omega (arith, numbers.1)) h.4
 
-redos_there : (known : Kind → Bool) (id : ℕ) (sent : List (ℕ × Message)) (scene : Scene) (s t : Session) → IsThere id scene s → scene.document.history.depth ≡ 0
-    → length sent ≤ length scene.document.history.future → AreAnswered known Redo id sent s t → IsThere id (redos (length sent) scene) t
-redos_there known id [] scene s t there depth enough left = left_there id scene s t there left
-redos_there known id (m ∷ rest) scene s t there depth enough h =
+redos_there : (id : ℕ) (sent : List (ℕ × Message)) (scene : Scene) (s t : Session) → IsThere id scene s → scene.document.history.depth ≡ 0
+    → length sent ≤ length scene.document.history.future → AreAnswered Redo id sent s t → IsThere id (redos (length sent) scene) t
+redos_there id [] scene s t there depth enough left = left_there id scene s t there left
+redos_there id (m ∷ rest) scene s t there depth enough h =
     let between = h.0 in
     let at = left_there id scene s between there h.1 in
     let done = h.2 in
     let is = h.3 in
     let future : 0 < length scene.document.history.future = omega arith in
     let can : can_redo at.0.history ≡ true = rw at.2.history (can_act scene.document.history.depth (length scene.document.history.future) depth future) in
-    let made = redo_redoes known between m.0 m.1 is.view at.0 done is.is_kind is.found (ap (document_at between.documents) is.document ∙ at.1) can at.2.written is.answered in
+    let made = redo_redoes between m.0 m.1 is.view at.0 done is.is_kind is.found (ap (document_at between.documents) is.document ∙ at.1) can at.2.written is.answered in
     let numbers = redone_to scene.document.history scene.document.history.future future in
-    redos_there known id rest (after_redo scene) done.0 t
+    redos_there id rest (after_redo scene) done.0 t
     (made.0, sym (ap (document_at done.0.documents) is.document) ∙ made.1, redone_there scene at.0 made.0 at.2 made.2)
     (numbers.0 ∙ depth) (omega (arith, numbers.1)) h.4
 
@@ -115,18 +114,18 @@ undos_count k scene enough = let more = go k scene enough in (more.0, omega (ari
         (rest.0 ∙ numbers.0, omega (arith, rest.1, numbers.2))
 
 pub undos_go_back_then_redos_go_on : UndosGoBackThenRedosGoOn
-undos_go_back_then_redos_go_on known s t u id d ms ns sound found written depth enough back same on =
+undos_go_back_then_redos_go_on s t u id d ms ns sound found written depth enough back same on =
     let scene : Scene = record { document = d; views = []; notes = [] } in
     let k : ℕ = length ms in
-    let undone_at = undos_there known id ms scene s t (d, found, record { text = refl; history = refl; written = written }) depth enough back in
+    let undone_at = undos_there id ms scene s t (d, found, record { text = refl; history = refl; written = written }) depth enough back in
     let count = undos_count k scene enough in
-    let redone_at = redos_there known id ns (undos k scene) t u undone_at (count.0 ∙ depth) (omega (arith, count.1)) on in
+    let redone_at = redos_there id ns (undos k scene) t u undone_at (count.0 ∙ depth) (omega (arith, count.1)) on in
     let again = (undone_then_redone_is_the_same s.limits scene k (document_sound s.limits s.documents id d sound.documents found) enough).0 in
     let all : text_of (redos (length ns) (undos k scene)).document ≡ text_of d = ap (λ n. text_of (redos n (undos k scene)).document) same ∙ again in
     ((undone_at.0, undone_at.1, undone_at.2.text ∙ undos_go_back k scene), (redone_at.0, redone_at.1, redone_at.2.text ∙ all))
 
 pub undo_messages_go_back : UndoMessagesGoBack
-undo_messages_go_back known s t id d ms found written depth enough back =
+undo_messages_go_back s t id d ms found written depth enough back =
     let scene : Scene = record { document = d; views = []; notes = [] } in
-    let at = undos_there known id ms scene s t (d, found, record { text = refl; history = refl; written = written }) depth enough back in
+    let at = undos_there id ms scene s t (d, found, record { text = refl; history = refl; written = written }) depth enough back in
     (at.0, at.1, at.2.text ∙ undos_go_back (length ms) scene)

@@ -30,7 +30,7 @@ use Rattle.ed_model.specs.Edits.{steps_of}
 use Rattle.ed_model.specs.UndoPlans.{text_steps}
 use Rattle.ed_model.specs.Performing.{Scene, scene_of, session_of, step_made, steps_made, sealed_scene, edit_made, followed}
 use Rattle.ed_model.specs.Changes.{changed_document, session_changed, with_attached, attached_last, with_new_document, held_more, held_less}
-use Rattle.ed_model.specs.Table.{table, table_from_view, table_from_kind, table_if_known, table_from_document, answered, plan_of, performed, request, opened, closed_view}
+use Rattle.ed_model.specs.Table.{table, table_from_view, table_from_kind, table_from_document, answered, plan_of, performed, request, opened, closed_view}
 use Rattle.ed_model.specs.Run.{Running, after_command, after_opening, after_closing, after_message, loaded, file_at, run_to, starting, set_text_message}
 use Rattle.ed_model.specs.InverseLaws.{after_undo, after_redo}
 use Rattle.ed_model.specs.EarlierTextLaws.{KeepsEarlierTexts, GoesBackAmong}
@@ -300,37 +300,33 @@ from_document_goes_on s v kind m (Some d) h e f =
     let sound_request : IsSoundRequest (request s v d m) = record { sound = h; view = e; document = f } in
     answered_goes_on kind (request s v d m) (plan_of kind (request s v d m)) sound_request (plan_fits kind (request s v d m) sound_request)
 
-if_known_goes_on : (b : Bool) (s : Session) (v : View) (kind : Kind) (m : Message) → IsSound s → view_at s.views v.id ≡ Some v → LetsGoOn (IsShownBy (Some v)) s (table_if_known b s v kind m)
-if_known_goes_on true s v kind m h e = from_document_goes_on s v kind m (document_at s.documents v.document) h e refl
-if_known_goes_on false s v kind m h e = tt
+from_kind_goes_on : (s : Session) (v : View) (m : Message) (o : Option Kind) → IsSound s → view_at s.views v.id ≡ Some v → LetsGoOn (IsShownBy (Some v)) s (table_from_kind s v m o)
+from_kind_goes_on s v m None h e = tt
+from_kind_goes_on s v m (Some kind) h e = from_document_goes_on s v kind m (document_at s.documents v.document) h e refl
 
-from_kind_goes_on : (known : Kind → Bool) (s : Session) (v : View) (m : Message) (o : Option Kind) → IsSound s → view_at s.views v.id ≡ Some v → LetsGoOn (IsShownBy (Some v)) s (table_from_kind known s v m o)
-from_kind_goes_on known s v m None h e = tt
-from_kind_goes_on known s v m (Some kind) h e = if_known_goes_on (known kind) s v kind m h e
+from_view_goes_on : (s : Session) (view : ℕ) (m : Message) (o : Option View) → IsSound s → view_at s.views view ≡ o → LetsGoOn (IsShownBy o) s (table_from_view s m o)
+from_view_goes_on s view m None h e = tt
+from_view_goes_on s view m (Some v) h e =
+    from_kind_goes_on s v m (kind_of m.number) h (ap (view_at s.views) (view_id s.views view v e) ∙ e)
 
-from_view_goes_on : (known : Kind → Bool) (s : Session) (view : ℕ) (m : Message) (o : Option View) → IsSound s → view_at s.views view ≡ o → LetsGoOn (IsShownBy o) s (table_from_view known s m o)
-from_view_goes_on known s view m None h e = tt
-from_view_goes_on known s view m (Some v) h e =
-    from_kind_goes_on known s v m (kind_of m.number) h (ap (view_at s.views) (view_id s.views view v e) ∙ e)
-
-table_goes_on : (known : Kind → Bool) (s : Session) (view : ℕ) (m : Message) → IsSound s → LetsGoOn (IsShownBy (view_at s.views view)) s (table known s view m)
-table_goes_on known s view m h = from_view_goes_on known s view m (view_at s.views view) h refl
+table_goes_on : (s : Session) (view : ℕ) (m : Message) → IsSound s → LetsGoOn (IsShownBy (view_at s.views view)) s (table s view m)
+table_goes_on s view m h = from_view_goes_on s view m (view_at s.views view) h refl
 
 all_go_on : (Own : ℕ → Type 0) (s t : Session) → ListsGoOn Own s.documents t.documents → DocumentsGoOn s t
 all_go_on Own s t h id d e = goes_on Own (document_at s.documents id) d (h id d e)
 
 pub messages_let_documents_go_on : MessagesLetDocumentsGoOn
-messages_let_documents_go_on known s view m done h e =
-    all_go_on (IsShownBy (view_at s.views view)) s done.0 (subst (LetsGoOn (IsShownBy (view_at s.views view)) s) e (table_goes_on known s view m h))
+messages_let_documents_go_on s view m done h e =
+    all_go_on (IsShownBy (view_at s.views view)) s done.0 (subst (LetsGoOn (IsShownBy (view_at s.views view)) s) e (table_goes_on s view m h))
 
 others_left_alone : (Own : ℕ → Type 0) (s t : Session) → ListsGoOn Own s.documents t.documents → LeavesOthersAlone Own s t
 others_left_alone Own s t h id d e other found still =
     left_alone Own (document_at s.documents id) d e (subst (λ n. Own n → ⊥) (sym (document_id t.documents id e still)) other) found (h id e still)
 
 pub messages_leave_other_documents_alone : MessagesLeaveOtherDocumentsAlone
-messages_leave_other_documents_alone known s view m v done h seen e =
+messages_leave_other_documents_alone s view m v done h seen e =
     others_left_alone (IsShownBy (Some v)) s done.0
-    (subst (λ (o : Option View). ListsGoOn (IsShownBy o) s.documents done.0.documents) seen (subst (LetsGoOn (IsShownBy (view_at s.views view)) s) e (table_goes_on known s view m h)))
+    (subst (λ (o : Option View). ListsGoOn (IsShownBy o) s.documents done.0.documents) seen (subst (LetsGoOn (IsShownBy (view_at s.views view)) s) e (table_goes_on s view m h)))
 
 -- Commands.
 
@@ -366,20 +362,20 @@ closing_leaves_documents_alone s t view h e =
     others_left_alone Nobodys s t
     (subst (λ (o : Result Session Refusal). ListsGoOn Nobodys s.documents (after_closing s o).0.session.documents) e (closing_goes_on s (view_at s.views view) h))
 
-loaded_goes_on : (known : Kind → Bool) (s : Session) (view : ℕ) (v : Option View) (file : Option (List ℕ)) → IsSound s → LetsGoOn (IsShownBy (view_at s.views view)) s (loaded known s view v file)
-loaded_goes_on known s view None file h = tt
-loaded_goes_on known s view (Some v) None h = tt
-loaded_goes_on known s view (Some v) (Some bytes) h = table_goes_on known s view (set_text_message bytes) h
+loaded_goes_on : (s : Session) (view : ℕ) (v : Option View) (file : Option (List ℕ)) → IsSound s → LetsGoOn (IsShownBy (view_at s.views view)) s (loaded s view v file)
+loaded_goes_on s view None file h = tt
+loaded_goes_on s view (Some v) None h = tt
+loaded_goes_on s view (Some v) (Some bytes) h = table_goes_on s view (set_text_message bytes) h
 
 pub commands_let_documents_go_on : CommandsLetDocumentsGoOn
-commands_let_documents_go_on known files OpenView s h = all_go_on Nobodys s.session (after_opening s.session (opened s.session)).0.session (opening_goes_on s.session)
-commands_let_documents_go_on known files (CloseView view) s h = all_go_on Nobodys s.session (after_closing s.session (closed_view s.session (view_at s.session.views view))).0.session (closing_goes_on s.session (view_at s.session.views view) h)
-commands_let_documents_go_on known files (LoadFile view file) s h =
-    message_goes_on (IsShownBy (view_at s.session.views view)) s.session (loaded known s.session view (view_at s.session.views view) (file_at files file))
-    (loaded_goes_on known s.session view (view_at s.session.views view) (file_at files file) h)
-commands_let_documents_go_on known files (SendMessage view message) s h =
-    message_goes_on (IsShownBy (view_at s.session.views view)) s.session (table known s.session view message) (table_goes_on known s.session view message h)
-commands_let_documents_go_on known files (Expect value) s h = all_go_on Nobodys s.session s.session (lists_go_on_same Nobodys s.session.documents)
+commands_let_documents_go_on files OpenView s h = all_go_on Nobodys s.session (after_opening s.session (opened s.session)).0.session (opening_goes_on s.session)
+commands_let_documents_go_on files (CloseView view) s h = all_go_on Nobodys s.session (after_closing s.session (closed_view s.session (view_at s.session.views view))).0.session (closing_goes_on s.session (view_at s.session.views view) h)
+commands_let_documents_go_on files (LoadFile view file) s h =
+    message_goes_on (IsShownBy (view_at s.session.views view)) s.session (loaded s.session view (view_at s.session.views view) (file_at files file))
+    (loaded_goes_on s.session view (view_at s.session.views view) (file_at files file) h)
+commands_let_documents_go_on files (SendMessage view message) s h =
+    message_goes_on (IsShownBy (view_at s.session.views view)) s.session (table s.session view message) (table_goes_on s.session view message h)
+commands_let_documents_go_on files (Expect value) s h = all_go_on Nobodys s.session s.session (lists_go_on_same Nobodys s.session.documents)
 
 -- Runs.
 
@@ -398,17 +394,17 @@ goes_back_next s t earlier back on id d e =
     go None found g = goes_back_at_first d (states_of id (s ∷ earlier)) g
     go (Some old) found g = goes_back_afterwards old d (states_of id (s ∷ earlier)) (back id old found) g
 
-pub goes_back_in_run : (known : Kind → Bool) (files : List (List ℕ)) (cs : List Command) (s : Running) (earlier : List Session) → IsSound s.session → GoesBackIn s.session (s.session ∷ earlier) →
-    GoesBackIn (run_to known files cs s).session (sessions_of known files cs s earlier)
-goes_back_in_run known files [] s earlier h back = back
-goes_back_in_run known files (c ∷ cs) s earlier h back =
-    let t = (after_command known files c s).0 in
-    goes_back_in_run known files cs t (s.session ∷ earlier) (command_sound known files c s h)
-    (goes_back_next s.session t.session earlier back (commands_let_documents_go_on known files c s h))
+pub goes_back_in_run : (files : List (List ℕ)) (cs : List Command) (s : Running) (earlier : List Session) → IsSound s.session → GoesBackIn s.session (s.session ∷ earlier) →
+    GoesBackIn (run_to files cs s).session (sessions_of files cs s earlier)
+goes_back_in_run files [] s earlier h back = back
+goes_back_in_run files (c ∷ cs) s earlier h back =
+    let t = (after_command files c s).0 in
+    goes_back_in_run files cs t (s.session ∷ earlier) (command_sound files c s h)
+    (goes_back_next s.session t.session earlier back (commands_let_documents_go_on files c s h))
 
 none_at_first : (limits : Limits) → GoesBackIn (new_session limits) (new_session limits ∷ [])
 none_at_first limits id d e = cc
 
 pub undo_goes_back_in_every_run : UndoGoesBackInEveryRun
-undo_goes_back_in_every_run known files commands limits id d e =
-    goes_back_in_run known files commands (starting (new_session limits)) [] (new_session_sound limits) (none_at_first limits) id d e
+undo_goes_back_in_every_run files commands limits id d e =
+    goes_back_in_run files commands (starting (new_session limits)) [] (new_session_sound limits) (none_at_first limits) id d e

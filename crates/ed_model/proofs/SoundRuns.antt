@@ -1,5 +1,5 @@
 -- What a plan does, a message, a command and a run keep a session sound.
-use Rattle.std.proofs.Common.{◌≡◌, ℕ, ◌+◌, ◌≤◌, Bool, true, false, List, [], ◌∷◌, length, reverse, refl, ap, sym, ◌∙◌, subst}
+use Rattle.std.proofs.Common.{◌≡◌, ℕ, ◌+◌, ◌≤◌, false, List, [], ◌∷◌, length, reverse, refl, ap, sym, ◌∙◌, subst}
 use Rattle.std.specs.Prelude.{ℤ, Option, Some, None, Result, Ok, Err, IfOk, nat_lt}
 use Rattle.std.specs.List.{last_or}
 use Rattle.std.proofs.lemmas.List.{map-id}
@@ -31,7 +31,7 @@ use Rattle.ed_model.specs.UndoPlans.{text_steps}
 use Rattle.ed_model.specs.FoldingPlans.{levels}
 use Rattle.ed_model.specs.Performing.{Scene, scene_of, session_of, edit_made, edit_performed, followed, with_caret, with_target, transaction_performed, changes_performed, with_history, history_performed, caret_behind, place_behind}
 use Rattle.ed_model.specs.Changes.{changed_document, changed_lines, document_change_performed, changed_view, view_change_performed, session_changed}
-use Rattle.ed_model.specs.Table.{plan_of, answered, request, table_from_document, table_if_known, table_from_kind, table_from_view}
+use Rattle.ed_model.specs.Table.{plan_of, answered, request, table_from_document, table_from_kind, table_from_view}
 use Rattle.ed_model.specs.Run.{starting, after_opening, after_closing, after_message, loaded, file_at, set_text_message, after_command}
 use Rattle.ed_model.specs.SoundLaws.{AreStepsOf, FitsText, IsSound, StandsOn, NewSessionIsSound, MessageKeepsSound, OpeningKeepsSound, ClosingKeepsSound, CommandKeepsSound, IsSoundInEveryStateFrom, IsSoundInEveryState}
 use Rattle.ed_model.specs.PlansFit.{IsSoundRequest, IsFitFollow, IsFitDocumentChange, IsFitViewChange, IsFitPlan, IsFitPlanned, IsRoomFor, EditStepsFit, UndoStepsFit, RedoStepsFit, PlansKeepSound}
@@ -221,21 +221,17 @@ from_document_sound s v kind m (Some d) h e f =
     let sound : IsSoundRequest (request s v d m) = record { sound = h; view = e; document = f } in
     answered_sound kind (request s v d m) (plan_of kind (request s v d m)) sound (plan_fits kind (request s v d m) sound)
 
-if_known_sound : (b : Bool) (s : Session) (v : View) (kind : Kind) (m : Message) → IsSound s → view_at s.views v.id ≡ Some v → IfOk (table_if_known b s v kind m) IsSoundDone
-if_known_sound true s v kind m h e = from_document_sound s v kind m (document_at s.documents v.document) h e refl
-if_known_sound false s v kind m h e = tt
+from_kind_sound : (s : Session) (v : View) (m : Message) (o : Option Kind) → IsSound s → view_at s.views v.id ≡ Some v → IfOk (table_from_kind s v m o) IsSoundDone
+from_kind_sound s v m None h e = tt
+from_kind_sound s v m (Some kind) h e = from_document_sound s v kind m (document_at s.documents v.document) h e refl
 
-from_kind_sound : (known : Kind → Bool) (s : Session) (v : View) (m : Message) (o : Option Kind) → IsSound s → view_at s.views v.id ≡ Some v → IfOk (table_from_kind known s v m o) IsSoundDone
-from_kind_sound known s v m None h e = tt
-from_kind_sound known s v m (Some kind) h e = if_known_sound (known kind) s v kind m h e
-
-from_view_sound : (known : Kind → Bool) (s : Session) (view : ℕ) (m : Message) (o : Option View) → IsSound s → view_at s.views view ≡ o → IfOk (table_from_view known s m o) IsSoundDone
-from_view_sound known s view m None h e = tt
-from_view_sound known s view m (Some v) h e =
-    from_kind_sound known s v m (kind_of m.number) h (ap (view_at s.views) (view_id s.views view v e) ∙ e)
+from_view_sound : (s : Session) (view : ℕ) (m : Message) (o : Option View) → IsSound s → view_at s.views view ≡ o → IfOk (table_from_view s m o) IsSoundDone
+from_view_sound s view m None h e = tt
+from_view_sound s view m (Some v) h e =
+    from_kind_sound s v m (kind_of m.number) h (ap (view_at s.views) (view_id s.views view v e) ∙ e)
 
 pub table_sound : MessageKeepsSound
-table_sound known s view m h = from_view_sound known s view m (view_at s.views view) h refl
+table_sound s view m h = from_view_sound s view m (view_at s.views view) h refl
 
 pub opening_sound : OpeningKeepsSound
 opening_sound s h = opened_sound s h
@@ -257,25 +253,25 @@ after_closing_sound : (s : Session) (o : Result Session Refusal) → IsSound s �
 after_closing_sound s (Ok new) h k = k
 after_closing_sound s (Err refusal) h k = h
 
-loaded_sound : (known : Kind → Bool) (s : Session) (view : ℕ) (v : Option View) (file : Option (List ℕ)) → IsSound s → IfOk (loaded known s view v file) IsSoundDone
-loaded_sound known s view None file h = tt
-loaded_sound known s view (Some v) None h = tt
-loaded_sound known s view (Some v) (Some bytes) h = table_sound known s view (set_text_message bytes) h
+loaded_sound : (s : Session) (view : ℕ) (v : Option View) (file : Option (List ℕ)) → IsSound s → IfOk (loaded s view v file) IsSoundDone
+loaded_sound s view None file h = tt
+loaded_sound s view (Some v) None h = tt
+loaded_sound s view (Some v) (Some bytes) h = table_sound s view (set_text_message bytes) h
 
 pub command_sound : CommandKeepsSound
-command_sound known files OpenView s h = after_opening_sound s.session _ h (opened_sound s.session h)
-command_sound known files (CloseView view) s h = after_closing_sound s.session _ h (closed_sound s.session view h)
-command_sound known files (LoadFile view file) s h =
-    after_message_sound s.session _ h (loaded_sound known s.session view (view_at s.session.views view) (file_at files file) h)
-command_sound known files (SendMessage view message) s h = after_message_sound s.session _ h (table_sound known s.session view message h)
-command_sound known files (Expect value) s h = h
+command_sound files OpenView s h = after_opening_sound s.session _ h (opened_sound s.session h)
+command_sound files (CloseView view) s h = after_closing_sound s.session _ h (closed_sound s.session view h)
+command_sound files (LoadFile view file) s h =
+    after_message_sound s.session _ h (loaded_sound s.session view (view_at s.session.views view) (file_at files file) h)
+command_sound files (SendMessage view message) s h = after_message_sound s.session _ h (table_sound s.session view message h)
+command_sound files (Expect value) s h = h
 
 pub run_sound : IsSoundInEveryStateFrom
-run_sound known files [] s h = h
-run_sound known files (c ∷ cs) s h = run_sound known files cs (after_command known files c s).0 (command_sound known files c s h)
+run_sound files [] s h = h
+run_sound files (c ∷ cs) s h = run_sound files cs (after_command files c s).0 (command_sound files c s h)
 
 pub new_session_sound : NewSessionIsSound
 new_session_sound limits = record { document_ids = tt; view_ids = tt; documents = tt; views = tt; lists = tt }
 
 pub sound_in_every_state : IsSoundInEveryState
-sound_in_every_state known files commands limits = run_sound known files commands (starting (new_session limits)) (new_session_sound limits)
+sound_in_every_state files commands limits = run_sound files commands (starting (new_session limits)) (new_session_sound limits)

@@ -10,7 +10,7 @@ use Rattle.ed_types.specs.Notices.{Notice, Response}
 use Rattle.ed_types.specs.Messages.{kind_of, marks_of}
 use Rattle.ed_model.specs.Session.{Session, View, Document, view_at, document_at}
 use Rattle.ed_model.specs.Requests.{Request, Planned}
-use Rattle.ed_model.specs.Table.{table, table_from_view, table_from_kind, table_if_known, table_from_document, answered, record_note, performed, plan_of, request, opened, closed}
+use Rattle.ed_model.specs.Table.{table, table_from_view, table_from_kind, table_from_document, answered, record_note, performed, plan_of, request, opened, closed}
 use Rattle.ed_model.specs.Run.{Running, after_command, after_opening, after_closing, after_message, run_to, loaded, file_at}
 use Rattle.ed_model.specs.TableLaws.{Answered, LeavesSession, HasNoText, HasNotes, recording, QueriesLeaveTheSession, FreeMessagesHandOutNoText, FreeMessagesHaveNoNote, RecordedFreeMessagesHaveOneNote, RefusedCommandsLeaveTheSession, is_refused, kept_unless, unrefused, RefusedCommandsCanBeLeftOut}
 use Rattle.ed_model.specs.FreePlans.{IsFreePlanned}
@@ -23,7 +23,7 @@ same_document : (v w : View) (d c : Document) (ds : List Document) → w ≡ v �
 same_document v w d c ds same e f = cc
 
 -- What every refusal but TooLong has, and the answer of the kind to each document, the table has.
-module _ (P : Answered → Type 0) (refused : (e : Refusal) → (e ≡ TooLong → ⊥) → P (Err e)) (known : Kind → Bool) (s : Session) (m : Message) (kind : Kind) where
+module _ (P : Answered → Type 0) (refused : (e : Refusal) → (e ≡ TooLong → ⊥) → P (Err e)) (s : Session) (m : Message) (kind : Kind) where
   -- the answer of the kind at a view and a document has it
   abbrev HasAt : View → Document → Type 0
   HasAt v d = P (answered kind (request s v d m) (plan_of kind (request s v d m)))
@@ -32,26 +32,22 @@ module _ (P : Answered → Type 0) (refused : (e : Refusal) → (e ≡ TooLong �
   from_document v None h = refused _ (λ e. cc)
   from_document v (Some d) h = h d refl
 
-  if_known : (b : Bool) (v : View) → ((d : Document) → document_at s.documents v.document ≡ Some d → HasAt v d) → P (table_if_known b s v kind m)
-  if_known true v h = from_document v (document_at s.documents v.document) h
-  if_known false v h = refused _ (λ e. cc)
-
-  from_kind : (v : View) (k : Option Kind) → k ≡ Some kind → ((d : Document) → document_at s.documents v.document ≡ Some d → HasAt v d) → P (table_from_kind known s v m k)
-  from_kind v k e h = rw e (if_known (known kind) v h)
+  from_kind : (v : View) (k : Option Kind) → k ≡ Some kind → ((d : Document) → document_at s.documents v.document ≡ Some d → HasAt v d) → P (table_from_kind s v m k)
+  from_kind v k e h = rw e (from_document v (document_at s.documents v.document) h)
 
   from_view : (o : Option View) → kind_of m.number ≡ Some kind → ((v : View) (d : Document) → o ≡ Some v → document_at s.documents v.document ≡ Some d → HasAt v d)
-      → P (table_from_view known s m o)
+      → P (table_from_view s m o)
   from_view None e h = refused _ (λ e. cc)
   from_view (Some v) e h = from_kind v (kind_of m.number) e (λ d. h v d refl)
 
   -- the fact of a message, over every view that may send it and its document
   pub of_table : (view : ℕ) → kind_of m.number ≡ Some kind
-      → ((v : View) (d : Document) → view_at s.views view ≡ Some v → document_at s.documents v.document ≡ Some d → HasAt v d) → P (table known s view m)
+      → ((v : View) (d : Document) → view_at s.views view ≡ Some v → document_at s.documents v.document ≡ Some d → HasAt v d) → P (table s view m)
   of_table view e h = from_view (view_at s.views view) e h
 
   -- and at one view and one document
   pub at_table : (view : ℕ) (v : View) (d : Document) → kind_of m.number ≡ Some kind → view_at s.views view ≡ Some v → document_at s.documents v.document ≡ Some d
-      → HasAt v d → P (table known s view m)
+      → HasAt v d → P (table s view m)
   at_table view v d k e f h =
       of_table view k (λ w c seen found. rw (same_view v w _ e seen, same_document v w d c s.documents (same_view v w _ e seen) f found) h)
 
@@ -60,8 +56,8 @@ quiet_answer kind r (Err e) h = tt
 quiet_answer kind r (Ok p) h = quiet_plan_leaves r p h
 
 pub queries_leave_the_session : QueriesLeaveTheSession
-queries_leave_the_session known s view m kind e q =
-    of_table (LeavesSession s) (λ refusal other. tt) known s m kind view e
+queries_leave_the_session s view m kind e q =
+    of_table (LeavesSession s) (λ refusal other. tt) s m kind view e
     (λ v d seen found. quiet_answer kind (request s v d m) _ (query_is_quiet kind (request s v d m) q))
 
 -- recording adds no text
@@ -75,8 +71,8 @@ free_answer_has_no_text kind r (Ok p) h =
     text_if_recorded (r.view.records && (marks_of kind).r) (record_note r) (performed r p).1 ∙ free_plan_has_no_text r p h
 
 pub free_messages_hand_out_no_text : FreeMessagesHandOutNoText
-free_messages_hand_out_no_text known s view m kind e n =
-    of_table HasNoText (λ refusal other. tt) known s m kind view e
+free_messages_hand_out_no_text s view m kind e n =
+    of_table HasNoText (λ refusal other. tt) s m kind view e
     (λ v d seen found. free_answer_has_no_text kind (request s v d m) _ (message_without_memory_is_free kind (request s v d m) n))
 
 notes_if_unrecorded : (b : Bool) (note : Notice) (reply : Response) → b ≡ false → (cond b (record reply { notes = note ∷ reply.notes }) reply).notes ≡ reply.notes
@@ -93,8 +89,8 @@ free_answer_has_no_note kind r (Ok p) h b =
     notes_if_unrecorded (r.view.records && (marks_of kind).r) (record_note r) (performed r p).1 b ∙ free_plan_has_no_note r p h
 
 pub free_messages_have_no_note : FreeMessagesHaveNoNote
-free_messages_have_no_note known s view m kind v e n sees b =
-    of_table (HasNotes []) (λ refusal other. tt) known s m kind view e
+free_messages_have_no_note s view m kind v e n sees b =
+    of_table (HasNotes []) (λ refusal other. tt) s m kind view e
     (λ w d seen found. free_answer_has_no_note kind (request s w d m) _ (message_without_memory_is_free kind (request s w d m) n)
     (rw (same_view v w _ sees seen) b))
 
@@ -104,8 +100,8 @@ free_answer_has_one_note kind r (Ok p) h b =
     notes_if_recorded (r.view.records && (marks_of kind).r) (record_note r) (performed r p).1 b ∙ ap (λ notes. record_note r ∷ notes) (free_plan_has_no_note r p h)
 
 pub recorded_free_messages_have_one_note : RecordedFreeMessagesHaveOneNote
-recorded_free_messages_have_one_note known s view m kind v e n sees b =
-    of_table (HasNotes (recording v m ∷ [])) (λ refusal other. tt) known s m kind view e
+recorded_free_messages_have_one_note s view m kind v e n sees b =
+    of_table (HasNotes (recording v m ∷ [])) (λ refusal other. tt) s m kind view e
     (λ w d seen found. rw (same_view v w _ sees seen) (free_answer_has_one_note kind (request s v d m) _ (message_without_memory_is_free kind (request s v d m) n) b))
 
 -- Runs.
@@ -123,37 +119,37 @@ message_refused s (Ok done) e = cc
 message_refused s (Err refusal) e = refl
 
 -- a refused command leaves the session
-pub refused_leaves : (known : Kind → Bool) (files : List (List ℕ)) (c : Command) (s : Running) → is_refused (after_command known files c s).1 ≡ true → (after_command known files c s).0.session ≡ s.session
-refused_leaves known files OpenView s e = opening_refused s.session (opened s.session) e
-refused_leaves known files (CloseView view) s e = closing_refused s.session (closed s.session view) e
-refused_leaves known files (LoadFile view file) s e = message_refused s.session (loaded known s.session view (view_at s.session.views view) (file_at files file)) e
-refused_leaves known files (SendMessage view message) s e = message_refused s.session (table known s.session view message) e
-refused_leaves known files (Expect value) s e = refl
+pub refused_leaves : (files : List (List ℕ)) (c : Command) (s : Running) → is_refused (after_command files c s).1 ≡ true → (after_command files c s).0.session ≡ s.session
+refused_leaves files OpenView s e = opening_refused s.session (opened s.session) e
+refused_leaves files (CloseView view) s e = closing_refused s.session (closed s.session view) e
+refused_leaves files (LoadFile view file) s e = message_refused s.session (loaded s.session view (view_at s.session.views view) (file_at files file)) e
+refused_leaves files (SendMessage view message) s e = message_refused s.session (table s.session view message) e
+refused_leaves files (Expect value) s e = refl
 
 pub refused_commands_leave_the_session : RefusedCommandsLeaveTheSession
-refused_commands_leave_the_session known files c s refusal e = refused_leaves known files c s (ap is_refused e)
+refused_commands_leave_the_session files c s refusal e = refused_leaves files c s (ap is_refused e)
 
 -- the session after a command hangs on the session before it alone
-pub same_session_after : (known : Kind → Bool) (files : List (List ℕ)) (c : Command) (s t : Running) → s.session ≡ t.session → (after_command known files c s).0.session ≡ (after_command known files c t).0.session
-same_session_after known files OpenView s t e = ap (λ (x : Session). (after_opening x (opened x)).0.session) e
-same_session_after known files (CloseView view) s t e = ap (λ (x : Session). (after_closing x (closed x view)).0.session) e
-same_session_after known files (LoadFile view file) s t e = ap (λ (x : Session). (after_message x (loaded known x view (view_at x.views view) (file_at files file))).0.session) e
-same_session_after known files (SendMessage view message) s t e = ap (λ (x : Session). (after_message x (table known x view message)).0.session) e
-same_session_after known files (Expect value) s t e = e
+pub same_session_after : (files : List (List ℕ)) (c : Command) (s t : Running) → s.session ≡ t.session → (after_command files c s).0.session ≡ (after_command files c t).0.session
+same_session_after files OpenView s t e = ap (λ (x : Session). (after_opening x (opened x)).0.session) e
+same_session_after files (CloseView view) s t e = ap (λ (x : Session). (after_closing x (closed x view)).0.session) e
+same_session_after files (LoadFile view file) s t e = ap (λ (x : Session). (after_message x (loaded x view (view_at x.views view) (file_at files file))).0.session) e
+same_session_after files (SendMessage view message) s t e = ap (λ (x : Session). (after_message x (table x view message)).0.session) e
+same_session_after files (Expect value) s t e = e
 
-pub same_session_after_run : (known : Kind → Bool) (files : List (List ℕ)) (cs : List Command) (s t : Running) → s.session ≡ t.session → (run_to known files cs s).session ≡ (run_to known files cs t).session
-same_session_after_run known files [] s t e = e
-same_session_after_run known files (c ∷ cs) s t e =
-    same_session_after_run known files cs (after_command known files c s).0 (after_command known files c t).0 (same_session_after known files c s t e)
+pub same_session_after_run : (files : List (List ℕ)) (cs : List Command) (s t : Running) → s.session ≡ t.session → (run_to files cs s).session ≡ (run_to files cs t).session
+same_session_after_run files [] s t e = e
+same_session_after_run files (c ∷ cs) s t e =
+    same_session_after_run files cs (after_command files c s).0 (after_command files c t).0 (same_session_after files c s t e)
 
-left_out : (known : Kind → Bool) (files : List (List ℕ)) (c : Command) (kept : List Command) (s : Running) (b : Bool) →
-    (b ≡ true → (after_command known files c s).0.session ≡ s.session) →
-    (run_to known files (kept_unless b c kept) s).session ≡ (run_to known files kept (after_command known files c s).0).session
-left_out known files c kept s true h = same_session_after_run known files kept s (after_command known files c s).0 (sym (h refl))
-left_out known files c kept s false h = refl
+left_out : (files : List (List ℕ)) (c : Command) (kept : List Command) (s : Running) (b : Bool) →
+    (b ≡ true → (after_command files c s).0.session ≡ s.session) →
+    (run_to files (kept_unless b c kept) s).session ≡ (run_to files kept (after_command files c s).0).session
+left_out files c kept s true h = same_session_after_run files kept s (after_command files c s).0 (sym (h refl))
+left_out files c kept s false h = refl
 
 pub refused_commands_can_be_left_out : RefusedCommandsCanBeLeftOut
-refused_commands_can_be_left_out known files [] s = refl
-refused_commands_can_be_left_out known files (c ∷ cs) s =
-    left_out known files c (unrefused known files cs (after_command known files c s).0) s (is_refused (after_command known files c s).1) (refused_leaves known files c s)
-    ∙ refused_commands_can_be_left_out known files cs (after_command known files c s).0
+refused_commands_can_be_left_out files [] s = refl
+refused_commands_can_be_left_out files (c ∷ cs) s =
+    left_out files c (unrefused files cs (after_command files c s).0) s (is_refused (after_command files c s).1) (refused_leaves files c s)
+    ∙ refused_commands_can_be_left_out files cs (after_command files c s).0

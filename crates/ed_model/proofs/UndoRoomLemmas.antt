@@ -57,15 +57,15 @@ sound_request : (s : Session) (view : ℕ) (v : View) (d : Document) → IsSound
 sound_request s view v d h seen found m = record { sound = h; view = ap (view_at s.views) (view_id s.views view v seen) ∙ seen; document = found }
 
 pub undo_is_never_too_long : UndoIsNeverTooLong
-undo_is_never_too_long known s view m h is =
-    of_table IsNotTooLong (λ refusal other e. other (let same : refusal ≡ TooLong = cc in same)) known s m Undo view is
+undo_is_never_too_long s view m h is =
+    of_table IsNotTooLong (λ refusal other e. other (let same : refusal ≡ TooLong = cc in same)) s m Undo view is
     (λ v d seen found. let r = request s v d m in
     acts_in_room Undo r plan.Undo (can_undo d.history) d.read_only (stays_within (limit_of s.limits d) (size r) (text_steps (undo_changes d.history)))
     (undo_has_room r (sound_request s view v d h seen found m)))
 
 pub redo_is_never_too_long : RedoIsNeverTooLong
-redo_is_never_too_long known s view m h is =
-    of_table IsNotTooLong (λ refusal other e. other (let same : refusal ≡ TooLong = cc in same)) known s m Redo view is
+redo_is_never_too_long s view m h is =
+    of_table IsNotTooLong (λ refusal other e. other (let same : refusal ≡ TooLong = cc in same)) s m Redo view is
     (λ v d seen found. let r = request s v d m in
     acts_in_room Redo r plan.Redo (can_redo d.history) d.read_only (stays_within (limit_of s.limits d) (size r) (text_steps (redo_changes d.history)))
     (redo_has_room r (sound_request s view v d h seen found m)))

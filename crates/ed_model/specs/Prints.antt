@@ -1,5 +1,5 @@
 -- What a script prints, by the definitions alone: it is read, run from a new session, and its outcomes are printed.
-use Rattle.std.specs.Prelude.{◌≡◌, ℕ, true, List, [], ◌∷◌, ◌++◌, flat_map, Result, Ok, Err}
+use Rattle.std.specs.Prelude.{◌≡◌, ℕ, List, [], ◌∷◌, ◌++◌, flat_map, Result, Ok, Err}
 use Rattle.ed_types.specs.declared.script.Command.{Command}
 use Rattle.ed_types.specs.declared.script.ScriptFault.{ScriptFault}
 use Rattle.ed_model.specs.Session.{new_session, greatest_limits}
@@ -12,7 +12,7 @@ abbrev pub joined_lines : List (List ℕ) → List ℕ
 joined_lines texts = flat_map (λ (text : List ℕ). text ++ 10 ∷ []) texts
 
 abbrev pub printed_script : List (List ℕ) → Result (List Command) ScriptFault → List ℕ
-printed_script files (Ok commands) = printed (outcomes (λ kind. true) files commands (starting (new_session greatest_limits)))
+printed_script files (Ok commands) = printed (outcomes files commands (starting (new_session greatest_limits)))
 printed_script files (Err fault) = []
 
 -- the script, given these files, prints the output

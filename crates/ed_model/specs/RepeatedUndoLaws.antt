@@ -1,5 +1,5 @@
 -- Undo and redo, message after message, with other commands between that leave the document alone.
-use Rattle.std.specs.Prelude.{◌≡◌, ℕ, ◌≤◌, Bool, false, List, [], ◌∷◌, length, Some, Ok}
+use Rattle.std.specs.Prelude.{◌≡◌, ℕ, ◌≤◌, false, List, [], ◌∷◌, length, Some, Ok}
 use Rattle.ed_types.specs.declared.kind.Kind.{Kind}
 use Rattle.ed_types.specs.declared.kind.Kind.TheVariants.{Undo, Redo}
 use Rattle.ed_types.specs.declared.message.Message.{Message}
@@ -32,8 +32,8 @@ LeavesOthersAlone Own s t =
 -- a message to a sound session leaves all documents alone but that of its view
 abbrev pub MessagesLeaveOtherDocumentsAlone : Type 0
 MessagesLeaveOtherDocumentsAlone =
-    (known : Kind → Bool) (s : Session) (view : ℕ) (m : Message) (v : View) (done : Session × Response) →
-    IsSound s → view_at s.views view ≡ Some v → table known s view m ≡ Ok done → LeavesOthersAlone (λ id. id ≡ v.document) s done.0
+    (s : Session) (view : ℕ) (m : Message) (v : View) (done : Session × Response) →
+    IsSound s → view_at s.views view ≡ Some v → table s view m ≡ Ok done → LeavesOthersAlone (λ id. id ≡ v.document) s done.0
 
 -- and views that come and go leave all of them alone
 abbrev pub OpeningLeavesDocumentsAlone : Type 0
@@ -43,18 +43,18 @@ abbrev pub ClosingLeavesDocumentsAlone : Type 0
 ClosingLeavesDocumentsAlone = (s t : Session) (view : ℕ) → IsSound s → closed s view ≡ Ok t → LeavesOthersAlone (λ id. ⊥) s t
 
 -- a message of this kind to a view of the document is answered
-pub record IsAnswered (known : Kind → Bool) (kind : Kind) (id : ℕ) (sent : ℕ × Message) (s : Session) (done : Session × Response) : Type 0 where
+pub record IsAnswered (kind : Kind) (id : ℕ) (sent : ℕ × Message) (s : Session) (done : Session × Response) : Type 0 where
   pub is_kind : kind_of sent.1.number ≡ Some kind
   pub view : View
   pub found : view_at s.views sent.0 ≡ Some view
   pub document : view.document ≡ id
-  pub answered : table known s sent.0 sent.1 ≡ Ok done
+  pub answered : table s sent.0 sent.1 ≡ Ok done
 
 -- so is each of these in turn; before each, and behind the last, other commands may come that leave the document alone
-abbrev pub AreAnswered : (Kind → Bool) → Kind → ℕ → List (ℕ × Message) → Session → Session → Type 0
-AreAnswered known kind id [] s t = LeavesAlone id s t
-AreAnswered known kind id (sent ∷ rest) s t =
-    (between : Session) × LeavesAlone id s between × (done : Session × Response) × IsAnswered known kind id sent between done × AreAnswered known kind id rest done.0 t
+abbrev pub AreAnswered : Kind → ℕ → List (ℕ × Message) → Session → Session → Type 0
+AreAnswered kind id [] s t = LeavesAlone id s t
+AreAnswered kind id (sent ∷ rest) s t =
+    (between : Session) × LeavesAlone id s between × (done : Session × Response) × IsAnswered kind id sent between done × AreAnswered kind id rest done.0 t
 
 -- the document of this id has this text
 abbrev pub HasText : ℕ → Session → List ℕ → Type 0
@@ -64,14 +64,14 @@ HasText id s text = (d : Document) × (document_at s.documents id ≡ Some d) ×
 -- go back to the text before so many of them, and as many REDO messages go on to the text that it was.
 abbrev pub UndosGoBackThenRedosGoOn : Type 0
 UndosGoBackThenRedosGoOn =
-    (known : Kind → Bool) (s t u : Session) (id : ℕ) (d : Document) (undos redos : List (ℕ × Message)) →
+    (s t u : Session) (id : ℕ) (d : Document) (undos redos : List (ℕ × Message)) →
     IsSound s → document_at s.documents id ≡ Some d → d.read_only ≡ false → d.history.depth ≡ 0 → length undos ≤ length d.history.past →
-    AreAnswered known Undo id undos s t → length redos ≡ length undos → AreAnswered known Redo id redos t u →
+    AreAnswered Undo id undos s t → length redos ≡ length undos → AreAnswered Redo id redos t u →
     HasText id t (undone_text (length undos) d.history.past (text_of d)) × HasText id u (text_of d)
 
 -- and already the UNDO messages alone go back so
 abbrev pub UndoMessagesGoBack : Type 0
 UndoMessagesGoBack =
-    (known : Kind → Bool) (s t : Session) (id : ℕ) (d : Document) (undos : List (ℕ × Message)) →
+    (s t : Session) (id : ℕ) (d : Document) (undos : List (ℕ × Message)) →
     document_at s.documents id ≡ Some d → d.read_only ≡ false → d.history.depth ≡ 0 → length undos ≤ length d.history.past →
-    AreAnswered known Undo id undos s t → HasText id t (undone_text (length undos) d.history.past (text_of d))
+    AreAnswered Undo id undos s t → HasText id t (undone_text (length undos) d.history.past (text_of d))

@@ -1,6 +1,5 @@
 -- Runs: a list of commands, from a session. [own]
 use Rattle.std.specs.Prelude.{ℕ, zero, suc, Bool, true, false, ℤ, pos, List, [], ◌∷◌, slice_get, Result, Ok, Err, Option, Some, None}
-use Rattle.ed_types.specs.declared.kind.Kind.{Kind}
 use Rattle.ed_types.specs.declared.message.Message.{Message}
 use Rattle.ed_types.specs.declared.refusal.Refusal.{Refusal}
 use Rattle.ed_types.specs.declared.refusal.Refusal.TheVariants.{NoSuchView, BadArgument}
@@ -44,33 +43,33 @@ abbrev pub set_text_message : List ℕ → Message
 set_text_message bytes = record { number = number_of SetText; w = pos 0; l = pos 0; text = bytes }
 
 -- a file loaded into a view is its text set; no such view is found before no such file
-abbrev pub loaded : (Kind → Bool) → Session → ℕ → Option View → Option (List ℕ) → Result (Session × Response) Refusal
-loaded known s view None file = Err NoSuchView
-loaded known s view (Some v) None = Err BadArgument
-loaded known s view (Some v) (Some bytes) = table known s view (set_text_message bytes)
+abbrev pub loaded : Session → ℕ → Option View → Option (List ℕ) → Result (Session × Response) Refusal
+loaded s view None file = Err NoSuchView
+loaded s view (Some v) None = Err BadArgument
+loaded s view (Some v) (Some bytes) = table s view (set_text_message bytes)
 
 abbrev pub is_met : Option ℤ → ℤ → Bool
 is_met None value = false
 is_met (Some v) value = is_same v value
 
 -- one command: the state afterwards and what came of it
-abbrev pub after_command : (Kind → Bool) → List (List ℕ) → Command → Running → Running × Outcome
-after_command known files OpenView s = after_opening s.session (opened s.session)
-after_command known files (CloseView view) s = after_closing s.session (closed s.session view)
-after_command known files (LoadFile view file) s =
-    after_message s.session (loaded known s.session view (view_at s.session.views view) (file_at files file))
-after_command known files (SendMessage view message) s = after_message s.session (table known s.session view message)
-after_command known files (Expect value) s = (s, Expected (is_met s.value value) value)
+abbrev pub after_command : List (List ℕ) → Command → Running → Running × Outcome
+after_command files OpenView s = after_opening s.session (opened s.session)
+after_command files (CloseView view) s = after_closing s.session (closed s.session view)
+after_command files (LoadFile view file) s =
+    after_message s.session (loaded s.session view (view_at s.session.views view) (file_at files file))
+after_command files (SendMessage view message) s = after_message s.session (table s.session view message)
+after_command files (Expect value) s = (s, Expected (is_met s.value value) value)
 
 -- what comes of the commands, in order
-abbrev pub outcomes : (Kind → Bool) → List (List ℕ) → List Command → Running → List Outcome
-outcomes known files [] s = []
-outcomes known files (c ∷ cs) s = let done = after_command known files c s in done.1 ∷ outcomes known files cs done.0
+abbrev pub outcomes : List (List ℕ) → List Command → Running → List Outcome
+outcomes files [] s = []
+outcomes files (c ∷ cs) s = let done = after_command files c s in done.1 ∷ outcomes files cs done.0
 
 -- the state after them
-abbrev pub run_to : (Kind → Bool) → List (List ℕ) → List Command → Running → Running
-run_to known files [] s = s
-run_to known files (c ∷ cs) s = run_to known files cs (after_command known files c s).0
+abbrev pub run_to : List (List ℕ) → List Command → Running → Running
+run_to files [] s = s
+run_to files (c ∷ cs) s = run_to files cs (after_command files c s).0
 
 abbrev pub is_unmet : Outcome → Bool
 is_unmet (Expected true value) = false

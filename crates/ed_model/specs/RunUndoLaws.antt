@@ -1,6 +1,5 @@
 -- Undo over whole runs: in every state, undo goes back to texts of earlier states of the run.
-use Rattle.std.specs.Prelude.{◌≡◌, ℕ, Bool, List, [], ◌∷◌, filter_map, Option, Some, None, Ok}
-use Rattle.ed_types.specs.declared.kind.Kind.{Kind}
+use Rattle.std.specs.Prelude.{◌≡◌, ℕ, List, [], ◌∷◌, filter_map, Option, Some, None, Ok}
 use Rattle.ed_types.specs.declared.limits.Limits.{Limits}
 use Rattle.ed_types.specs.declared.message.Message.{Message}
 use Rattle.ed_types.specs.declared.script.Command.{Command}
@@ -23,18 +22,18 @@ DocumentsGoOn s t = (id : ℕ) (d : Document) → document_at t.documents id ≡
 -- a message to a sound session lets its documents go on
 abbrev pub MessagesLetDocumentsGoOn : Type 0
 MessagesLetDocumentsGoOn =
-    (known : Kind → Bool) (s : Session) (view : ℕ) (m : Message) (done : Session × Response) →
-    IsSound s → table known s view m ≡ Ok done → DocumentsGoOn s done.0
+    (s : Session) (view : ℕ) (m : Message) (done : Session × Response) →
+    IsSound s → table s view m ≡ Ok done → DocumentsGoOn s done.0
 
 -- and so does every command
 abbrev pub CommandsLetDocumentsGoOn : Type 0
 CommandsLetDocumentsGoOn =
-    (known : Kind → Bool) (files : List (List ℕ)) (c : Command) (s : Running) → IsSound s.session → DocumentsGoOn s.session (after_command known files c s).0.session
+    (files : List (List ℕ)) (c : Command) (s : Running) → IsSound s.session → DocumentsGoOn s.session (after_command files c s).0.session
 
 -- the sessions of a run, the latest first, from those before it on
-abbrev pub sessions_of : (Kind → Bool) → List (List ℕ) → List Command → Running → List Session → List Session
-sessions_of known files [] s earlier = s.session ∷ earlier
-sessions_of known files (c ∷ cs) s earlier = sessions_of known files cs (after_command known files c s).0 (s.session ∷ earlier)
+abbrev pub sessions_of : List (List ℕ) → List Command → Running → List Session → List Session
+sessions_of files [] s earlier = s.session ∷ earlier
+sessions_of files (c ∷ cs) s earlier = sessions_of files cs (after_command files c s).0 (s.session ∷ earlier)
 
 -- the states of a document in these sessions
 abbrev pub states_of : ℕ → List Session → List Document
@@ -44,6 +43,6 @@ states_of id sessions = filter_map (λ (s : Session). document_at s.documents id
 -- document's past had k transactions fewer
 abbrev pub UndoGoesBackInEveryRun : Type 0
 UndoGoesBackInEveryRun =
-    (known : Kind → Bool) (files : List (List ℕ)) (commands : List Command) (limits : Limits) (id : ℕ) (d : Document) →
-    document_at (run_to known files commands (starting (new_session limits))).session.documents id ≡ Some d →
-    GoesBackAmong d (states_of id (sessions_of known files commands (starting (new_session limits)) []))
+    (files : List (List ℕ)) (commands : List Command) (limits : Limits) (id : ℕ) (d : Document) →
+    document_at (run_to files commands (starting (new_session limits))).session.documents id ≡ Some d →
+    GoesBackAmong d (states_of id (sessions_of files commands (starting (new_session limits)) []))

@@ -1,9 +1,8 @@
 -- Sound sessions: what holds of every session that a run reaches.
-use Rattle.std.specs.Prelude.{ℕ, ◌+◌, ◌==◌, ◌≡◌, ◌≤◌, ◌<◌, Bool, true, false, List, [], ◌∷◌, length, map, filter, flat_map, reverse, slice_index, All, Some, IfOk}
+use Rattle.std.specs.Prelude.{ℕ, ◌+◌, ◌==◌, ◌≡◌, ◌≤◌, ◌<◌, true, false, List, [], ◌∷◌, length, map, filter, flat_map, reverse, slice_index, All, Some, IfOk}
 use Rattle.std.specs.List.{AllByRecursion}
 use Rattle.std.specs.List.Sorted.{IsStrictlyIncreasing}
 use Rattle.ed_types.specs.declared.limits.Limits.{Limits}
-use Rattle.ed_types.specs.declared.kind.Kind.{Kind}
 use Rattle.ed_types.specs.declared.message.Message.{Message}
 use Rattle.ed_types.specs.declared.script.Command.{Command}
 use Rattle.ed_types.specs.Notices.{Response}
@@ -136,7 +135,7 @@ NewSessionIsSound = (limits : Limits) → IsSound (new_session limits)
 
 -- a message that is no refusal leaves a sound session sound
 abbrev pub MessageKeepsSound : Type 0
-MessageKeepsSound = (known : Kind → Bool) (s : Session) (view : ℕ) (m : Message) → IsSound s → IfOk (table known s view m) (λ (done : Session × Response). IsSound done.0)
+MessageKeepsSound = (s : Session) (view : ℕ) (m : Message) → IsSound s → IfOk (table s view m) (λ (done : Session × Response). IsSound done.0)
 
 abbrev pub OpeningKeepsSound : Type 0
 OpeningKeepsSound = (s : Session) → IsSound s → IfOk (opened s) (λ (done : Session × ℕ). IsSound done.0)
@@ -145,15 +144,15 @@ abbrev pub ClosingKeepsSound : Type 0
 ClosingKeepsSound = (s : Session) (view : ℕ) → IsSound s → IfOk (closed s view) IsSound
 
 abbrev pub CommandKeepsSound : Type 0
-CommandKeepsSound = (known : Kind → Bool) (files : List (List ℕ)) (c : Command) (s : Running) → IsSound s.session → IsSound (after_command known files c s).0.session
+CommandKeepsSound = (files : List (List ℕ)) (c : Command) (s : Running) → IsSound s.session → IsSound (after_command files c s).0.session
 
 -- the session is sound in every state that a run reaches from a sound one
 abbrev pub IsSoundInEveryStateFrom : Type 0
-IsSoundInEveryStateFrom = (known : Kind → Bool) (files : List (List ℕ)) (commands : List Command) (s : Running) → IsSound s.session → IsSound (run_to known files commands s).session
+IsSoundInEveryStateFrom = (files : List (List ℕ)) (commands : List Command) (s : Running) → IsSound s.session → IsSound (run_to files commands s).session
 
 -- the session is sound in every state that a run reaches, from a new session with any limits
 abbrev pub IsSoundInEveryState : Type 0
-IsSoundInEveryState = (known : Kind → Bool) (files : List (List ℕ)) (commands : List Command) (limits : Limits) → IsSound (run_to known files commands (starting (new_session limits))).session
+IsSoundInEveryState = (files : List (List ℕ)) (commands : List Command) (limits : Limits) → IsSound (run_to files commands (starting (new_session limits))).session
 
 -- in a sound document as many transactions as there are can be undone, each in its turn
 abbrev pub ThePastCanBeUndone : Type 0

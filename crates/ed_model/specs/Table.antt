@@ -3,7 +3,7 @@
 -- The way of a message: `table` finds the view, the message's kind and the view's document (`Session`, `Messages`), which make a `Request` (`Requests`); `plan_of` gives its
 -- plan or the first refusal that holds, by the family of the message (`TextPlans` to `SessionPlans`, with `Edits` for what edits the text); `performed` does the plan: steps with their
 -- notes, undo and redo in `Performing` (over `Steps`, `Carry`, `Rows`, `Indicators`, `History`, `Notes`), all other changes in `Changes` (with `Folding`). A run of messages is in `Run`.
-use Rattle.std.specs.Prelude.{ℕ, ◌+◌, nat_lt, nat_le, ◌==◌, not, ◌||◌, ◌&&◌, if◌then◌else◌, Bool, true, false, pos, [], ◌∷◌, ◌++◌, length, map, filter, slice_range, Result, Ok, Err, Option, Some, None}
+use Rattle.std.specs.Prelude.{ℕ, ◌+◌, nat_lt, nat_le, ◌==◌, not, ◌||◌, ◌&&◌, if◌then◌else◌, pos, [], ◌∷◌, ◌++◌, length, map, filter, slice_range, Result, Ok, Err, Option, Some, None}
 use Rattle.ed_types.specs.declared.kind.Kind.{Kind}
 use Rattle.ed_types.specs.declared.kind.Kind.TheVariants as kinds
 use Rattle.ed_types.specs.declared.message.Message.{Message}
@@ -208,7 +208,7 @@ abbrev pub answered : Kind → Request → Planned → Result (Session × Respon
 answered kind r (Err refusal) = Err refusal
 answered kind r (Ok what) = let done = performed r what in Ok (done.0, with_recording kind r done.1)
 
--- The table. `known` says which messages there are.
+-- The table.
 
 abbrev pub request : Session → View → Document → Message → Request
 request s v d m = record { session = s; view = v; document = d; message = m }
@@ -217,21 +217,17 @@ abbrev pub table_from_document : Session → View → Kind → Message → Optio
 table_from_document s v kind m None = Err NoSuchDocument
 table_from_document s v kind m (Some d) = answered kind (request s v d m) (plan_of kind (request s v d m))
 
-abbrev pub table_if_known : Bool → Session → View → Kind → Message → Result (Session × Response) Refusal
-table_if_known true s v kind m = table_from_document s v kind m (document_at s.documents v.document)
-table_if_known false s v kind m = Err UnknownMessage
+abbrev pub table_from_kind : Session → View → Message → Option Kind → Result (Session × Response) Refusal
+table_from_kind s v m None = Err UnknownMessage
+table_from_kind s v m (Some kind) = table_from_document s v kind m (document_at s.documents v.document)
 
-abbrev pub table_from_kind : (Kind → Bool) → Session → View → Message → Option Kind → Result (Session × Response) Refusal
-table_from_kind known s v m None = Err UnknownMessage
-table_from_kind known s v m (Some kind) = table_if_known (known kind) s v kind m
-
-abbrev pub table_from_view : (Kind → Bool) → Session → Message → Option View → Result (Session × Response) Refusal
-table_from_view known s m None = Err NoSuchView
-table_from_view known s m (Some v) = table_from_kind known s v m (kind_of m.number)
+abbrev pub table_from_view : Session → Message → Option View → Result (Session × Response) Refusal
+table_from_view s m None = Err NoSuchView
+table_from_view s m (Some v) = table_from_kind s v m (kind_of m.number)
 
 -- a message to a view: the session afterwards and the reply, or the first refusal that holds, which leaves the session
-abbrev pub table : (Kind → Bool) → Session → ℕ → Message → Result (Session × Response) Refusal
-table known s view m = table_from_view known s m (view_at s.views view)
+abbrev pub table : Session → ℕ → Message → Result (Session × Response) Refusal
+table s view m = table_from_view s m (view_at s.views view)
 
 -- a session with these limits, if they are allowed
 abbrev pub limited : Limits → Result Session Refusal

@@ -38,41 +38,41 @@ abbrev pub recording : View → Message → Notice
 recording v m =
     let n = notes.blank notes.macro_record in record n { view = v.id; message = m.number; w = m.w; l = m.l; text = m.text }
 
--- The laws, for every message, session and view, and whichever messages are known.
+-- The laws, for every message, session and view.
 
 -- a message marked as a query leaves the session
 abbrev pub QueriesLeaveTheSession : Type 0
 QueriesLeaveTheSession =
-    (known : Kind → Bool) (s : Session) (view : ℕ) (m : Message) (kind : Kind) →
-    kind_of m.number ≡ Some kind → (marks_of kind).q ≡ true → LeavesSession s (table known s view m)
+    (s : Session) (view : ℕ) (m : Message) (kind : Kind) →
+    kind_of m.number ≡ Some kind → (marks_of kind).q ≡ true → LeavesSession s (table s view m)
 
 -- a message that takes no memory hands out no text
 abbrev pub FreeMessagesHandOutNoText : Type 0
 FreeMessagesHandOutNoText =
-    (known : Kind → Bool) (s : Session) (view : ℕ) (m : Message) (kind : Kind) →
-    kind_of m.number ≡ Some kind → (marks_of kind).n ≡ true → HasNoText (table known s view m)
+    (s : Session) (view : ℕ) (m : Message) (kind : Kind) →
+    kind_of m.number ≡ Some kind → (marks_of kind).n ≡ true → HasNoText (table s view m)
 
 -- unless it is recorded, a message that takes no memory has no note
 abbrev pub FreeMessagesHaveNoNote : Type 0
 FreeMessagesHaveNoNote =
-    (known : Kind → Bool) (s : Session) (view : ℕ) (m : Message) (kind : Kind) (v : View) →
+    (s : Session) (view : ℕ) (m : Message) (kind : Kind) (v : View) →
     kind_of m.number ≡ Some kind → (marks_of kind).n ≡ true → view_at s.views view ≡ Some v →
-    (v.records && (marks_of kind).r) ≡ false → HasNotes [] (table known s view m)
+    (v.records && (marks_of kind).r) ≡ false → HasNotes [] (table s view m)
 
 -- and if it is recorded, it has that note alone
 abbrev pub RecordedFreeMessagesHaveOneNote : Type 0
 RecordedFreeMessagesHaveOneNote =
-    (known : Kind → Bool) (s : Session) (view : ℕ) (m : Message) (kind : Kind) (v : View) →
+    (s : Session) (view : ℕ) (m : Message) (kind : Kind) (v : View) →
     kind_of m.number ≡ Some kind → (marks_of kind).n ≡ true → view_at s.views view ≡ Some v →
-    (v.records && (marks_of kind).r) ≡ true → HasNotes (recording v m ∷ []) (table known s view m)
+    (v.records && (marks_of kind).r) ≡ true → HasNotes (recording v m ∷ []) (table s view m)
 
 -- Runs.
 
 -- a command that is refused leaves the session
 abbrev pub RefusedCommandsLeaveTheSession : Type 0
 RefusedCommandsLeaveTheSession =
-    (known : Kind → Bool) (files : List (List ℕ)) (c : Command) (s : Running) (refusal : Refusal) →
-    (after_command known files c s).1 ≡ Refused refusal → (after_command known files c s).0.session ≡ s.session
+    (files : List (List ℕ)) (c : Command) (s : Running) (refusal : Refusal) →
+    (after_command files c s).1 ≡ Refused refusal → (after_command files c s).0.session ≡ s.session
 
 abbrev pub is_refused : Outcome → Bool
 is_refused (Opened view) = false
@@ -86,13 +86,13 @@ kept_unless true c cs = cs
 kept_unless false c cs = c ∷ cs
 
 -- the commands of a run that are not refused
-abbrev pub unrefused : (Kind → Bool) → List (List ℕ) → List Command → Running → List Command
-unrefused known files [] s = []
-unrefused known files (c ∷ cs) s =
-    let done = after_command known files c s in kept_unless (is_refused done.1) c (unrefused known files cs done.0)
+abbrev pub unrefused : List (List ℕ) → List Command → Running → List Command
+unrefused files [] s = []
+unrefused files (c ∷ cs) s =
+    let done = after_command files c s in kept_unless (is_refused done.1) c (unrefused files cs done.0)
 
 -- a run without its refused commands ends in the same session
 abbrev pub RefusedCommandsCanBeLeftOut : Type 0
 RefusedCommandsCanBeLeftOut =
-    (known : Kind → Bool) (files : List (List ℕ)) (cs : List Command) (s : Running) →
-    (run_to known files (unrefused known files cs s) s).session ≡ (run_to known files cs s).session
+    (files : List (List ℕ)) (cs : List Command) (s : Running) →
+    (run_to files (unrefused files cs s) s).session ≡ (run_to files cs s).session

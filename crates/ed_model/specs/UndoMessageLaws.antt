@@ -1,5 +1,5 @@
 -- The messages UNDO and REDO: what becomes of the document.
-use Rattle.std.specs.Prelude.{◌≡◌, ℕ, suc, Bool, true, false, Some, Ok, Err}
+use Rattle.std.specs.Prelude.{◌≡◌, ℕ, suc, true, false, Some, Ok, Err}
 use Rattle.ed_types.specs.declared.kind.Kind.{Kind}
 use Rattle.ed_types.specs.declared.kind.Kind.TheVariants.{Undo, Redo}
 use Rattle.ed_types.specs.declared.message.Message.{Message}
@@ -27,23 +27,23 @@ pub record IsRedone (d e : Document) : Type 0 where
 -- UNDO, if it is answered and there is something to undo in a document that can be written, undoes the last transaction
 abbrev pub UndoUndoes : Type 0
 UndoUndoes =
-    (known : Kind → Bool) (s : Session) (view : ℕ) (m : Message) (v : View) (d : Document) (done : Session × Response) →
+    (s : Session) (view : ℕ) (m : Message) (v : View) (d : Document) (done : Session × Response) →
     kind_of m.number ≡ Some Undo → view_at s.views view ≡ Some v → document_at s.documents v.document ≡ Some d →
-    can_undo d.history ≡ true → d.read_only ≡ false → table known s view m ≡ Ok done →
+    can_undo d.history ≡ true → d.read_only ≡ false → table s view m ≡ Ok done →
     (e : Document) × (document_at done.0.documents v.document ≡ Some e) × IsUndone d e
 
 -- and REDO redoes the next one
 abbrev pub RedoRedoes : Type 0
 RedoRedoes =
-    (known : Kind → Bool) (s : Session) (view : ℕ) (m : Message) (v : View) (d : Document) (done : Session × Response) →
+    (s : Session) (view : ℕ) (m : Message) (v : View) (d : Document) (done : Session × Response) →
     kind_of m.number ≡ Some Redo → view_at s.views view ≡ Some v → document_at s.documents v.document ≡ Some d →
-    can_redo d.history ≡ true → d.read_only ≡ false → table known s view m ≡ Ok done →
+    can_redo d.history ≡ true → d.read_only ≡ false → table s view m ≡ Ok done →
     (e : Document) × (document_at done.0.documents v.document ≡ Some e) × IsRedone d e
 
 -- in a sound session no message of this kind is refused as too long
 abbrev pub IsNeverTooLong : Kind → Type 0
 IsNeverTooLong kind =
-    (known : Kind → Bool) (s : Session) (view : ℕ) (m : Message) → IsSound s → kind_of m.number ≡ Some kind → table known s view m ≡ Err TooLong → ⊥
+    (s : Session) (view : ℕ) (m : Message) → IsSound s → kind_of m.number ≡ Some kind → table s view m ≡ Err TooLong → ⊥
 
 -- since undo and redo go through texts that were there before
 abbrev pub UndoIsNeverTooLong : Type 0

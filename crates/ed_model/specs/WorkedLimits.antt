@@ -1,5 +1,5 @@
 -- Worked examples of the limits of a session: what messages answer, or why they are refused.
-use Rattle.std.specs.Prelude.{◌≡◌, ℕ, ℤ, pos, List, [], ◌∷◌, map, true, codes, Result, Ok, Err}
+use Rattle.std.specs.Prelude.{◌≡◌, ℕ, ℤ, pos, List, [], ◌∷◌, map, codes, Result, Ok, Err}
 use Rattle.ed_types.specs.declared.kind.Kind.{Kind}
 use Rattle.ed_types.specs.declared.kind.Kind.TheVariants.{InsertText, DeleteRange, SetText, AppendText, MarkerAdd, MarkerAddSet, BeginUndoAction, CreateDocument, AddRefDocument, SetDocPointer, ConvertEols, GetLength}
 use Rattle.ed_types.specs.declared.limits.Limits.{Limits}
@@ -24,7 +24,7 @@ said (Expected met value) = Ok value
 
 -- what is said to each of these commands, in a new session of one view
 abbrev pub said_within : Limits → List Command → List (Result ℤ Refusal)
-said_within limits commands = map said (outcomes (λ kind. true) [] (OpenView ∷ commands) (starting (new_session limits)))
+said_within limits commands = map said (outcomes [] (OpenView ∷ commands) (starting (new_session limits)))
 
 -- a message to a view, and to the first
 abbrev pub send_to : ℕ → Kind → ℤ → ℤ → List ℕ → Command

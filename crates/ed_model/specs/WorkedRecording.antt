@@ -1,5 +1,5 @@
 -- What a view records, worked.
-use Rattle.std.specs.Prelude.{◌≡◌, true, pos, List, [], ◌∷◌, codes, Result, Ok, Err}
+use Rattle.std.specs.Prelude.{◌≡◌, pos, List, [], ◌∷◌, codes, Result, Ok, Err}
 use Rattle.ed_types.specs.declared.message.Message.{Message}
 use Rattle.ed_types.specs.declared.script.Command.{Command}
 use Rattle.ed_types.specs.declared.script.ScriptFault.{ScriptFault}
@@ -11,7 +11,7 @@ use Rattle.ed_model.specs.Recording.{recorded_messages, replies_in}
 
 -- what view 1 records while the script runs
 abbrev pub recorded_in : Result (List Command) ScriptFault → List Message
-recorded_in (Ok commands) = recorded_messages 1 (replies_in (outcomes (λ kind. true) [] commands (starting (new_session greatest_limits))))
+recorded_in (Ok commands) = recorded_messages 1 (replies_in (outcomes [] commands (starting (new_session greatest_limits))))
 recorded_in (Err fault) = []
 
 -- STARTRECORD, ADDTEXT, GETLENGTH, CHARLEFT, DELETEBACK, STOPRECORD and ADDTEXT again: the first text, the key and the deletion are recorded

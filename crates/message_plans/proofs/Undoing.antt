@@ -1,7 +1,6 @@
 -- UNDO and REDO of a sound request are never too long, so that their plans read no text.
 use Rattle.std.proofs.Common.{◌≡◌, ℕ, Bool, true, false, cond, [], refl, ap, ◌∙◌, pos}
 use Rattle.std.specs.Prelude.{not, Ok, Err, List}
-use Rattle.ed_types.specs.declared.kind.Kind.{Kind}
 use Rattle.ed_types.specs.declared.kind.Kind.TheVariants.{Undo, Redo}
 use Rattle.ed_types.specs.declared.message.Message.{Message}
 use Rattle.ed_types.specs.declared.refusal.Refusal.TheVariants.{TooLong}
@@ -41,23 +40,21 @@ fits r changes = stays_within (limit_of r.session.limits r.document) (size r) (t
 pub undo_planned : UndoIsNeverTooLong → (r : Request) → IsSoundRequest r → act_if (can_undo r.document.history) r.document.read_only plan.Undo ≡ undo r
 undo_planned law r sound =
     let h = r.document.history in
-    let known = λ (kind : Kind). true in
     let m = message 2176 in
     let q = request r.session r.view r.document m in
     acted (can_undo h) r.document.read_only (fits r (undo_changes h)) plan.Undo (λ can writable long.
-    law known r.session r.view.id m sound.sound refl
-    (ap (table_from_view known r.session m) sound.view
+    law r.session r.view.id m sound.sound refl
+    (ap (table_from_view r.session m) sound.view
     ∙ ap (table_from_document r.session r.view Undo m) sound.document
     ∙ ap (answered Undo q) (too_long (can_undo h) r.document.read_only (fits r (undo_changes h)) plan.Undo can writable long)))
 
 pub redo_planned : RedoIsNeverTooLong → (r : Request) → IsSoundRequest r → act_if (can_redo r.document.history) r.document.read_only plan.Redo ≡ redo r
 redo_planned law r sound =
     let h = r.document.history in
-    let known = λ (kind : Kind). true in
     let m = message 2011 in
     let q = request r.session r.view r.document m in
     acted (can_redo h) r.document.read_only (fits r (redo_changes h)) plan.Redo (λ can writable long.
-    law known r.session r.view.id m sound.sound refl
-    (ap (table_from_view known r.session m) sound.view
+    law r.session r.view.id m sound.sound refl
+    (ap (table_from_view r.session m) sound.view
     ∙ ap (table_from_document r.session r.view Redo m) sound.document
     ∙ ap (answered Redo q) (too_long (can_redo h) r.document.read_only (fits r (redo_changes h)) plan.Redo can writable long)))

@@ -2,4 +2,3 @@
 pub mod Acting
 pub mod Replacing
 pub mod Requested
-pub mod TableSoFar

@@ -264,15 +264,15 @@ module _ (Goes : Document → Document → Type 0) (same : (d : Document) → Go
   answered_from kind r (Ok what) h fit goes = performed_from r what h (goes what fit refl)
 
   -- the request of a message to a sound session
-  abbrev pub Sent : (Kind → Bool) → Session → ℕ → Message → Kind → Request → Plan → Type 0
-  Sent known s view m kind r p = IsSoundRequest r × (r.session ≡ s) × (view_at s.views view ≡ Some r.view) × (r.message ≡ m) × (kind_of m.number ≡ Some kind) × (plan_of kind r ≡ Ok p) × IsFitPlan r p
+  abbrev pub Sent : Session → ℕ → Message → Kind → Request → Plan → Type 0
+  Sent s view m kind r p = IsSoundRequest r × (r.session ≡ s) × (view_at s.views view ≡ Some r.view) × (r.message ≡ m) × (kind_of m.number ≡ Some kind) × (plan_of kind r ≡ Ok p) × IsFitPlan r p
 
   -- a message to a sound session lets all documents go on, if its plan lets its own
-  pub table_from : PlansFit → (known : Kind → Bool) (s : Session) (view : ℕ) (m : Message) → IsSound s
-      → ((kind : Kind) (r : Request) (p : Plan) → Sent known s view m kind r p → Goes r.document (own_after r p)) → AnsweredFrom s (table known s view m)
-  table_from fits known s view m sound goes =
-      of_table (AnsweredFrom s) tt tt tt known s m view
-      (λ v sees kind is knows d finds.
+  pub table_from : PlansFit → (s : Session) (view : ℕ) (m : Message) → IsSound s
+      → ((kind : Kind) (r : Request) (p : Plan) → Sent s view m kind r p → Goes r.document (own_after r p)) → AnsweredFrom s (table s view m)
+  table_from fits s view m sound goes =
+      of_table (AnsweredFrom s) tt tt tt s m view
+      (λ v sees kind is d finds.
       let r = request s v d m in
       let h : IsSoundRequest r = record { sound = sound; view = ap (view_at s.views) (view_id s.views view v sees) ∙ sees; document = finds } in
       answered_from kind r (plan_of kind r) h (fits kind r h) (λ what fit e. goes kind r what (h, refl, sees, refl, is, e, fit)))

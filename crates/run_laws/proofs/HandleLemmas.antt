@@ -34,11 +34,11 @@ changed_gone changes next id handle bytes change d h own =
     (omega (arith, was.0, rises), omega (arith, was.1, fewer))
 
 pub handles_never_come_back : PlansFit → CommandKeepsSound → StepsGiveNoHandle → ChangesGiveNoOldHandle → NextHandlesNeverFall → HandlesNeverComeBack
-handles_never_come_back fits keeps steps changes next known files commands s id handle d e sound found gone still =
+handles_never_come_back fits keeps steps changes next files commands s id handle d e sound found gone still =
     let below = found_below 0 s.session.next_document s.session.documents id d sound.document_ids found in
     run_holds (GoneFrom id handle) (id + 1) (λ x le made own. absurd (let above : id + 1 ≤ x.id = le in omega arith)) (λ x views held_by_callers h own. h own)
     (stepped_gone steps id handle) (λ h x was. was) (changed_gone changes next id handle)
-    fits keeps known files commands s sound (omega arith)
+    fits keeps files commands s sound (omega arith)
     (λ k x f own.
     let at : k ≡ id = sym (document_id s.session.documents k x f) ∙ own in
     let there : document_at s.session.documents id ≡ Some x = sym (ap (document_at s.session.documents) at) ∙ f in

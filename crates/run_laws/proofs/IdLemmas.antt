@@ -52,8 +52,8 @@ GoOn s t = AllFrom Any (λ d. tt) (λ d e views held_by_callers h. tt) s.next_do
 go_on_same : (s : Session) → GoOn s s
 go_on_same s = all_same Any (λ d. tt) (λ d e views held_by_callers h. tt) s.next_document s.documents
 
-message_goes_on : PlansFit → (known : Kind → Bool) (s : Session) (view : ℕ) (m : Message) → IsSound s → AnsweredFrom Any (λ d. tt) (λ d e views held_by_callers h. tt) s (table known s view m)
-message_goes_on fits known s view m sound = table_from Any (λ d. tt) (λ d e views held_by_callers h. tt) fits known s view m sound (λ kind r p sent. tt)
+message_goes_on : PlansFit → (s : Session) (view : ℕ) (m : Message) → IsSound s → AnsweredFrom Any (λ d. tt) (λ d e views held_by_callers h. tt) s (table s view m)
+message_goes_on fits s view m sound = table_from Any (λ d. tt) (λ d e views held_by_callers h. tt) fits s view m sound (λ kind r p sent. tt)
 
 after_message_goes_on : (s : Session) (o : Answered) → AnsweredFrom Any (λ d. tt) (λ d e views held_by_callers h. tt) s o → GoOn s (after_message s o).0.session
 after_message_goes_on s (Ok done) h = h
@@ -67,20 +67,20 @@ after_closing_goes_on : (s : Session) (o : Result Session Refusal) → ClosedFro
 after_closing_goes_on s (Ok t) h = h
 after_closing_goes_on s (Err refusal) h = go_on_same s
 
-loaded_goes_on : PlansFit → (known : Kind → Bool) (s : Session) (view : ℕ) (v : Option View) (file : Option (List ℕ)) → IsSound s
-    → AnsweredFrom Any (λ d. tt) (λ d e views held_by_callers h. tt) s (loaded known s view v file)
-loaded_goes_on fits known s view None file h = tt
-loaded_goes_on fits known s view (Some v) None h = tt
-loaded_goes_on fits known s view (Some v) (Some bytes) h = message_goes_on fits known s view (set_text_message bytes) h
+loaded_goes_on : PlansFit → (s : Session) (view : ℕ) (v : Option View) (file : Option (List ℕ)) → IsSound s
+    → AnsweredFrom Any (λ d. tt) (λ d e views held_by_callers h. tt) s (loaded s view v file)
+loaded_goes_on fits s view None file h = tt
+loaded_goes_on fits s view (Some v) None h = tt
+loaded_goes_on fits s view (Some v) (Some bytes) h = message_goes_on fits s view (set_text_message bytes) h
 
-pub command_goes_on : PlansFit → (known : Kind → Bool) (files : List (List ℕ)) (c : Command) (s : Running) → IsSound s.session → GoOn s.session (after_command known files c s).0.session
-command_goes_on fits known files OpenView s h = after_opening_goes_on s.session (opened s.session) (opening_from Any (λ d. tt) (λ d e views held_by_callers h. tt) s.session)
-command_goes_on fits known files (CloseView view) s h =
+pub command_goes_on : PlansFit → (files : List (List ℕ)) (c : Command) (s : Running) → IsSound s.session → GoOn s.session (after_command files c s).0.session
+command_goes_on fits files OpenView s h = after_opening_goes_on s.session (opened s.session) (opening_from Any (λ d. tt) (λ d e views held_by_callers h. tt) s.session)
+command_goes_on fits files (CloseView view) s h =
     after_closing_goes_on s.session (closed_view s.session (view_at s.session.views view)) (closing_from Any (λ d. tt) (λ d e views held_by_callers h. tt) s.session (view_at s.session.views view) h)
-command_goes_on fits known files (LoadFile view file) s h =
-    after_message_goes_on s.session _ (loaded_goes_on fits known s.session view (view_at s.session.views view) (file_at files file) h)
-command_goes_on fits known files (SendMessage view message) s h = after_message_goes_on s.session _ (message_goes_on fits known s.session view message h)
-command_goes_on fits known files (Expect value) s h = go_on_same s.session
+command_goes_on fits files (LoadFile view file) s h =
+    after_message_goes_on s.session _ (loaded_goes_on fits s.session view (view_at s.session.views view) (file_at files file) h)
+command_goes_on fits files (SendMessage view message) s h = after_message_goes_on s.session _ (message_goes_on fits s.session view message h)
+command_goes_on fits files (Expect value) s h = go_on_same s.session
 
 none_again : (s t : Session) (id : ℕ) → GoOn s t → id < s.next_document → document_at s.documents id ≡ None → document_at t.documents id ≡ None
 none_again s t id on below none = go (document_at t.documents id) refl
@@ -246,17 +246,17 @@ answered_keeps : (kind : Kind) (r : Request) (p : Planned) → AnsweredKeeps r.s
 answered_keeps kind r (Ok p) = performed_keeps r p
 answered_keeps kind r (Err refusal) = tt
 
-message_keeps : (known : Kind → Bool) (s : Session) (view : ℕ) (m : Message) → AnsweredKeeps s (table known s view m)
-message_keeps known s view m = of_table (AnsweredKeeps s) tt tt tt known s m view (λ v sees kind is knows d finds. answered_keeps kind (request s v d m) (plan_of kind (request s v d m)))
+message_keeps : (s : Session) (view : ℕ) (m : Message) → AnsweredKeeps s (table s view m)
+message_keeps s view m = of_table (AnsweredKeeps s) tt tt tt s m view (λ v sees kind is d finds. answered_keeps kind (request s v d m) (plan_of kind (request s v d m)))
 
 after_message_keeps : (s : Session) (o : Answered) → AnsweredKeeps s o → Keeps s (after_message s o).0.session
 after_message_keeps s (Ok done) h = h
 after_message_keeps s (Err refusal) h = keeps_same s
 
-loaded_keeps : (known : Kind → Bool) (s : Session) (view : ℕ) (v : Option View) (file : Option (List ℕ)) → AnsweredKeeps s (loaded known s view v file)
-loaded_keeps known s view None file = tt
-loaded_keeps known s view (Some v) None = tt
-loaded_keeps known s view (Some v) (Some bytes) = message_keeps known s view (set_text_message bytes)
+loaded_keeps : (s : Session) (view : ℕ) (v : Option View) (file : Option (List ℕ)) → AnsweredKeeps s (loaded s view v file)
+loaded_keeps s view None file = tt
+loaded_keeps s view (Some v) None = tt
+loaded_keeps s view (Some v) (Some bytes) = message_keeps s view (set_text_message bytes)
 
 -- Whether an id is among views hangs on their ids alone.
 
@@ -320,41 +320,41 @@ closing_goes : (s : Session) (o : Option View) → Goes s (after_closing s (clos
 closing_goes s None = kept_goes s s (keeps_same s)
 closing_goes s (Some v) = record { next_document = omega arith; next_view = omega arith; gone = λ id below none. none_filtered v.id s.views id none }
 
-command_goes : (known : Kind → Bool) (files : List (List ℕ)) (c : Command) (s : Running) → Goes s.session (after_command known files c s).0.session
-command_goes known files OpenView s = opening_goes s.session
-command_goes known files (CloseView view) s = closing_goes s.session (view_at s.session.views view)
-command_goes known files (LoadFile view file) s =
-    kept_goes s.session _ (after_message_keeps s.session _ (loaded_keeps known s.session view (view_at s.session.views view) (file_at files file)))
-command_goes known files (SendMessage view message) s = kept_goes s.session _ (after_message_keeps s.session _ (message_keeps known s.session view message))
-command_goes known files (Expect value) s = kept_goes s.session s.session (keeps_same s.session)
+command_goes : (files : List (List ℕ)) (c : Command) (s : Running) → Goes s.session (after_command files c s).0.session
+command_goes files OpenView s = opening_goes s.session
+command_goes files (CloseView view) s = closing_goes s.session (view_at s.session.views view)
+command_goes files (LoadFile view file) s =
+    kept_goes s.session _ (after_message_keeps s.session _ (loaded_keeps s.session view (view_at s.session.views view) (file_at files file)))
+command_goes files (SendMessage view message) s = kept_goes s.session _ (after_message_keeps s.session _ (message_keeps s.session view message))
+command_goes files (Expect value) s = kept_goes s.session s.session (keeps_same s.session)
 
-pub next_document_rises : (known : Kind → Bool) (files : List (List ℕ)) (c : Command) (s : Running) → s.session.next_document ≤ (after_command known files c s).0.session.next_document
-next_document_rises known files c s = (command_goes known files c s).next_document
+pub next_document_rises : (files : List (List ℕ)) (c : Command) (s : Running) → s.session.next_document ≤ (after_command files c s).0.session.next_document
+next_document_rises files c s = (command_goes files c s).next_document
 
 -- Runs.
 
 pub next_ids_never_fall : NextIdsNeverFall
-next_ids_never_fall known files [] s = (omega arith, omega arith)
-next_ids_never_fall known files (c ∷ cs) s =
-    let t = (after_command known files c s).0 in
-    let first = command_goes known files c s in
-    let rest = next_ids_never_fall known files cs t in
+next_ids_never_fall files [] s = (omega arith, omega arith)
+next_ids_never_fall files (c ∷ cs) s =
+    let t = (after_command files c s).0 in
+    let first = command_goes files c s in
+    let rest = next_ids_never_fall files cs t in
     (omega (arith, first.next_document, rest.0), omega (arith, first.next_view, rest.1))
 
 pub document_ids_never_come_back : PlansFit → CommandKeepsSound → DocumentIdsNeverComeBack
-document_ids_never_come_back fits keeps known files [] s id sound below none = none
-document_ids_never_come_back fits keeps known files (c ∷ cs) s id sound below none =
-    let t = (after_command known files c s).0 in
-    let first = command_goes known files c s in
-    document_ids_never_come_back fits keeps known files cs t id (keeps known files c s sound) (omega (arith, first.next_document))
-    (none_again s.session t.session id (command_goes_on fits known files c s sound) below none)
+document_ids_never_come_back fits keeps files [] s id sound below none = none
+document_ids_never_come_back fits keeps files (c ∷ cs) s id sound below none =
+    let t = (after_command files c s).0 in
+    let first = command_goes files c s in
+    document_ids_never_come_back fits keeps files cs t id (keeps files c s sound) (omega (arith, first.next_document))
+    (none_again s.session t.session id (command_goes_on fits files c s sound) below none)
 
 pub view_ids_never_come_back : ViewIdsNeverComeBack
-view_ids_never_come_back known files [] s id below none = none
-view_ids_never_come_back known files (c ∷ cs) s id below none =
-    let t = (after_command known files c s).0 in
-    let first = command_goes known files c s in
-    view_ids_never_come_back known files cs t id (omega (arith, first.next_view)) (first.gone id below none)
+view_ids_never_come_back files [] s id below none = none
+view_ids_never_come_back files (c ∷ cs) s id below none =
+    let t = (after_command files c s).0 in
+    let first = command_goes files c s in
+    view_ids_never_come_back files cs t id (omega (arith, first.next_view)) (first.gone id below none)
 
 -- Opened views.
 
@@ -385,21 +385,21 @@ opens_next s os high =
     (λ le rise. rise)
     (λ le rise. (omega arith, omega arith, rise))
 
-command_opens : (known : Kind → Bool) (files : List (List ℕ)) (c : Command) (s : Running) (os : List Outcome) (high : ℕ) → (after_command known files c s).0.session.next_view ≤ high
-    → Rise (after_command known files c s).0.session.next_view high (opened_ids os) → Rise s.session.next_view high (opened_ids ((after_command known files c s).1 ∷ os))
-command_opens known files OpenView s os high le rise = opens_next s.session os high le rise
-command_opens known files (CloseView view) s os high le rise =
-    opens_none s.session (after_command known files (CloseView view) s) os high (closing_opens_none s.session (closed_view s.session (view_at s.session.views view)) os) (command_goes known files (CloseView view) s).next_view rise
-command_opens known files (LoadFile view file) s os high le rise =
-    opens_none s.session (after_command known files (LoadFile view file) s) os high (message_opens_none s.session (loaded known s.session view (view_at s.session.views view) (file_at files file)) os)
-    (command_goes known files (LoadFile view file) s).next_view rise
-command_opens known files (SendMessage view message) s os high le rise =
-    opens_none s.session (after_command known files (SendMessage view message) s) os high (message_opens_none s.session (table known s.session view message) os)
-    (command_goes known files (SendMessage view message) s).next_view rise
-command_opens known files (Expect value) s os high le rise = rise
+command_opens : (files : List (List ℕ)) (c : Command) (s : Running) (os : List Outcome) (high : ℕ) → (after_command files c s).0.session.next_view ≤ high
+    → Rise (after_command files c s).0.session.next_view high (opened_ids os) → Rise s.session.next_view high (opened_ids ((after_command files c s).1 ∷ os))
+command_opens files OpenView s os high le rise = opens_next s.session os high le rise
+command_opens files (CloseView view) s os high le rise =
+    opens_none s.session (after_command files (CloseView view) s) os high (closing_opens_none s.session (closed_view s.session (view_at s.session.views view)) os) (command_goes files (CloseView view) s).next_view rise
+command_opens files (LoadFile view file) s os high le rise =
+    opens_none s.session (after_command files (LoadFile view file) s) os high (message_opens_none s.session (loaded s.session view (view_at s.session.views view) (file_at files file)) os)
+    (command_goes files (LoadFile view file) s).next_view rise
+command_opens files (SendMessage view message) s os high le rise =
+    opens_none s.session (after_command files (SendMessage view message) s) os high (message_opens_none s.session (table s.session view message) os)
+    (command_goes files (SendMessage view message) s).next_view rise
+command_opens files (Expect value) s os high le rise = rise
 
 pub opened_ids_rise : OpenedIdsRise
-opened_ids_rise known files [] s = tt
-opened_ids_rise known files (c ∷ cs) s =
-    let t = (after_command known files c s).0 in
-    command_opens known files c s (outcomes known files cs t) (run_to known files cs t).session.next_view (next_ids_never_fall known files cs t).1 (opened_ids_rise known files cs t)
+opened_ids_rise files [] s = tt
+opened_ids_rise files (c ∷ cs) s =
+    let t = (after_command files c s).0 in
+    command_opens files c s (outcomes files cs t) (run_to files cs t).session.next_view (next_ids_never_fall files cs t).1 (opened_ids_rise files cs t)

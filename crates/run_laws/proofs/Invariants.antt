@@ -1,6 +1,5 @@
 -- What every change of a document keeps, holds of it in every state of a run.
 use Rattle.std.proofs.Common.{◌≡◌, ℕ, ◌≤◌, nat_lt, cond, Bool, true, false, List, [], ◌∷◌, length, refl, ap, ◌∙◌, sym, subst, arith, Option, Some, None, Result, Ok, Err}
-use Rattle.ed_types.specs.declared.kind.Kind.{Kind}
 use Rattle.ed_types.specs.declared.message.Message.{Message}
 use Rattle.ed_types.specs.declared.refusal.Refusal.{Refusal}
 use Rattle.ed_types.specs.declared.script.Command.{Command}
@@ -104,29 +103,29 @@ module _ (Holds : Document → Type 0) (low : ℕ) (new : (e : Document) → low
   closing_holds s (Ok t) le on all = of_all_after s t le on all
   closing_holds s (Err refusal) le on all = all
 
-  table_holds : PlansFit → (known : Kind → Bool) (s : Session) (view : ℕ) (m : Message) → IsSound s → AnsweredFrom Stays stays_same stays_relisted s (table known s view m)
-  table_holds fits known s view m sound = table_from Stays stays_same stays_relisted fits known s view m sound (λ kind r p sent. own_holds r p)
+  table_holds : PlansFit → (s : Session) (view : ℕ) (m : Message) → IsSound s → AnsweredFrom Stays stays_same stays_relisted s (table s view m)
+  table_holds fits s view m sound = table_from Stays stays_same stays_relisted fits s view m sound (λ kind r p sent. own_holds r p)
 
-  loaded_holds : PlansFit → (known : Kind → Bool) (s : Session) (view : ℕ) (v : Option View) (file : Option (List ℕ)) → IsSound s → AnsweredFrom Stays stays_same stays_relisted s (loaded known s view v file)
-  loaded_holds fits known s view None file h = tt
-  loaded_holds fits known s view (Some v) None h = tt
-  loaded_holds fits known s view (Some v) (Some bytes) h = table_holds fits known s view (set_text_message bytes) h
+  loaded_holds : PlansFit → (s : Session) (view : ℕ) (v : Option View) (file : Option (List ℕ)) → IsSound s → AnsweredFrom Stays stays_same stays_relisted s (loaded s view v file)
+  loaded_holds fits s view None file h = tt
+  loaded_holds fits s view (Some v) None h = tt
+  loaded_holds fits s view (Some v) (Some bytes) h = table_holds fits s view (set_text_message bytes) h
 
-  command_holds : PlansFit → (known : Kind → Bool) (files : List (List ℕ)) (c : Command) (s : Running) → IsSound s.session → low ≤ s.session.next_document → OfAll s.session
-      → OfAll (after_command known files c s).0.session
-  command_holds fits known files OpenView s h le all = opening_holds s.session (opened s.session) le (opening_from Stays stays_same stays_relisted s.session) all
-  command_holds fits known files (CloseView view) s h le all =
+  command_holds : PlansFit → (files : List (List ℕ)) (c : Command) (s : Running) → IsSound s.session → low ≤ s.session.next_document → OfAll s.session
+      → OfAll (after_command files c s).0.session
+  command_holds fits files OpenView s h le all = opening_holds s.session (opened s.session) le (opening_from Stays stays_same stays_relisted s.session) all
+  command_holds fits files (CloseView view) s h le all =
       closing_holds s.session (closed_view s.session (view_at s.session.views view)) le (closing_from Stays stays_same stays_relisted s.session (view_at s.session.views view) h) all
-  command_holds fits known files (LoadFile view file) s h le all =
-      message_holds s.session (loaded known s.session view (view_at s.session.views view) (file_at files file)) le
-      (loaded_holds fits known s.session view (view_at s.session.views view) (file_at files file) h) all
-  command_holds fits known files (SendMessage view message) s h le all = message_holds s.session (table known s.session view message) le (table_holds fits known s.session view message h) all
-  command_holds fits known files (Expect value) s h le all = all
+  command_holds fits files (LoadFile view file) s h le all =
+      message_holds s.session (loaded s.session view (view_at s.session.views view) (file_at files file)) le
+      (loaded_holds fits s.session view (view_at s.session.views view) (file_at files file) h) all
+  command_holds fits files (SendMessage view message) s h le all = message_holds s.session (table s.session view message) le (table_holds fits s.session view message h) all
+  command_holds fits files (Expect value) s h le all = all
 
   -- in a run from a session whose documents have it, and whose next id is at least `low`, all documents have it
-  pub run_holds : PlansFit → CommandKeepsSound → (known : Kind → Bool) (files : List (List ℕ)) (cs : List Command) (s : Running) → IsSound s.session → low ≤ s.session.next_document → OfAll s.session
-      → OfAll (run_to known files cs s).session
-  run_holds fits keeps known files [] s h le all = all
-  run_holds fits keeps known files (c ∷ cs) s h le all =
-      let rises = next_document_rises known files c s in
-      run_holds fits keeps known files cs (after_command known files c s).0 (keeps known files c s h) (omega arith) (command_holds fits known files c s h le all)
+  pub run_holds : PlansFit → CommandKeepsSound → (files : List (List ℕ)) (cs : List Command) (s : Running) → IsSound s.session → low ≤ s.session.next_document → OfAll s.session
+      → OfAll (run_to files cs s).session
+  run_holds fits keeps files [] s h le all = all
+  run_holds fits keeps files (c ∷ cs) s h le all =
+      let rises = next_document_rises files c s in
+      run_holds fits keeps files cs (after_command files c s).0 (keeps files c s h) (omega arith) (command_holds fits files c s h le all)

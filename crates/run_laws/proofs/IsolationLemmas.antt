@@ -37,7 +37,7 @@ use Rattle.ed_model.specs.Edits.{steps_of, source_bytes, converted_if}
 use Rattle.ed_model.specs.FoldingPlans.{levels}
 use Rattle.ed_model.specs.Performing.{Scene, scene_of, session_of, document_after, moved_view, view_after, step_heard, step_made, steps_made, sealed_scene, edit_made, followed, with_caret, with_target, caret_behind, leaving, change_performed, changes_performed, changes_lines, is_last, transaction_performed, save_point_change, history_performed, place_behind, container_note, last_bits, response}
 use Rattle.ed_model.specs.Changes.{changed_document, changed_lines, changed_view, change_told}
-use Rattle.ed_model.specs.Table.{table, answered, with_recording, plan_of, performed, request, table_from_view, table_from_kind, table_if_known, table_from_document}
+use Rattle.ed_model.specs.Table.{table, answered, with_recording, plan_of, performed, request, table_from_view, table_from_kind, table_from_document}
 use Rattle.ed_model.specs.TableLaws.{Answered}
 use Rattle.ed_model.specs.SoundLaws.{IsSound, IsViewOn, ListsItsViews, CommandKeepsSound}
 use Rattle.ed_model.specs.PlansFit.{IsSoundRequest}
@@ -412,32 +412,31 @@ from_document_same id s t v kind m (Some d) barred sound on found h =
     subst (λ (p : Planned). SameAnswer id (answered kind r (plan_of kind r)) (answered kind (at r t) p)) (sym (plan_same kind r t barred h.clipboard h.limits))
     (answered_same id kind r t (plan_of kind r) (leave_of kind) barred (plan_is_shaped kind r) own h)
 
-if_known_same : (id : ℕ) (b : Bool) (s t : Session) (v : View) (kind : Kind) (m : Message) → is_about_documents kind ≡ false → IsSound s → v.document ≡ id → Agree id s t
-    → SameAnswer id (table_if_known b s v kind m) (table_if_known b t v kind m)
-if_known_same id false s t v kind m barred sound on h = refl
-if_known_same id true s t v kind m barred sound on h =
+kind_same : (id : ℕ) (s t : Session) (v : View) (kind : Kind) (m : Message) → is_about_documents kind ≡ false → IsSound s → v.document ≡ id → Agree id s t
+    → SameAnswer id (table_from_document s v kind m (document_at s.documents v.document)) (table_from_document t v kind m (document_at t.documents v.document))
+kind_same id s t v kind m barred sound on h =
     subst (λ (o : Option Document). SameAnswer id (table_from_document s v kind m (document_at s.documents v.document)) (table_from_document t v kind m o))
     (sym (ap (document_at t.documents) on ∙ h.document ∙ ap (document_at s.documents) (sym on)))
     (from_document_same id s t v kind m (document_at s.documents v.document) barred sound on refl h)
 
-from_kind_same : (id : ℕ) (known : Kind → Bool) (s t : Session) (v : View) (m : Message) (o : Option Kind) → ((kind : Kind) → o ≡ Some kind → is_about_documents kind ≡ false) → IsSound s → v.document ≡ id → Agree id s t
-    → SameAnswer id (table_from_kind known s v m o) (table_from_kind known t v m o)
-from_kind_same id known s t v m None barred sound on h = refl
-from_kind_same id known s t v m (Some kind) barred sound on h = if_known_same id (known kind) s t v kind m (barred kind refl) sound on h
+from_kind_same : (id : ℕ) (s t : Session) (v : View) (m : Message) (o : Option Kind) → ((kind : Kind) → o ≡ Some kind → is_about_documents kind ≡ false) → IsSound s → v.document ≡ id → Agree id s t
+    → SameAnswer id (table_from_kind s v m o) (table_from_kind t v m o)
+from_kind_same id s t v m None barred sound on h = refl
+from_kind_same id s t v m (Some kind) barred sound on h = kind_same id s t v kind m (barred kind refl) sound on h
 
 -- a message to a view of the document, or to none
-own_message : (id : ℕ) (known : Kind → Bool) (s t : Session) (view : ℕ) (m : Message) → ((kind : Kind) → kind_of m.number ≡ Some kind → is_about_documents kind ≡ false) → IsSound s
-    → ((v : View) → view_at s.views view ≡ Some v → v.document ≡ id) → Agree id s t → SameAnswer id (table known s view m) (table known t view m)
-own_message id known s t view m barred sound on h = go (view_at s.views view) refl
+own_message : (id : ℕ) (s t : Session) (view : ℕ) (m : Message) → ((kind : Kind) → kind_of m.number ≡ Some kind → is_about_documents kind ≡ false) → IsSound s
+    → ((v : View) → view_at s.views view ≡ Some v → v.document ≡ id) → Agree id s t → SameAnswer id (table s view m) (table t view m)
+own_message id s t view m barred sound on h = go (view_at s.views view) refl
   where
-    go : (o : Option View) → view_at s.views view ≡ o → SameAnswer id (table known s view m) (table known t view m)
+    go : (o : Option View) → view_at s.views view ≡ o → SameAnswer id (table s view m) (table t view m)
     go None e =
-        subst (λ (o : Option View). SameAnswer id (table_from_view known s m o) (table known t view m)) (sym e)
-        (subst (λ (o : Option View). SameAnswer id (Err NoSuchView) (table_from_view known t m o)) (sym (none_found (λ n. n ≡ id) s.views t.views view h.views e)) refl)
+        subst (λ (o : Option View). SameAnswer id (table_from_view s m o) (table t view m)) (sym e)
+        (subst (λ (o : Option View). SameAnswer id (Err NoSuchView) (table_from_view t m o)) (sym (none_found (λ n. n ≡ id) s.views t.views view h.views e)) refl)
     go (Some v) e =
-        subst (λ (o : Option View). SameAnswer id (table_from_view known s m o) (table known t view m)) (sym e)
-        (subst (λ (o : Option View). SameAnswer id (table_from_kind known s v m (kind_of m.number)) (table_from_view known t m o)) (sym (own_found (λ n. n ≡ id) s.views t.views view v h.views e (on v e)))
-        (from_kind_same id known s t v m (kind_of m.number) barred sound (on v e) h))
+        subst (λ (o : Option View). SameAnswer id (table_from_view s m o) (table t view m)) (sym e)
+        (subst (λ (o : Option View). SameAnswer id (table_from_kind s v m (kind_of m.number)) (table_from_view t m o)) (sym (own_found (λ n. n ≡ id) s.views t.views view v h.views e (on v e)))
+        (from_kind_same id s t v m (kind_of m.number) barred sound (on v e) h))
 
 -- Messages of other views.
 
@@ -454,11 +453,11 @@ once_of s view v sound sees =
 abbrev Placed : List View → List View → Type 0
 Placed vs ws = AreAlike (λ n. ⊥) vs ws
 
-message_places : (known : Kind → Bool) (s : Session) (view : ℕ) (m : Message) → ((kind : Kind) → kind_of m.number ≡ Some kind → is_about_documents kind ≡ false) → IsSound s
-    → Placed s.views (after_message s (table known s view m)).0.session.views
-message_places known s view m barred sound =
-    of_table (λ o. Placed s.views (after_message s o).0.session.views) (all_alike (λ n. ⊥) s.views) (all_alike (λ n. ⊥) s.views) (all_alike (λ n. ⊥) s.views) known s m view
-    (λ v sees kind is knows d finds. go v kind d sees (barred kind is) finds (plan_of kind (request s v d m)) (plan_is_shaped kind (request s v d m)))
+message_places : (s : Session) (view : ℕ) (m : Message) → ((kind : Kind) → kind_of m.number ≡ Some kind → is_about_documents kind ≡ false) → IsSound s
+    → Placed s.views (after_message s (table s view m)).0.session.views
+message_places s view m barred sound =
+    of_table (λ o. Placed s.views (after_message s o).0.session.views) (all_alike (λ n. ⊥) s.views) (all_alike (λ n. ⊥) s.views) (all_alike (λ n. ⊥) s.views) s m view
+    (λ v sees kind is d finds. go v kind d sees (barred kind is) finds (plan_of kind (request s v d m)) (plan_is_shaped kind (request s v d m)))
   where
     go : (v : View) (kind : Kind) (d : Document) → view_at s.views view ≡ Some v → is_about_documents kind ≡ false → document_at s.documents v.document ≡ Some d → (p : Planned) → IsShaped (leave_of kind) p
         → Placed s.views (after_message s (answered kind (request s v d m) p)).0.session.views
@@ -466,12 +465,12 @@ message_places known s view m barred sound =
     go v kind d sees no_documents finds (Ok p) shaped =
         performed_leaves_views (λ n. ⊥) v.id v.document (λ e. e) (request s v d m) p (leave_of kind) no_documents shaped refl refl (document_id s.documents v.document d finds) (once_of s view v sound sees)
 
-others_message : (id : ℕ) (known : Kind → Bool) (s : Session) (view : ℕ) (m : Message)
+others_message : (id : ℕ) (s : Session) (view : ℕ) (m : Message)
     → ((kind : Kind) → kind_of m.number ≡ Some kind → (is_about_documents kind ≡ false) × (is_copying kind ≡ false)) → IsSound s
-    → ((v : View) → view_at s.views view ≡ Some v → v.document ≡ id → ⊥) → Agree id s (after_message s (table known s view m)).0.session
-others_message id known s view m barred sound other =
-    of_table (λ o. Agree id s (after_message s o).0.session) (agree_same id s) (agree_same id s) (agree_same id s) known s m view
-    (λ v sees kind is knows d finds. go v kind d sees (barred kind is) finds (plan_of kind (request s v d m)) (plan_is_shaped kind (request s v d m)))
+    → ((v : View) → view_at s.views view ≡ Some v → v.document ≡ id → ⊥) → Agree id s (after_message s (table s view m)).0.session
+others_message id s view m barred sound other =
+    of_table (λ o. Agree id s (after_message s o).0.session) (agree_same id s) (agree_same id s) (agree_same id s) s m view
+    (λ v sees kind is d finds. go v kind d sees (barred kind is) finds (plan_of kind (request s v d m)) (plan_is_shaped kind (request s v d m)))
   where
     go : (v : View) (kind : Kind) (d : Document) → view_at s.views view ≡ Some v → (is_about_documents kind ≡ false) × (is_copying kind ≡ false) → document_at s.documents v.document ≡ Some d → (p : Planned)
         → IsShaped (leave_of kind) p → Agree id s (after_message s (answered kind (request s v d m) p)).0.session
@@ -523,38 +522,38 @@ after_same id s t (Ok a) (Err f) same h = absurd same
 after_same id s t (Err e) (Ok b) same h = absurd same
 after_same id s t (Err e) (Err f) same h = (ap Refused (sym same), h)
 
-messages_apart : CommandKeepsSound → (known : Kind → Bool) (first : Session) (id : ℕ) (ms : List Sending) (s t : Running) → AllByRecursion (KeepsApart first id) ms → IsSound s.session → Placed first.views s.session.views
+messages_apart : CommandKeepsSound → (first : Session) (id : ℕ) (ms : List Sending) (s t : Running) → AllByRecursion (KeepsApart first id) ms → IsSound s.session → Placed first.views s.session.views
     → Agree id s.session t.session
-    → SameRuns id (own_outcomes known first id ms s) (outcomes known [] (map sent (without_others first id ms)) t) (run_to known [] (map sent ms) s).session (run_to known [] (map sent (without_others first id ms)) t).session
-messages_apart keeps known first id [] s t all sound placed h = record { outcomes_agree = refl; sessions = h }
-messages_apart keeps known first id (m ∷ ms) s t all sound placed h =
-    let next = (after_command known [] (sent m) s).0 in
-    let sound_next : IsSound next.session = keeps known [] (sent m) s sound in
-    let places = message_places known s.session m.0 m.1 (λ kind is. (all.0 kind is).0) sound in
+    → SameRuns id (own_outcomes first id ms s) (outcomes [] (map sent (without_others first id ms)) t) (run_to [] (map sent ms) s).session (run_to [] (map sent (without_others first id ms)) t).session
+messages_apart keeps first id [] s t all sound placed h = record { outcomes_agree = refl; sessions = h }
+messages_apart keeps first id (m ∷ ms) s t all sound placed h =
+    let next = (after_command [] (sent m) s).0 in
+    let sound_next : IsSound next.session = keeps [] (sent m) s sound in
+    let places = message_places s.session m.0 m.1 (λ kind is. (all.0 kind is).0) sound in
     let placed_next = alike_through (λ n. ⊥) first.views s.session.views next.session.views placed places in
-    go (goes_elsewhere first id m) refl (λ u k. messages_apart keeps known first id ms next u all.1 sound_next placed_next k)
+    go (goes_elsewhere first id m) refl (λ u k. messages_apart keeps first id ms next u all.1 sound_next placed_next k)
   where
     go : (b : Bool) → goes_elsewhere first id m ≡ b
-        → ((u : Running) → Agree id (after_command known [] (sent m) s).0.session u.session
-        → SameRuns id (own_outcomes known first id ms (after_command known [] (sent m) s).0) (outcomes known [] (map sent (without_others first id ms)) u) (run_to known [] (map sent ms) (after_command known [] (sent m) s).0).session (run_to known [] (map sent (without_others first id ms)) u).session)
-        → SameRuns id (unless b (after_command known [] (sent m) s).1 (own_outcomes known first id ms (after_command known [] (sent m) s).0)) (outcomes known [] (map sent (unless b m (without_others first id ms))) t)
-        (run_to known [] (map sent ms) (after_command known [] (sent m) s).0).session (run_to known [] (map sent (unless b m (without_others first id ms))) t).session
+        → ((u : Running) → Agree id (after_command [] (sent m) s).0.session u.session
+        → SameRuns id (own_outcomes first id ms (after_command [] (sent m) s).0) (outcomes [] (map sent (without_others first id ms)) u) (run_to [] (map sent ms) (after_command [] (sent m) s).0).session (run_to [] (map sent (without_others first id ms)) u).session)
+        → SameRuns id (unless b (after_command [] (sent m) s).1 (own_outcomes first id ms (after_command [] (sent m) s).0)) (outcomes [] (map sent (unless b m (without_others first id ms))) t)
+        (run_to [] (map sent ms) (after_command [] (sent m) s).0).session (run_to [] (map sent (unless b m (without_others first id ms))) t).session
     go true e rest =
         let there : shows_other id (view_at s.session.views m.0) ≡ true = elsewhere_stays id m.0 first.views s.session.views placed ∙ e in
-        let left = others_message id known s.session m.0 m.1 (λ kind is. ((all.0 kind is).0, (all.0 kind is).1 e)) sound (λ v sees. is_others id (view_at s.session.views m.0) v there sees) in
-        rest t (agree_left id s.session (after_command known [] (sent m) s).0.session t.session left h)
+        let left = others_message id s.session m.0 m.1 (λ kind is. ((all.0 kind is).0, (all.0 kind is).1 e)) sound (λ v sees. is_others id (view_at s.session.views m.0) v there sees) in
+        rest t (agree_left id s.session (after_command [] (sent m) s).0.session t.session left h)
     go false e rest =
         let here : shows_other id (view_at s.session.views m.0) ≡ false = elsewhere_stays id m.0 first.views s.session.views placed ∙ e in
-        let same = own_message id known s.session t.session m.0 m.1 (λ kind is. (all.0 kind is).0) sound (λ v sees. is_own id (view_at s.session.views m.0) v here sees) h in
-        let both = after_same id s.session t.session (table known s.session m.0 m.1) (table known t.session m.0 m.1) same h in
-        let after = rest (after_command known [] (sent m) t).0 both.1 in
+        let same = own_message id s.session t.session m.0 m.1 (λ kind is. (all.0 kind is).0) sound (λ v sees. is_own id (view_at s.session.views m.0) v here sees) h in
+        let both = after_same id s.session t.session (table s.session m.0 m.1) (table t.session m.0 m.1) same h in
+        let after = rest (after_command [] (sent m) t).0 both.1 in
         record {
-          outcomes_agree = ap (λ (o : Outcome). o ∷ own_outcomes known first id ms (after_command known [] (sent m) s).0) both.0
-              ∙ ap (λ (os : List Outcome). (after_command known [] (sent m) t).1 ∷ os) after.outcomes_agree;
+          outcomes_agree = ap (λ (o : Outcome). o ∷ own_outcomes first id ms (after_command [] (sent m) s).0) both.0
+              ∙ ap (λ (os : List Outcome). (after_command [] (sent m) t).1 ∷ os) after.outcomes_agree;
           sessions = after.sessions;
         }
 
 pub documents_are_apart : CommandKeepsSound → DocumentsAreApart
-documents_are_apart keeps known s id messages sound all =
-    let same = messages_apart keeps known s id messages (starting s) (starting s) all sound (all_alike (λ n. ⊥) s.views) (agree_same id s) in
+documents_are_apart keeps s id messages sound all =
+    let same = messages_apart keeps s id messages (starting s) (starting s) all sound (all_alike (λ n. ⊥) s.views) (agree_same id s) in
     (same.outcomes_agree, sym same.sessions.document, views_on_alike id _ _ same.sessions.views)

@@ -38,7 +38,7 @@ use Rattle.ed_model.specs.Edits.{steps_of, source_bytes}
 use Rattle.ed_model.specs.FoldingPlans.{levels}
 use Rattle.ed_model.specs.Performing.{Scene, scene_of, session_of, document_after, moved_view, view_after, step_heard, step_made, steps_made, sealed_scene, edit_made, followed, with_caret, with_target, caret_behind, leaving, change_performed, changes_performed, changes_lines, is_last, transaction_performed, save_point_change, history_performed, place_behind}
 use Rattle.ed_model.specs.Changes.{changed_document, changed_lines, changed_view, change_told}
-use Rattle.ed_model.specs.Table.{table, answered, with_recording, plan_of, performed, request, table_from_view, table_from_kind, table_if_known, table_from_document}
+use Rattle.ed_model.specs.Table.{table, answered, with_recording, plan_of, performed, request, table_from_view, table_from_kind, table_from_document}
 use Rattle.ed_model.specs.TableLaws.{Answered}
 use Rattle.ed_model.specs.SoundLaws.{IsSound, IsViewOn, ListsItsViews, CommandKeepsSound}
 use Rattle.ed_model.specs.PlansFit.{IsSoundRequest}
@@ -288,41 +288,41 @@ answer_steps view m kind r (Ok p) same is sees leaves shaped may records =
     go false e (inr to) =
         let yes = all_true r.view.records (marks_of kind).r (r.view.id == view) (recording to.0) to.1 (eq-eqb r.view.id view (is ∙ to.0)) in absurd (cc)
 
-message_steps : QueriesLeaveTheSession → (known : Kind → Bool) (view : ℕ) (s : Session) (m : Sending) → CanStandBetween view m → Records view s.views → Stepped view s m (table known s m.0 m.1)
-message_steps leave known view s m may records =
-    of_table (Stepped view s m) (refused_steps view s m NoSuchView) (refused_steps view s m UnknownMessage) (refused_steps view s m NoSuchDocument) known s m.1 m.0
-    (λ v sees kind is knows d finds.
+message_steps : QueriesLeaveTheSession → (view : ℕ) (s : Session) (m : Sending) → CanStandBetween view m → Records view s.views → Stepped view s m (table s m.0 m.1)
+message_steps leave view s m may records =
+    of_table (Stepped view s m) (refused_steps view s m NoSuchView) (refused_steps view s m UnknownMessage) (refused_steps view s m NoSuchDocument) s m.1 m.0
+    (λ v sees kind is d finds.
     let r = request s v d m.1 in
     answer_steps view m kind r (plan_of kind r) refl (view_id s.views m.0 v sees) sees
-    (λ query. subst (LeavesSession s) (table_at known s m.0 m.1 v kind d sees is knows finds) (leave known s m.0 m.1 kind is query))
+    (λ query. subst (LeavesSession s) (table_at s m.0 m.1 v kind d sees is finds) (leave s m.0 m.1 kind is query))
     (plan_is_shaped kind r) (may kind is) records)
 
 -- The recorded messages, sent again.
-messages_replayed : QueriesLeaveTheSession → (known : Kind → Bool) (view : ℕ) (ms : List Sending) (s t : Running) → AllByRecursion (CanStandBetween view) ms → Records view s.session.views → Same view s.session t.session
-    → Same view (run_to known [] (map sent ms) s).session (run_to known [] (map (sent_to view) (recorded_messages view (replies_in (outcomes known [] (map sent ms) s)))) t).session
-messages_replayed leave known view [] s t all records h = h
-messages_replayed leave known view (m ∷ ms) s t all records h =
-    go (message_steps leave known view s.session m all.0 records) (λ u k same. messages_replayed leave known view ms (after_command known [] (sent m) s).0 u all.1 k same)
+messages_replayed : QueriesLeaveTheSession → (view : ℕ) (ms : List Sending) (s t : Running) → AllByRecursion (CanStandBetween view) ms → Records view s.session.views → Same view s.session t.session
+    → Same view (run_to [] (map sent ms) s).session (run_to [] (map (sent_to view) (recorded_messages view (replies_in (outcomes [] (map sent ms) s)))) t).session
+messages_replayed leave view [] s t all records h = h
+messages_replayed leave view (m ∷ ms) s t all records h =
+    go (message_steps leave view s.session m all.0 records) (λ u k same. messages_replayed leave view ms (after_command [] (sent m) s).0 u all.1 k same)
   where
     next : Running
-    next = (after_command known [] (sent m) s).0
+    next = (after_command [] (sent m) s).0
 
     after : List Message → Running → Session
-    after with_recording u = (run_to known [] (map (sent_to view) with_recording) u).session
+    after with_recording u = (run_to [] (map (sent_to view) with_recording) u).session
 
     rest : List Message
-    rest = recorded_messages view (replies_in (outcomes known [] (map sent ms) next))
+    rest = recorded_messages view (replies_in (outcomes [] (map sent ms) next))
 
-    go : Stepped view s.session m (table known s.session m.0 m.1) → ((u : Running) → Records view next.session.views → Same view next.session u.session → Same view (run_to known [] (map sent ms) next).session (after rest u))
-        → Same view (run_to known [] (map sent ms) next).session (after (recorded_messages view (replies_in ((after_command known [] (sent m) s).1 ∷ outcomes known [] (map sent ms) next))) t)
+    go : Stepped view s.session m (table s.session m.0 m.1) → ((u : Running) → Records view next.session.views → Same view next.session u.session → Same view (run_to [] (map sent ms) next).session (after rest u))
+        → Same view (run_to [] (map sent ms) next).session (after (recorded_messages view (replies_in ((after_command [] (sent m) s).1 ∷ outcomes [] (map sent ms) next))) t)
     go (inl left) on =
-        subst (λ with_recording. Same view (run_to known [] (map sent ms) next).session (after with_recording t)) (sym (left.0 (outcomes known [] (map sent ms) next)))
+        subst (λ with_recording. Same view (run_to [] (map sent ms) next).session (after with_recording t)) (sym (left.0 (outcomes [] (map sent ms) next)))
         (on t (subst (λ (x : Session). Records view x.views) (sym left.1) records) (subst (λ (x : Session). Same view x t.session) (sym left.1) h))
     go (inr kept) on =
-        subst (λ with_recording. Same view (run_to known [] (map sent ms) next).session (after with_recording t)) (sym (kept.0 (outcomes known [] (map sent ms) next)))
-        (on (after_command known [] (sent_to view m.1) t).0 kept.2
-        (subst (λ n. Same view (after_message s.session (table known s.session n m.1)).0.session (after_message t.session (table known t.session view m.1)).0.session) (sym kept.1)
-        (table_after_both view known s.session t.session m.1 h)))
+        subst (λ with_recording. Same view (run_to [] (map sent ms) next).session (after with_recording t)) (sym (kept.0 (outcomes [] (map sent ms) next)))
+        (on (after_command [] (sent_to view m.1) t).0 kept.2
+        (subst (λ n. Same view (after_message s.session (table s.session n m.1)).0.session (after_message t.session (table t.session view m.1)).0.session) (sym kept.1)
+        (table_after_both view s.session t.session m.1 h)))
 
 -- STARTRECORD and STOPRECORD.
 
@@ -336,17 +336,17 @@ abbrev SetBy : Session → ℕ → Bool → Answered → Type 0
 SetBy s view on (Ok done) = IsSet s view on done.0
 SetBy s view on (Err refusal) = Unit {0}
 
-start_sets : (known : Kind → Bool) (s : Session) (view : ℕ) (m : Message) → kind_of m.number ≡ Some StartRecord → SetBy s view true (table known s view m)
-start_sets known s view m e =
-    of_table (SetBy s view true) tt tt tt known s m view
-    (λ v sees kind is knows d finds.
+start_sets : (s : Session) (view : ℕ) (m : Message) → kind_of m.number ≡ Some StartRecord → SetBy s view true (table s view m)
+start_sets s view m e =
+    of_table (SetBy s view true) tt tt tt s m view
+    (λ v sees kind is d finds.
     let same : kind ≡ StartRecord = cc in
     subst (λ (k : Kind). SetBy s view true (answered k (request s v d m) (plan_of k (request s v d m)))) (sym same) (record { sender = v; found = sees; same = refl }))
 
-stop_sets : (known : Kind → Bool) (s : Session) (view : ℕ) (m : Message) → kind_of m.number ≡ Some StopRecord → SetBy s view false (table known s view m)
-stop_sets known s view m e =
-    of_table (SetBy s view false) tt tt tt known s m view
-    (λ v sees kind is knows d finds.
+stop_sets : (s : Session) (view : ℕ) (m : Message) → kind_of m.number ≡ Some StopRecord → SetBy s view false (table s view m)
+stop_sets s view m e =
+    of_table (SetBy s view false) tt tt tt s m view
+    (λ v sees kind is d finds.
     let same : kind ≡ StopRecord = cc in
     subst (λ (k : Kind). SetBy s view false (answered k (request s v d m) (plan_of k (request s v d m)))) (sym same) (record { sender = v; found = sees; same = refl }))
 
@@ -409,11 +409,11 @@ done_sets : (s : Session) (view : ℕ) (on : Bool) (x : Answered) (done : Sessio
 done_sets s view on x done e h = subst (SetBy s view on) e h
 
 pub recordings_can_be_replayed : QueriesLeaveTheSession → MessageKeepsSound → IsSoundInEveryStateFrom → RecordingsCanBeReplayed
-recordings_can_be_replayed leave keeps sound_runs known s view start stop messages begun ended sound is_start starts may is_stop stops =
-    let set = done_sets s view true (table known s view start) begun starts (start_sets known s view start is_start) in
-    let sound_begun : IsSound begun.0 = subst (λ x. IfOk x (λ (done : Session × Response). IsSound done.0)) starts (keeps known s view start sound) in
-    let between = (run_to known [] (map sent messages) (starting begun.0)).session in
-    let sound_between = sound_runs known [] (map sent messages) (starting begun.0) sound_begun in
-    let unset = done_sets between view false (table known between view stop) ended stops (stop_sets known between view stop is_stop) in
-    let replayed = messages_replayed leave known view messages (starting begun.0) (starting s) may (begun_records s begun.0 view set) (begun_same s begun.0 view sound set) in
+recordings_can_be_replayed leave keeps sound_runs s view start stop messages begun ended sound is_start starts may is_stop stops =
+    let set = done_sets s view true (table s view start) begun starts (start_sets s view start is_start) in
+    let sound_begun : IsSound begun.0 = subst (λ x. IfOk x (λ (done : Session × Response). IsSound done.0)) starts (keeps s view start sound) in
+    let between = (run_to [] (map sent messages) (starting begun.0)).session in
+    let sound_between = sound_runs [] (map sent messages) (starting begun.0) sound_begun in
+    let unset = done_sets between view false (table between view stop) ended stops (stop_sets between view stop is_stop) in
+    let replayed = messages_replayed leave view messages (starting begun.0) (starting s) may (begun_records s begun.0 view set) (begun_same s begun.0 view sound set) in
     ended_same between ended.0 _ view sound_between unset replayed

@@ -34,7 +34,7 @@ use Rattle.ed_model.specs.Edits.{steps_of, source_bytes}
 use Rattle.ed_model.specs.FoldingPlans.{levels}
 use Rattle.ed_model.specs.Performing.{Scene, scene_of, session_of, document_after, moved_view, view_after, step_heard, step_made, steps_made, sealed_scene, edit_made, followed, with_caret, with_target, caret_behind, leaving, change_performed, changes_performed, changes_lines, is_last, transaction_performed, save_point_change, history_performed, place_behind}
 use Rattle.ed_model.specs.Changes.{changed_document, changed_lines, changed_view, change_told}
-use Rattle.ed_model.specs.Table.{table, answered, with_recording, plan_of, performed, request, table_from_view, table_from_kind, table_if_known, table_from_document}
+use Rattle.ed_model.specs.Table.{table, answered, with_recording, plan_of, performed, request, table_from_view, table_from_kind, table_from_document}
 use Rattle.ed_model.specs.TableLaws.{Answered}
 use Rattle.ed_model.specs.SoundLaws.{IsSound, IsViewOn, ListsItsViews, CommandKeepsSound}
 use Rattle.ed_model.specs.PlansFit.{IsSoundRequest}
@@ -308,30 +308,25 @@ module _ (view : ℕ) where
       subst (λ (p : Planned). After s (record s { views = ws }) (answered kind r (plan_of kind r)) (answered kind (other r ws b) p)) (sym (same_plan_recording kind r ws b))
       (answered_after kind r ws b (plan_of kind r) at e)
 
-  known_after_both : (k : Bool) (s : Session) (ws : List View) (v : View) (b : Bool) (kind : Kind) (m : Message) → (v.id == view) ≡ true → Like s.views ws
-      → After s (record s { views = ws }) (table_if_known k s v kind m) (table_if_known k (record s { views = ws }) (record v { records = b }) kind m)
-  known_after_both true s ws v b kind m at e = document_after_both s ws v b kind m (document_at s.documents v.document) at e
-  known_after_both false s ws v b kind m at e = record { same = refl; views = e }
+  kind_after_both : (s : Session) (ws : List View) (v : View) (b : Bool) (m : Message) (o : Option Kind) → (v.id == view) ≡ true → Like s.views ws
+      → After s (record s { views = ws }) (table_from_kind s v m o) (table_from_kind (record s { views = ws }) (record v { records = b }) m o)
+  kind_after_both s ws v b m None at e = record { same = refl; views = e }
+  kind_after_both s ws v b m (Some kind) at e = document_after_both s ws v b kind m (document_at s.documents v.document) at e
 
-  kind_after_both : (known : Kind → Bool) (s : Session) (ws : List View) (v : View) (b : Bool) (m : Message) (o : Option Kind) → (v.id == view) ≡ true → Like s.views ws
-      → After s (record s { views = ws }) (table_from_kind known s v m o) (table_from_kind known (record s { views = ws }) (record v { records = b }) m o)
-  kind_after_both known s ws v b m None at e = record { same = refl; views = e }
-  kind_after_both known s ws v b m (Some kind) at e = known_after_both (known kind) s ws v b kind m at e
-
-  view_after_both : (known : Kind → Bool) (s : Session) (ws : List View) (m : Message) (o p : Option View) → option_map quiet o ≡ option_map quiet p → ((v : View) → o ≡ Some v → v.id ≡ view) → Like s.views ws
-      → After s (record s { views = ws }) (table_from_view known s m o) (table_from_view known (record s { views = ws }) m p)
-  view_after_both known s ws m None None found is e = record { same = refl; views = e }
-  view_after_both known s ws m None (Some w) found is e = absurd (cc)
-  view_after_both known s ws m (Some v) None found is e = absurd (cc)
-  view_after_both known s ws m (Some v) (Some w) found is e =
+  view_after_both : (s : Session) (ws : List View) (m : Message) (o p : Option View) → option_map quiet o ≡ option_map quiet p → ((v : View) → o ≡ Some v → v.id ≡ view) → Like s.views ws
+      → After s (record s { views = ws }) (table_from_view s m o) (table_from_view (record s { views = ws }) m p)
+  view_after_both s ws m None None found is e = record { same = refl; views = e }
+  view_after_both s ws m None (Some w) found is e = absurd (cc)
+  view_after_both s ws m (Some v) None found is e = absurd (cc)
+  view_after_both s ws m (Some v) (Some w) found is e =
       let alike : quiet v ≡ quiet w = cc in
       let as_v : record v { records = w.records } ≡ w = ap (λ (x : View). record x { records = w.records }) alike in
-      subst (λ (x : View). After s (record s { views = ws }) (table_from_kind known s v m (kind_of m.number)) (table_from_kind known (record s { views = ws }) x m (kind_of m.number))) as_v
-      (kind_after_both known s ws v w.records m (kind_of m.number) (eq-eqb v.id view (is v refl)) e)
+      subst (λ (x : View). After s (record s { views = ws }) (table_from_kind s v m (kind_of m.number)) (table_from_kind (record s { views = ws }) x m (kind_of m.number))) as_v
+      (kind_after_both s ws v w.records m (kind_of m.number) (eq-eqb v.id view (is v refl)) e)
 
-  pub table_after_both : (known : Kind → Bool) (s t : Session) (m : Message) → Same s t → After s t (table known s view m) (table known t view m)
-  table_after_both known s t m h =
-      subst (λ (x : Session). After s x (table known s view m) (table known x view m)) (sym h.same)
-      (view_after_both known s t.views m (view_at s.views view) (view_at t.views view)
+  pub table_after_both : (s t : Session) (m : Message) → Same s t → After s t (table s view m) (table t view m)
+  table_after_both s t m h =
+      subst (λ (x : Session). After s x (table s view m) (table x view m)) (sym h.same)
+      (view_after_both s t.views m (view_at s.views view) (view_at t.views view)
       (sym (changed_found quiet (λ v. refl) s.views view) ∙ ap (λ (vs : List View). view_at vs view) h.views ∙ changed_found quiet (λ v. refl) t.views view)
       (λ v sees. view_id s.views view v sees) h.views)

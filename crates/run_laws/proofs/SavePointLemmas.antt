@@ -7,7 +7,6 @@ use Rattle.ed_types.specs.declared.kind.Kind.{Kind}
 use Rattle.ed_types.specs.declared.kind.Kind.TheVariants.{GetModify, SetText}
 use Rattle.ed_types.specs.declared.message.Message.{Message}
 use Rattle.ed_types.specs.declared.refusal.Refusal.{Refusal}
-use Rattle.ed_types.specs.declared.refusal.Refusal.TheVariants.{UnknownMessage}
 use Rattle.ed_types.specs.declared.script.Command.{Command}
 use Rattle.ed_types.specs.declared.script.Command.TheVariants.{OpenView, CloseView, LoadFile, SendMessage, Expect}
 use Rattle.ed_types.specs.Notices.{Response}
@@ -31,7 +30,7 @@ use Rattle.ed_model.specs.Performing.{Scene, scene_of, document_after, step_made
 use Rattle.ed_model.specs.Changes.{changed_document, restyled, styled}
 use Rattle.ed_model.specs.InverseLaws.{Fits, FitInTurn, after_undo, after_redo, UndoMakesItsSteps, RedoMakesItsSteps, UndoThenRedoGivesBackTheText}
 use Rattle.ed_model.specs.UndoLaws.{undone_text, redone_text, BegunStepIsOneTransactionMore, JoinedStepKeepsEarlierTexts, BegunContainerStepIsOneTransactionMore, JoinedContainerStepKeepsEarlierTexts, UndoKeepsEarlierTexts, RedoIsOneTransactionMore, SealsKeepEarlierTexts}
-use Rattle.ed_model.specs.Table.{table, table_from_view, table_from_kind, table_if_known, request, answered, with_recording, record_note, plan_of, opened, closed_view}
+use Rattle.ed_model.specs.Table.{table, request, answered, with_recording, record_note, plan_of, opened, closed_view}
 use Rattle.ed_model.specs.TableLaws.{Answered}
 use Rattle.ed_model.specs.SoundLaws.{IsSound, IsSoundDocument, FitsText, AreStepsOf, CommandKeepsSound}
 use Rattle.ed_model.specs.PlansFit.{IsSoundRequest, IsFitPlan, PlansFit, EditStepsFit, UndoStepsFit, RedoStepsFit}
@@ -423,11 +422,11 @@ module _ (c : Cited) (saved : List ℕ) where
   abbrev Go : ℕ → Session → Session → Type 0
   Go id s t = AllFrom (Keeps id) (keeps_same id) (keeps_relisted id) s.next_document s.documents t.documents
 
-  message_keeps : (known : Kind → Bool) (id : ℕ) (s : Session) (view : ℕ) (m : Message)
+  message_keeps : (id : ℕ) (s : Session) (view : ℕ) (m : Message)
       → ((v : View) (kind : Kind) → view_at s.views view ≡ Some v → v.document ≡ id → kind_of m.number ≡ Some kind → is_saving kind ≡ false) → IsSound s
-      → AnsweredFrom (Keeps id) (keeps_same id) (keeps_relisted id) s (table known s view m)
-  message_keeps known id s view m barred sound =
-      table_from (Keeps id) (keeps_same id) (keeps_relisted id) c.fits known s view m sound
+      → AnsweredFrom (Keeps id) (keeps_same id) (keeps_relisted id) s (table s view m)
+  message_keeps id s view m barred sound =
+      table_from (Keeps id) (keeps_same id) (keeps_relisted id) c.fits s view m sound
       (λ kind r p sent own may saved_there.
       let h : IsSoundRequest r = sent.0 in
       let here : r.view.document ≡ id = sym (document_id r.session.documents r.view.document r.document h.document) ∙ own in
@@ -451,42 +450,42 @@ module _ (c : Cited) (saved : List ℕ) where
   after_closing_goes id s (Ok t) h = h
   after_closing_goes id s (Err refusal) h = go_same id s
 
-  loaded_keeps : (known : Kind → Bool) (id : ℕ) (s : Session) (view : ℕ) (v : Option View) (file : Option (List ℕ)) → IsSound s
-      → AnsweredFrom (Keeps id) (keeps_same id) (keeps_relisted id) s (loaded known s view v file)
-  loaded_keeps known id s view None file sound = tt
-  loaded_keeps known id s view (Some v) None sound = tt
-  loaded_keeps known id s view (Some v) (Some bytes) sound =
-      message_keeps known id s view (set_text_message bytes) (λ w kind sees on is. set_text_saves_nothing kind is) sound
+  loaded_keeps : (id : ℕ) (s : Session) (view : ℕ) (v : Option View) (file : Option (List ℕ)) → IsSound s
+      → AnsweredFrom (Keeps id) (keeps_same id) (keeps_relisted id) s (loaded s view v file)
+  loaded_keeps id s view None file sound = tt
+  loaded_keeps id s view (Some v) None sound = tt
+  loaded_keeps id s view (Some v) (Some bytes) sound =
+      message_keeps id s view (set_text_message bytes) (λ w kind sees on is. set_text_saves_nothing kind is) sound
     where
       set_text_saves_nothing : (kind : Kind) → kind_of (set_text_message bytes).number ≡ Some kind → is_saving kind ≡ false
       set_text_saves_nothing kind is = let same : SetText ≡ kind = cc in subst (λ (k : Kind). is_saving k ≡ false) same refl
 
-  command_goes : (known : Kind → Bool) (files : List (List ℕ)) (id : ℕ) (command : Command) (s : Running) → IsSound s.session → SetsNoSavePoint id s.session command
-      → Go id s.session (after_command known files command s).0.session
-  command_goes known files id OpenView s sound none = after_opening_goes id s.session (opened s.session) (opening_from (Keeps id) (keeps_same id) (keeps_relisted id) s.session)
-  command_goes known files id (CloseView view) s sound none =
+  command_goes : (files : List (List ℕ)) (id : ℕ) (command : Command) (s : Running) → IsSound s.session → SetsNoSavePoint id s.session command
+      → Go id s.session (after_command files command s).0.session
+  command_goes files id OpenView s sound none = after_opening_goes id s.session (opened s.session) (opening_from (Keeps id) (keeps_same id) (keeps_relisted id) s.session)
+  command_goes files id (CloseView view) s sound none =
       after_closing_goes id s.session (closed_view s.session (view_at s.session.views view)) (closing_from (Keeps id) (keeps_same id) (keeps_relisted id) s.session (view_at s.session.views view) sound)
-  command_goes known files id (LoadFile view file) s sound none =
-      after_message_goes id s.session _ (loaded_keeps known id s.session view (view_at s.session.views view) (file_at files file) sound)
-  command_goes known files id (SendMessage view message) s sound none = after_message_goes id s.session _ (message_keeps known id s.session view message none sound)
-  command_goes known files id (Expect value) s sound none = go_same id s.session
+  command_goes files id (LoadFile view file) s sound none =
+      after_message_goes id s.session _ (loaded_keeps id s.session view (view_at s.session.views view) (file_at files file) sound)
+  command_goes files id (SendMessage view message) s sound none = after_message_goes id s.session _ (message_keeps id s.session view message none sound)
+  command_goes files id (Expect value) s sound none = go_same id s.session
 
-  run_saved : CommandKeepsSound → (known : Kind → Bool) (files : List (List ℕ)) (cs : List Command) (s : Running) (id : ℕ) (d e : Document) → IsSound s.session → document_at s.session.documents id ≡ Some d
-      → SavedIn saved d → KeepsTheSavePoint known files id cs s → document_at (run_to known files cs s).session.documents id ≡ Some e → SavedIn saved e
-  run_saved keeps known files [] s id d e sound found there kept still = let same : d ≡ e = cc in subst (SavedIn saved) same there
-  run_saved keeps known files (command ∷ cs) s id d e sound found there kept still =
-      let t = (after_command known files command s).0 in
-      go (document_at t.session.documents id) refl kept.1 (keeps known files command s sound) (command_goes known files id command s sound kept.0)
-      (λ x sound_after found_after there_after. run_saved keeps known files cs t id x e sound_after found_after there_after kept.2 still)
+  run_saved : CommandKeepsSound → (files : List (List ℕ)) (cs : List Command) (s : Running) (id : ℕ) (d e : Document) → IsSound s.session → document_at s.session.documents id ≡ Some d
+      → SavedIn saved d → KeepsTheSavePoint files id cs s → document_at (run_to files cs s).session.documents id ≡ Some e → SavedIn saved e
+  run_saved keeps files [] s id d e sound found there kept still = let same : d ≡ e = cc in subst (SavedIn saved) same there
+  run_saved keeps files (command ∷ cs) s id d e sound found there kept still =
+      let t = (after_command files command s).0 in
+      go (document_at t.session.documents id) refl kept.1 (keeps files command s sound) (command_goes files id command s sound kept.0)
+      (λ x sound_after found_after there_after. run_saved keeps files cs t id x e sound_after found_after there_after kept.2 still)
     where
-      go : (o : Option Document) → document_at (after_command known files command s).0.session.documents id ≡ o → IsCollected (document_at s.session.documents id) (document_at (after_command known files command s).0.session.documents id)
-          → IsSound (after_command known files command s).0.session → Go id s.session (after_command known files command s).0.session
-          → ((x : Document) → IsSound (after_command known files command s).0.session → document_at (after_command known files command s).0.session.documents id ≡ Some x → SavedIn saved x → SavedIn saved e) → SavedIn saved e
+      go : (o : Option Document) → document_at (after_command files command s).0.session.documents id ≡ o → IsCollected (document_at s.session.documents id) (document_at (after_command files command s).0.session.documents id)
+          → IsSound (after_command files command s).0.session → Go id s.session (after_command files command s).0.session
+          → ((x : Document) → IsSound (after_command files command s).0.session → document_at (after_command files command s).0.session.documents id ≡ Some x → SavedIn saved x → SavedIn saved e) → SavedIn saved e
       go None gone may sound_after on rest =
-          let t = (after_command known files command s).0 in
+          let t = (after_command files command s).0 in
           let below = found_below 0 s.session.next_document s.session.documents id d sound.document_ids found in
-          let rises = next_document_rises known files command s in
-          let none = document_ids_never_come_back c.fits keeps known files cs t id sound_after (omega arith) gone in
+          let rises = next_document_rises files command s in
+          let none = document_ids_never_come_back c.fits keeps files cs t id sound_after (omega arith) gone in
           absurd (cc)
       go (Some x) here may sound_after on rest =
           let from : From (Keeps id) (keeps_same id) (keeps_relisted id) s.session.next_document (Some d) x =
@@ -495,8 +494,8 @@ module _ (c : Cited) (saved : List ℕ) where
           rest x sound_after here (from (document_id s.session.documents id d found) collected there)
 
 pub unmodified_is_the_saved_text : Cited → CommandKeepsSound → UnmodifiedIsTheSavedText
-unmodified_is_the_saved_text c keeps known files commands s id d e sound found at kept still at_again =
-    saved_now (text_of d) (text_of e) e.history at_again (run_saved c (text_of d) keeps known files commands s id d e sound found (saved_first (text_of d) d.history at) kept still)
+unmodified_is_the_saved_text c keeps files commands s id d e sound found at kept still at_again =
+    saved_now (text_of d) (text_of e) e.history at_again (run_saved c (text_of d) keeps files commands s id d e sound found (saved_first (text_of d) d.history at) kept still)
 
 -- GETMODIFY.
 
@@ -510,13 +509,7 @@ zero_only_if false true r done e zero_is = let one : done.1.value ≡ pos 1 = ap
 zero_only_if false false r done e zero_is = let one : done.1.value ≡ pos 1 = ap (λ (x : Session × Response). x.1.value) e in absurd (cc)
 
 pub get_modify_tells : GetModifyTells
-get_modify_tells known s view m v d done is sees finds e zero_is = go (known GetModify) refl
-  where
-    go : (b : Bool) → known GetModify ≡ b → at_save_point d.history ≡ true
-    go true knows =
-        let r = request s v d m in
-        let here : table known s view m ≡ Ok (r.session, with_recording GetModify r (quiet (flag (not (at_save_point d.history))))) = table_at known s view m v GetModify d sees is knows finds in
-        zero_only_if (at_save_point d.history) (v.records && (marks_of GetModify).r) r done (let both : done ≡ (r.session, with_recording GetModify r (quiet (flag (not (at_save_point d.history))))) = cc in both) zero_is
-    go false unknown =
-        let no : table known s view m ≡ Err UnknownMessage = ap (table_from_view known s m) sees ∙ ap (table_from_kind known s v m) is ∙ ap (λ b. table_if_known b s v GetModify m) unknown in
-        absurd (cc)
+get_modify_tells s view m v d done is sees finds e zero_is =
+    let r = request s v d m in
+    let here : table s view m ≡ Ok (r.session, with_recording GetModify r (quiet (flag (not (at_save_point d.history))))) = table_at s view m v GetModify d sees is finds in
+    zero_only_if (at_save_point d.history) (v.records && (marks_of GetModify).r) r done (let both : done ≡ (r.session, with_recording GetModify r (quiet (flag (not (at_save_point d.history))))) = cc in both) zero_is

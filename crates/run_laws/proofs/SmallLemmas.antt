@@ -31,10 +31,10 @@ answered_is_other kind r l (Err OutOfMemory) h = h
 answered_is_other kind r l (Err other) h = tt
 
 pub messages_never_want_memory : MessagesNeverWantMemory
-messages_never_want_memory known s view m =
-    not_memory (table known s view m)
-    (of_table IsOther tt tt tt known s m view
-    (λ v sees kind is knows d finds. answered_is_other kind (request s v d m) (leave_of kind) (plan_of kind (request s v d m)) (plan_is_shaped kind (request s v d m))))
+messages_never_want_memory s view m =
+    not_memory (table s view m)
+    (of_table IsOther tt tt tt s m view
+    (λ v sees kind is d finds. answered_is_other kind (request s v d m) (leave_of kind) (plan_of kind (request s v d m)) (plan_is_shaped kind (request s v d m))))
 
 either_is_other : {A : Type 0} (b : Bool) (x y : Result A Refusal) → IsOther x → IsOther y → IsOther (cond b x y)
 either_is_other true x y h k = h

@@ -70,7 +70,7 @@ changed_plain bytes (change.NeedStyle start past) d h = h
 changed_plain bytes (change.FillIndicator indicator start count value) d h = h
 
 pub documents_without_styles_have_none : PlansFit → CommandKeepsSound → NewSessionIsSound → DocumentsWithoutStylesHaveNone
-documents_without_styles_have_none fits keeps new known files commands limits =
+documents_without_styles_have_none fits keeps new files commands limits =
     run_holds HasNoStyles 0 (λ e le made. subst HasNoStyles (sym made.1) (λ none. tt)) (λ e views held_by_callers h. h)
     (λ step d h none. plain_edited step d.cells (h none)) (λ h d was. was) changed_plain
-    fits keeps known files commands (starting (new_session limits)) (new limits) (omega arith) (λ id d e. absurd (cc))
+    fits keeps files commands (starting (new_session limits)) (new limits) (omega arith) (λ id d e. absurd (cc))

@@ -70,24 +70,24 @@ done_unless_too_long (Err TooLong) h fits = absurd (fits refl)
 done_unless_too_long (Err other) h fits = absurd h
 
 -- a kind whose messages to views of documents that are there are answered
-abbrev IsAlwaysAnswered : (Kind → Bool) → Kind → Type 0
-IsAlwaysAnswered known kind =
+abbrev IsAlwaysAnswered : Kind → Type 0
+IsAlwaysAnswered kind =
     (s : Session) (view : ℕ) (m : Message) (v : View) (d : Document) → IsSound s → kind_of m.number ≡ Some kind → view_at s.views view ≡ Some v → document_at s.documents v.document ≡ Some d
-    → (done : Session × Response) × (table known s view m ≡ Ok done)
+    → (done : Session × Response) × (table s view m ≡ Ok done)
 
-undo_is_answered : (known : Kind → Bool) → known Undo ≡ true → UndoIsNeverTooLong → IsAlwaysAnswered known Undo
-undo_is_answered known knows fits s view m v d sound is sees finds =
+undo_is_answered : UndoIsNeverTooLong → IsAlwaysAnswered Undo
+undo_is_answered fits s view m v d sound is sees finds =
     let r = request s v d m in
-    done_unless_too_long (table known s view m)
-    (subst DoneOrTooLong (sym (table_at known s view m v Undo d sees is knows finds)) (acts_or_too_long Undo r (can_undo d.history) (undo_changes d.history) plan.Undo))
-    (fits known s view m sound is)
+    done_unless_too_long (table s view m)
+    (subst DoneOrTooLong (sym (table_at s view m v Undo d sees is finds)) (acts_or_too_long Undo r (can_undo d.history) (undo_changes d.history) plan.Undo))
+    (fits s view m sound is)
 
-redo_is_answered : (known : Kind → Bool) → known Redo ≡ true → RedoIsNeverTooLong → IsAlwaysAnswered known Redo
-redo_is_answered known knows fits s view m v d sound is sees finds =
+redo_is_answered : RedoIsNeverTooLong → IsAlwaysAnswered Redo
+redo_is_answered fits s view m v d sound is sees finds =
     let r = request s v d m in
-    done_unless_too_long (table known s view m)
-    (subst DoneOrTooLong (sym (table_at known s view m v Redo d sees is knows finds)) (acts_or_too_long Redo r (can_redo d.history) (redo_changes d.history) plan.Redo))
-    (fits known s view m sound is)
+    done_unless_too_long (table s view m)
+    (subst DoneOrTooLong (sym (table_at s view m v Redo d sees is finds)) (acts_or_too_long Redo r (can_redo d.history) (redo_changes d.history) plan.Redo))
+    (fits s view m sound is)
 
 -- Commands that go aside leave the document alone.
 
@@ -105,46 +105,46 @@ closing_alone : ClosingLeavesDocumentsAlone → (id : ℕ) (s : Session) (view :
 closing_alone law id s view (Ok t) sound is d e found still = law s t view sound is id d e (λ none. none) found still
 closing_alone law id s view (Err refusal) sound is d e found still = alone_same id s d e found still
 
-message_alone : MessagesLeaveOtherDocumentsAlone → (known : Kind → Bool) (id : ℕ) (s : Session) (view : ℕ) (m : Message) (v : View) (x : Answered) → IsSound s → view_at s.views view ≡ Some v → (v.document ≡ id → ⊥)
-    → table known s view m ≡ x → LeavesItAlone id s (after_message s x).0.session
-message_alone law known id s view m v (Ok done) sound sees other is d e found still = law known s view m v done sound sees is id d e (λ same. other (sym same)) found still
-message_alone law known id s view m v (Err refusal) sound sees other is d e found still = alone_same id s d e found still
+message_alone : MessagesLeaveOtherDocumentsAlone → (id : ℕ) (s : Session) (view : ℕ) (m : Message) (v : View) (x : Answered) → IsSound s → view_at s.views view ≡ Some v → (v.document ≡ id → ⊥)
+    → table s view m ≡ x → LeavesItAlone id s (after_message s x).0.session
+message_alone law id s view m v (Ok done) sound sees other is d e found still = law s view m v done sound sees is id d e (λ same. other (sym same)) found still
+message_alone law id s view m v (Err refusal) sound sees other is d e found still = alone_same id s d e found still
 
 -- a message to a view of another document, or to none
-others_alone : MessagesLeaveOtherDocumentsAlone → (known : Kind → Bool) (id : ℕ) (s : Session) (view : ℕ) (m : Message) → IsSound s → GoesToOthers id s view → LeavesItAlone id s (after_message s (table known s view m)).0.session
-others_alone law known id s view m sound others =
-    of_table (λ x. table known s view m ≡ x → LeavesItAlone id s (after_message s x).0.session) (λ is. alone_same id s) (λ is. alone_same id s) (λ is. alone_same id s) known s m view
-    (λ v sees kind is knows d finds e. message_alone law known id s view m v _ sound sees (others v sees) e) refl
+others_alone : MessagesLeaveOtherDocumentsAlone → (id : ℕ) (s : Session) (view : ℕ) (m : Message) → IsSound s → GoesToOthers id s view → LeavesItAlone id s (after_message s (table s view m)).0.session
+others_alone law id s view m sound others =
+    of_table (λ x. table s view m ≡ x → LeavesItAlone id s (after_message s x).0.session) (λ is. alone_same id s) (λ is. alone_same id s) (λ is. alone_same id s) s m view
+    (λ v sees kind is d finds e. message_alone law id s view m v _ sound sees (others v sees) e) refl
 
 query_alone : (id : ℕ) (s : Session) (x : Answered) → LeavesSession s x → LeavesItAlone id s (after_message s x).0.session
 query_alone id s (Ok done) same d e found still = alone_same id s d e found (ap (λ (t : Session). document_at t.documents id) (sym same) ∙ still)
 query_alone id s (Err refusal) same d e found still = alone_same id s d e found still
 
-loaded_alone : MessagesLeaveOtherDocumentsAlone → (known : Kind → Bool) (id : ℕ) (s : Session) (view : ℕ) (o : Option View) (file : Option (List ℕ)) → IsSound s → GoesToOthers id s view
-    → LeavesItAlone id s (after_message s (loaded known s view o file)).0.session
-loaded_alone law known id s view None file sound others = alone_same id s
-loaded_alone law known id s view (Some v) None sound others = alone_same id s
-loaded_alone law known id s view (Some v) (Some bytes) sound others = others_alone law known id s view (set_text_message bytes) sound others
+loaded_alone : MessagesLeaveOtherDocumentsAlone → (id : ℕ) (s : Session) (view : ℕ) (o : Option View) (file : Option (List ℕ)) → IsSound s → GoesToOthers id s view
+    → LeavesItAlone id s (after_message s (loaded s view o file)).0.session
+loaded_alone law id s view None file sound others = alone_same id s
+loaded_alone law id s view (Some v) None sound others = alone_same id s
+loaded_alone law id s view (Some v) (Some bytes) sound others = others_alone law id s view (set_text_message bytes) sound others
 
-aside_alone : Cited → (known : Kind → Bool) (files : List (List ℕ)) (id : ℕ) (c : Command) (s : Running) → IsSound s.session → GoesAside id s.session c → LeavesItAlone id s.session (after_command known files c s).0.session
-aside_alone laws known files id OpenView s sound aside = opening_alone laws.opening id s.session (opened s.session) refl
-aside_alone laws known files id (CloseView view) s sound aside = closing_alone laws.closing id s.session view (closed s.session view) sound refl
-aside_alone laws known files id (LoadFile view file) s sound aside = loaded_alone laws.messages known id s.session view (view_at s.session.views view) (file_at files file) sound aside
-aside_alone laws known files id (SendMessage view m) s sound (inl others) = others_alone laws.messages known id s.session view m sound others
-aside_alone laws known files id (SendMessage view m) s sound (inr query) = query_alone id s.session (table known s.session view m) (laws.queries known s.session view m query.0 query.1 query.2)
-aside_alone laws known files id (Expect value) s sound aside = alone_same id s.session
+aside_alone : Cited → (files : List (List ℕ)) (id : ℕ) (c : Command) (s : Running) → IsSound s.session → GoesAside id s.session c → LeavesItAlone id s.session (after_command files c s).0.session
+aside_alone laws files id OpenView s sound aside = opening_alone laws.opening id s.session (opened s.session) refl
+aside_alone laws files id (CloseView view) s sound aside = closing_alone laws.closing id s.session view (closed s.session view) sound refl
+aside_alone laws files id (LoadFile view file) s sound aside = loaded_alone laws.messages id s.session view (view_at s.session.views view) (file_at files file) sound aside
+aside_alone laws files id (SendMessage view m) s sound (inl others) = others_alone laws.messages id s.session view m sound others
+aside_alone laws files id (SendMessage view m) s sound (inr query) = query_alone id s.session (table s.session view m) (laws.queries s.session view m query.0 query.1 query.2)
+aside_alone laws files id (Expect value) s sound aside = alone_same id s.session
 
 -- A document that is there at the end is there all the time.
-still_there : Cited → (known : Kind → Bool) (files : List (List ℕ)) (c : Command) (cs : List Command) (s : Running) (id : ℕ) (d e : Document) → IsSound s.session → document_at s.session.documents id ≡ Some d
-    → document_at (run_to known files cs (after_command known files c s).0).session.documents id ≡ Some e → (x : Document) × (document_at (after_command known files c s).0.session.documents id ≡ Some x)
-still_there laws known files c cs s id d e sound found end = go (document_at (after_command known files c s).0.session.documents id) refl
+still_there : Cited → (files : List (List ℕ)) (c : Command) (cs : List Command) (s : Running) (id : ℕ) (d e : Document) → IsSound s.session → document_at s.session.documents id ≡ Some d
+    → document_at (run_to files cs (after_command files c s).0).session.documents id ≡ Some e → (x : Document) × (document_at (after_command files c s).0.session.documents id ≡ Some x)
+still_there laws files c cs s id d e sound found end = go (document_at (after_command files c s).0.session.documents id) refl
   where
-    go : (o : Option Document) → document_at (after_command known files c s).0.session.documents id ≡ o → (x : Document) × (document_at (after_command known files c s).0.session.documents id ≡ Some x)
+    go : (o : Option Document) → document_at (after_command files c s).0.session.documents id ≡ o → (x : Document) × (document_at (after_command files c s).0.session.documents id ≡ Some x)
     go (Some x) there = (x, there)
     go None gone =
         let below = found_below 0 s.session.next_document s.session.documents id d sound.document_ids found in
-        let rises = next_document_rises known files c s in
-        let none = document_ids_never_come_back laws.fits laws.keeps known files cs (after_command known files c s).0 id (laws.keeps known files c s sound) (omega arith) gone in
+        let rises = next_document_rises files c s in
+        let none = document_ids_never_come_back laws.fits laws.keeps files cs (after_command files c s).0 id (laws.keeps files c s sound) (omega arith) gone in
         absurd (cc)
 
 alone_through : (id : ℕ) (s t u : Session) (l : LeavesAlone id s t) (x : Document) → document_at u.documents id ≡ Some x → IsLeftAlone l.after x → LeavesAlone id s u
@@ -160,14 +160,14 @@ alone_here : (id : ℕ) (s : Session) (x : Document) → document_at s.documents
 alone_here id s x found = record { before = x; after = x; found = found; still_found = found; left = record { text = refl; history = refl; read_only = refl } }
 
 -- the messages that act, answered one after another
-abbrev Chain : (Kind → Bool) → Kind → ℕ → ℕ → Session → Session → Type 0
-Chain known kind id k s t = (ms : List (ℕ × Message)) × (length ms ≡ k) × AreAnswered known kind id ms s t
+abbrev Chain : Kind → ℕ → ℕ → Session → Session → Type 0
+Chain kind id k s t = (ms : List (ℕ × Message)) × (length ms ≡ k) × AreAnswered kind id ms s t
 
-module _ (laws : Cited) (known : Kind → Bool) (files : List (List ℕ)) (kind : Kind) (answers : IsAlwaysAnswered known kind) (id : ℕ) where
+module _ (laws : Cited) (files : List (List ℕ)) (kind : Kind) (answers : IsAlwaysAnswered kind) (id : ℕ) where
   acts_next : (k : ℕ) (c : Command) (cs : List Command) (origin : Session) (s : Running) (e : Document) → IsSound s.session → LeavesAlone id origin s.session → Acts kind id s.session c
-      → document_at (run_to known files cs (after_command known files c s).0).session.documents id ≡ Some e
-      → ((o : Session) → LeavesAlone id o (after_command known files c s).0.session → Chain known kind id k o (run_to known files cs (after_command known files c s).0).session)
-      → Chain known kind id (suc k) origin (run_to known files cs (after_command known files c s).0).session
+      → document_at (run_to files cs (after_command files c s).0).session.documents id ≡ Some e
+      → ((o : Session) → LeavesAlone id o (after_command files c s).0.session → Chain kind id k o (run_to files cs (after_command files c s).0).session)
+      → Chain kind id (suc k) origin (run_to files cs (after_command files c s).0).session
   acts_next k OpenView cs origin s e sound alone acts end rest = absurd acts
   acts_next k (CloseView view) cs origin s e sound alone acts end rest = absurd acts
   acts_next k (LoadFile view file) cs origin s e sound alone acts end rest = absurd acts
@@ -176,9 +176,9 @@ module _ (laws : Cited) (known : Kind → Bool) (files : List (List ℕ)) (kind 
       let v = acts.1.0 in
       let here : document_at s.session.documents v.document ≡ Some alone.after = ap (document_at s.session.documents) acts.1.2 ∙ alone.still_found in
       let done = answers s.session view m v alone.after sound acts.0 acts.1.1 here in
-      let next : (after_command known files (SendMessage view m) s).0.session ≡ done.0.0 = ap (λ (x : Answered). (after_message s.session x).0.session) done.1 in
-      let there = still_there laws known files (SendMessage view m) cs s id alone.after e sound alone.still_found end in
-      let after = rest (after_command known files (SendMessage view m) s).0.session (alone_here id (after_command known files (SendMessage view m) s).0.session there.0 there.1) in (
+      let next : (after_command files (SendMessage view m) s).0.session ≡ done.0.0 = ap (λ (x : Answered). (after_message s.session x).0.session) done.1 in
+      let there = still_there laws files (SendMessage view m) cs s id alone.after e sound alone.still_found end in
+      let after = rest (after_command files (SendMessage view m) s).0.session (alone_here id (after_command files (SendMessage view m) s).0.session there.0 there.1) in (
         (view, m) ∷ after.0,
         ap suc after.1,
         (
@@ -186,36 +186,36 @@ module _ (laws : Cited) (known : Kind → Bool) (files : List (List ℕ)) (kind 
           alone,
           done.0,
           record { is_kind = acts.0; view = v; found = acts.1.1; document = acts.1.2; answered = done.1 },
-          subst (λ (x : Session). AreAnswered known kind id after.0 x (run_to known files cs (after_command known files (SendMessage view m) s).0).session) next after.2,
+          subst (λ (x : Session). AreAnswered kind id after.0 x (run_to files cs (after_command files (SendMessage view m) s).0).session) next after.2,
         ),
       )
 
   aside_next : (c : Command) (cs : List Command) (origin : Session) (s : Running) (e : Document) → IsSound s.session → (alone : LeavesAlone id origin s.session) → GoesAside id s.session c
-      → document_at (run_to known files cs (after_command known files c s).0).session.documents id ≡ Some e → LeavesAlone id origin (after_command known files c s).0.session
+      → document_at (run_to files cs (after_command files c s).0).session.documents id ≡ Some e → LeavesAlone id origin (after_command files c s).0.session
   aside_next c cs origin s e sound alone aside end =
-      let there = still_there laws known files c cs s id alone.after e sound alone.still_found end in
-      alone_through id origin s.session (after_command known files c s).0.session alone there.0 there.1
-      (aside_alone laws known files id c s sound aside alone.after there.0 alone.still_found there.1)
+      let there = still_there laws files c cs s id alone.after e sound alone.still_found end in
+      alone_through id origin s.session (after_command files c s).0.session alone there.0 there.1
+      (aside_alone laws files id c s sound aside alone.after there.0 alone.still_found there.1)
 
-  chained : (cs : List Command) (k : ℕ) (origin : Session) (s : Running) (e : Document) → IsSound s.session → LeavesAlone id origin s.session → Act known files kind id k cs s
-      → document_at (run_to known files cs s).session.documents id ≡ Some e → Chain known kind id k origin (run_to known files cs s).session
+  chained : (cs : List Command) (k : ℕ) (origin : Session) (s : Running) (e : Document) → IsSound s.session → LeavesAlone id origin s.session → Act files kind id k cs s
+      → document_at (run_to files cs s).session.documents id ≡ Some e → Chain kind id k origin (run_to files cs s).session
   chained [] zero origin s e sound alone act end = ([], refl, alone)
   chained [] (suc k) origin s e sound alone act end = absurd act
   chained (c ∷ cs) zero origin s e sound alone act end =
-      chained cs zero origin (after_command known files c s).0 e (laws.keeps known files c s sound) (aside_next c cs origin s e sound alone act.0 end) act.1 end
+      chained cs zero origin (after_command files c s).0 e (laws.keeps files c s sound) (aside_next c cs origin s e sound alone act.0 end) act.1 end
   chained (c ∷ cs) (suc k) origin s e sound alone (inl act) end =
-      acts_next k c cs origin s e sound alone act.0 end (λ o l. chained cs k o (after_command known files c s).0 e (laws.keeps known files c s sound) l act.1 end)
+      acts_next k c cs origin s e sound alone act.0 end (λ o l. chained cs k o (after_command files c s).0 e (laws.keeps files c s sound) l act.1 end)
   chained (c ∷ cs) (suc k) origin s e sound alone (inr act) end =
-      chained cs (suc k) origin (after_command known files c s).0 e (laws.keeps known files c s sound) (aside_next c cs origin s e sound alone act.0 end) act.1 end
+      chained cs (suc k) origin (after_command files c s).0 e (laws.keeps files c s sound) (aside_next c cs origin s e sound alone act.0 end) act.1 end
 
 -- a document there at the end of a list of commands, and at its start, was there before the last of them
-there_before : Cited → (known : Kind → Bool) (files : List (List ℕ)) (cs : List Command) (s : Running) (id : ℕ) (x : Document) → IsSound s.session → id < s.session.next_document
-    → document_at (run_to known files cs s).session.documents id ≡ Some x → (d : Document) × (document_at s.session.documents id ≡ Some d)
-there_before laws known files cs s id x sound below end = go (document_at s.session.documents id) refl
+there_before : Cited → (files : List (List ℕ)) (cs : List Command) (s : Running) (id : ℕ) (x : Document) → IsSound s.session → id < s.session.next_document
+    → document_at (run_to files cs s).session.documents id ≡ Some x → (d : Document) × (document_at s.session.documents id ≡ Some d)
+there_before laws files cs s id x sound below end = go (document_at s.session.documents id) refl
   where
     go : (o : Option Document) → document_at s.session.documents id ≡ o → (d : Document) × (document_at s.session.documents id ≡ Some d)
     go (Some d) there = (d, there)
-    go None gone = let none = document_ids_never_come_back laws.fits laws.keeps known files cs s id sound below gone in absurd (cc)
+    go None gone = let none = document_ids_never_come_back laws.fits laws.keeps files cs s id sound below gone in absurd (cc)
 
 text_there : (id : ℕ) (s : Session) (e : Document) (text : List ℕ) → document_at s.documents id ≡ Some e → HasText id s text → text_of e ≡ text
 text_there id s e text found has = let same : has.0 ≡ e = same_found (document_at s.documents id) has.0 e has.1 found in ap text_of (sym same) ∙ has.2
@@ -224,37 +224,37 @@ text_there id s e text found has = let same : has.0 ≡ e = same_found (document
     same_found o a b p q = cc
 
 pub undo_goes_back_over_commands : Cited → UndoGoesBackOverCommands
-undo_goes_back_over_commands laws known files limits before undos redos id k d knows_undo knows_redo found written depth enough act =
+undo_goes_back_over_commands laws files limits before undos redos id k d found written depth enough act =
     let start = starting (new_session limits) in
-    let s = run_to known files before start in
-    let t = run_to known files undos s in
-    let sound : IsSound s.session = laws.sound known files before limits in
+    let s = run_to files before start in
+    let t = run_to files undos s in
+    let sound : IsSound s.session = laws.sound files before limits in
     let sound_after : IsSound t.session = run_keeps undos s sound in
-    let undo = undo_is_answered known knows_undo laws.undo_fits in
-    let redo = redo_is_answered known knows_redo laws.redo_fits in (
+    let undo = undo_is_answered laws.undo_fits in
+    let redo = redo_is_answered laws.redo_fits in (
       (λ e end.
-          let chain = chained laws known files Undo undo id undos k s.session s e sound (alone_here id s.session d found) act end in
-          let text = laws.there known s.session t.session id d chain.0 found written depth (subst (λ n. n ≤ length d.history.past) (sym chain.1) enough) chain.2 in
-          laws.earlier known files before limits id d found k enough
+          let chain = chained laws files Undo undo id undos k s.session s e sound (alone_here id s.session d found) act end in
+          let text = laws.there s.session t.session id d chain.0 found written depth (subst (λ n. n ≤ length d.history.past) (sym chain.1) enough) chain.2 in
+          laws.earlier files before limits id d found k enough
           ∙ ap Some (sym (text_there id t.session e _ end text ∙ ap (λ n. undone_text n d.history.past (text_of d)) chain.1))),
       (λ again e end.
           let below = found_below 0 s.session.next_document s.session.documents id d sound.document_ids found in
           let rises = next_rises undos s in
-          let there = there_before laws known files redos t id e sound_after (omega arith) end in
-          let back = chained laws known files Undo undo id undos k s.session s there.0 sound (alone_here id s.session d found) act there.1 in
-          let on = chained laws known files Redo redo id redos k t.session t e sound_after (alone_here id t.session there.0 there.1) again end in
-          let u = run_to known files redos t in
-          let texts = laws.there_and_back known s.session t.session u.session id d back.0 on.0 sound found written depth (subst (λ n. n ≤ length d.history.past) (sym back.1) enough) back.2 (on.1 ∙ sym back.1) on.2 in
+          let there = there_before laws files redos t id e sound_after (omega arith) end in
+          let back = chained laws files Undo undo id undos k s.session s there.0 sound (alone_here id s.session d found) act there.1 in
+          let on = chained laws files Redo redo id redos k t.session t e sound_after (alone_here id t.session there.0 there.1) again end in
+          let u = run_to files redos t in
+          let texts = laws.there_and_back s.session t.session u.session id d back.0 on.0 sound found written depth (subst (λ n. n ≤ length d.history.past) (sym back.1) enough) back.2 (on.1 ∙ sym back.1) on.2 in
           text_there id u.session e (text_of d) end texts.1),
     )
   where
-    run_keeps : (cs : List Command) (s : Running) → IsSound s.session → IsSound (run_to known files cs s).session
+    run_keeps : (cs : List Command) (s : Running) → IsSound s.session → IsSound (run_to files cs s).session
     run_keeps [] s sound = sound
-    run_keeps (c ∷ cs) s sound = run_keeps cs (after_command known files c s).0 (laws.keeps known files c s sound)
+    run_keeps (c ∷ cs) s sound = run_keeps cs (after_command files c s).0 (laws.keeps files c s sound)
 
-    next_rises : (cs : List Command) (s : Running) → s.session.next_document ≤ (run_to known files cs s).session.next_document
+    next_rises : (cs : List Command) (s : Running) → s.session.next_document ≤ (run_to files cs s).session.next_document
     next_rises [] s = omega arith
     next_rises (c ∷ cs) s =
-        let first = next_document_rises known files c s in
-        let rest = next_rises cs (after_command known files c s).0 in
+        let first = next_document_rises files c s in
+        let rest = next_rises cs (after_command files c s).0 in
         omega arith

@@ -1,6 +1,5 @@
 -- Handles are given once: a handle that no marker of the document has any more, none has ever after.
-use Rattle.std.specs.Prelude.{◌≡◌, ℕ, ◌<◌, Bool, List, Some}
-use Rattle.ed_types.specs.declared.kind.Kind.{Kind}
+use Rattle.std.specs.Prelude.{◌≡◌, ℕ, ◌<◌, List, Some}
 use Rattle.ed_types.specs.declared.script.Command.{Command}
 use Rattle.ed_model.specs.Session.{Document, document_at}
 use Rattle.ed_model.specs.SoundLaws.{IsSound, occurrences, handles_in}
@@ -12,6 +11,6 @@ IsGone handle d = (handle < d.next_handle) × (occurrences handle (handles_in d.
 
 abbrev pub HandlesNeverComeBack : Type 0
 HandlesNeverComeBack =
-    (known : Kind → Bool) (files : List (List ℕ)) (commands : List Command) (s : Running) (id handle : ℕ) (d e : Document) →
+    (files : List (List ℕ)) (commands : List Command) (s : Running) (id handle : ℕ) (d e : Document) →
     IsSound s.session → document_at s.session.documents id ≡ Some d → IsGone handle d →
-    document_at (run_to known files commands s).session.documents id ≡ Some e → IsGone handle e
+    document_at (run_to files commands s).session.documents id ≡ Some e → IsGone handle e

@@ -1,7 +1,6 @@
 -- Ids are given once: the id of a document or a view that has gone names nothing ever after, and no two views opened in a run have
 -- one id.
-use Rattle.std.specs.Prelude.{◌≡◌, ℕ, ◌<◌, ◌≤◌, Bool, List, [], ◌∷◌, None}
-use Rattle.ed_types.specs.declared.kind.Kind.{Kind}
+use Rattle.std.specs.Prelude.{◌≡◌, ℕ, ◌<◌, ◌≤◌, List, [], ◌∷◌, None}
 use Rattle.ed_types.specs.declared.script.Command.{Command}
 use Rattle.ed_types.specs.declared.script.Outcome.{Outcome}
 use Rattle.ed_types.specs.declared.script.Outcome.TheVariants.{Opened, Closed, Replied, Refused, Expected}
@@ -12,22 +11,22 @@ use Rattle.ed_model.specs.Run.{Running, run_to, outcomes}
 -- an id below the next one that names no document names none after a run
 abbrev pub DocumentIdsNeverComeBack : Type 0
 DocumentIdsNeverComeBack =
-    (known : Kind → Bool) (files : List (List ℕ)) (commands : List Command) (s : Running) (id : ℕ) →
+    (files : List (List ℕ)) (commands : List Command) (s : Running) (id : ℕ) →
     IsSound s.session → id < s.session.next_document → document_at s.session.documents id ≡ None →
-    document_at (run_to known files commands s).session.documents id ≡ None
+    document_at (run_to files commands s).session.documents id ≡ None
 
 -- and of views the same
 abbrev pub ViewIdsNeverComeBack : Type 0
 ViewIdsNeverComeBack =
-    (known : Kind → Bool) (files : List (List ℕ)) (commands : List Command) (s : Running) (id : ℕ) →
+    (files : List (List ℕ)) (commands : List Command) (s : Running) (id : ℕ) →
     id < s.session.next_view → view_at s.session.views id ≡ None →
-    view_at (run_to known files commands s).session.views id ≡ None
+    view_at (run_to files commands s).session.views id ≡ None
 
 -- the next ids never fall
 abbrev pub NextIdsNeverFall : Type 0
 NextIdsNeverFall =
-    (known : Kind → Bool) (files : List (List ℕ)) (commands : List Command) (s : Running) →
-    (s.session.next_document ≤ (run_to known files commands s).session.next_document) × (s.session.next_view ≤ (run_to known files commands s).session.next_view)
+    (files : List (List ℕ)) (commands : List Command) (s : Running) →
+    (s.session.next_document ≤ (run_to files commands s).session.next_document) × (s.session.next_view ≤ (run_to files commands s).session.next_view)
 
 -- the ids of the views that were opened, in order
 abbrev pub opened_ids : List Outcome → List ℕ
@@ -41,5 +40,5 @@ opened_ids (Expected met value ∷ os) = opened_ids os
 -- the views that a run opens have rising ids, from the next one on
 abbrev pub OpenedIdsRise : Type 0
 OpenedIdsRise =
-    (known : Kind → Bool) (files : List (List ℕ)) (commands : List Command) (s : Running) →
-    Rise s.session.next_view (run_to known files commands s).session.next_view (opened_ids (outcomes known files commands s))
+    (files : List (List ℕ)) (commands : List Command) (s : Running) →
+    Rise s.session.next_view (run_to files commands s).session.next_view (opened_ids (outcomes files commands s))

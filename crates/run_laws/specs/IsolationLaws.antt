@@ -37,10 +37,10 @@ without_others s id [] = []
 without_others s id (m ∷ ms) = unless (goes_elsewhere s id m) m (without_others s id ms)
 
 -- what comes of the others, as all are sent; `first` tells who goes elsewhere
-abbrev pub own_outcomes : (Kind → Bool) → Session → ℕ → List Sending → Running → List Outcome
-own_outcomes known first id [] s = []
-own_outcomes known first id (m ∷ ms) s =
-    let done = after_command known [] (sent m) s in unless (goes_elsewhere first id m) done.1 (own_outcomes known first id ms done.0)
+abbrev pub own_outcomes : Session → ℕ → List Sending → Running → List Outcome
+own_outcomes first id [] s = []
+own_outcomes first id (m ∷ ms) s =
+    let done = after_command [] (sent m) s in unless (goes_elsewhere first id m) done.1 (own_outcomes first id ms done.0)
 
 -- the message makes, attaches, holds and releases no document, and takes nothing to the clipboard if it goes elsewhere
 abbrev pub KeepsApart : Session → ℕ → Sending → Type 0
@@ -56,10 +56,10 @@ views_on id views = filter (λ (v : View). v.document == id) views
 -- and the document and its views end the same.
 abbrev pub DocumentsAreApart : Type 0
 DocumentsAreApart =
-    (known : Kind → Bool) (s : Session) (id : ℕ) (messages : List Sending) → IsSound s → AllByRecursion (KeepsApart s id) messages →
+    (s : Session) (id : ℕ) (messages : List Sending) → IsSound s → AllByRecursion (KeepsApart s id) messages →
     let rest = without_others s id messages in
-    let whole = run_to known [] (map sent messages) (starting s) in
-    let alone = run_to known [] (map sent rest) (starting s) in
-    (own_outcomes known s id messages (starting s) ≡ outcomes known [] (map sent rest) (starting s))
+    let whole = run_to [] (map sent messages) (starting s) in
+    let alone = run_to [] (map sent rest) (starting s) in
+    (own_outcomes s id messages (starting s) ≡ outcomes [] (map sent rest) (starting s))
     × (document_at whole.session.documents id ≡ document_at alone.session.documents id)
     × (views_on id whole.session.views ≡ views_on id alone.session.views)

@@ -1,5 +1,5 @@
 -- Macros: what a view records, sent to it again from where it began, ends where it ended.
-use Rattle.std.specs.Prelude.{◌≡◌, ◌⊎◌, ℕ, ◌==◌, Bool, true, false, if◌then◌else◌, List, [], ◌∷◌, map, Some, Ok}
+use Rattle.std.specs.Prelude.{◌≡◌, ◌⊎◌, ℕ, ◌==◌, true, false, if◌then◌else◌, List, [], ◌∷◌, map, Some, Ok}
 use Rattle.std.specs.List.{AllByRecursion}
 use Rattle.ed_types.specs.declared.kind.Kind.{Kind}
 use Rattle.ed_types.specs.declared.kind.Kind.TheVariants.{StartRecord, StopRecord}
@@ -31,15 +31,15 @@ CanStandBetween view m =
     (kind : Kind) → kind_of m.1.number ≡ Some kind → ((marks_of kind).q ≡ true) ⊎ ((m.0 ≡ view) × ((marks_of kind).r ≡ true))
 
 -- what the view records of these messages, from this session on
-abbrev pub recorded_of : (Kind → Bool) → ℕ → List Sending → Session → List Message
-recorded_of known view messages s = recorded_messages view (replies_in (outcomes known [] (map sent messages) (starting s)))
+abbrev pub recorded_of : ℕ → List Sending → Session → List Message
+recorded_of view messages s = recorded_messages view (replies_in (outcomes [] (map sent messages) (starting s)))
 
 -- Between STARTRECORD and STOPRECORD to a view of a sound session come such messages. What it recorded, sent to it from where it began, ends in the last
 -- session, but for whether it records.
 abbrev pub RecordingsCanBeReplayed : Type 0
 RecordingsCanBeReplayed =
-    (known : Kind → Bool) (s : Session) (view : ℕ) (start stop : Message) (messages : List Sending) (begun ended : Session × Response) →
-    IsSound s → kind_of start.number ≡ Some StartRecord → table known s view start ≡ Ok begun →
+    (s : Session) (view : ℕ) (start stop : Message) (messages : List Sending) (begun ended : Session × Response) →
+    IsSound s → kind_of start.number ≡ Some StartRecord → table s view start ≡ Ok begun →
     AllByRecursion (CanStandBetween view) messages →
-    kind_of stop.number ≡ Some StopRecord → table known (run_to known [] (map sent messages) (starting begun.0)).session view stop ≡ Ok ended →
-    without_recording view (run_to known [] (map (sent_to view) (recorded_of known view messages begun.0)) (starting s)).session ≡ ended.0
+    kind_of stop.number ≡ Some StopRecord → table (run_to [] (map sent messages) (starting begun.0)).session view stop ≡ Ok ended →
+    without_recording view (run_to [] (map (sent_to view) (recorded_of view messages begun.0)) (starting s)).session ≡ ended.0

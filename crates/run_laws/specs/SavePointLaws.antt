@@ -1,5 +1,5 @@
 -- The save point: whenever a document counts as unmodified again, its text is that of the save point.
-use Rattle.std.specs.Prelude.{◌≡◌, ◌⊎◌, ℕ, Bool, true, false, ℤ, pos, List, [], ◌∷◌, Option, Some, None, Ok}
+use Rattle.std.specs.Prelude.{◌≡◌, ◌⊎◌, ℕ, true, false, ℤ, pos, List, [], ◌∷◌, Option, Some, None, Ok}
 use Rattle.ed_types.specs.declared.kind.Kind.{Kind}
 use Rattle.ed_types.specs.declared.kind.Kind.TheVariants.{GetModify}
 use Rattle.ed_types.specs.declared.message.Message.{Message}
@@ -30,23 +30,23 @@ IsCollected (Some d) None = Unit {0}
 IsCollected None e = Unit {0}
 
 -- over these commands no save point of the document is set, and no text of it changes that is not collected
-abbrev pub KeepsTheSavePoint : (Kind → Bool) → List (List ℕ) → ℕ → List Command → Running → Type 0
-KeepsTheSavePoint known files id [] s = Unit {0}
-KeepsTheSavePoint known files id (c ∷ cs) s =
-    let t = (after_command known files c s).0 in
-    SetsNoSavePoint id s.session c × IsCollected (document_at s.session.documents id) (document_at t.session.documents id) × KeepsTheSavePoint known files id cs t
+abbrev pub KeepsTheSavePoint : List (List ℕ) → ℕ → List Command → Running → Type 0
+KeepsTheSavePoint files id [] s = Unit {0}
+KeepsTheSavePoint files id (c ∷ cs) s =
+    let t = (after_command files c s).0 in
+    SetsNoSavePoint id s.session c × IsCollected (document_at s.session.documents id) (document_at t.session.documents id) × KeepsTheSavePoint files id cs t
 
 -- From a state of a sound session in which a document counts as unmodified, as it does when a save point is set, and over such
 -- commands: whenever it counts as unmodified again, groups open or not, its text is that of the first state.
 abbrev pub UnmodifiedIsTheSavedText : Type 0
 UnmodifiedIsTheSavedText =
-    (known : Kind → Bool) (files : List (List ℕ)) (commands : List Command) (s : Running) (id : ℕ) (d e : Document) →
-    IsSound s.session → document_at s.session.documents id ≡ Some d → at_save_point d.history ≡ true → KeepsTheSavePoint known files id commands s →
-    document_at (run_to known files commands s).session.documents id ≡ Some e → at_save_point e.history ≡ true → text_of e ≡ text_of d
+    (files : List (List ℕ)) (commands : List Command) (s : Running) (id : ℕ) (d e : Document) →
+    IsSound s.session → document_at s.session.documents id ≡ Some d → at_save_point d.history ≡ true → KeepsTheSavePoint files id commands s →
+    document_at (run_to files commands s).session.documents id ≡ Some e → at_save_point e.history ≡ true → text_of e ≡ text_of d
 
 -- GETMODIFY answers 0 just where the document counts as unmodified
 abbrev pub GetModifyTells : Type 0
 GetModifyTells =
-    (known : Kind → Bool) (s : Session) (view : ℕ) (m : Message) (v : View) (d : Document) (done : Session × Response) →
-    kind_of m.number ≡ Some GetModify → view_at s.views view ≡ Some v → document_at s.documents v.document ≡ Some d → table known s view m ≡ Ok done →
+    (s : Session) (view : ℕ) (m : Message) (v : View) (d : Document) (done : Session × Response) →
+    kind_of m.number ≡ Some GetModify → view_at s.views view ≡ Some v → document_at s.documents v.document ≡ Some d → table s view m ≡ Ok done →
     done.1.value ≡ pos 0 → at_save_point d.history ≡ true

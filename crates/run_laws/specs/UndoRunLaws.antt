@@ -1,5 +1,5 @@
 -- UNDO and REDO over commands: UNDO messages lead back to earlier states of the run, and REDO messages on, whatever goes aside between.
-use Rattle.std.specs.Prelude.{◌≡◌, ◌⊎◌, ℕ, zero, suc, ◌-◌, ◌≤◌, Bool, true, false, List, [], ◌∷◌, length, Some}
+use Rattle.std.specs.Prelude.{◌≡◌, ◌⊎◌, ℕ, zero, suc, ◌-◌, ◌≤◌, true, false, List, [], ◌∷◌, length, Some}
 use Rattle.ed_types.specs.declared.kind.Kind.{Kind}
 use Rattle.ed_types.specs.declared.kind.Kind.TheVariants.{Undo, Redo}
 use Rattle.ed_types.specs.declared.limits.Limits.{Limits}
@@ -32,26 +32,25 @@ GoesAside id s (CloseView view) = Unit {0}
 GoesAside id s (Expect value) = Unit {0}
 
 -- so many of the commands send a message of this kind to a view of the document, and all others go aside
-abbrev pub Act : (Kind → Bool) → List (List ℕ) → Kind → ℕ → ℕ → List Command → Running → Type 0
-Act known files kind id zero [] s = Unit {0}
-Act known files kind id (suc k) [] s = ⊥
-Act known files kind id zero (c ∷ cs) s = GoesAside id s.session c × Act known files kind id zero cs (after_command known files c s).0
-Act known files kind id (suc k) (c ∷ cs) s =
-    (Acts kind id s.session c × Act known files kind id k cs (after_command known files c s).0)
-    ⊎ (GoesAside id s.session c × Act known files kind id (suc k) cs (after_command known files c s).0)
+abbrev pub Act : List (List ℕ) → Kind → ℕ → ℕ → List Command → Running → Type 0
+Act files kind id zero [] s = Unit {0}
+Act files kind id (suc k) [] s = ⊥
+Act files kind id zero (c ∷ cs) s = GoesAside id s.session c × Act files kind id zero cs (after_command files c s).0
+Act files kind id (suc k) (c ∷ cs) s =
+    (Acts kind id s.session c × Act files kind id k cs (after_command files c s).0)
+    ⊎ (GoesAside id s.session c × Act files kind id (suc k) cs (after_command files c s).0)
 
 -- After a run from a new session, of a document that can be written, outside groups, with k transactions or more: over commands of which
 -- k are UNDO to views of it, and the others go aside, the document, if it is still there, has the text of the latest state of the run before
 -- in which its past had k transactions fewer. Over commands more of which k are REDO so, it has the text that it had at first.
 abbrev pub UndoGoesBackOverCommands : Type 0
 UndoGoesBackOverCommands =
-    (known : Kind → Bool) (files : List (List ℕ)) (limits : Limits) (before undos redos : List Command) (id k : ℕ) (d : Document) →
+    (files : List (List ℕ)) (limits : Limits) (before undos redos : List Command) (id k : ℕ) (d : Document) →
     let start = starting (new_session limits) in
-    let s = run_to known files before start in
-    let t = run_to known files undos s in
-    let u = run_to known files redos t in
-    known Undo ≡ true → known Redo ≡ true →
+    let s = run_to files before start in
+    let t = run_to files undos s in
+    let u = run_to files redos t in
     document_at s.session.documents id ≡ Some d → d.read_only ≡ false → d.history.depth ≡ 0 → k ≤ length d.history.past →
-    Act known files Undo id k undos s →
-    ((e : Document) → document_at t.session.documents id ≡ Some e → latest_with (length d.history.past - k) (states_of id (sessions_of known files before start [])) ≡ Some (text_of e))
-    × (Act known files Redo id k redos t → (e : Document) → document_at u.session.documents id ≡ Some e → text_of e ≡ text_of d)
+    Act files Undo id k undos s →
+    ((e : Document) → document_at t.session.documents id ≡ Some e → latest_with (length d.history.past - k) (states_of id (sessions_of files before start [])) ≡ Some (text_of e))
+    × (Act files Redo id k redos t → (e : Document) → document_at u.session.documents id ≡ Some e → text_of e ≡ text_of d)

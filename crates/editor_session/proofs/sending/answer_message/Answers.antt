@@ -7,7 +7,6 @@ use Rattle.ed_model.specs.PlansFit.{IsFitPlanned}
 use Rattle.ed_model.specs.Session.{text_of}
 use Rattle.ed_model.specs.Table.{table, plan_of}
 use Rattle.message_plans.specs.Requested.{session_in}
-use Rattle.message_plans.specs.TableSoFar.{table_so_far}
 use Rattle.editor_session.specs.Answers.{message_with}
 use Rattle.editor_session.specs.Plans.{is_free, planned_without_memory}
 use Rattle.editor_session.proofs.TableWay.{plain_answer, text_handed_out, handed_so, never_refused, free_found, fit_of}
@@ -21,7 +20,7 @@ returns-in-Ok-Answer-clause-answer c =
     let planned : plan_of kind r ≡ Ok (Answer c.in-Ok-Answer.value) = search rules in
     let unheard : (r.view.records && (marks_of kind).r) ≡ false = search rules in
     let same : message_with a.number (to_z w64 (of_z w64 a.w)) (to_z w64 (of_z w64 a.l)) a.text.now ≡ message_with a.number a.w a.l a.text.now = search rules in
-    ap (table table_so_far (session_in a.state.now) a.view) (sym same)
+    ap (table (session_in a.state.now) a.view) (sym same)
     ∙ plain_answer (session_in a.state.now) a.view (message_with a.number (to_z w64 (of_z w64 a.w)) (to_z w64 (of_z w64 a.l)) a.text.now) kind r c.in-Ok-Answer.value c.in-Ok.ensures.found planned unheard
     ∙ ap (λ x. Ok (session_in a.state.now, x)) (search rules)
 
@@ -58,7 +57,7 @@ returns-in-Ok-carry_out-clause-answer c =
     let a = c.args in
     let s = session_in a.state.now in
     let same : message_with a.number (to_z w64 (of_z w64 a.w)) (to_z w64 (of_z w64 a.l)) a.text.now ≡ message_with a.number a.w a.l a.text.now = search rules in
-    subst (λ x. table table_so_far s a.view x ≡ Ok (session_in c.carry_out.new.state, c.in-Ok-carry_out.reply)) same c.in-Ok-carry_out.ensures.answer
+    subst (λ x. table s a.view x ≡ Ok (session_in c.carry_out.new.state, c.in-Ok-carry_out.reply)) same c.in-Ok-carry_out.ensures.answer
 
 pub returns-in-Err-carry_out-clause-free : goal.returns-in-Err-carry_out-clause-free
 returns-in-Err-carry_out-clause-free c free =
@@ -77,10 +76,10 @@ returns-in-Ok-HandOut-clause-answer c =
     let planned : plan_of kind r ≡ Ok (HandOut h.value h.start h.count) = search rules in
     let unheard : (r.view.records && (marks_of kind).r) ≡ false = search rules in
     let same : message_with a.number (to_z w64 (of_z w64 a.w)) (to_z w64 (of_z w64 a.l)) a.text.now ≡ message_with a.number a.w a.l a.text.now = search rules in
-    let is = ap (table table_so_far (session_in a.state.now) a.view) (sym same)
+    let is = ap (table (session_in a.state.now) a.view) (sym same)
         ∙ text_handed_out (session_in a.state.now) a.view (message_with a.number (to_z w64 (of_z w64 a.w)) (to_z w64 (of_z w64 a.l)) a.text.now) kind r h.value h.start h.count c.in-Ok.ensures.found planned unheard in
     let reply : IfOk c.hand_out.result (λ x. x ≡ response h.value (slice_range (text_of r.document) h.start (h.start + h.count)) []) = search rules in
-    handed_so (table table_so_far (session_in a.state.now) a.view (message_with a.number a.w a.l a.text.now)) (session_in a.state.now) (response h.value (slice_range (text_of r.document) h.start (h.start + h.count)) []) c.hand_out.result is reply c.hand_out.ensures.refused
+    handed_so (table (session_in a.state.now) a.view (message_with a.number a.w a.l a.text.now)) (session_in a.state.now) (response h.value (slice_range (text_of r.document) h.start (h.start + h.count)) []) c.hand_out.result is reply c.hand_out.ensures.refused
 
 pub returns-in-Ok-HandOut-clause-refused : goal.returns-in-Ok-HandOut-clause-refused
 returns-in-Ok-HandOut-clause-refused c =
@@ -91,7 +90,7 @@ returns-in-Ok-HandOut-clause-refused c =
     let planned : plan_of kind r ≡ Ok (HandOut h.value h.start h.count) = search rules in
     let unheard : (r.view.records && (marks_of kind).r) ≡ false = search rules in
     let same : message_with a.number (to_z w64 (of_z w64 a.w)) (to_z w64 (of_z w64 a.l)) a.text.now ≡ message_with a.number a.w a.l a.text.now = search rules in
-    let is = ap (table table_so_far (session_in a.state.now) a.view) (sym same)
+    let is = ap (table (session_in a.state.now) a.view) (sym same)
         ∙ text_handed_out (session_in a.state.now) a.view (message_with a.number (to_z w64 (of_z w64 a.w)) (to_z w64 (of_z w64 a.l)) a.text.now) kind r h.value h.start h.count c.in-Ok.ensures.found planned unheard in
     subst (λ t. IfErr t (λ refusal. c.hand_out.result ≡ Err refusal)) (sym is) tt
 
