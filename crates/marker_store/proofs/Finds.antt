@@ -1,13 +1,11 @@
 -- What a search of lines finds.
 use Rattle.std.proofs.Common.{◌≡◌, ℕ, ◌+◌, ◌-◌, ◌<◌, ◌≤◌, ◌≢◌, inl, inr, Bool, true, false, zero, suc, List, [], ◌∷◌, ◌++◌, length, get_or, take, drop, refl, sym, ap, ◌∙◌, arith, append-nil, eq-eqb}
-use Rattle.std.specs.Prelude.{find, reverse, min, not, bit_and, ◌==◌, ◌||◌, Some, None}
+use Rattle.std.specs.Prelude.{find, reverse, ◌==◌, ◌||◌, Some, None}
 use Rattle.std.specs.List.{list_any, range_with_len}
-use Rattle.std.proofs.lemmas.Bool.{cases_eq, cases_lt, ne_eqb}
+use Rattle.std.proofs.lemmas.Bool.{cases_eq, ne_eqb}
 use Rattle.std.proofs.lemmas.List.{take_more, take-append-drop, reverse-append}
 use Rattle.ed_model.specs.Rows.{Marker}
-use Rattle.ed_model.specs.Numbers.{meets}
-use Rattle.ed_model.specs.LinePlans.{mask_of}
-use Rattle.marker_store.specs.Lines.{is_met, has_handle, first_from, last_up_to}
+use Rattle.marker_store.specs.Lines.{has_handle, first_from}
 use Rattle.marker_store.specs.Entries.{Entry, no_entry, AllFrom, row, rows_from}
 use Rattle.marker_store.proofs.Rows.{from_less, row-append, row-here, row-other, row_behind, length-rows}
 use Rattle.marker_store.proofs.Calls.{markers_at}
@@ -106,70 +104,3 @@ module _ (handle n : ℕ) (es : List Entry) where
       ap (λ m. find (has_handle handle (rows_from 0 n es)) (range_with_len 0 m)) size
       ∙ find_some (has_handle handle (rows_from 0 n es)) 0 n e.line (omega arith) (omega arith) (has_at e.line w ∙ any_some handle i es e q l h)
       (λ k m j. has_at k (omega arith) ∙ ap (λ ms. list_any (λ (m : Marker). m.handle == handle) ms) (near k j) ∙ any_none handle k (take i es) a)
-
--- Of a mask.
-
-module _ (mask n : ℕ) (es : List Entry) where
-  met_at : (k : ℕ) → k < n → is_met mask (rows_from 0 n es) k ≡ meets (mask_of (row k es)) mask
-  met_at k h = ap (λ ms. meets (mask_of ms) mask) (markers_at n k es h)
-
-  met_empty : (k : ℕ) → k < n → row k es ≡ [] → is_met mask (rows_from 0 n es) k ≡ false
-  met_empty k h e = met_at k h ∙ ap (λ ms. meets (mask_of ms) mask) e
-
-  met_yes : (k m : ℕ) → k < n → m ≡ mask_of (row k es) → (bit_and m mask ≡ 0 → ⊥) → is_met mask (rows_from 0 n es) k ≡ true
-  met_yes k m h e ne = met_at k h ∙ ap (λ x. meets x mask) (sym e) ∙ ap not (ne_eqb (bit_and m mask) 0 ne)
-
-  met_no : (k m : ℕ) → k < n → m ≡ mask_of (row k es) → bit_and m mask ≡ 0 → is_met mask (rows_from 0 n es) k ≡ false
-  met_no k m h e z = met_at k h ∙ ap (λ x. meets x mask) (sym e) ∙ ap not (eq-eqb (bit_and m mask) 0 z)
-
-  size : length (rows_from 0 n es) ≡ n
-  size = length-rows 0 n es
-
-  -- no line from the one up to the other is met
-  abbrev pub NoneMet : ℕ → ℕ → Type 0
-  NoneMet from to = (k : ℕ) → from ≤ k → k < to → k < n → is_met mask (rows_from 0 n es) k ≡ false
-
-  -- nor is one where no marker is
-  pub none_met_more : (from line to : ℕ) → NoneMet from line → ((k : ℕ) → line ≤ k → k < to → row k es ≡ []) → NoneMet from to
-  none_met_more from line to none empty k a b h =
-      elim (cases_lt k line) [ inl l ↦ none k a l h | inr l ↦ met_empty k h (empty k l b) ]
-
-  pub none_met_next : (from line m : ℕ) → NoneMet from line → m ≡ mask_of (row line es) → bit_and m mask ≡ 0 → NoneMet from (line + 1)
-  none_met_next from line m none e z k a b h =
-      elim (cases_eq k line) [
-        | inl q ↦ rw q (met_no line m (omega arith) e z)
-        | inr ne ↦ none k a (omega arith) h
-      ]
-
-  pub next_none : (from : ℕ) → NoneMet from n → first_from (is_met mask (rows_from 0 n es)) (rows_from 0 n es) from ≡ None
-  next_none from none =
-      find_none (is_met mask (rows_from 0 n es)) from (length (rows_from 0 n es) - from) (λ k l h. none k l (omega (arith, size)) (omega (arith, size)))
-
-  pub next_some : (from line m : ℕ) → from ≤ line → line < n → NoneMet from line → m ≡ mask_of (row line es) → (bit_and m mask ≡ 0 → ⊥)
-      → first_from (is_met mask (rows_from 0 n es)) (rows_from 0 n es) from ≡ Some line
-  next_some from line m l h none e ne =
-      find_some (is_met mask (rows_from 0 n es)) from (length (rows_from 0 n es) - from) line l (omega (arith, size)) (met_yes line m h e ne)
-      (λ k a b. none k a b (omega arith))
-
-  pub previous_none : (from : ℕ) → NoneMet 0 (min (from + 1) n) → last_up_to (is_met mask (rows_from 0 n es)) (rows_from 0 n es) from ≡ None
-  previous_none from none =
-      ap (λ j. find (is_met mask (rows_from 0 n es)) (reverse (range_with_len 0 (min (from + 1) j)))) size
-      ∙ last_none (is_met mask (rows_from 0 n es)) (min (from + 1) n) (λ k h. none k (omega arith) h (omega arith))
-
-  pub previous_some : (from line m : ℕ) → line < min (from + 1) n → NoneMet (line + 1) (min (from + 1) n) → m ≡ mask_of (row line es) → (bit_and m mask ≡ 0 → ⊥)
-      → last_up_to (is_met mask (rows_from 0 n es)) (rows_from 0 n es) from ≡ Some line
-  previous_some from line m h none e ne =
-      ap (λ j. find (is_met mask (rows_from 0 n es)) (reverse (range_with_len 0 (min (from + 1) j)))) size
-      ∙ last_some (is_met mask (rows_from 0 n es)) (min (from + 1) n) line h (met_yes line m (omega arith) e ne) (λ k a b. none k (omega arith) b (omega arith))
-
-  -- going back, where no marker is
-  pub none_met_back : (low high to : ℕ) → NoneMet high to → ((k : ℕ) → low ≤ k → k < high → row k es ≡ []) → NoneMet low to
-  none_met_back low high to none empty k a b h =
-      elim (cases_lt k high) [ inl l ↦ met_empty k h (empty k a l) | inr l ↦ none k l b h ]
-
-  pub none_met_here : (line to m : ℕ) → NoneMet (line + 1) to → m ≡ mask_of (row line es) → bit_and m mask ≡ 0 → NoneMet line to
-  none_met_here line to m none e z k a b h =
-      elim (cases_eq k line) [
-        | inl q ↦ rw q (met_no line m (omega arith) e z)
-        | inr ne ↦ none k (omega arith) b h
-      ]

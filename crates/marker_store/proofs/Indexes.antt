@@ -1,13 +1,8 @@
 -- Entries by their index.
 use Rattle.std.proofs.Common.{ℕ, ◌<◌, ◌≤◌, inl, inr, zero, suc, List, [], ◌∷◌, length, get_or, take, drop, arith}
 use Rattle.std.proofs.lemmas.Bool.{cases_lt}
-use Rattle.marker_store.specs.Entries.{Entry, no_entry, AllBefore, AllFrom, IsCut}
+use Rattle.marker_store.specs.Entries.{Entry, no_entry, AllBefore, AllFrom, IsCut, Ordered}
 use Rattle.marker_store.proofs.Rows.{from_less}
-
--- each line is not before the one before it, and the first is not before the least
-abbrev pub Ordered : ℕ → List Entry → Type 0
-Ordered least [] = Unit {0}
-Ordered least (e ∷ es) = (least ≤ e.line) × Ordered e.line es
 
 pub before_at : (line n i : ℕ) (es : List Entry) → AllBefore line (take n es) → i < n → i < length es → (get_or es i no_entry).line < line
 before_at line zero i es a h l = absurd (omega arith)

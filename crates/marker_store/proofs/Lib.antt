@@ -3,7 +3,9 @@ pub mod Deletions
 pub mod Finds
 pub mod Indexes
 pub mod Joins
+pub mod Masks
 pub mod Moves
+pub mod Orders
 pub mod Passes
 pub mod Rows
-pub mod Starts
+pub mod StoredEntries

@@ -79,7 +79,8 @@ row_all line i es a =
 
 -- The entries that are kept.
 
-parted : (i : ℕ) (es : List Entry) → i < length es → es ≡ take i es ++ get_or es i no_entry ∷ drop (i + 1) es
+-- the entry at an index among the others
+pub parted : (i : ℕ) (es : List Entry) → i < length es → es ≡ take i es ++ get_or es i no_entry ∷ drop (i + 1) es
 parted i es h =
     let e : i + 1 ≡ suc i = omega arith in
     sym (take-append-drop i es) ∙ ap (λ l. take i es ++ l) (rw e (drop-cons es i no_entry h))

@@ -2,7 +2,6 @@
 use Rattle.std.proofs.Common.{◌≡◌, ℕ, ◌+◌, ◌-◌, ◌<◌, ◌≤◌, ◌≢◌, inl, inr, zero, suc, List, [], ◌∷◌, ◌++◌, length, take, drop, replicate, refl, sym, ap, ◌∙◌, arith, append-nil}
 use Rattle.std.proofs.lemmas.Bool.{cases_eq}
 use Rattle.std.proofs.lemmas.Bool.Decides.{eqb_tells}
-use Rattle.std.proofs.lemmas.List.{take-append-drop}
 use Rattle.marker_store.specs.Entries.{Entry, entry, AllBefore, AllFrom, raised, lowered, row, rows_from}
 
 -- Entries before a line, and from a line on.
@@ -133,9 +132,3 @@ rows_between k zero xs ys a b = refl
 rows_between k (suc n) xs ys a b =
     ap (λ r. r ∷ rows_from (suc k) n (xs ++ ys)) (row-append k xs ys ∙ ap (λ r. r ++ row k ys) (row_before k xs a) ∙ row_behind k ys (from_less (k + 1) (k + suc n) ys (omega arith) b))
     ∙ ap (λ l. [] ∷ l) (rows_between (suc k) n xs ys (before_more k (suc k) xs (omega arith) a) (from_less (suc k + n) (k + suc n) ys (omega arith) b))
-
--- a line between the entries before the index and those from it on has no marker
-pub row_gap : (k i : ℕ) (es : List Entry) → AllBefore k (take i es) → AllFrom (k + 1) (drop i es) → row k es ≡ []
-row_gap k i es a b =
-    ap (row k) (sym (take-append-drop i es)) ∙ row-append k (take i es) (drop i es)
-    ∙ ap (λ r. r ++ row k (drop i es)) (row_before k (take i es) a) ∙ row_behind k (drop i es) b

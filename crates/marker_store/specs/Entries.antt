@@ -1,8 +1,7 @@
--- How markers are stored: in one list, in the order of their lines, and behind one another on a line. The start that
--- belongs to a marker says how many lines end before it and how many markers stand before it or at it.
-use Rattle.std.specs.Prelude.{◌≡◌, ◌⊎◌, ℕ, zero, suc, ◌+◌, ◌-◌, ◌^◌, ◌<◌, ◌≤◌, ◌==◌, if◌then◌else◌, List, [], ◌∷◌, ◌++◌, length, map, take, drop, slice_index_or, Option, Some, None, refl}
+-- How markers are stored: in one list, in the order of their lines, and behind one another on a line. Up to the step each
+-- stands with its line, and from there on with the distance of its line to the number of lines.
+use Rattle.std.specs.Prelude.{◌≡◌, ◌⊎◌, ℕ, zero, suc, ◌+◌, ◌-◌, ◌^◌, ◌<◌, ◌≤◌, ◌==◌, if◌then◌else◌, List, [], ◌∷◌, ◌++◌, length, map, take, drop, slice_index_or, refl}
 use Rattle.std.specs.Coded.{Coded, code_by, coded×, coded_list, coded_ℕ}
-use Rattle.partitioning.specs.Partitions.{ArePartitions}
 use Rattle.ed_model.specs.Rows.{Marker}
 use Rattle.marker_store.specs.Lines.{marker, marker_code}
 
@@ -31,16 +30,13 @@ placed_code =
     code_by (ℕ × (List Entry × ℕ)) (coded× coded_ℕ (coded× (coded_list entry_code) coded_ℕ))
     (λ p. (p.count, (p.entries, p.room))) (λ q. placed q.0 q.1.0 q.1.1) (λ _. refl)
 
--- the entries of these starts, of which the first belongs to the k-th marker, counted from 1
-abbrev pub entries_from : ℕ → List ℕ → List Marker → List Entry
-entries_from k [] ms = []
-entries_from k (s ∷ ss) [] = []
-entries_from k (s ∷ ss) (m ∷ ms) = entry (s - k) m ∷ entries_from (suc k) ss ms
+-- the entries with the distances of their lines to a number of lines
+abbrev pub turned : ℕ → List Entry → List Entry
+turned count es = map (λ (e : Entry). entry (count - e.line) e.marker) es
 
--- the first start belongs to no marker
-abbrev pub entries_of : List ℕ → List Marker → List Entry
-entries_of [] ms = []
-entries_of (s ∷ ss) ms = entries_from 1 ss ms
+-- the entries, of which those from the step on are stored by their distances
+abbrev pub entries_of : ℕ → ℕ → List Entry → List Entry
+entries_of count step stored = take step stored ++ turned count (drop step stored)
 
 -- each entry's line is before the line, or is not before it
 abbrev pub AllBefore : ℕ → List Entry → Type 0
@@ -81,15 +77,20 @@ pub record IsPut (line : ℕ) (marker : Marker) (old new : List Entry) : Type 0 
   pub cut : IsCut (line + 1) old index
   pub is : new ≡ take index old ++ (entry line marker ∷ drop index old)
 
--- What holds of the fields: a start for each marker and one more, in the order of the lines, each marker on a line that
--- there is, and the room that was promised.
-pub record IsPlaced (starts : List ℕ) (end starts_room : ℕ) (markers : List Marker) (spare room : ℕ) : Type 0 where
-  pub paired : length starts ≡ length markers + 1
-  pub sound : ArePartitions starts end
-  pub some : length markers < end
-  pub within : AllBefore (end - length markers) (entries_of starts markers)
-  pub for_starts : room ≤ starts_room
-  pub for_markers : room ≤ spare
+-- each line is not before the one before it, and the first is not before the least
+abbrev pub Ordered : ℕ → List Entry → Type 0
+Ordered least [] = Unit {0}
+Ordered least (e ∷ es) = (least ≤ e.line) × Ordered e.line es
+
+-- What holds of the fields: the entries are in the order of their lines, each on a line that there is, no number that is
+-- stored is past the number of lines, and there is the room that was promised.
+pub record IsPlaced (count step : ℕ) (stored : List Entry) (spare room : ℕ) : Type 0 where
+  pub some : 0 < count
+  pub step_within : step ≤ length stored
+  pub small : AllBefore (count + 1) stored
+  pub ordered : Ordered 0 (entries_of count step stored)
+  pub within : AllBefore count (entries_of count step stored)
+  pub enough : room ≤ spare
 
 -- the list of a line
 abbrev pub row : ℕ → List Entry → List Marker
@@ -139,15 +140,3 @@ abbrev pub IsFirstGone : ℕ → ℕ → List Entry → List Entry → Type 0
 IsFirstGone line number old new =
     (NoneIs line number old × (new ≡ old))
     ⊎ ((index : ℕ) × IsFirst line number old index × (new ≡ take index old ++ drop (index + 1) old))
-
--- no line from the line on has a marker, or the lines from there up to the one that is found
-abbrev pub IsMarkedFrom : ℕ → Placed → Option ℕ → Type 0
-IsMarkedFrom line p None = AllBefore line p.entries
-IsMarkedFrom line p (Some marked) =
-    (line ≤ marked) × (marked < p.count) × ((k : ℕ) → line ≤ k → k < marked → row k p.entries ≡ [])
-
--- the same of the lines before the line, back to the one that is found
-abbrev pub IsMarkedBefore : ℕ → Placed → Option ℕ → Type 0
-IsMarkedBefore line p None = AllFrom line p.entries
-IsMarkedBefore line p (Some marked) =
-    (marked < line) × (marked < p.count) × ((k : ℕ) → marked < k → k < line → row k p.entries ≡ [])

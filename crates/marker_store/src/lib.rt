@@ -1,28 +1,34 @@
 //! The markers of lines: for each line a list of markers, each with a handle that no other ever had and a number from 0
 //! to 31.
 //!
-//! All markers stand in one split vector, in the order of their lines and behind one another on a line. Where each one
-//! stands is a start in a `Partitioning`: the number of line ends before it and of markers up to it. So starts rise even
-//! where two markers are on one line, and a marker's line is its start less its rank.
+//! All markers stand in one split vector, in the order of their lines and behind one another on a line. Up to a marker,
+//! the step, each is stored with its line, and from there on with the distance of its line to the number of lines.
 //!
 //! ```text
-//! line 0  |      line 1: a b |     line 2 |     line 3: c |        the | are the ends of lines
-//! start of a = 1 + 1,  of b = 1 + 2,  of c = 3 + 3                  the first start, 0, belongs to no marker
+//! line 0 | line 1: a b | line 2 | line 3: c | line 4            stored, with the step at c: a 1, b 1, c 5 - 3
 //! ```
 //!
-//! A line that comes is one more line end in a partition: the starts behind it move with the step, and nothing is
-//! stored. Lines that are joined lose their ends, and the markers behind are on the line before by that alone: no marker
-//! moves, and none is copied. A document without markers has one start and a length, however many lines it has. What a
-//! call costs lies in the look-up of a line, the markers of the lines that it names, and the step between two edits.
+//! So where lines come or go, the step is moved to the markers behind them and the number of lines changed, and each
+//! marker behind is on its new line by that alone: none is copied, and none moves but those that the step passes. Markers of
+//! lines that are joined are on the line before in the same way. A marker that comes or goes moves no step. A document
+//! without markers has a number of lines, however many they are.
 //!
-//! `placed` keeps the two lists and shows them as markers with their lines; `store` shows the list of each line.
+//! What a call costs: one search by halves for the first marker of a line, and then a walk over markers, from one to the
+//! next, never over lines. A line's mask is that of its own markers, and the next line with a mask is that of the first
+//! marker behind with a bit of it.
+//!
+//! `stored` keeps the entries and `placed` shows them as markers with their lines; `store` shows the list of each line.
 #![tactic(auto)]
 
 mod drops;
+mod entries;
 mod markers;
 mod placed;
 mod store;
+mod stored;
 
+#[doc(hidden)]
+pub use entries::Entry;
 #[doc(hidden)]
 pub use markers::Marker;
 #[doc(hidden)]

@@ -2,12 +2,13 @@
 ghost use Rattle.std.specs.Prelude.{◌≡◌, ◌≢◌, ◌≤◌, ◌<◌, ◌+◌, ◌-◌, ◌∷◌, ◌++◌, ◌^◌, [], length, max, take, drop, filter, not, slice_index_or, MatchOption, IfOk, OnOk, OnErr, IsOk};
 ghost use Rattle.ed_model.specs.LinePlans.{mask_of};
 ghost use Rattle.marker_store.specs.Dropping.{kept};
-ghost use Rattle.marker_store.specs.Lines.{has_handle, first_from};
-ghost use Rattle.marker_store.specs.Entries.{entry, no_entry, placed, rows_of, row, AllBefore, AllFrom, IsCut, IsRaised, IsLowered, IsPut, IsCleared, NoneIs, IsFirst, IsFirstGone, IsMarkedFrom, IsMarkedBefore};
+ghost use Rattle.marker_store.specs.Lines.{has_handle, is_met, first_from, last_up_to};
+ghost use Rattle.marker_store.specs.Entries.{entry, no_entry, placed, rows_of, row, AllBefore, AllFrom, IsCut, IsRaised, IsLowered, IsPut, IsCleared, NoneIs, IsFirst, IsFirstGone};
 
 use crate::drops::Drops;
+use crate::entries::Entry;
 use crate::markers::Marker;
-use partitioning::Partitioning;
+use crate::stored::{entry_of, move_step, put_in, take_out};
 use split_vector::SplitVector;
 use std::alloc::{AllocError, Allocator, Global};
 use std::marker::Model;
@@ -15,49 +16,46 @@ use std::marker::Model;
 /// Markers in the order of their lines, and how many lines there are.
 #[derive(Drop)]
 pub struct PlacedMarkers<A: Allocator = Global> {
-    // The first partition is for no marker, and each other one for a marker and the line ends behind it. The length is
-    // the number of markers and lines: the end of the last line is not counted, but the first start is.
-    starts: Partitioning<u64, A>,
-    markers: SplitVector<Marker, A>,
+    stored: SplitVector<Entry, A>,
+    // How many entries are stored with their lines. Those behind are stored with the distances of their lines to `lines`.
+    step: usize,
+    // The number of lines.
+    lines: usize,
     // How many more markers fit in, as reserved.
     room: usize,
 }
 
 impl<A: Allocator> Model for PlacedMarkers<A> {
-    ghost use Rattle.std.specs.Prelude.{◌-◌, length};
     ghost use Rattle.marker_store.specs.Entries.{Placed, placed, placed_code, entries_of, IsPlaced};
 
     ghost Value = { Placed };
 
     ghost coded = { placed_code };
 
-    ghost view = { λ p. placed (p.starts.length - length p.markers.items) (entries_of p.starts.starts p.markers.items) p.room };
+    ghost view = { λ p. placed p.lines (entries_of p.lines p.step p.stored.items) p.room };
 
-    ghost invariant = { λ p. IsPlaced p.starts.starts p.starts.length p.starts.room p.markers.items p.markers.spare p.room };
-}
-
-impl<A: Allocator + Copy> PlacedMarkers<A> {
-    /// Returns one line, without markers.
-    pub(crate) fn new(alloc: A) -> Result<Self, AllocError>
-        ensures { IfOk result (λ p. p ≡ placed 1 [] 0) }
-    {
-        let mut starts = Partitioning::new(alloc)?;
-        starts.insert_text(0, 1);
-        Ok(PlacedMarkers {
-            starts,
-            markers: SplitVector::new(alloc),
-            room: 0,
-        })
-    }
+    ghost invariant = { λ p. IsPlaced p.lines p.step p.stored.items p.stored.spare p.room };
 }
 
 impl<A: Allocator> PlacedMarkers<A> {
+    /// Returns one line, without markers. It takes no memory.
+    pub(crate) fn new(alloc: A) -> Self
+        ensures { result ≡ placed 1 [] 0 }
+    {
+        PlacedMarkers {
+            stored: SplitVector::new(alloc),
+            step: 0,
+            lines: 1,
+            room: 0,
+        }
+    }
+
     /// Returns the number of lines.
     pub(crate) fn count(&self) -> usize
         ensures count { result ≡ self.now.count }
         ensures some { 0 < self.now.count }
     {
-        self.starts.length() - self.markers.len()
+        self.lines
     }
 
     /// Returns the number of markers.
@@ -65,7 +63,7 @@ impl<A: Allocator> PlacedMarkers<A> {
         ensures len { result ≡ length self.now.entries }
         ensures within { AllBefore self.now.count self.now.entries }
     {
-        self.markers.len()
+        self.stored.len()
     }
 
     /// Makes room for `count` more markers.
@@ -77,8 +75,7 @@ impl<A: Allocator> PlacedMarkers<A> {
         if count <= self.room {
             return Ok(());
         }
-        self.starts.reserve(count)?;
-        self.markers.reserve(count)?;
+        self.stored.reserve(count)?;
         self.room = count;
         Ok(())
     }
@@ -91,10 +88,8 @@ impl<A: Allocator> PlacedMarkers<A> {
         ensures before { AllBefore (result.0 + 1) (take (index + 1) self.now.entries) }
         ensures behind { AllFrom result.0 (drop index self.now.entries) }
     {
-        let count = self.markers.len();
-        prove!(index < count);
-        let marker = self.markers.get(index);
-        (self.starts.start_of(index + 1) - (index + 1), marker)
+        let entry = entry_of(&self.stored, self.lines, self.step, index);
+        (entry.line(), entry.marker())
     }
 
     /// Returns how many markers are on lines before the line.
@@ -128,13 +123,15 @@ impl<A: Allocator> PlacedMarkers<A> {
     /// Puts `count` lines in before the line.
     pub(crate) fn raise(&mut self, line: usize, count: usize)
         requires line { line ≤ self.old.count }
-        requires fits { self.old.count + length self.old.entries + count < 2 ^ 64 }
+        requires fits { self.old.count + count < 2 ^ 64 }
         ensures entries { IsRaised line count self.old.entries self.new.entries }
         ensures count { self.new.count ≡ self.old.count + count }
         ensures room { self.new.room ≡ self.old.room }
     {
         let index = self.cut(line);
-        self.starts.insert_text(index, count);
+        move_step(&mut self.stored, self.lines, self.step, index);
+        self.step = index;
+        self.lines += count;
     }
 
     // Returns how many lines behind the line, up to `most`, have no marker on one before the last of them. The marker at
@@ -162,7 +159,9 @@ impl<A: Allocator> PlacedMarkers<A> {
     {
         let index = self.cut_behind(line);
         let count = self.free_lines(line, index, most);
-        self.starts.delete_text(index, count);
+        move_step(&mut self.stored, self.lines, self.step, index);
+        self.step = index;
+        self.lines -= count;
         count
     }
 
@@ -170,15 +169,13 @@ impl<A: Allocator> PlacedMarkers<A> {
     pub(crate) fn put(&mut self, line: usize, marker: Marker)
         requires line { line < self.old.count }
         requires room { 0 < self.old.room }
-        requires fits { self.old.count + length self.old.entries + 1 < 2 ^ 64 }
         ensures entries { IsPut line marker self.old.entries self.new.entries }
         ensures count { self.new.count ≡ self.old.count }
         ensures room { self.new.room + 1 ≡ self.old.room }
     {
         let index = self.cut_behind(line);
-        self.starts.insert_text(index, 1);
-        self.starts.insert_reserved(index + 1, line + index + 1);
-        self.markers.insert_reserved(index, marker);
+        let entry = Entry::new(line, marker);
+        self.step = put_in(&mut self.stored, self.lines, self.step, index, entry);
         self.room -= 1;
     }
 
@@ -189,11 +186,9 @@ impl<A: Allocator> PlacedMarkers<A> {
         ensures count { self.new.count ≡ self.old.count }
         ensures room { self.new.room ≡ self.old.room + 1 }
     {
-        let count = self.markers.len();
+        let count = self.stored.len();
         prove!(index < count);
-        self.starts.remove(index + 1);
-        self.starts.delete_text(index, 1);
-        self.markers.delete(index, 1);
+        self.step = take_out(&mut self.stored, self.lines, self.step, index);
         self.room += 1;
     }
 
@@ -217,8 +212,11 @@ impl<A: Allocator> PlacedMarkers<A> {
         requires { line < self.now.count }
         ensures { MatchOption result (NoneIs line number self.now.entries) (IsFirst line number self.now.entries) }
     {
-        for index in self.cut(line)..self.cut_behind(line) {
-            let (_, marker) = self.entry_at(index);
+        for index in self.cut(line)..self.len() {
+            let (marked, marker) = self.entry_at(index);
+            if marked != line {
+                return None;
+            }
             if marker.number() == number {
                 return Some(index);
             }
@@ -276,34 +274,44 @@ impl<A: Allocator> PlacedMarkers<A> {
         ensures { result ≡ mask_of (row line self.now.entries) }
     {
         let mut mask = 0;
-        for index in self.cut(line)..self.cut_behind(line) {
-            let (_, marker) = self.entry_at(index);
+        for index in self.cut(line)..self.len() {
+            let (marked, marker) = self.entry_at(index);
+            if marked != line {
+                return mask;
+            }
             mask |= marker.bit();
         }
         mask
     }
 
-    /// Returns the first line with a marker, from the line on.
-    pub(crate) fn marked_from(&self, line: usize) -> Option<usize>
-        ensures { IsMarkedFrom line self.now result }
+    /// Returns the first line, from the line on, whose mask has a bit in common with `mask`. It is that of the first
+    /// marker from there on whose bit is among them.
+    pub(crate) fn next(&self, line: usize, mask: u32) -> Option<usize>
+        ensures { result ≡ first_from (is_met mask (rows_of self.now)) (rows_of self.now) line }
     {
-        let index = self.cut(line);
-        if index == self.len() {
-            return None;
+        for index in self.cut(line)..self.len() {
+            let (marked, marker) = self.entry_at(index);
+            if marker.bit() & mask != 0 {
+                return Some(marked);
+            }
         }
-        let (marked, _) = self.entry_at(index);
-        Some(marked)
+        None
     }
 
-    /// Returns the last line with a marker, before the line.
-    pub(crate) fn marked_before(&self, line: usize) -> Option<usize>
-        ensures { IsMarkedBefore line self.now result }
+    /// Returns the last line, up to and with the line, whose mask has a bit in common with `mask`.
+    pub(crate) fn previous(&self, line: usize, mask: u32) -> Option<usize>
+        ensures { result ≡ last_up_to (is_met mask (rows_of self.now)) (rows_of self.now) line }
     {
-        let index = self.cut(line);
-        if index == 0 {
-            return None;
+        let lines = self.count();
+        let behind = if line < lines { line + 1 } else { lines };
+        let mut index = self.cut(behind);
+        'passing: while index > 0 {
+            index -= 1;
+            let (marked, marker) = self.entry_at(index);
+            if marker.bit() & mask != 0 {
+                return Some(marked);
+            }
         }
-        let (marked, _) = self.entry_at(index - 1);
-        Some(marked)
+        None
     }
 }

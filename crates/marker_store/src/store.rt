@@ -36,24 +36,17 @@ impl<A: Allocator> Model for MarkerStore<A> {
     ghost invariant = { λ s. IsStore s.placed s.next_handle };
 }
 
-impl<A: Allocator + Copy> MarkerStore<A> {
-    /// Returns the markers of one line, which has none. The next handle is 1.
-    ///
-    /// # Errors
-    ///
-    /// `AllocError` where the memory for the store itself is refused.
+impl<A: Allocator> MarkerStore<A> {
+    /// Returns the markers of one line, which has none. The next handle is 1. It takes no memory, so there is no error.
     pub fn new(alloc: A) -> Result<Self, AllocError>
         ensures { IfOk result (λ s. s ≡ marked_lines ([] ∷ []) 1 0) }
     {
-        let placed = PlacedMarkers::new(alloc)?;
         Ok(MarkerStore {
-            placed,
+            placed: PlacedMarkers::new(alloc),
             next_handle: 1,
         })
     }
-}
 
-impl<A: Allocator> MarkerStore<A> {
     /// Returns the number of lines.
     pub fn lines(&self) -> usize
         ensures lines { result ≡ length self.now.lines }
@@ -174,33 +167,14 @@ impl<A: Allocator> MarkerStore<A> {
     pub fn next(&self, from: usize, mask: u32) -> Option<usize>
         ensures { result ≡ first_from (is_met mask self.now.lines) self.now.lines from }
     {
-        let lines = self.placed.count();
-        let mut line = from;
-        'looking: while line < lines {
-            let marked = self.placed.marked_from(line)?;
-            if self.placed.mask(marked) & mask != 0 {
-                return Some(marked);
-            }
-            line = marked + 1;
-        }
-        None
+        self.placed.next(from, mask)
     }
 
     /// Returns the last line, up to and with `from`, whose mask has a bit in common with `mask`.
     pub fn previous(&self, from: usize, mask: u32) -> Option<usize>
         ensures { result ≡ last_up_to (is_met mask self.now.lines) self.now.lines from }
     {
-        let lines = self.placed.count();
-        // How many lines are left to look at.
-        let mut left = if from < lines { from + 1 } else { lines };
-        'looking: while left > 0 {
-            let marked = self.placed.marked_before(left)?;
-            if self.placed.mask(marked) & mask != 0 {
-                return Some(marked);
-            }
-            left = marked;
-        }
-        None
+        self.placed.previous(from, mask)
     }
 
     /// Puts `count` lines without markers in before `line`, or at the end. It takes no memory.

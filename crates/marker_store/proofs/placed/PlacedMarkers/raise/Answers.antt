@@ -1,27 +1,29 @@
-use Rattle.std.proofs.Common.{arith}
-use Rattle.marker_store.proofs.Moves.{index_within, placed_raised}
-use Rattle.marker_store.proofs.Starts.{length-entries, raised_entries}
+use Rattle.std.proofs.Common.{◌≡◌, ◌≤◌, length, arith, ◌∙◌, ap}
+use Rattle.marker_store.proofs.Moves.{placed_moved, placed_raised}
+use Rattle.marker_store.proofs.StoredEntries.{length-entries, raised_entries}
 use Rattle.marker_store.proofs.placed.PlacedMarkers.raise.Goals as goal
 
-pub insert_text-requires-clause-index : goal.insert_text-requires-clause-index
-insert_text-requires-clause-index g c =
+pub move_step-requires-clause-range : goal.move_step-requires-clause-range
+move_step-requires-clause-range g c =
     let within = rw (← c.self.view_is) at c.cut-index.ensures.within in
-    index_within _ _ _ _ _ _ c.self.invariant c.cut-index.result within
-
-pub insert_text-requires-clause-fits : goal.insert_text-requires-clause-fits
-insert_text-requires-clause-fits g c =
-    let fits = rw (← c.self.view_is) at c.requires.fits in
-    omega (arith, fits, c.self.invariant.some, length-entries c.self.inside.starts.starts c.self.inside.markers.items c.self.invariant.paired)
+    (c.self.invariant.step_within, omega (arith, within, length-entries c.self.inside.lines c.self.inside.step c.self.inside.stored.items c.self.invariant.step_within))
 
 pub invariant_of-self : goal.invariant_of-self
 invariant_of-self g c =
-    placed_raised _ _ _ _ _ _ c.self.invariant _ _ _ c.cut-index.result c.args.count c.insert_text.ensures.starts c.insert_text.ensures.length c.insert_text.ensures.sound c.insert_text.ensures.room
+    let within = rw (← c.self.view_is) at c.cut-index.ensures.within in
+    let inside : c.cut-index.result ≤ length c.self.inside.stored.items = omega (arith, within, length-entries c.self.inside.lines c.self.inside.step c.self.inside.stored.items c.self.invariant.step_within) in
+    let m = c.move_step.ensures in
+    placed_raised c.self.inside.lines c.cut-index.result c.move_step.new.stored.items c.move_step.new.stored.spare c.self.inside.room
+    (placed_moved _ _ _ _ _ c.self.invariant c.cut-index.result c.move_step.new.stored.items c.move_step.new.stored.spare m.entries m.small inside m.length m.spare) c.args.count
 
 pub returns-clause-entries : goal.returns-clause-entries
 returns-clause-entries g c =
     let cut = rw (← c.self.view_is) at c.cut-index.ensures in
-    rw (← c.self.view_is, c.insert_text.ensures.starts) (record {
+    let m = c.move_step.ensures in
+    let inside : c.cut-index.result ≤ length c.move_step.new.stored.items = omega (arith, cut.within, m.length, length-entries c.self.inside.lines c.self.inside.step c.self.inside.stored.items c.self.invariant.step_within) in
+    let all = raised_entries c.self.inside.lines c.args.count c.cut-index.result c.move_step.new.stored.items inside m.small in
+    rw (← c.self.view_is) (record {
       index = c.cut-index.result;
       cut = cut;
-      is = raised_entries c.self.inside.starts.length c.args.count c.cut-index.result c.self.inside.starts.starts c.self.inside.markers.items c.self.invariant.sound;
+      is = rw m.entries at all;
     })

@@ -1,0 +1,7 @@
+use Rattle.std.proofs.Common.{ℕ, ◌≤◌, take}
+use Rattle.marker_store.specs.Entries.{row}
+use Rattle.marker_store.proofs.Masks.{Unfit}
+use Rattle.marker_store.proofs.placed.PlacedMarkers.next.Given as goal
+
+abbrev pub invariant-loop-index : goal.invariant-loop-index
+invariant-loop-index g l = (k : ℕ) → l.line ≤ k → Unfit l.mask (row k (take l.index l.self.entries))
