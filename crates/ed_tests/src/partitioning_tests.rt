@@ -135,3 +135,30 @@ fn counts_at_both_places(rt: HostRuntime) -> Result<(), Fail> {
     row_of_counts::<u32>(&rt, rt.alloc())?;
     row_of_counts::<u64>(&rt, rt.alloc())
 }
+
+// A start that comes or goes on either side of the step leaves the others as they are stored.
+fn row_of_starts<P: Place>(rt: &impl Abort, alloc: Global) -> Result<(), Fail> {
+    let mut table: Partitioning<P> = single_bytes(rt, alloc, 3)?;
+    put_in(rt, &mut table, 0, 4);
+    let stepped = table.stepped();
+    split(rt, &mut table, 3, 7)?;
+    assert_starts(rt, &table, &[0, 5, 6, 7], 7);
+    assert_eq!(rt; table.step_at(), 0);
+    split(rt, &mut table, 1, 2)?;
+    assert_starts(rt, &table, &[0, 2, 5, 6, 7], 7);
+    assert_eq!(rt; table.step_at(), 1);
+    join(rt, &mut table, 3);
+    join(rt, &mut table, 1);
+    assert_starts(rt, &table, &[0, 5, 7], 7);
+    assert_eq!(rt; table.step_at(), 0);
+    assert_eq!(rt; table.stepped(), stepped);
+    put_in(rt, &mut table, 0, 1);
+    assert_starts(rt, &table, &[0, 6, 8], 8);
+    Ok(())
+}
+
+#[test]
+fn starts_at_both_places(rt: HostRuntime) -> Result<(), Fail> {
+    row_of_starts::<u32>(&rt, rt.alloc())?;
+    row_of_starts::<u64>(&rt, rt.alloc())
+}

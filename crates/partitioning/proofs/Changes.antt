@@ -1,5 +1,5 @@
 -- What is stored, when a start comes or goes at the step, and when the end moves.
-use Rattle.std.proofs.Common.{◌≡◌, ℕ, ◌+◌, ◌-◌, ◌<◌, ◌≤◌, List, [], ◌∷◌, length, get_or, map, insert, remove, sym, ap, ◌∙◌, ◌⊎◌, inl, inr, arith, add-one, append_assoc}
+use Rattle.std.proofs.Common.{◌≡◌, ℕ, ◌+◌, ◌-◌, ◌<◌, ◌≤◌, min, List, [], ◌∷◌, length, get_or, map, insert, remove, sym, ap, ◌∙◌, ◌⊎◌, inl, inr, arith, add-one, append_assoc}
 use Rattle.std.proofs.lemmas.List.{ext_get_or, get_or_past, map-append, take-map, drop-map}
 use Rattle.std.proofs.lemmas.Bool.{cases_lt, cases_order}
 use Rattle.std.proofs.lemmas.List.Edits.{length-insert, get_or-insert_below, get_or-insert_at, get_or-insert_above, length-remove, get_or-remove_below, get_or-remove_above}
@@ -79,97 +79,103 @@ module _ (greatest e i n : ℕ) (xs : List ℕ) (sound : IsSound greatest e i xs
         sound = rw starts_of_lowered (sound_lowered (starts_of e i xs) e i n sound.sound (omega (arith, length-starts_of e i xs)) can);
       }
 
--- a start came in at place i, with the step right before it
-module _ (greatest e i x : ℕ) (xs : List ℕ) (sound : IsSound greatest e (i - 1) xs) (can : CanStart (starts_of e (i - 1) xs) e i x) where
-  inside : i ≤ length xs
-  inside = omega (arith, can.within, length-starts_of e (i - 1) xs)
+-- a stored number that moved from place j to place k, and lies on the same side of the step as before
+moved_start :
+    (e s t : ℕ) (xs ys : List ℕ) (j k : ℕ) → get_or ys k 0 ≡ get_or xs j 0 → j < length xs → k < length ys → (j ≤ s → k ≤ t) → (s < j → t < k)
+    → (s < j) ⊎ (j ≤ s) → get_or (starts_of e t ys) k 0 ≡ get_or (starts_of e s xs) j 0
+moved_start e s t xs ys j k q l m near far (inl h) = starts_of_far e t ys k (far h) m ∙ ap (λ v. e - v) q ∙ sym (starts_of_far e s xs j h l)
+moved_start e s t xs ys j k q l m near far (inr h) = starts_of_near e t ys k (near h) ∙ q ∙ sym (starts_of_near e s xs j h)
 
-  more : length (insert xs i x) ≡ length xs + 1
-  more = length-insert xs i x inside
+-- a start came in at place i, stored as v: the step goes from s to t, one on where the start lies up to the one right behind it
+module _ (greatest e s t i x v : ℕ) (xs : List ℕ) (sound : IsSound greatest e s xs) (can : CanStart (starts_of e s xs) e i x)
+    (moves : t ≡ s + min 1 (s + 2 - i)) (small : v ≤ e) (there : get_or (starts_of e t (insert xs i v)) i 0 ≡ x) where
+  inside : i ≤ length xs
+  inside = omega (arith, can.within, length-starts_of e s xs)
+
+  more : length (insert xs i v) ≡ length xs + 1
+  more = length-insert xs i v inside
 
   inserted_start :
       (k : ℕ) → k < length xs + 1 → (k ≡ i) ⊎ ((k < i) ⊎ (i < k))
-      → get_or (starts_of e i (insert xs i x)) k 0 ≡ get_or (insert (starts_of e (i - 1) xs) i x) k 0
-  inserted_start k b (inl q) =
-      rw q (starts_of_near e i (insert xs i x) i (omega arith) ∙ get_or-insert_at xs i x 0 inside ∙ sym (get_or-insert_at (starts_of e (i - 1) xs) i x 0 can.within))
+      → get_or (starts_of e t (insert xs i v)) k 0 ≡ get_or (insert (starts_of e s xs) i x) k 0
+  inserted_start k b (inl q) = rw q (there ∙ sym (get_or-insert_at (starts_of e s xs) i x 0 can.within))
   inserted_start k b (inr (inl h)) =
-      starts_of_near e i (insert xs i x) k (omega arith) ∙ get_or-insert_below xs i x 0 k h inside
-      ∙ sym (starts_of_near e (i - 1) xs k (omega arith)) ∙ sym (get_or-insert_below (starts_of e (i - 1) xs) i x 0 k h can.within)
+      moved_start e s t xs (insert xs i v) k k (get_or-insert_below xs i v 0 k h inside) (omega (arith, inside)) (omega (arith, more))
+      (λ a. omega arith) (λ a. omega arith) (cases_lt s k)
+      ∙ sym (get_or-insert_below (starts_of e s xs) i x 0 k h can.within)
   inserted_start k b (inr (inr h)) =
       let q : k - 1 + 1 ≡ k = omega arith in
-      let left : get_or (insert xs i x) k 0 ≡ get_or xs (k - 1) 0 = rw q at (get_or-insert_above xs i x 0 (k - 1) (omega arith) inside) in
-      let right : get_or (insert (starts_of e (i - 1) xs) i x) k 0 ≡ get_or (starts_of e (i - 1) xs) (k - 1) 0 =
-      rw q at (get_or-insert_above (starts_of e (i - 1) xs) i x 0 (k - 1) (omega arith) can.within) in
-      starts_of_far e i (insert xs i x) k h (omega (arith, more)) ∙ ap (λ v. e - v) left
-      ∙ sym (starts_of_far e (i - 1) xs (k - 1) (omega (arith, can.not_first)) (omega arith)) ∙ sym right
+      let left : get_or (insert xs i v) k 0 ≡ get_or xs (k - 1) 0 = rw q at (get_or-insert_above xs i v 0 (k - 1) (omega arith) inside) in
+      let right : get_or (insert (starts_of e s xs) i x) k 0 ≡ get_or (starts_of e s xs) (k - 1) 0 =
+      rw q at (get_or-insert_above (starts_of e s xs) i x 0 (k - 1) (omega arith) can.within) in
+      moved_start e s t xs (insert xs i v) (k - 1) k left (omega arith) (omega (arith, more)) (λ a. omega arith) (λ a. omega arith) (cases_lt s (k - 1))
+      ∙ sym right
 
-  pub starts_of_inserted : starts_of e i (insert xs i x) ≡ insert (starts_of e (i - 1) xs) i x
+  pub starts_of_inserted : starts_of e t (insert xs i v) ≡ insert (starts_of e s xs) i x
   starts_of_inserted =
-      let n = length-starts_of e i (insert xs i x) in
-      let m = length-insert (starts_of e (i - 1) xs) i x can.within in
-      let o = length-starts_of e (i - 1) xs in
+      let n = length-starts_of e t (insert xs i v) in
+      let m = length-insert (starts_of e s xs) i x can.within in
+      let o = length-starts_of e s xs in
       let p = more in
-      ext_get_or 0 (starts_of e i (insert xs i x)) (insert (starts_of e (i - 1) xs) i x) (omega arith)
+      ext_get_or 0 (starts_of e t (insert xs i v)) (insert (starts_of e s xs) i x) (omega arith)
       (λ k h. inserted_start k (omega arith) (cases_order k i))
 
-  inserted_within_at : (k : ℕ) → k < length xs + 1 → (k ≡ i) ⊎ ((k < i) ⊎ (i < k)) → get_or (insert xs i x) k 0 ≤ e
-  inserted_within_at k b (inl q) = rw q (omega (arith, get_or-insert_at xs i x 0 inside, can.at_most))
-  inserted_within_at k b (inr (inl h)) = omega (arith, get_or-insert_below xs i x 0 k h inside, sound.within k)
+  inserted_within_at : (k : ℕ) → k < length xs + 1 → (k ≡ i) ⊎ ((k < i) ⊎ (i < k)) → get_or (insert xs i v) k 0 ≤ e
+  inserted_within_at k b (inl q) = rw q (omega (arith, get_or-insert_at xs i v 0 inside))
+  inserted_within_at k b (inr (inl h)) = omega (arith, get_or-insert_below xs i v 0 k h inside, sound.within k)
   inserted_within_at k b (inr (inr h)) =
       let q : k - 1 + 1 ≡ k = omega arith in
-      let left : get_or (insert xs i x) k 0 ≡ get_or xs (k - 1) 0 = rw q at (get_or-insert_above xs i x 0 (k - 1) (omega arith) inside) in
+      let left : get_or (insert xs i v) k 0 ≡ get_or xs (k - 1) 0 = rw q at (get_or-insert_above xs i v 0 (k - 1) (omega arith) inside) in
       omega (arith, sound.within (k - 1))
 
-  pub stored_inserted : IsSound greatest e i (insert xs i x)
+  pub stored_inserted : IsSound greatest e t (insert xs i v)
   stored_inserted =
       record {
-        within = within_all e (insert xs i x) (λ k b. inserted_within_at k (omega (arith, more)) (cases_order k i));
-        step_within = omega (arith, more, inside);
+        within = within_all e (insert xs i v) (λ k b. inserted_within_at k (omega (arith, more)) (cases_order k i));
+        step_within = omega (arith, more, sound.step_within);
         fits = sound.fits;
-        sound = rw starts_of_inserted (sound_inserted (starts_of e (i - 1) xs) e i x sound.sound can);
+        sound = rw starts_of_inserted (sound_inserted (starts_of e s xs) e i x sound.sound can);
       }
 
--- the start at place i went away, with the step right behind it
-module _ (greatest e i : ℕ) (xs : List ℕ) (sound : IsSound greatest e (i + 1) xs) (not_first : 0 < i) (l : i < length xs) where
+-- the start at place i went away: the step goes from s to t, one back where the start does not lie behind it
+module _ (greatest e s t i : ℕ) (xs : List ℕ) (sound : IsSound greatest e s xs) (not_first : 0 < i) (l : i < length xs)
+    (moves : t ≡ s - min 1 (s + 1 - i)) where
   fewer : length (remove xs i) + 1 ≡ length xs
   fewer = length-remove xs i l
 
-  there : i < length (starts_of e (i + 1) xs)
-  there = omega (arith, length-starts_of e (i + 1) xs)
+  there : i < length (starts_of e s xs)
+  there = omega (arith, length-starts_of e s xs)
 
-  removed_start :
-      (k : ℕ) → k + 1 < length xs → (k ≡ i) ⊎ ((k < i) ⊎ (i < k))
-      → get_or (starts_of e i (remove xs i)) k 0 ≡ get_or (remove (starts_of e (i + 1) xs) i) k 0
-  removed_start k b (inl q) =
-      starts_of_near e i (remove xs i) k (omega arith) ∙ get_or-remove_above xs i 0 k (omega arith) l
-      ∙ sym (starts_of_near e (i + 1) xs (k + 1) (omega arith)) ∙ sym (get_or-remove_above (starts_of e (i + 1) xs) i 0 k (omega arith) there)
-  removed_start k b (inr (inl h)) =
-      starts_of_near e i (remove xs i) k (omega arith) ∙ get_or-remove_below xs i 0 k h l
-      ∙ sym (starts_of_near e (i + 1) xs k (omega arith)) ∙ sym (get_or-remove_below (starts_of e (i + 1) xs) i 0 k h there)
-  removed_start k b (inr (inr h)) =
-      starts_of_far e i (remove xs i) k h (omega (arith, fewer)) ∙ ap (λ v. e - v) (get_or-remove_above xs i 0 k (omega arith) l)
-      ∙ sym (starts_of_far e (i + 1) xs (k + 1) (omega arith) b) ∙ sym (get_or-remove_above (starts_of e (i + 1) xs) i 0 k (omega arith) there)
+  removed_start : (k : ℕ) → k + 1 < length xs → (k < i) ⊎ (i ≤ k) → get_or (starts_of e t (remove xs i)) k 0 ≡ get_or (remove (starts_of e s xs) i) k 0
+  removed_start k b (inl h) =
+      moved_start e s t xs (remove xs i) k k (get_or-remove_below xs i 0 k h l) (omega arith) (omega (arith, fewer))
+      (λ a. omega arith) (λ a. omega arith) (cases_lt s k)
+      ∙ sym (get_or-remove_below (starts_of e s xs) i 0 k h there)
+  removed_start k b (inr h) =
+      moved_start e s t xs (remove xs i) (k + 1) k (get_or-remove_above xs i 0 k h l) b (omega (arith, fewer))
+      (λ a. omega arith) (λ a. omega arith) (cases_lt s (k + 1))
+      ∙ sym (get_or-remove_above (starts_of e s xs) i 0 k h there)
 
-  pub starts_of_removed : starts_of e i (remove xs i) ≡ remove (starts_of e (i + 1) xs) i
+  pub starts_of_removed : starts_of e t (remove xs i) ≡ remove (starts_of e s xs) i
   starts_of_removed =
-      let n = length-starts_of e i (remove xs i) in
-      let m = length-remove (starts_of e (i + 1) xs) i there in
-      let o = length-starts_of e (i + 1) xs in
+      let n = length-starts_of e t (remove xs i) in
+      let m = length-remove (starts_of e s xs) i there in
+      let o = length-starts_of e s xs in
       let p = fewer in
-      ext_get_or 0 (starts_of e i (remove xs i)) (remove (starts_of e (i + 1) xs) i) (omega arith)
-      (λ k h. removed_start k (omega arith) (cases_order k i))
+      ext_get_or 0 (starts_of e t (remove xs i)) (remove (starts_of e s xs) i) (omega arith)
+      (λ k h. removed_start k (omega arith) (cases_lt k i))
 
   removed_within_at : (k : ℕ) → (k < i) ⊎ (i ≤ k) → get_or (remove xs i) k 0 ≤ e
   removed_within_at k (inl h) = omega (arith, get_or-remove_below xs i 0 k h l, sound.within k)
   removed_within_at k (inr h) = omega (arith, get_or-remove_above xs i 0 k h l, sound.within (k + 1))
 
-  pub stored_removed : IsSound greatest e i (remove xs i)
+  pub stored_removed : IsSound greatest e t (remove xs i)
   stored_removed =
       record {
         within = λ k. removed_within_at k (cases_lt k i);
-        step_within = omega (arith, fewer);
+        step_within = omega (arith, fewer, sound.step_within);
         fits = sound.fits;
-        sound = rw starts_of_removed (sound_removed (starts_of e (i + 1) xs) e i sound.sound not_first there);
+        sound = rw starts_of_removed (sound_removed (starts_of e s xs) e i sound.sound not_first there);
       }
 
 -- what a call leaves: it is sound, and its starts are those that are wanted
@@ -195,24 +201,40 @@ text_taken_out greatest e e' i j n end xs old sound q r same p l can =
       rw p (starts_of_lowered greatest e i n xs sound b can' ∙ ap (λ s. lowered_behind s i n) q ∙ ap (λ k. lowered_behind old k n) r),
     )
 
-pub start_put_in :
-    (greatest e i j x end : ℕ) (xs ys old : List ℕ) → IsSound greatest e i xs → starts_of e i xs ≡ old → i ≡ j - 1 → e ≡ end → ys ≡ insert xs j x
-    → CanStart old end j x → Leaves greatest e j ys (insert old j x)
-start_put_in greatest e i j x end xs ys old sound q r same p can =
-    let sound' : IsSound greatest e (j - 1) xs = rw (← r) sound in
-    let q' : starts_of e (j - 1) xs ≡ old = rw (← r) q in
-    let can' : CanStart (starts_of e (j - 1) xs) e j x = rw (q', same) can in (
-      rw p (stored_inserted greatest e j x xs sound' can'),
-      rw p (starts_of_inserted greatest e j x xs sound' can' ∙ ap (λ s. insert s j x) q'),
+-- a start that is stored as it is
+pub start_put_in_near :
+    (greatest e s i x end : ℕ) (xs ys old : List ℕ) → IsSound greatest e s xs → starts_of e s xs ≡ old → i ≤ s + 1 → e ≡ end → ys ≡ insert xs i x
+    → CanStart old end i x → Leaves greatest e (s + 1) ys (insert old i x)
+start_put_in_near greatest e s i x end xs ys old sound q near same p can =
+    let can' : CanStart (starts_of e s xs) e i x = rw (q, same) can in
+    let b : i ≤ length xs = omega (arith, can'.within, length-starts_of e s xs) in
+    let moves : s + 1 ≡ s + min 1 (s + 2 - i) = omega arith in
+    let there : get_or (starts_of e (s + 1) (insert xs i x)) i 0 ≡ x =
+    starts_of_near e (s + 1) (insert xs i x) i near ∙ get_or-insert_at xs i x 0 b in (
+      rw p (stored_inserted greatest e s (s + 1) i x x xs sound can' moves can'.at_most there),
+      rw p (starts_of_inserted greatest e s (s + 1) i x x xs sound can' moves can'.at_most there ∙ ap (λ l. insert l i x) q),
+    )
+
+-- a start that is stored as its distance to the end
+pub start_put_in_far :
+    (greatest e s i x v end : ℕ) (xs ys old : List ℕ) → IsSound greatest e s xs → starts_of e s xs ≡ old → s + 1 < i → e ≡ end → v ≡ e - x → ys ≡ insert xs i v
+    → CanStart old end i x → Leaves greatest e s ys (insert old i x)
+start_put_in_far greatest e s i x v end xs ys old sound q far same stored p can =
+    let can' : CanStart (starts_of e s xs) e i x = rw (q, same) can in
+    let b : i ≤ length xs = omega (arith, can'.within, length-starts_of e s xs) in
+    let moves : s ≡ s + min 1 (s + 2 - i) = omega arith in
+    let small : v ≤ e = omega arith in
+    let there : get_or (starts_of e s (insert xs i v)) i 0 ≡ x =
+    omega (arith, starts_of_far e s (insert xs i v) i (omega arith) (omega (arith, length-insert xs i v b)), get_or-insert_at xs i v 0 b, can'.at_most) in (
+      rw p (stored_inserted greatest e s s i x v xs sound can' moves small there),
+      rw p (starts_of_inserted greatest e s s i x v xs sound can' moves small there ∙ ap (λ l. insert l i x) q),
     )
 
 pub start_taken_out :
-    (greatest e i j : ℕ) (xs ys old : List ℕ) → IsSound greatest e i xs → starts_of e i xs ≡ old → i ≡ j + 1 → ys ≡ remove xs j
-    → 0 < j → j < length old → Leaves greatest e j ys (remove old j)
-start_taken_out greatest e i j xs ys old sound q r p not_first l =
-    let sound' : IsSound greatest e (j + 1) xs = rw (← r) sound in
-    let q' : starts_of e (j + 1) xs ≡ old = rw (← r) q in
-    let b : j < length xs = omega (arith, length-starts_of e (j + 1) xs, ap length q') in (
-      rw p (stored_removed greatest e j xs sound' not_first b),
-      rw p (starts_of_removed greatest e j xs sound' not_first b ∙ ap (λ s. remove s j) q'),
+    (greatest e s t i : ℕ) (xs ys old : List ℕ) → IsSound greatest e s xs → starts_of e s xs ≡ old → t ≡ s - min 1 (s + 1 - i) → ys ≡ remove xs i
+    → 0 < i → i < length old → Leaves greatest e t ys (remove old i)
+start_taken_out greatest e s t i xs ys old sound q moves p not_first l =
+    let b : i < length xs = omega (arith, length-starts_of e s xs, ap length q) in (
+      rw p (stored_removed greatest e s t i xs sound not_first b moves),
+      rw p (starts_of_removed greatest e s t i xs sound not_first b moves ∙ ap (λ l. remove l i) q),
     )

@@ -1,4 +1,4 @@
-//! The calls that change partitions. Each moves the step to the partition that it names.
+//! The calls that change partitions. Text that comes or goes moves the step to its partition.
 ghost use Rattle.std.specs.Prelude.{◌≡◌, ◌≤◌, ◌<◌, ◌+◌, ◌-◌, length, insert, remove};
 ghost use Rattle.partitioning.specs.Partitions.{ArePartitions, CanStart, CanLose, raised_behind, lowered_behind};
 ghost use Rattle.partitioning.specs.Stored.{steps_between};
@@ -10,40 +10,49 @@ use std::alloc::Allocator;
 
 impl<P: Place, A: Allocator> Partitioning<P, A> {
     /// Puts a partition that starts at `start` in before the one at `index`, or at the end. There must be room for it.
+    /// No other stored start is changed: the step stays with its partition, or goes to one that comes right behind it.
     pub fn insert_reserved(&mut self, index: usize, start: usize)
         requires room { 0 < self.old.room }
         requires start { CanStart self.old.starts self.old.length index start }
         ensures starts { self.new.starts ≡ insert self.old.starts index start }
         ensures length { self.new.length ≡ self.old.length }
         ensures room { self.new.room + 1 ≡ self.old.room }
-        ensures step_at { self.new.step_at ≡ index }
-        ensures counted { self.old.stepped ≤ self.new.stepped }
-        ensures stepped { self.new.stepped ≡ counted self.old.stepped (steps_between self.old.step_at (index - 1) (length self.old.starts)) }
-        ensures few { self.new.stepped ≤ self.old.stepped + (apart index self.old.step_at + 1) }
+        ensures step_moves { index ≤ self.old.step_at + 1 → self.new.step_at ≡ self.old.step_at + 1 }
+        ensures step_stays { self.old.step_at + 1 < index → self.new.step_at ≡ self.old.step_at }
+        ensures stepped { self.new.stepped ≡ self.old.stepped }
+        ensures few { self.new.stepped + apart index self.new.step_at ≤ self.old.stepped + (apart index self.old.step_at + 1) }
         ensures sound { ArePartitions self.new.starts self.new.length }
     {
-        self.step_to(index - 1);
-        self.body.insert_reserved(index, P::from_usize(start));
-        self.step_at = index;
+        let _ = self.count(); // it says that the step's place is small
+        let place = P::from_usize(start);
+        if index <= self.step_at + 1 {
+            self.body.insert_reserved(index, place);
+            self.step_at += 1;
+        } else {
+            let distance = self.end.minus(place);
+            self.body.insert_reserved(index, distance);
+        }
     }
 
-    /// Takes the start of a partition away, so that it joins the one before it. The first partition stays.
+    /// Takes the start of a partition away, so that it joins the one before it. The first partition stays. No other stored
+    /// start is changed: the step stays with its partition, or goes one back where that is the one that was joined.
     pub fn remove(&mut self, index: usize)
         requires { (0 < index) × (index < length self.old.starts) }
         ensures starts { self.new.starts ≡ remove self.old.starts index }
         ensures length { self.new.length ≡ self.old.length }
         ensures room { self.new.room ≡ self.old.room + 1 }
-        ensures step_at { self.new.step_at ≡ index }
-        ensures counted { self.old.stepped ≤ self.new.stepped }
-        ensures stepped { self.new.stepped ≡ counted self.old.stepped (steps_between self.old.step_at (index + 1) (length self.old.starts)) }
-        ensures few { self.new.stepped ≤ self.old.stepped + (apart index self.old.step_at + 1) }
+        ensures step_moves { index ≤ self.old.step_at → self.new.step_at + 1 ≡ self.old.step_at }
+        ensures step_stays { self.old.step_at < index → self.new.step_at ≡ self.old.step_at }
+        ensures stepped { self.new.stepped ≡ self.old.stepped }
+        ensures few { self.new.stepped + apart index self.new.step_at ≤ self.old.stepped + (apart index self.old.step_at + 1) }
         ensures sound { ArePartitions self.new.starts self.new.length }
     {
         let count = self.count();
         prove!(index < count);
-        self.step_to(index + 1);
         self.body.delete(index, 1);
-        self.step_at = index;
+        if index <= self.step_at {
+            self.step_at -= 1;
+        }
     }
 
     /// Puts `count` more into the partition at `index`: the starts behind it and the length rise by as much.
@@ -56,7 +65,7 @@ impl<P: Place, A: Allocator> Partitioning<P, A> {
         ensures step_at { self.new.step_at ≡ index }
         ensures counted { self.old.stepped ≤ self.new.stepped }
         ensures stepped { self.new.stepped ≡ counted self.old.stepped (steps_between self.old.step_at index (length self.old.starts)) }
-        ensures few { self.new.stepped ≤ self.old.stepped + (apart index self.old.step_at + 1) }
+        ensures few { self.new.stepped + apart index self.new.step_at ≤ self.old.stepped + (apart index self.old.step_at + 1) }
         ensures sound { ArePartitions self.new.starts self.new.length }
     {
         self.step_to(index);
@@ -74,7 +83,7 @@ impl<P: Place, A: Allocator> Partitioning<P, A> {
         ensures step_at { self.new.step_at ≡ index }
         ensures counted { self.old.stepped ≤ self.new.stepped }
         ensures stepped { self.new.stepped ≡ counted self.old.stepped (steps_between self.old.step_at index (length self.old.starts)) }
-        ensures few { self.new.stepped ≤ self.old.stepped + (apart index self.old.step_at + 1) }
+        ensures few { self.new.stepped + apart index self.new.step_at ≤ self.old.stepped + (apart index self.old.step_at + 1) }
         ensures sound { ArePartitions self.new.starts self.new.length }
     {
         self.step_to(index);

@@ -14,12 +14,13 @@ use std::marker::Model;
 ///
 /// The starts up to the step are stored as they are, and those behind it as their distances to the end. So text that is
 /// put into the partition at the step, or taken from it, changes the end alone, and each start behind the step moves
-/// with it. A call that names another partition moves the step there first, and changes the starts between the two.
+/// with it. Text of another partition moves the step there first, and changes the starts between the two. A start that comes
+/// or goes changes no other: it is stored by the side of the step on which it lies.
 #[derive(Drop)]
 pub struct Partitioning<P: Place, A: Allocator = Global> {
     pub(crate) body: SplitVector<P, A>,
     pub(crate) end: P,
-    // The last start that is stored as it is. Where the last partition was just removed, there is none at this place.
+    // The last start that is stored as it is.
     pub(crate) step_at: usize,
     pub(crate) stepped: u64,
 }
@@ -105,7 +106,8 @@ impl<P: Place, A: Allocator> Partitioning<P, A> {
         self.stepped
     }
 
-    /// Returns the partition that the step stands at: the one that was named by the last call that changes a partition.
+    /// Returns the partition that the step stands at: the one that text last came to or went from, or the last of those whose
+    /// starts were put in right behind it, or the one that it was joined with.
     pub fn step_at(&self) -> usize
         ensures { result ≡ self.now.step_at }
     {

@@ -4,7 +4,7 @@ ghost use Rattle.run_styles.specs.Expansion.{IsExact};
 ghost use Rattle.run_styles.specs.Runs.{runs, inserted, deleted, filled, inserted_value, run_count, IsRunStart, IsRunEnd, IsChangedRange};
 
 use crate::edits::{delete_places, insert_default};
-use crate::table::{changed_range, end_of, overwrite, run_at, run_of};
+use crate::table::{changed_range, end_of, overwrite, run_at, run_near, run_of};
 use partitioning::{Partitioning, Place};
 use split_vector::SplitVector;
 use std::alloc::{AllocError, Allocator, Global};
@@ -138,11 +138,34 @@ impl<P: Place, V: Copy + Eq, A: Allocator> RunStyles<P, V, A> {
         ensures none { IfNone result (self.new.values ≡ self.old.values) }
         ensures changed { IfSome result (IsChangedRange self.old.values self.new.values) }
     {
-        let Some((low, high)) = changed_range(&self.starts, &self.values, place, count, value)
-        else {
+        if count == 0 {
+            return None;
+        }
+        let _ = self.length(); // it says that the end is a `usize`
+        let end = place + count;
+        let first = run_of(&self.starts, place);
+        let last = run_near(&self.starts, end - 1, first);
+        let Some((low, high)) = changed_range(
+            &self.starts,
+            &self.values,
+            first,
+            last,
+            place,
+            count,
+            value,
+        ) else {
             return None;
         };
-        overwrite(&mut self.starts, &mut self.values, low, high, value);
+        // What changes may begin behind the first of these runs, and end before the last.
+        overwrite(
+            &mut self.starts,
+            &mut self.values,
+            first + (low != place) as usize,
+            last.saturating_sub((high != end) as usize),
+            low,
+            high,
+            value,
+        );
         self.room -= 2;
         Some((low, high - low))
     }

@@ -35,6 +35,26 @@ pub(crate) fn run_of<P: Place, A: Allocator>(starts: &Partitioning<P, A>, place:
     starts.partition_of(place, &mut probes)
 }
 
+/// Returns the run that holds a place. It is looked up only where it is not the one that is likely.
+pub(crate) fn run_near<P: Place, A: Allocator>(
+    starts: &Partitioning<P, A>,
+    place: usize,
+    likely: usize,
+) -> usize
+    requires { place < starts.now.length }
+    ensures within { (result < length starts.now.starts) × (length starts.now.starts < 2 ^ 63) }
+    ensures from { slice_index starts.now.starts result ≤ place }
+    ensures to { place < slice_index_or starts.now.starts (result + 1) starts.now.length }
+{
+    if likely < starts.count()
+        && starts.start_of(likely) <= place
+        && place < end_of(starts, likely)
+    {
+        return likely;
+    }
+    run_of(starts, place)
+}
+
 /// Returns a run that a place lies in or at the end of.
 pub(crate) fn run_at<P: Place, A: Allocator>(starts: &Partitioning<P, A>, place: usize) -> usize
     requires { place ≤ starts.now.length }
@@ -214,10 +234,12 @@ pub(crate) fn replace_runs<P: Place, V: Copy + Eq, A: Allocator>(
     join_runs(starts, values, from + 1, to);
 }
 
-/// Sets a range that is not empty to a value.
+/// Sets a range that is not empty to a value. Its first and its last place likely lie in these runs.
 pub(crate) fn overwrite<P: Place, V: Copy + Eq, A: Allocator>(
     starts: &mut Partitioning<P, A>,
     values: &mut SplitVector<V, A>,
+    likely_first: usize,
+    likely_last: usize,
     low: usize,
     high: usize,
     value: V,
@@ -234,9 +256,9 @@ pub(crate) fn overwrite<P: Place, V: Copy + Eq, A: Allocator>(
     ensures room { starts.old.room ≤ starts.new.room + 2 }
     ensures spare { values.old.spare ≤ values.new.spare + 2 }
 {
-    let last = run_of(starts, high - 1);
+    let last = run_near(starts, high - 1, likely_last);
     end_at(starts, values, last, high);
-    let run = run_of(starts, low);
+    let run = run_near(starts, low, likely_first);
     let first = start_at(starts, values, run, low);
     let _count = starts.count();
     replace_runs(starts, values, first, last + 1 + (first - run), value);
@@ -246,6 +268,7 @@ pub(crate) fn overwrite<P: Place, V: Copy + Eq, A: Allocator>(
 fn next_other<P: Place, V: Copy + Eq, A: Allocator>(
     starts: &Partitioning<P, A>,
     values: &SplitVector<V, A>,
+    likely: usize,
     place: usize,
     value: V,
 ) -> usize
@@ -257,7 +280,7 @@ fn next_other<P: Place, V: Copy + Eq, A: Allocator>(
     ensures same { (k : ℕ) → place ≤ k → k < result → slice_get (expansion starts.now.starts values.now.items starts.now.length) k ≡ Some value }
     ensures other { slice_get (expansion starts.now.starts values.now.items starts.now.length) result ≢ Some value }
 {
-    let run = run_of(starts, place);
+    let run = run_near(starts, place, likely);
     if values.get(run) == value {
         end_of(starts, run)
     } else {
@@ -269,6 +292,7 @@ fn next_other<P: Place, V: Copy + Eq, A: Allocator>(
 fn last_other<P: Place, V: Copy + Eq, A: Allocator>(
     starts: &Partitioning<P, A>,
     values: &SplitVector<V, A>,
+    likely: usize,
     end: usize,
     value: V,
 ) -> usize
@@ -280,7 +304,7 @@ fn last_other<P: Place, V: Copy + Eq, A: Allocator>(
     ensures same { (k : ℕ) → result ≤ k → k < end → slice_get (expansion starts.now.starts values.now.items starts.now.length) k ≡ Some value }
     ensures other { 0 < result → slice_get (expansion starts.now.starts values.now.items starts.now.length) (result - 1) ≢ Some value }
 {
-    let run = run_of(starts, end - 1);
+    let run = run_near(starts, end - 1, likely);
     if values.get(run) == value {
         starts.start_of(run)
     } else {
@@ -288,10 +312,13 @@ fn last_other<P: Place, V: Copy + Eq, A: Allocator>(
     }
 }
 
-/// Returns the ends of the smallest range that holds each place where setting `count` places to a value changes one.
+/// Returns the ends of the smallest range that holds each place where setting `count` places to a value changes one. The
+/// first and the last of those places likely lie in these runs.
 pub(crate) fn changed_range<P: Place, V: Copy + Eq, A: Allocator>(
     starts: &Partitioning<P, A>,
     values: &SplitVector<V, A>,
+    likely_first: usize,
+    likely_last: usize,
     place: usize,
     count: usize,
     value: V,
@@ -299,20 +326,17 @@ pub(crate) fn changed_range<P: Place, V: Copy + Eq, A: Allocator>(
     requires exact { IsExact V.eq }
     requires table { IsTable starts.now.starts values.now.items starts.now.length }
     requires differ { NeighboursDiffer values.now.items }
-    requires within { place + count ≤ starts.now.length }
+    requires within { (0 < count) × (place + count ≤ starts.now.length) }
     ensures none { IfNone result (filled (expansion starts.now.starts values.now.items starts.now.length) place count value ≡ expansion starts.now.starts values.now.items starts.now.length) }
     ensures some { IfSome result (IsTrimmed (expansion starts.now.starts values.now.items starts.now.length) place count value) }
 {
-    if count == 0 {
-        return None;
-    }
     let _length = starts.length();
     let end = place + count;
-    let low = next_other(starts, values, place, value);
+    let low = next_other(starts, values, likely_first, place, value);
     if end <= low {
         return None;
     }
-    let high = last_other(starts, values, end, value);
+    let high = last_other(starts, values, likely_last, end, value);
     Some((low, high))
 }
 

@@ -1,11 +1,8 @@
 use Rattle.std.proofs.Common.{arith}
 use Rattle.run_styles.specs.Expansion.{expansion}
 use Rattle.run_styles.proofs.ByIndex.{length-table}
-use Rattle.run_styles.proofs.Filling.{filled-none, filled_same, trimmed}
+use Rattle.run_styles.proofs.Filling.{filled_same, trimmed}
 use Rattle.run_styles.proofs.table.changed_range.Goals as goal
-
-pub returns-then-count-eq0-clause-none : goal.returns-then-count-eq0-clause-none
-returns-then-count-eq0-clause-none g c = rw c.if-count-eq0.true (filled-none (expansion c.args.starts.now.starts c.args.values.now.items c.args.starts.now.length) c.args.place c.args.value)
 
 pub returns-then-end-low-clause-none : goal.returns-then-end-low-clause-none
 returns-then-end-low-clause-none g c =

@@ -1,13 +1,28 @@
-use Rattle.std.proofs.Common.{arith}
+use Rattle.std.proofs.Common.{arith, sym}
 use Rattle.run_styles.specs.Expansion.{expansion}
 use Rattle.run_styles.proofs.ByIndex.{length-table}
-use Rattle.run_styles.proofs.Filling.{changed_is}
+use Rattle.run_styles.proofs.Filling.{filled-none, changed_is}
 use Rattle.run_styles.proofs.styles.RunStyles.fill.Goals as goal
+
+pub returns-then-count-eq0-clause-values : goal.returns-then-count-eq0-clause-values
+returns-then-count-eq0-clause-values g c = rw c.if-count-eq0.true (sym (filled-none c.args.self.now.values c.args.place c.args.value))
+
+pub run_of-first-requires : goal.run_of-first-requires
+run_of-first-requires g c =
+    let within = rw (← c.self.view_is) at c.requires.within in
+    omega (arith, within, c.if-count-eq0.false, length-table c.self.inside.starts.starts c.self.inside.values.items c.self.inside.starts.length c.self.invariant.table)
+
+pub run_near-last-requires : goal.run_near-last-requires
+run_near-last-requires g c =
+    let within = rw (← c.self.view_is) at c.requires.within in
+    omega (arith, within, c.if-count-eq0.false, length-table c.self.inside.starts.starts c.self.inside.values.items c.self.inside.starts.length c.self.invariant.table)
 
 pub changed_range-requires-clause-within : goal.changed_range-requires-clause-within
 changed_range-requires-clause-within g c =
-    let within = rw (← c.self.view_is) at c.requires.within in
-    omega (arith, within, length-table c.self.inside.starts.starts c.self.inside.values.items c.self.inside.starts.length c.self.invariant.table)
+    let within = rw (← c.self.view_is) at c.requires.within in (
+      omega (arith, c.if-count-eq0.false),
+      omega (arith, within, length-table c.self.inside.starts.starts c.self.inside.values.items c.self.inside.starts.length c.self.invariant.table),
+    )
 
 pub overwrite-requires-clause-range : goal.overwrite-requires-clause-range
 overwrite-requires-clause-range g c =
