@@ -75,10 +75,21 @@ bound() {
         many_large_partitions) echo $((524288 + 262144 + 40000)) ;;
         # three texts (what goes in, the old and the new one), and twice 65,543 starts of 4 bytes in a block that grew
         lines_of_a_large_text) echo $((3 * 1048576 + 3 * 65543 * 4 + 40000)) ;;
+        # the text, and the turned one with 65,536 bytes more
+        line_ends_turned_and_back) echo $((1048576 + 1114112 + 40000)) ;;
         # the text and its bytes in the history
         a_step_of_a_large_text) echo $((2 * 1048576 + 40000)) ;;
         # 65,536 records of 40 bytes in a block that grew, and half of the bytes
         many_steps) echo $((2621440 + 1310720 + 524288 + 40000)) ;;
+        # room for the levels, the states, the starts and the markers of 131,072 lines, of 4, 4, 8 and 8 bytes, and the old block of the last that grew
+        rows_line_by_line) echo $((131072 * (4 + 4 + 8 + 8) + 65536 * 8 + 40000)) ;;
+        # the same of 100,000 lines, for which room was made at once
+        rows_at_once) echo $((100000 * (4 + 4 + 8 + 8) + 40000)) ;;
+        # 200,000 runs in room for 262,144: a start of 4 bytes, or of 8, and a value of 4, and the old block of the last that grew
+        indicators_of_small_places) echo $((262144 * (4 + 4) + 131072 * 4 + 40000)) ;;
+        indicators_of_large_places) echo $((262144 * (8 + 4) + 131072 * 4 + 40000)) ;;
+        # room for 100,006 runs of one indicator, a start and a value of 4 bytes each
+        insertions_about_an_indicator) echo $((100006 * (4 + 4) + 40000)) ;;
         # room for 131,072 commands of 56 bytes, 100,000 texts of 24 and the listing
         a_long_script_is_listed_and_read) echo $((7340032 + 2400000 + 3200006 + 40000)) ;;
         # a text of 700,000 bytes that grew by doubling

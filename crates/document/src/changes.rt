@@ -88,7 +88,7 @@ impl Document {
         self.held_by_callers = self.held_by_callers.saturating_sub(1);
     }
 
-    /// Makes room for one more view.
+    /// Makes room for one more view. Where there is none, it becomes room for as many as are attached, or for one.
     ///
     /// # Errors
     ///
@@ -96,10 +96,12 @@ impl Document {
     pub fn reserve_view(&mut self) -> Result<(), AllocError>
         ensures ok { OnOk result (0 < self.new.spare.views) }
         ensures same { self.new ≡ record self.old { spare = record self.old.spare { views = self.new.spare.views } } }
-        ensures room_is_there { 0 < self.old.spare.views → IsOk result }
+        ensures room_is_there { 0 < self.old.spare.views → IsOk result × (self.new ≡ self.old) }
         ensures room_stays { self.old.spare.views ≤ self.new.spare.views }
+        ensures at_most { self.new.spare.views ≤ max self.old.spare.views (max 1 (length self.old.document.views)) }
+        ensures err { OnErr result (self.new ≡ self.old) }
     {
-        let Ok(()) = self.views.reserve(1) else {
+        let Ok(()) = vec_room::reserve(&mut self.views, 1) else {
             return Err(AllocError);
         };
         Ok(())

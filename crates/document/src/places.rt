@@ -1,6 +1,6 @@
 //! Line starts and indicators of a text whose places are kept as 32 bits, or as 64 where the text may be large.
 
-ghost use Rattle.std.specs.Prelude.{◌≡◌, ◌↔◌, IsTrue, pos, ℕ, List, take, drop, ◌<◌, ◌≤◌, ◌+◌, ◌^◌, ◌++◌, [], length, max, replicate, slice_index, slice_set, IfOk, OnOk, OnErr, IsOk, Some, None};
+ghost use Rattle.std.specs.Prelude.{◌≡◌, ◌↔◌, IsTrue, pos, ℕ, List, take, drop, ◌<◌, ◌≤◌, ◌+◌, ◌^◌, ◌++◌, [], length, max, replicate, slice_index, slice_set, IfOk, OnOk, OnErr, IsOk, Some, None, ◌*◌, vec_len, vec_capacity};
 ghost use Rattle.ed_model.specs.Lines.{line_count, line_of, end_of_line};
 ghost use Rattle.std.specs.List.{AllByRecursion};
 ghost use Rattle.ed_model.specs.TextPlans.{at_place};
@@ -203,6 +203,7 @@ impl Lines {
         requires short { self.now.index.length < 2 ^ 63 }
         ensures edits { IfOk result (λ edits. edits.items ≡ edits_of_setting self.now.index.types types (before.now ++ after.now)) }
         ensures free { edits_of_setting self.now.index.types types (before.now ++ after.now) ≡ [] → IsOk result }
+        ensures at_most { IfOk result (λ edits. vec_capacity edits ≤ 2 * vec_len edits) }
     {
         match &self.kept {
             LinesByWidth::Small(lines) => lines.edits_for_types(alloc, types, before, after),

@@ -1,6 +1,6 @@
 //! Which line ends of a document count, and a container's own steps.
 
-ghost use Rattle.std.specs.Prelude.{◌≡◌, ◌≤◌, ◌+◌, ◌-◌, [], length, OnOk, IsOk, IfOk};
+ghost use Rattle.std.specs.Prelude.{◌≡◌, ◌≤◌, ◌+◌, ◌-◌, [], length, OnOk, IsOk, IfOk, ◌*◌, vec_len, vec_capacity};
 ghost use Rattle.ed_model.specs.declared.plan.DocumentChange.TheVariants.{AppendContainer, SetLineEndTypes};
 ghost use Rattle.ed_model.specs.Changes.{changed_document};
 ghost use Rattle.ed_model.specs.Session.{lines_in, text_of};
@@ -29,6 +29,7 @@ impl Document {
         ensures edits { IfOk result (λ edits. edits.items ≡ edits_of_setting self.now.document.line_end_types types (text_of self.now.document)) }
         ensures few { IfOk result (λ edits. lines_in self.now.document + fresh_lines edits.items ≤ length self.now.document.cells + 1) }
         ensures free { edits_of_setting self.now.document.line_end_types types (text_of self.now.document) ≡ [] → IsOk result }
+        ensures at_most { IfOk result (λ edits. vec_capacity edits ≤ 2 * vec_len edits) }
     {
         edits_of_settings();
         let (before, after) = self.cells.halves();

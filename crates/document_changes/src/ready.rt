@@ -35,6 +35,7 @@ fn reserve_types(
 ) -> Result<ChangeReady, AllocError>
     ensures same { document.new.document ≡ document.old.document }
     ensures ready { IfOk result (λ ready. IsReady document.new (change.SetLineEndTypes types) ready) }
+    ensures room_is_there { IsReady document.old (change.SetLineEndTypes types) [] → IsOk result }
     ensures room_stays { TakesRoom document.old.room document.new.room no_room }
     ensures at_most { IsAtMost document.new.room document.old.room (room_for document.old.document (change.SetLineEndTypes types)) }
     ensures spare { OnOk result (document.new.spare ≡ spare_for (change.SetLineEndTypes types) document.new.spare.styles document.old.spare) }
@@ -53,6 +54,7 @@ fn reserve_other(document: &mut Document, change: DocumentChange) -> Result<(), 
     ensures same { document.new.document ≡ document.old.document }
     ensures ready { OnOk result (IsReady document.new change []) }
     ensures free { needs_room change ≡ false → IsOk result × (document.new ≡ document.old) }
+    ensures room_is_there { IsReady document.old change [] → IsOk result }
     ensures room_stays { TakesRoom document.old.room document.new.room no_room }
     ensures at_most { IsAtMost document.new.room document.old.room (room_for document.old.document change) }
     ensures spare { OnOk result (document.new.spare ≡ spare_for change document.new.spare.styles document.old.spare) }
@@ -78,7 +80,7 @@ fn reserve_other(document: &mut Document, change: DocumentChange) -> Result<(), 
     }
 }
 
-/// Makes room in the document for a change. One that needs no room cannot fail.
+/// Makes room in the document for a change. One that needs no room cannot fail, nor one for which there is room.
 ///
 /// # Errors
 ///
@@ -92,6 +94,7 @@ pub fn reserve_change(
     ensures same { document.new.document ≡ document.old.document }
     ensures ready { IfOk result (λ ready. IsReady document.new change ready) }
     ensures free { needs_room change ≡ false → IsOk result × (document.new ≡ document.old) }
+    ensures room_is_there { IsReady document.old change [] → IsOk result }
     ensures room_stays { TakesRoom document.old.room document.new.room no_room }
     ensures at_most { IsAtMost document.new.room document.old.room (room_for document.old.document change) }
     ensures spare { OnOk result (document.new.spare ≡ spare_for change document.new.spare.styles document.old.spare) }

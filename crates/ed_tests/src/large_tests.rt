@@ -3,9 +3,12 @@
 
 use crate::line_index_tests::insert;
 use cell_buffer::Cells;
-use ed_model::LineEndTypes;
+use decorations::Decorations;
+use ed_model::{LineEnd, LineEndTypes};
 use ed_types::{Bytes, Kind, Message, Outcome};
-use line_index::LineIndex;
+use line_ends::{convert_into, converted_len, count_unwanted, next_missing, next_unwanted};
+use line_index::{LineEdit, LineIndex};
+use line_rows::LineRows;
 use macro_script::printing::append_outcome;
 use macro_script::{Command, Script, assemble, list};
 use partitioning::{Partitioning, Place, Probes};
@@ -140,6 +143,29 @@ fn lines_of_a_large_text(rt: HostRuntime) -> Result<(), Fail> {
     Ok(())
 }
 
+// Each step is looked for from the one before on: so many that each look may read a line, and not all of the text.
+#[test]
+fn line_ends_turned_and_back(rt: HostRuntime) -> Result<(), Fail> {
+    let text = large_text(rt.alloc())?;
+    assert_eq!(rt; text.len(), LARGE);
+    for line in 0..LINES {
+        let found = next_missing(&text, &[], LINE * line, LineEnd::CrLf);
+        assert!(rt; found == Some((LINE * line + 15, b'\r')));
+    }
+    let length = converted_len(&text, LineEnd::CrLf);
+    assert_eq!(rt; length, LARGE + LINES);
+    let mut turned = Vec::with_capacity(rt.alloc(), length)?;
+    convert_into(&text, LineEnd::CrLf, &mut turned);
+    assert_eq!(rt; turned.len(), LARGE + LINES);
+    assert!(rt; turned.ends_with(b" bytes\r\n"));
+    assert_eq!(rt; count_unwanted(&turned, &[], LineEnd::Lf), LINES);
+    for line in 0..LINES {
+        let found = next_unwanted(&turned, &[], (LINE + 1) * line, LineEnd::Lf);
+        assert!(rt; found == Some((LINE + 1) * line + 15));
+    }
+    Ok(())
+}
+
 #[test]
 fn a_step_of_a_large_text(rt: HostRuntime) -> Result<(), Fail> {
     let text = large_text(rt.alloc())?;
@@ -162,6 +188,137 @@ fn many_steps(rt: HostRuntime) -> Result<(), Fail> {
     assert_eq!(rt; history.undo_len(), LINES);
     history.undo();
     assert_eq!(rt; history.redo_len(), LINES);
+    Ok(())
+}
+
+/// How many lines have rows and indicators of their own, and how long each is in bytes.
+const MARKED_LINES: usize = 100_000;
+
+const MARKED_LINE: usize = 10;
+
+// One more line comes, as the last.
+fn line_comes(rt: &impl Abort, rows: &mut LineRows) -> Result<(), AllocError> {
+    rows.reserve(1)?;
+    let lines = rows.count();
+    assert!(rt; lines < MARKED_LINES);
+    rows.carry(&[LineEdit::Come {
+        line: lines,
+        count: 1,
+    }]);
+    Ok(())
+}
+
+fn row_is_set(rt: &impl Abort, rows: &mut LineRows, line: usize) -> Result<(), AllocError> {
+    assert!(rt; line < MARKED_LINES);
+    rows.reserve_levels(line + 1)?;
+    rows.reserve_states(line + 1)?;
+    rows.reserve_markers(1)?;
+    assert!(rt; line < rows.count() && rows.next_handle() <= 100_000);
+    let _ = rows.set_level(line, 0x401);
+    let _ = rows.set_state(line, 5);
+    let _ = rows.add_reserved(line, 3);
+    Ok(())
+}
+
+fn assert_rows_are_set(rt: &impl Abort, rows: &LineRows) {
+    for line in 0..rows.count() {
+        assert!(rt; line < rows.count() && rows.level(line) == 0x401);
+        assert!(rt; rows.state(line) == 5 && rows.mask(line) == 1 << 3);
+    }
+}
+
+#[test]
+fn rows_line_by_line(rt: HostRuntime) -> Result<(), Fail> {
+    let mut rows = LineRows::new(rt.alloc())?;
+    row_is_set(&rt, &mut rows, 0)?;
+    for line in 1..MARKED_LINES {
+        line_comes(&rt, &mut rows)?;
+        row_is_set(&rt, &mut rows, line)?;
+    }
+    assert_eq!(rt; rows.count(), MARKED_LINES);
+    assert_rows_are_set(&rt, &rows);
+    assert_eq!(rt; rows.line_of_handle(100_000), Some(99_999));
+    Ok(())
+}
+
+#[test]
+fn rows_at_once(rt: HostRuntime) -> Result<(), Fail> {
+    let mut rows = LineRows::new(rt.alloc())?;
+    rows.reserve(MARKED_LINES)?;
+    let lines = rows.count();
+    assert!(rt; lines == 1);
+    rows.carry(&[LineEdit::Come {
+        line: 1,
+        count: MARKED_LINES - 2,
+    }]);
+    rows.reserve_levels(MARKED_LINES - 2)?;
+    rows.reserve_states(MARKED_LINES - 2)?;
+    rows.reserve_markers(MARKED_LINES)?;
+    assert!(rt; rows.count() == MARKED_LINES - 1);
+    for line in 0..MARKED_LINES - 2 {
+        row_is_set(&rt, &mut rows, line)?;
+    }
+    assert!(rt; rows.count() == MARKED_LINES - 1);
+    assert!(rt; rows.next(50_000, 1 << 3) == Some(50_000) && rows.mask(99_998) == 0);
+    rows.carry(&[LineEdit::Join {
+        line: 0,
+        count: 99_998,
+    }]);
+    assert_eq!(rt; rows.line_of_handle(99_998), Some(0));
+    Ok(())
+}
+
+// A text of `LARGE` bytes, in which an indicator is set on the first half of each marked line.
+fn indicators_line_by_line<P: Place>(rt: &impl Abort, alloc: Global) -> Result<(), AllocError> {
+    let mut indicators: Decorations<P> = Decorations::new(alloc);
+    indicators.reserve(1)?;
+    assert!(rt; indicators.length() == 0 && LARGE <= P::GREATEST);
+    indicators.insert(0, LARGE);
+    for line in 0..MARKED_LINES {
+        let start = MARKED_LINE * line;
+        assert!(rt; indicators.length() == LARGE && start + 5 <= LARGE);
+        indicators.reserve_fill(7)?;
+        assert!(rt; indicators.fill(7, start, 5, 1) == Some((start, 5)));
+    }
+    for line in 0..MARKED_LINES {
+        let start = MARKED_LINE * line;
+        assert!(rt; indicators.length() == LARGE && start + 5 <= LARGE);
+        assert!(rt; indicators.run(7, start + 4) == (start, start + 5));
+        assert!(rt; indicators.value(7, start + 5) == 0);
+    }
+    Ok(())
+}
+
+#[test]
+fn indicators_of_small_places(rt: HostRuntime) -> Result<(), Fail> {
+    indicators_line_by_line::<u32>(&rt, rt.alloc())?;
+    Ok(())
+}
+
+#[test]
+fn indicators_of_large_places(rt: HostRuntime) -> Result<(), Fail> {
+    indicators_line_by_line::<u64>(&rt, rt.alloc())?;
+    Ok(())
+}
+
+#[test]
+fn insertions_about_an_indicator(rt: HostRuntime) -> Result<(), Fail> {
+    let mut indicators: Decorations<u32> = Decorations::new(rt.alloc());
+    indicators.reserve(1)?;
+    assert!(rt; indicators.length() == 0);
+    indicators.insert(0, LARGE);
+    indicators.reserve_fill(31)?;
+    assert!(rt; indicators.length() == LARGE);
+    assert_eq!(rt; indicators.fill(31, 0, LARGE, 7), Some((0, LARGE)));
+    // Each in the midst of the value, that it gets, with room for all made at once.
+    for line in 0..MARKED_LINES {
+        indicators.reserve(MARKED_LINES - line)?;
+        let length = indicators.length();
+        assert!(rt; length == LARGE + line);
+        indicators.insert(MARKED_LINE * line + 1, 1);
+    }
+    assert_eq!(rt; indicators.length(), LARGE + MARKED_LINES);
+    assert!(rt; indicators.run(31, 500_000) == (0, LARGE + MARKED_LINES));
     Ok(())
 }
 

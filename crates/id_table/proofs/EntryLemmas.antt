@@ -1,5 +1,5 @@
 -- The entries that places and a slab make, and what a change of one value does to them.
-use Rattle.std.proofs.Common.{◌≡◌, ◌≢◌, ℕ, zero, suc, ◌+◌, ◌<◌, ◌≤◌, true, cond, List, [], ◌∷◌, ◌++◌, length, map, get_or, Option, Some, None, is_some, count_by, refl, sym, ap, subst, ◌∙◌, arith}
+use Rattle.std.proofs.Common.{◌≡◌, ◌≢◌, ℕ, zero, suc, ◌+◌, ◌*◌, ◌<◌, ◌≤◌, true, cond, List, [], ◌∷◌, ◌++◌, length, map, get_or, Option, Some, None, is_some, count_by, refl, sym, ap, subst, ◌∙◌, arith}
 use Rattle.std.specs.Prelude.{IsSome, IfSome, IfNone}
 use Rattle.std.specs.List.{AllByRecursion, remove}
 use Rattle.std.proofs.lemmas.Bool.{ne_eqb}
@@ -42,6 +42,11 @@ module _ {V : Type 0} where
   pub below_next : (slab : Slab V) (floor next : ℕ) (ps : List Place) → InOrder slab floor next ps → floor < next
   below_next slab floor next [] h = h
   below_next slab floor next (p ∷ ps) h = omega (arith, h.0, below_next slab p.id next ps h.3)
+
+  -- There are fewer than the next id.
+  fewer : (slab : Slab V) (floor next : ℕ) (ps : List Place) → InOrder slab floor next ps → length ps + floor < next
+  fewer slab floor next [] h = omega (arith, h)
+  fewer slab floor next (p ∷ ps) h = omega (arith, h.0, fewer slab p.id next ps h.3)
 
   above : (slab : Slab V) (floor next : ℕ) (ps : List Place) (i : ℕ) (d : Place) → i < length ps → InOrder slab floor next ps → floor < (get_or ps i d).id
   above slab floor next [] i d lt h = absurd (omega (arith, lt))
@@ -205,6 +210,9 @@ module _ {V : Type 0} where
     pub length_table : length (entries_by slab ps) ≡ length ps
     length_table = length_entries slab 0 next ps table.ordered
 
+    pub fewer_than_ids : length ps < next
+    fewer_than_ids = omega (arith, fewer slab 0 next ps table.ordered)
+
     pub ids_rise : Rise 1 next (map (id_of {V = V}) (entries_by slab ps))
     ids_rise = ids_from slab 0 next ps table.ordered
 
@@ -243,7 +251,7 @@ module _ {V : Type 0} where
         let r = written slab (with_value slab p.key w) p.key u.others w u.changed 0 next id ps at p table.ordered is_at.0 (is_at.1 p) (ap (λ (q : Place). q.key) (sym e)) in
         let same : slab_len (with_value slab p.key w) ≡ slab_len slab = length_with slab p.key w there in (
           r.0,
-          record { ordered = r.1; all = same ∙ table.all; slots = rw same table.slots; places = table.places },
+          record { ordered = r.1; all = same ∙ table.all; slots = rw same table.slots; places = table.places; few = table.few },
         )
 
     -- the value at an id goes, and its place
@@ -258,6 +266,7 @@ module _ {V : Type 0} where
             all = omega (arith, less, shorter, table.all);
             slots = omega (arith, less, same, table.slots);
             places = omega (arith, shorter, table.places);
+            few = table.few;
           },
         )
 
@@ -273,18 +282,20 @@ module _ {V : Type 0} where
             all = omega (arith, more, longer, table.all);
             slots = omega (arith, more, same, less, table.slots);
             places = omega (arith, longer, wide, less, table.places);
+            few = omega (arith, wide, less, table.few);
           },
         )
 
     -- there is room for more in both
-    pub wider_table : (new : Slab V) (wider left : ℕ) → new.slots ≡ slab.slots → slab_len slab + left ≤ new.capacity → length ps + left ≤ wider
+    pub wider_table : (new : Slab V) (wider left : ℕ) → new.slots ≡ slab.slots → slab_len slab + left ≤ new.capacity → length ps + left ≤ wider → wider ≤ 2 * (next + left)
         → (entries_by new ps ≡ entries_by slab ps) × IsTable new ps wider next left
-    wider_table new wider left same slots places = (
+    wider_table new wider left same slots places few = (
       ap (λ (slots : List (Option V)). entries_by (record slab { slots = slots }) ps) same,
       record {
         ordered = subst (λ (slots : List (Option V)). InOrder (record slab { slots = slots }) 0 next ps) (sym same) table.ordered;
         all = rw same table.all;
         slots = rw same slots;
         places = places;
+        few = few;
       },
     )

@@ -1,5 +1,5 @@
 -- How a table keeps its values. No public clause cites this module.
-use Rattle.std.specs.Prelude.{◌≡◌, ◌≢◌, ℕ, ◌+◌, ◌<◌, ◌≤◌, List, [], ◌∷◌, length, filter_map, Option, option_map}
+use Rattle.std.specs.Prelude.{◌≡◌, ◌≢◌, ℕ, ◌+◌, ◌*◌, ◌<◌, ◌≤◌, List, [], ◌∷◌, length, filter_map, Option, option_map}
 use Rattle.std.specs.List.{AllByRecursion, AllWithin, HoldsAt}
 use Rattle.std.specs.List.Sorted.{IsNonDecreasingBy}
 use Rattle.slab.specs.Slab.{Slab, get, slab_len, ContainsKey, HasRoomFor}
@@ -31,9 +31,11 @@ module _ {V : Type 0} where
   InOrder slab floor next (p ∷ ps) =
       (floor < p.id) × ContainsKey slab p.key × AllByRecursion (λ (q : Place). q.key ≢ p.key) ps × InOrder slab p.id next ps
 
-  -- the places and the slab belong together, no value lies anywhere else, and there is room in both
+  -- The places and the slab belong together, no value lies anywhere else, and there is room in both; for places no more than
+  -- twice what was ever asked for.
   pub record IsTable (slab : Slab V) (ps : List Place) (capacity next room : ℕ) : Type 0 where
     pub ordered : InOrder slab 0 next ps
     pub all : slab_len slab ≡ length ps
     pub slots : HasRoomFor slab room
     pub places : length ps + room ≤ capacity
+    pub few : capacity ≤ 2 * (next + room)

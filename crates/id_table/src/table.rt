@@ -130,7 +130,7 @@ impl<T> IdTable<T> {
             return Ok(());
         }
         self.slab.reserve(count)?;
-        self.order.reserve(count)?;
+        vec_room::reserve(&mut self.order, count)?;
         self.room = count;
         Ok(())
     }

@@ -1,6 +1,6 @@
 //! Another setting of line ends: what it does to the lines of a text, and the starts that the text has by it.
 
-ghost use Rattle.std.specs.Prelude.{◌≡◌, ℕ, ◌+◌, ◌-◌, ◌^◌, ◌≤◌, ◌<◌, ◌++◌, true, false, [], length, IsOk, OnOk, IfOk};
+ghost use Rattle.std.specs.Prelude.{◌≡◌, ℕ, ◌+◌, ◌-◌, ◌^◌, ◌≤◌, ◌<◌, ◌++◌, true, false, [], length, IsOk, OnOk, IfOk, ◌*◌, vec_len, vec_capacity};
 ghost use Rattle.ed_model.specs.declared.plan.LineEndTypes.TheVariants.{Default, Unicode};
 ghost use Rattle.ed_model.specs.Lines.{is_line_start, line_starts, line_count};
 ghost use Rattle.line_index.specs.Edits.{fresh_lines};
@@ -47,6 +47,7 @@ fn push_inside(
     requires { line + count + 1 < 2 ^ 64 }
     ensures edits { OnOk result (edits.new.items ≡ edits.old.items ++ inside_edits types line count) }
     ensures free { inside_edits types line count ≡ [] → IsOk result }
+    ensures few { vec_capacity edits.old ≤ 2 * vec_len edits.old → vec_capacity edits.new ≤ 2 * vec_len edits.new }
 {
     if count == 0 {
         return Ok(());
@@ -58,7 +59,8 @@ fn push_inside(
             count,
         },
     };
-    edits.push(edit)?;
+    vec_room::reserve(edits, 1)?;
+    edits.push_reserved(edit);
     Ok(())
 }
 
@@ -81,9 +83,11 @@ fn push_all_inside(
     after: &[u8],
 ) -> Result<(), AllocError>
     requires none { edits.old.items ≡ [] }
+    requires no_room { vec_capacity edits.old ≡ 0 }
     requires short { length before.now + length after.now < 2 ^ 63 }
     ensures edits { OnOk result (edits.new.items ≡ all_inside_edits types 0 (lines_inside (before.now ++ after.now) (line_starts Default (before.now ++ after.now)))) }
     ensures free { all_inside_edits types 0 (lines_inside (before.now ++ after.now) (line_starts Default (before.now ++ after.now))) ≡ [] → IsOk result }
+    ensures few { OnOk result (vec_capacity edits.new ≤ 2 * vec_len edits.new) }
 {
     let end = before.len() + after.len() + 1;
     let mut line = 0;
@@ -132,6 +136,7 @@ impl<P: Place> LineIndex<P> {
         requires short { self.now.length < 2 ^ 63 }
         ensures edits { IfOk result (λ edits. edits.items ≡ edits_of_setting self.now.types types (before.now ++ after.now)) }
         ensures free { edits_of_setting self.now.types types (before.now ++ after.now) ≡ [] → IsOk result }
+        ensures at_most { IfOk result (λ edits. vec_capacity edits ≤ 2 * vec_len edits) }
     {
         let mut edits = Vec::new(alloc);
         if types == self.types {

@@ -1,6 +1,6 @@
 //! Lines of a script.
 
-ghost use Rattle.std.specs.Prelude.{◌≡◌, ◌≤◌, ◌<◌, ◌^◌, ◌==◌, length, [], ◌∷◌, MatchOption, if◌then◌else◌, Err, Ok};
+ghost use Rattle.std.specs.Prelude.{◌≡◌, ◌≤◌, ◌<◌, ◌^◌, ◌==◌, length, [], ◌∷◌, MatchOption, if◌then◌else◌, Err, Ok, ◌*◌, vec_len, vec_capacity, IfOk};
 ghost use Rattle.std.specs.List.{slice_split};
 ghost use Rattle.ed_types.specs.declared.script.Cause.TheVariants.{NoLineEnd, LineTooLong};
 ghost use Rattle.ed_types.specs.declared.script.ScriptFault.TheVariants.{BadLine};
@@ -89,7 +89,8 @@ fn read_line(
 /// The commands of the lines behind the first.
 pub fn read_lines(alloc: Global, version: Version, text: &[u8]) -> Result<Vec<Command>, ScriptFault>
     requires { length text.now ≤ 16777216 }
-    ensures { ReadsLines (number_of version) text.now result }
+    ensures lines { ReadsLines (number_of version) text.now result }
+    ensures few { IfOk result (λ commands. vec_capacity commands ≤ 2 * vec_len commands) }
 {
     let mut commands = Vec::new(alloc);
     let mut rest = text;
@@ -99,9 +100,10 @@ pub fn read_lines(alloc: Global, version: Version, text: &[u8]) -> Result<Vec<Co
             Ok(command) => command,
             Err(fault) => return Err(fault),
         };
-        let Ok(()) = commands.push(command) else {
+        let Ok(()) = vec_room::reserve(&mut commands, 1) else {
             return Err(ScriptFault::OutOfMemory);
         };
+        commands.push_reserved(command);
         rest = after;
         number += 1;
     }

@@ -1,6 +1,6 @@
 //! Scripts.
 
-ghost use Rattle.std.specs.Prelude.{◌≡◌, ◌⊎◌, ◌↔◌, ◌++◌, ◌∷◌, [], length, OnOk, OnErr, IfErr, Ok, Err, false};
+ghost use Rattle.std.specs.Prelude.{◌≡◌, ◌⊎◌, ◌↔◌, ◌++◌, ◌∷◌, ◌*◌, ◌≤◌, [], length, vec_len, vec_capacity, OnOk, OnErr, IfErr, Ok, Err, false};
 ghost use Rattle.ed_types.specs.declared.script.ScriptFault.TheVariants.{TooLong, OutOfMemory};
 ghost use Rattle.ed_model.specs.Listing.{keeps_limits, listing};
 ghost use Rattle.ed_model.specs.ScriptLaws.{IsScript};
@@ -26,7 +26,7 @@ pub struct Script {
 }
 
 impl Model for Script {
-    ghost use Rattle.std.specs.Prelude.{List};
+    ghost use Rattle.std.specs.Prelude.{List, ◌*◌, ◌≤◌, vec_len, vec_capacity};
     ghost use Rattle.ed_types.specs.declared.script.Command.{Command};
     ghost use Rattle.macro_script.specs.Scripts.{IsProper};
 
@@ -34,7 +34,11 @@ impl Model for Script {
 
     ghost view = { λ script. script.commands.items };
 
-    ghost invariant = { λ script. IsProper script.commands.items script.listed };
+    // There is room for no more than twice the commands.
+    ghost invariant = { λ script. record {
+      proper : IsProper script.commands.items script.listed;
+      few : vec_capacity script.commands ≤ 2 * vec_len script.commands;
+    } };
 }
 
 impl Script {
@@ -50,7 +54,8 @@ impl Script {
 
     /// A script of commands whose listing has this length.
     pub(crate) fn of_listing(commands: Vec<Command>, listed: usize) -> Self
-        requires { IsProper commands.items listed }
+        requires proper { IsProper commands.items listed }
+        requires few { vec_capacity commands ≤ 2 * vec_len commands }
         ensures { result ≡ commands.items }
     {
         Script { commands, listed }
@@ -95,9 +100,10 @@ impl Script {
         if len >= SCRIPT_LIMIT - self.listed {
             return Err(ScriptFault::TooLong);
         }
-        let Ok(()) = self.commands.push(command) else {
+        let Ok(()) = vec_room::reserve(&mut self.commands, 1) else {
             return Err(ScriptFault::OutOfMemory);
         };
+        self.commands.push_reserved(command);
         self.listed += len + 1;
         Ok(())
     }

@@ -16,7 +16,7 @@ pub struct NoteList {
     pool: Vec<u8>,
     // Where the shared text begins in the pool; it ends with it.
     shared_from: usize,
-    // How many more notes, and bytes of texts, were asked for and are there.
+    // How many more notes, and bytes of texts, were asked for and are there. Of notes there is room for no more.
     note_room: usize,
     text_room: usize,
 }
@@ -26,7 +26,7 @@ impl Model for NoteList {
 
     ghost Value = { Gathered };
 
-    ghost use Rattle.std.specs.Prelude.{◌≤◌, ◌+◌, length, drop, vec_len, vec_capacity};
+    ghost use Rattle.std.specs.Prelude.{◌≡◌, ◌≤◌, ◌+◌, length, drop, vec_len, vec_capacity};
     ghost use Rattle.ed_types.specs.Heard.{heard_in};
     ghost use Rattle.notify.specs.Ranges.{EndWithin};
 
@@ -35,7 +35,7 @@ impl Model for NoteList {
     ghost invariant = { λ l. record {
       texts : EndWithin (length l.pool.items) l.notes.items;
       shared : l.shared_from ≤ length l.pool.items;
-      notes : vec_len l.notes + l.note_room ≤ vec_capacity l.notes;
+      notes : vec_len l.notes + l.note_room ≡ vec_capacity l.notes;
       pool : vec_len l.pool + l.text_room ≤ vec_capacity l.pool;
     } };
 }
@@ -68,10 +68,10 @@ impl NoteList {
         if notes <= self.note_room && bytes <= self.text_room {
             return Ok(());
         }
-        let Ok(()) = self.notes.reserve_exact(notes) else {
+        let Ok(()) = self.pool.reserve_exact(bytes) else {
             return Err(AllocError);
         };
-        let Ok(()) = self.pool.reserve_exact(bytes) else {
+        let Ok(()) = self.notes.reserve_exact(notes) else {
             return Err(AllocError);
         };
         self.note_room = self.note_room.max(notes);

@@ -1,7 +1,7 @@
 -- Sessions, and results.
 use Rattle.std.proofs.Common.{◌≡◌, ◌≢◌, ℕ, ◌+◌, ◌-◌, ◌<◌, ◌≤◌, ◌==◌, ◌^◌, Bool, true, false, cond, List, [], ◌∷◌, ◌++◌, map, length, refl, ap, sym, ◌∙◌, subst, arith, Option, Some, None, Ok, Err, OnOk, IfSome, IsSomeAnd}
 use Rattle.std.specs.Global.{Vec, Box}
-use Rattle.std.specs.Prelude.{Result, vec_capacity, filter}
+use Rattle.std.specs.Prelude.{Result, max, vec_capacity, filter}
 use Rattle.std.specs.List.{AllByRecursion, range_with_len}
 use Rattle.std.proofs.lemmas.Bool.{eq-eqb, ne_eqb}
 use Rattle.std.proofs.lemmas.Bool.Decides.{nat_tests}
@@ -34,7 +34,7 @@ use Rattle.session_changes.specs.Asked.{IsAsked, CanChangeSession}
 use Rattle.session_changes.specs.Clipboard.{copied, CanCopy}
 use Rattle.session_changes.specs.Folding.{HasFoldRoomAt, IsFoldRoomAtMost, IsRoomAtMostAt, changed_at}
 use Rattle.session_changes.specs.Moving.{DocumentsRise, CanMove}
-use Rattle.session_changes.specs.Ready.{IsReady, AwaitsView, IsHeld}
+use Rattle.session_changes.specs.Ready.{IsReady, AwaitsView, IsHeld, ArePlacesAtMost}
 use Rattle.session_changes.specs.declared.ready.SessionReady.TheVariants as made
 use Rattle.session_changes.proofs.Finding.{document_in, id_of_document, own_at, holds_at, found_some, kept_as, for_replaced, value_replaced}
 use Rattle.session_changes.proofs.AskedLemmas.{of_document, view_found, on_document, document_found, kept_view, kept_document, stands, in_its_place}
@@ -46,6 +46,23 @@ when_ok (Err e) P Q h f = tt
 
 pub for_some : {V : Type 0} (P : V → Type 0) (o : Option V) (v : V) → o ≡ Some v → P v → IfSome o P
 for_some P o v e h = subst (λ x. IfSome x P) (sym e) h
+
+pub of_some : {V : Type 0} (P : V → Type 0) (o : Option V) (v : V) → o ≡ Some v → IfSome o P → P v
+of_some P o v e h = subst (λ x. IfSome x P) e h
+
+pub there_of_some : {V : Type 0} (P : V → Type 0) (o : Option V) (v : V) → o ≡ Some v → IsSomeAnd o P → P v
+there_of_some P o v e h = subst (λ x. IsSomeAnd x P) e h
+
+-- Room that is made, and room that is there.
+
+pub places_most : (entries : List (Entry Kept)) (id : ℕ) (old new : Kept) → value_at entries id ≡ Some old → new.spare.views ≤ max old.spare.views (max 1 (length old.document.views))
+    → ArePlacesAtMost entries (with_value_at id new entries) id
+places_most entries id old new at most = for_some _ _ old at (for_some _ _ new (value_replaced entries id old new at) most)
+
+pub fold_room_is_there : (entries : List (Entry KeptView)) (view : ℕ) (old : KeptView) (change : ViewChange) (need : FoldNeed) → value_at entries view ≡ Some old → need ≡ fold_need (length old.view.flags) change
+    → HasFoldRoomAt entries view change → HasFoldRoom old.room need
+fold_room_is_there entries view old change need at is has =
+    subst (λ n. HasFoldRoom old.room n) (sym is) (there_of_some (λ (v : KeptView). HasFoldRoom v.room (fold_need (length v.view.flags) change)) (value_at entries view) old at has)
 
 pub fold_room_there : (entries : List (Entry KeptView)) (view : ℕ) (old new : KeptView) (change : ViewChange) (need : FoldNeed) → value_at entries view ≡ Some old → new.view ≡ old.view
     → need ≡ fold_need (length old.view.flags) change → HasFoldRoom new.room need → HasFoldRoomAt (with_value_at view new entries) view change
@@ -88,9 +105,6 @@ copied_so documents change.AttachNew bytes r ready = absurd ready
 copied_so documents (change.Create options) bytes r ready = absurd ready
 copied_so documents (change.AddReference id) bytes r ready = absurd ready
 copied_so documents (change.Release id) bytes r ready = absurd ready
-
-of_some : {V : Type 0} (P : V → Type 0) (o : Option V) (v : V) → o ≡ Some v → IfSome o P → P v
-of_some P o v e h = subst (λ x. IfSome x P) e h
 
 pub clipboard_so : (s : SessionState) (document view : ℕ) (text : List ℕ) (what : SessionChange) (bytes done : Vec ℕ) → IsKept s → IsReady s.documents what (made.Clipboard bytes)
     → IfSome (value_at s.documents.entries document) (λ k. done.items ≡ copied what (text_of k.document) text)

@@ -1,9 +1,9 @@
 -- What is made before a session changes, so that the change cannot fail.
-use Rattle.std.specs.Prelude.{◌≡◌, ℕ, ◌<◌, nat_lt, Bool, true, false, [], IfSome, vec_capacity}
+use Rattle.std.specs.Prelude.{◌≡◌, ℕ, ◌<◌, ◌≤◌, nat_lt, max, Bool, true, false, List, [], length, IfSome, vec_capacity}
 use Rattle.ed_model.specs.declared.plan.SessionChange.{SessionChange}
 use Rattle.ed_model.specs.declared.plan.SessionChange.TheVariants as change
 use Rattle.ed_model.specs.Session.{new_document}
-use Rattle.id_table.specs.Entries.{Entries, value_at}
+use Rattle.id_table.specs.Entries.{Entries, Entry, value_at}
 use Rattle.document.specs.Kept.{Kept}
 use Rattle.session_changes.specs.declared.ready.SessionReady.{SessionReady}
 use Rattle.session_changes.specs.declared.ready.SessionReady.TheVariants as ready
@@ -13,12 +13,12 @@ abbrev pub IsClipboardFor : ℕ → SessionReady → Type 0
 IsClipboardFor count (ready.Clipboard bytes) = (bytes.items ≡ []) × (vec_capacity bytes ≡ count)
 IsClipboardFor count other = ⊥
 
--- the document, and room for it in the table
 -- this document
 abbrev pub IsDocument : Kept → SessionReady → Type 0
 IsDocument k (ready.NewDocument made) = made.value ≡ k
 IsDocument k other = ⊥
 
+-- a document of which that holds, and room for it in the table
 abbrev pub IsNewDocument : Entries Kept → (Kept → Type 0) → SessionReady → Type 0
 IsNewDocument table IsSo (ready.NewDocument made) = (0 < table.room) × IsSo made.value
 IsNewDocument table IsSo other = ⊥
@@ -35,15 +35,39 @@ AwaitsView id k = (k.document ≡ new_document id 0) × (0 < k.spare.views)
 abbrev pub IsHeld : ℕ → ℕ → Kept → Type 0
 IsHeld id options k = k.document ≡ (let d = new_document id options in record d { held_by_callers = 1 })
 
+-- the document of that id, if it is there, has a place for a view
+abbrev pub HasPlace : List (Entry Kept) → ℕ → Type 0
+HasPlace entries id = IfSome (value_at entries id) (λ k. 0 < k.spare.views)
+
 -- all that the change needs is there
 abbrev pub IsReady : Entries Kept → SessionChange → SessionReady → Type 0
 IsReady documents (change.Copy start count) r = IsClipboardFor count r
 IsReady documents (change.CopyText count) r = IsClipboardFor count r
-IsReady documents (change.Attach id) r = IsNothing r × IfSome (value_at documents.entries id) (λ k. 0 < k.spare.views)
+IsReady documents (change.Attach id) r = IsNothing r × HasPlace documents.entries id
 IsReady documents change.AttachNew r = IsNewDocument documents (AwaitsView documents.next) r
 IsReady documents (change.Create options) r = IsNewDocument documents (IsHeld documents.next options) r
 IsReady documents (change.AddReference id) r = IsNothing r
 IsReady documents (change.Release id) r = IsNothing r
+
+-- what it needs is there already
+abbrev pub IsThere : List (Entry Kept) → SessionChange → Type 0
+IsThere entries (change.Attach id) = HasPlace entries id
+IsThere entries (change.Copy start count) = count ≡ 0
+IsThere entries (change.CopyText count) = count ≡ 0
+IsThere entries change.AttachNew = ⊥
+IsThere entries (change.Create options) = ⊥
+IsThere entries (change.AddReference id) = Unit {0}
+IsThere entries (change.Release id) = Unit {0}
+
+-- the document of that id has at most as many places as it had, or as views are on it, or one
+abbrev pub ArePlacesAtMost : List (Entry Kept) → List (Entry Kept) → ℕ → Type 0
+ArePlacesAtMost old new id =
+    IfSome (value_at old id) (λ was. IfSome (value_at new id) (λ now. now.spare.views ≤ max was.spare.views (max 1 (length was.document.views))))
+
+-- no document but that of the change has another room, and the table has at most as much as it had, or room for one document
+abbrev pub IsRoomAtMost : SessionChange → Entries Kept → Entries Kept → Type 0
+IsRoomAtMost (change.Attach id) old new = ArePlacesAtMost old.entries new.entries id × (new.room ≡ old.room)
+IsRoomAtMost other old new = (new.entries ≡ old.entries) × (new.room ≤ max old.room 1)
 
 -- whether the change may take memory
 abbrev pub takes_memory : SessionChange → Bool

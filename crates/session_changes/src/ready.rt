@@ -1,12 +1,11 @@
 //! What is made before a session changes.
 
-ghost use Rattle.std.specs.Prelude.{◌≡◌, ◌<◌, false, IsOk, IfOk, OnOk, IfSome};
-ghost use Rattle.id_table.specs.Entries.{value_at};
+ghost use Rattle.std.specs.Prelude.{◌≡◌, ◌≤◌, max, false, IsOk, IfOk, OnOk};
 ghost use Rattle.scene.specs.Scenes.{AreNamed};
 ghost use Rattle.message_plans.specs.Requested.{session_in, documents_in};
 ghost use Rattle.session_changes.specs.Kept.{IsKept, DocumentsAreNamed};
 ghost use Rattle.session_changes.specs.Moving.{DocumentsRise};
-ghost use Rattle.session_changes.specs.Ready.{IsReady, IsClipboardFor, IsDocument, IsNewDocument, AwaitsView, IsHeld, takes_memory};
+ghost use Rattle.session_changes.specs.Ready.{IsReady, IsThere, IsRoomAtMost, IsClipboardFor, IsDocument, IsNewDocument, AwaitsView, IsHeld, HasPlace, ArePlacesAtMost, takes_memory};
 
 use document::Document;
 use document_table::DocumentTable;
@@ -52,7 +51,10 @@ fn reserve_view_in(documents: &mut DocumentTable, document: u32) -> Result<(), A
     ensures same { documents_in documents.new ≡ documents_in documents.old }
     ensures named { DocumentsAreNamed documents.new.entries }
     ensures next { documents.new.next ≡ documents.old.next }
-    ensures ok { OnOk result (IfSome (value_at documents.new.entries document) (λ k. 0 < k.spare.views)) }
+    ensures room { documents.new.room ≡ documents.old.room }
+    ensures ok { OnOk result (HasPlace documents.new.entries document) }
+    ensures room_is_there { HasPlace documents.old.entries document → IsOk result }
+    ensures at_most { ArePlacesAtMost documents.old.entries documents.new.entries document }
 {
     let Some(document) = documents.get_mut(document) else {
         return Ok(());
@@ -86,6 +88,7 @@ fn document_for_view(
     ensures entries { documents.new.entries ≡ documents.old.entries }
     ensures next { documents.new.next ≡ documents.old.next }
     ensures ok { IfOk result (IsNewDocument documents.new (AwaitsView documents.new.next)) }
+    ensures at_most { documents.new.room ≤ max documents.old.room 1 }
 {
     let mut document = Document::new(alloc, documents.next(), 0)?;
     let Ok(()) = document.reserve_view() else {
@@ -110,6 +113,7 @@ fn document_for_caller(
     ensures entries { documents.new.entries ≡ documents.old.entries }
     ensures next { documents.new.next ≡ documents.old.next }
     ensures ok { IfOk result (IsNewDocument documents.new (IsHeld documents.new.next options)) }
+    ensures at_most { documents.new.room ≤ max documents.old.room 1 }
 {
     let mut document = Document::new(alloc, documents.next(), options)?;
     let Ok(()) = documents.reserve(1) else {
@@ -135,6 +139,8 @@ pub fn prepare_session_change(
     ensures documents { DocumentsAreNamed state.new.documents.entries }
     ensures views { AreNamed state.new.views.entries }
     ensures ok { IfOk result (λ ready. IsReady state.new.documents change ready) }
+    ensures room_is_there { IsThere state.old.documents.entries change → IsOk result }
+    ensures at_most { IsRoomAtMost change state.old.documents state.new.documents }
     ensures free { takes_memory change ≡ false → IsOk result }
 {
     match change {

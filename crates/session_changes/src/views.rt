@@ -32,6 +32,7 @@ fn reserve_in(views: &mut IdTable<View>, view: u32, change: ViewChange) -> Resul
     ensures named { AreNamed views.new.entries }
     ensures next { views.new.next ≡ views.old.next }
     ensures ok { OnOk result (HasFoldRoomAt views.new.entries view change) }
+    ensures room_is_there { HasFoldRoomAt views.old.entries view change → IsOk result }
     ensures at_most { IsRoomAtMostAt views.old.entries views.new.entries view change }
     ensures free { takes_fold_room change ≡ false → IsOk result }
 {
@@ -59,6 +60,7 @@ pub fn reserve_view_change(
     ensures documents { state.new.documents ≡ state.old.documents }
     ensures views { AreNamed state.new.views.entries }
     ensures ok { OnOk result (HasFoldRoomAt state.new.views.entries view change) }
+    ensures room_is_there { HasFoldRoomAt state.old.views.entries view change → IsOk result }
     ensures at_most { IsRoomAtMostAt state.old.views.entries state.new.views.entries view change }
     ensures free { takes_fold_room change ≡ false → IsOk result }
 {

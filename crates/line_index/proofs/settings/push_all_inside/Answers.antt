@@ -37,4 +37,5 @@ adding-preserved c =
       low = past_low c.args.types c.adding.line inside.result.0 c.line_past-line.result c.adding.start inside.result.1 c.line_past-line.ensures inv.low inside.ensures.few inside.ensures.within.0;
       high = inside.ensures.within.1;
       found = inside.ensures.next;
+      few = c.push_inside.ensures.few inv.few;
     }

@@ -1,4 +1,5 @@
-use Rattle.std.proofs.Common.{◌≡◌, ◌+◌, ◌-◌, ◌<◌, ◌≤◌, ◌++◌, true, length}
+use Rattle.std.proofs.Common.{◌≡◌, ◌+◌, ◌-◌, ◌*◌, ◌<◌, ◌≤◌, ◌++◌, true, length}
+use Rattle.std.specs.Prelude.{vec_len, vec_capacity}
 use Rattle.ed_model.specs.declared.plan.LineEndTypes.TheVariants.{Default}
 use Rattle.ed_model.specs.Lines.{is_line_start, line_starts}
 use Rattle.line_index.specs.Index.{starts_within}
@@ -12,6 +13,7 @@ invariant-adding l =
       low : l.line ≤ l.start;
       high : l.start ≤ l.end;
       found : l.start < l.end → is_line_start Default (l.before ++ l.after) l.start ≡ true;
+      few : vec_capacity l.edits ≤ 2 * vec_len l.edits;
     }
 
 abbrev pub decreases-adding : goal.decreases-adding

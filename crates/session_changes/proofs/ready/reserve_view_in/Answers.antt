@@ -2,7 +2,7 @@ use Rattle.std.proofs.Common.{sym, ap, ◌∙◌, ◌<◌}
 use Rattle.std.specs.Option.{option_copied_mut}
 use Rattle.document.specs.Kept.{Kept}
 use Rattle.session_changes.proofs.Finding.{document_in, id_of_document, unchanged, named_with, value_replaced}
-use Rattle.session_changes.proofs.SessionLemmas.{when_ok, for_some}
+use Rattle.session_changes.proofs.SessionLemmas.{when_ok, for_some, of_some, places_most}
 use Rattle.session_changes.proofs.ready.reserve_view_in.Goals as goal
 
 pub returns-clause-same : goal.returns-clause-same
@@ -20,3 +20,12 @@ returns-clause-ok c =
     when_ok c.reserve_view.result _ _ c.reserve_view.ensures.ok
     (for_some (λ (k : Kept). 0 < k.spare.views) _ c.reserve_view.new.self
     (value_replaced c.args.documents.now.entries c.args.document c.in-Some.document.now c.reserve_view.new.self (sym c.get_mut.ensures.value ∙ ap option_copied_mut c.in-Some.is)))
+
+pub returns-clause-room_is_there : goal.returns-clause-room_is_there
+returns-clause-room_is_there c = λ has.
+    (c.reserve_view.ensures.room_is_there (of_some (λ (k : Kept). 0 < k.spare.views) _ c.in-Some.document.now (sym c.get_mut.ensures.value ∙ ap option_copied_mut c.in-Some.is) has)).0
+
+pub returns-clause-at_most : goal.returns-clause-at_most
+returns-clause-at_most c =
+    places_most c.args.documents.now.entries c.args.document c.in-Some.document.now c.reserve_view.new.self
+    (sym c.get_mut.ensures.value ∙ ap option_copied_mut c.in-Some.is) c.reserve_view.ensures.at_most

@@ -1,7 +1,7 @@
 use Rattle.std.proofs.Common.{sym, ap, ◌∙◌}
 use Rattle.std.specs.Option.{option_copied_mut}
 use Rattle.session_changes.proofs.Finding.{view_in, id_of_view, unchanged, named_with}
-use Rattle.session_changes.proofs.SessionLemmas.{when_ok, fold_room_there, fold_room_most}
+use Rattle.session_changes.proofs.SessionLemmas.{when_ok, fold_room_is_there, fold_room_there, fold_room_most}
 use Rattle.session_changes.proofs.views.reserve_in.Goals as goal
 
 pub returns-clause-same : goal.returns-clause-same
@@ -24,3 +24,8 @@ pub returns-clause-at_most : goal.returns-clause-at_most
 returns-clause-at_most c =
     fold_room_most c.args.views.now.entries c.args.view c.in-Some.view.now c.reserve_folding.new.self c.args.change c.fold_need-need.result
     (sym c.get_mut.ensures.value ∙ ap option_copied_mut c.in-Some.is) c.fold_need-need.ensures (c.reserve_folding.ensures.at_most_hidden, c.reserve_folding.ensures.at_most_contracted)
+
+pub returns-clause-room_is_there : goal.returns-clause-room_is_there
+returns-clause-room_is_there c = λ has.
+    (c.reserve_folding.ensures.room_is_there (fold_room_is_there c.args.views.now.entries c.args.view c.in-Some.view.now c.args.change c.fold_need-need.result
+    (sym c.get_mut.ensures.value ∙ ap option_copied_mut c.in-Some.is) c.fold_need-need.ensures has)).0

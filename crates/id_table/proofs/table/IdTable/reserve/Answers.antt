@@ -2,20 +2,20 @@
 use Rattle.std.proofs.Common.{rules, ap, arith}
 use Rattle.std.specs.Prelude.{vec_capacity}
 use Rattle.slab.specs.Slab.{Slab}
-use Rattle.id_table.proofs.EntryLemmas.{wider_table, room_kept}
+use Rattle.id_table.proofs.EntryLemmas.{wider_table, room_kept, fewer_than_ids}
 use Rattle.id_table.proofs.table.IdTable.reserve.Goals as goal
 
 pub invariant_of-self : goal.invariant_of-self
 invariant_of-self g c =
     let same = ap (λ (s : Slab g.row.T.Denot). s.slots) c.reserve.ensures.rest_kept in
-    (wider_table _ _ _ _ _ c.self.invariant c.reserve.new.self _ _ same (omega (arith, c.self.invariant.slots, c.reserve.ensures.capacity)) c.self.invariant.places).1
+    (wider_table _ _ _ _ _ c.self.invariant c.reserve.new.self _ _ same (omega (arith, c.self.invariant.slots, c.reserve.ensures.capacity)) c.self.invariant.places c.self.invariant.few).1
 
 pub invariant_of-self-in_err-reserve-2 : goal.invariant_of-self-in_err-reserve-2
 invariant_of-self-in_err-reserve-2 g c =
     let same = ap (λ (s : Slab g.row.T.Denot). s.slots) c.reserve.ensures.rest_kept in
-    rw c.reserve-2.ensures.items (wider_table _ _ _ _ _ c.self.invariant c.reserve.new.self (vec_capacity c.reserve-2.new.self) c.self.inside.room same (omega (arith, c.self.invariant.slots, c.reserve.ensures.capacity)) (omega (arith, c.self.invariant.places, c.reserve-2.ensures.capacity))).1
+    rw c.reserve-2.ensures.items (wider_table _ _ _ _ _ c.self.invariant c.reserve.new.self (vec_capacity c.reserve-2.new.vec) c.self.inside.room same (omega (arith, c.self.invariant.slots, c.reserve.ensures.capacity)) (omega (arith, c.self.invariant.places, c.reserve-2.ensures.room_stays)) (omega (arith, c.self.invariant.few, c.in_err-reserve-2.ensures.err))).1
 
 pub invariant_of-self-2 : goal.invariant_of-self-2
 invariant_of-self-2 g c =
     let same = ap (λ (s : Slab g.row.T.Denot). s.slots) c.reserve.ensures.rest_kept in
-    rw c.reserve-2.ensures.items (wider_table _ _ _ _ _ c.self.invariant c.reserve.new.self (vec_capacity c.reserve-2.new.self) c.args.count same (room_kept c.self.inside.slab c.reserve.new.self c.args.count same c.in_ok-reserve.ensures.room) (search rules)).1
+    rw c.reserve-2.ensures.items (wider_table _ _ _ _ _ c.self.invariant c.reserve.new.self (vec_capacity c.reserve-2.new.vec) c.args.count same (room_kept c.self.inside.slab c.reserve.new.self c.args.count same c.in_ok-reserve.ensures.room) (search rules) (omega (arith, c.self.invariant.few, fewer_than_ids _ _ _ _ _ c.self.invariant, c.reserve-2.ensures.at_most))).1

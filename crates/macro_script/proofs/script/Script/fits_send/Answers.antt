@@ -13,9 +13,9 @@ returns-in-Some c =
     let sent = send (to_z w64 (of_z w64 c.args.w)) (to_z w64 (of_z w64 c.args.l)) in
     let short : length (listed_command sent) ≤ 65536 = c.in-Some.ensures.len.0 in
     let is : c.in-Some.len ≡ length (listed_command sent) = c.in-Some.ensures.len.1 in
-    let keeps : keeps_limits c.self.inside.commands.items ≡ true = c.self.invariant.within in
+    let keeps : keeps_limits c.self.inside.commands.items ≡ true = c.self.invariant.proper.within in
     room_is c.self.inside.listed c.in-Some.len
-    ∙ ap (λ n. nat_lt (n + c.in-Some.len) 16777216) c.self.invariant.length_is
+    ∙ ap (λ n. nat_lt (n + c.in-Some.len) 16777216) c.self.invariant.proper.length_is
     ∙ ap (λ n. nat_lt (length (listing 2 c.self.inside.commands.items) + n) 16777216) is
     ∙ sym (line_added c.self.inside.commands.items sent keeps short)
     ∙ ap (λ cs. keeps_limits (cs ++ sent ∷ [])) c.self.view_is
