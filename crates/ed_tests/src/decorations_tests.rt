@@ -1,21 +1,14 @@
 //! Rows of calls of `Decorations`, at each kind of place.
 use decorations::Decorations;
 use partitioning::Place;
-use std::alloc::{AllocError, Global};
+use std::alloc::Global;
 use std::process::Abort;
-use std::test::Fail;
 
-fn put<P: Place>(
-    rt: &impl Abort,
-    indicators: &mut Decorations<P>,
-    place: usize,
-    count: usize,
-) -> Result<(), AllocError> {
+fn put<P: Place>(rt: &impl Abort, indicators: &mut Decorations<P>, place: usize, count: usize) {
     let length = indicators.length();
     assert!(rt; place <= length && count <= P::GREATEST - length);
-    indicators.reserve(1)?;
+    indicators.reserve(1).expect(rt, "memory");
     indicators.insert(place, count);
-    Ok(())
 }
 
 fn take<P: Place>(rt: &impl Abort, indicators: &mut Decorations<P>, place: usize, count: usize) {
@@ -31,11 +24,11 @@ fn set<P: Place>(
     place: usize,
     count: usize,
     value: u32,
-) -> Result<Option<(usize, usize)>, AllocError> {
+) -> Option<(usize, usize)> {
     let length = indicators.length();
     assert!(rt; indicator < 32 && place <= length && count <= length - place);
-    indicators.reserve_fill(indicator)?;
-    Ok(indicators.fill(indicator, place, count, value))
+    indicators.reserve_fill(indicator).expect(rt, "memory");
+    indicators.fill(indicator, place, count, value)
 }
 
 // The run about a place of the text.
@@ -51,10 +44,10 @@ fn run_about<P: Place>(
 }
 
 // Empty, with room for one insertion: one of as many bytes as asked for, and the last place has 0 in each list.
-fn one_insertion<P: Place>(rt: &impl Abort, alloc: Global, count: usize) -> Result<(), AllocError> {
+fn one_insertion<P: Place>(rt: &impl Abort, alloc: Global, count: usize) {
     assert!(rt; 0 < count && count <= P::GREATEST);
     let mut indicators = Decorations::<P>::new(alloc);
-    indicators.reserve(1)?;
+    indicators.reserve(1).expect(rt, "memory");
     assert!(rt; indicators.length() == 0);
     indicators.insert(0, count);
     assert!(rt; indicators.length() == count);
@@ -64,90 +57,83 @@ fn one_insertion<P: Place>(rt: &impl Abort, alloc: Global, count: usize) -> Resu
         assert!(rt; !indicators.is_used(indicator));
         assert!(rt; indicators.run(indicator, count - 1) == (0, count));
     }
-    Ok(())
 }
 
 #[test]
-fn insertion_of_a_great_length(rt: HostRuntime) -> Result<(), Fail> {
-    one_insertion::<u32>(&rt, rt.alloc(), (1 << 31) - 1)?;
-    one_insertion::<u64>(&rt, rt.alloc(), 1 << 40)?;
-    Ok(())
+fn insertion_of_a_great_length(rt: HostRuntime) {
+    one_insertion::<u32>(&rt, rt.alloc(), (1 << 31) - 1);
+    one_insertion::<u64>(&rt, rt.alloc(), 1 << 40);
 }
 
 // Two indicators, of which one ends where the text does.
-fn filled_and_edited<P: Place>(rt: &impl Abort, alloc: Global) -> Result<(), AllocError> {
+fn filled_and_edited<P: Place>(rt: &impl Abort, alloc: Global) {
     assert!(rt; 64 <= P::GREATEST);
     let mut indicators = Decorations::<P>::new(alloc);
-    put(rt, &mut indicators, 0, 10)?;
+    put(rt, &mut indicators, 0, 10);
     // 0 0 7 7 7 0 0 0 0 0, and 31 on the last three
-    assert!(rt; set(rt, &mut indicators, 4, 2, 3, 7)? == Some((2, 3)));
-    assert!(rt; set(rt, &mut indicators, 31, 7, 3, 1)? == Some((7, 3)));
+    assert!(rt; set(rt, &mut indicators, 4, 2, 3, 7) == Some((2, 3)));
+    assert!(rt; set(rt, &mut indicators, 31, 7, 3, 1) == Some((7, 3)));
     assert!(rt;
         run_about(rt, &indicators, 4, 3) == (2, 5) && run_about(rt, &indicators, 4, 9) == (5, 10)
     );
     assert!(rt; indicators.mask_at(4) == 1 << 4 && indicators.mask_at(9) == 1 << 31);
     assert!(rt; indicators.mask_at(10) == 0 && indicators.value(4, 10) == 0);
     // what has the value already is no change
-    assert!(rt; set(rt, &mut indicators, 4, 1, 3, 7)? == Some((1, 1)));
-    assert!(rt; set(rt, &mut indicators, 4, 1, 4, 7)? == None);
+    assert!(rt; set(rt, &mut indicators, 4, 1, 3, 7) == Some((1, 1)));
+    assert!(rt; set(rt, &mut indicators, 4, 1, 4, 7) == None);
     // at its start it does not grow, inside it does, and at the text's end nothing does
-    put(rt, &mut indicators, 1, 1)?;
+    put(rt, &mut indicators, 1, 1);
     assert!(rt; indicators.value(4, 1) == 0 && run_about(rt, &indicators, 4, 2) == (2, 6));
-    put(rt, &mut indicators, 3, 2)?;
+    put(rt, &mut indicators, 3, 2);
     assert!(rt; run_about(rt, &indicators, 4, 2) == (2, 8));
-    put(rt, &mut indicators, 13, 1)?;
+    put(rt, &mut indicators, 13, 1);
     assert!(rt; indicators.value(31, 13) == 0 && run_about(rt, &indicators, 31, 12) == (10, 13));
     // gone with its bytes
     take(rt, &mut indicators, 2, 6);
     assert!(rt; !indicators.is_used(4) && indicators.is_used(31));
     assert!(rt; run_about(rt, &indicators, 4, 0) == (0, 8));
     // and by a fill with 0
-    assert!(rt; set(rt, &mut indicators, 31, 0, 8, 0)? == Some((4, 3)));
+    assert!(rt; set(rt, &mut indicators, 31, 0, 8, 0) == Some((4, 3)));
     assert!(rt; !indicators.is_used(31));
-    assert!(rt; set(rt, &mut indicators, 31, 0, 8, 0)? == None);
-    Ok(())
+    assert!(rt; set(rt, &mut indicators, 31, 0, 8, 0) == None);
 }
 
 #[test]
-fn fills_and_steps_at_small_places(rt: HostRuntime) -> Result<(), Fail> {
-    filled_and_edited::<u32>(&rt, rt.alloc())?;
-    Ok(())
+fn fills_and_steps_at_small_places(rt: HostRuntime) {
+    filled_and_edited::<u32>(&rt, rt.alloc());
 }
 
 #[test]
-fn fills_and_steps_at_large_places(rt: HostRuntime) -> Result<(), Fail> {
-    filled_and_edited::<u64>(&rt, rt.alloc())?;
-    Ok(())
+fn fills_and_steps_at_large_places(rt: HostRuntime) {
+    filled_and_edited::<u64>(&rt, rt.alloc());
 }
 
 // Each list by itself, with the greatest value.
 #[test]
-fn two_indicators(rt: HostRuntime) -> Result<(), Fail> {
+fn two_indicators(rt: HostRuntime) {
     let mut indicators = Decorations::<u32>::new(rt.alloc());
-    indicators.reserve(4)?;
+    indicators.reserve(4).expect(&rt, "memory");
     assert!(&rt; indicators.length() == 0);
     indicators.insert(0, 6);
-    assert!(&rt; set(&rt, &mut indicators, 0, 1, 2, 5)? == Some((1, 2)));
-    assert!(&rt; set(&rt, &mut indicators, 1, 3, 2, 2_147_483_647)? == Some((3, 2)));
-    put(&rt, &mut indicators, 2, 3)?;
-    put(&rt, &mut indicators, 7, 3)?;
+    assert!(&rt; set(&rt, &mut indicators, 0, 1, 2, 5) == Some((1, 2)));
+    assert!(&rt; set(&rt, &mut indicators, 1, 3, 2, 2_147_483_647) == Some((3, 2)));
+    put(&rt, &mut indicators, 2, 3);
+    put(&rt, &mut indicators, 7, 3);
     assert!(&rt;
         run_about(&rt, &indicators, 0, 1) == (1, 6) && run_about(&rt, &indicators, 1, 6) == (6, 11)
     );
     assert!(&rt; indicators.value(1, 8) == 2_147_483_647);
-    Ok(())
 }
 
 // Room for many insertions is made at once.
 #[test]
-fn many_insertions(rt: HostRuntime) -> Result<(), Fail> {
+fn many_insertions(rt: HostRuntime) {
     let mut indicators: Decorations<u32> = Decorations::new(rt.alloc());
-    indicators.reserve(100_000)?;
-    put(&rt, &mut indicators, 0, 100_000)?;
-    indicators.reserve_fill(31)?;
+    indicators.reserve(100_000).expect(&rt, "memory");
+    put(&rt, &mut indicators, 0, 100_000);
+    indicators.reserve_fill(31).expect(&rt, "memory");
     assert!(rt; indicators.length() == 100_000);
     assert_eq!(rt; indicators.fill(31, 50_000, 10, 7), Some((50_000, 10)));
-    indicators.reserve(100_000)?;
+    indicators.reserve(100_000).expect(&rt, "memory");
     assert!(rt; indicators.value(31, 50_009) == 7);
-    Ok(())
 }

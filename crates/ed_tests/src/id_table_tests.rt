@@ -3,7 +3,6 @@ ghost use Rattle.std.specs.Prelude.{◌≡◌, ◌<◌, ◌^◌, ◌+◌, IfOk, 
 
 use id_table::IdTable;
 use std::alloc::AllocError;
-use std::test::Fail;
 
 /// Puts a value behind all others, and makes room for it first. Answers its id, or 0 where no id is left.
 fn insert(table: &mut IdTable<u64>, value: u64) -> Result<u32, AllocError> {
@@ -23,15 +22,15 @@ fn value_of(table: &IdTable<u64>, id: u32) -> u64 {
 }
 
 #[test]
-fn an_id_is_never_given_again(rt: HostRuntime) -> Result<(), Fail> {
+fn an_id_is_never_given_again(rt: HostRuntime) {
     let mut table = IdTable::new(rt.alloc());
     assert_eq!(rt; table.next(), 1);
-    assert_eq!(rt; insert(&mut table, 70)?, 1);
-    assert_eq!(rt; insert(&mut table, 80)?, 2);
+    assert_eq!(rt; insert(&mut table, 70).expect(&rt, "memory"), 1);
+    assert_eq!(rt; insert(&mut table, 80).expect(&rt, "memory"), 2);
     assert_eq!(rt; table.remove(2), Some(80));
     assert_eq!(rt; table.remove(2), None);
     assert_eq!(rt; table.next(), 3);
-    assert_eq!(rt; insert(&mut table, 90)?, 3);
+    assert_eq!(rt; insert(&mut table, 90).expect(&rt, "memory"), 3);
     assert!(rt; table.contains(1));
     assert!(rt; !table.contains(2));
     assert!(rt; !table.contains(0));
@@ -39,14 +38,13 @@ fn an_id_is_never_given_again(rt: HostRuntime) -> Result<(), Fail> {
     assert_eq!(rt; value_of(&table, 2), 0);
     assert_eq!(rt; value_of(&table, 3), 90);
     assert_eq!(rt; table.len(), 2);
-    Ok(())
 }
 
 #[test]
-fn a_value_is_changed_in_place(rt: HostRuntime) -> Result<(), Fail> {
+fn a_value_is_changed_in_place(rt: HostRuntime) {
     let mut table = IdTable::new(rt.alloc());
     for value in 1..=3 {
-        insert(&mut table, value)?;
+        insert(&mut table, value).expect(&rt, "memory");
     }
     match table.get_mut(2) {
         Some(value) => *value = 20,
@@ -56,15 +54,14 @@ fn a_value_is_changed_in_place(rt: HostRuntime) -> Result<(), Fail> {
     assert_eq!(rt; value_of(&table, 1), 1);
     assert_eq!(rt; value_of(&table, 2), 20);
     assert_eq!(rt; value_of(&table, 3), 3);
-    Ok(())
 }
 
 #[test]
-fn half_of_many_values_goes(rt: HostRuntime) -> Result<(), Fail> {
+fn half_of_many_values_goes(rt: HostRuntime) {
     let mut table = IdTable::new(rt.alloc());
-    table.reserve(1024)?;
+    table.reserve(1024).expect(&rt, "memory");
     for value in 1..=1024 {
-        insert(&mut table, 1000 + value)?;
+        insert(&mut table, 1000 + value).expect(&rt, "memory");
     }
     for id in 1..=1024 {
         assert_eq!(rt; value_of(&table, id), 1000 + u64::from(id));
@@ -76,9 +73,8 @@ fn half_of_many_values_goes(rt: HostRuntime) -> Result<(), Fail> {
     for id in 1..=1024 {
         assert!(rt; table.contains(id) == (id % 2 == 1));
     }
-    assert_eq!(rt; insert(&mut table, 7)?, 1025);
+    assert_eq!(rt; insert(&mut table, 7).expect(&rt, "memory"), 1025);
     assert_eq!(rt; value_of(&table, 1025), 7);
     assert_eq!(rt; value_of(&table, 1023), 2023);
     assert_eq!(rt; table.len(), 513);
-    Ok(())
 }

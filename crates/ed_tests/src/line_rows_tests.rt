@@ -1,17 +1,14 @@
 //! Rows of calls of `LineRows`.
 use line_index::LineEdit;
 use line_rows::{BASE_LEVEL, LineRows};
-use std::alloc::AllocError;
 use std::process::Abort;
-use std::test::Fail;
 
 // `count` fresh lines come before a line.
-fn come(rt: &impl Abort, rows: &mut LineRows, line: usize, count: usize) -> Result<(), AllocError> {
-    rows.reserve(count)?;
+fn come(rt: &impl Abort, rows: &mut LineRows, line: usize, count: usize) {
+    rows.reserve(count).expect(rt, "memory");
     let lines = rows.count();
     assert!(rt; line <= lines && count <= 1000 && lines <= 1000);
     rows.carry(&[LineEdit::Come { line, count }]);
-    Ok(())
 }
 
 // The `count` lines behind a line are joined to it.
@@ -21,26 +18,22 @@ fn join(rt: &impl Abort, rows: &mut LineRows, line: usize, count: usize) {
     rows.carry(&[LineEdit::Join { line, count }]);
 }
 
-fn mark(rt: &impl Abort, rows: &mut LineRows, line: usize, number: u32) -> Result<u32, AllocError> {
-    rows.reserve_markers(1)?;
+fn mark(rt: &impl Abort, rows: &mut LineRows, line: usize, number: u32) -> u32 {
+    rows.reserve_markers(1).expect(rt, "memory");
     assert!(rt; line < rows.count() && number < 32 && rows.next_handle() < 1000);
-    Ok(rows.add_reserved(line, number))
+    rows.add_reserved(line, number)
 }
 
-fn set(
-    rt: &impl Abort,
-    rows: &mut LineRows,
-    line: usize,
-    level: u32,
-    state: i32,
-) -> Result<(), AllocError> {
-    assert!(rt; line < 1000);
-    rows.reserve_levels(line + 1)?;
-    rows.reserve_states(line + 1)?;
+fn set_level(rt: &impl Abort, rows: &mut LineRows, line: usize, level: u32) {
     assert!(rt; line < rows.count());
-    let _ = rows.set_level(line, level);
-    let _ = rows.set_state(line, state);
-    Ok(())
+    rows.reserve_levels(rows.count()).expect(rt, "memory");
+    rows.set_level(line, level);
+}
+
+fn set_state(rt: &impl Abort, rows: &mut LineRows, line: usize, state: i32) {
+    assert!(rt; line < rows.count());
+    rows.reserve_states(rows.count()).expect(rt, "memory");
+    rows.set_state(line, state);
 }
 
 fn has(rt: &impl Abort, rows: &LineRows, line: usize, mask: u32, level: u32, state: i32) {
@@ -50,18 +43,20 @@ fn has(rt: &impl Abort, rows: &LineRows, line: usize, mask: u32, level: u32, sta
 
 // Rows go with their lines; lines that meet keep all markers, and the first's level and state.
 #[test]
-fn rows_through_edits(rt: HostRuntime) -> Result<(), Fail> {
-    let mut rows = LineRows::new(rt.alloc())?;
+fn rows_through_edits(rt: HostRuntime) {
+    let mut rows = LineRows::new(rt.alloc()).expect(&rt, "memory");
     assert!(&rt; rows.count() == 1 && rows.next_handle() == 1);
-    come(&rt, &mut rows, 1, 3)?;
-    assert!(&rt; mark(&rt, &mut rows, 1, 5)? == 1);
-    assert!(&rt; mark(&rt, &mut rows, 2, 31)? == 2);
-    set(&rt, &mut rows, 1, 0x2400, -7)?;
-    set(&rt, &mut rows, 2, 0x401, 9)?;
+    come(&rt, &mut rows, 1, 3);
+    assert!(&rt; mark(&rt, &mut rows, 1, 5) == 1);
+    assert!(&rt; mark(&rt, &mut rows, 2, 31) == 2);
+    set_level(&rt, &mut rows, 1, 0x2400);
+    set_state(&rt, &mut rows, 1, -7);
+    set_level(&rt, &mut rows, 2, 0x401);
+    set_state(&rt, &mut rows, 2, 9);
     has(&rt, &rows, 1, 1 << 5, 0x2400, -7);
     has(&rt, &rows, 2, 1 << 31, 0x401, 9);
     // fresh lines before line 1 move it on, and are fresh
-    come(&rt, &mut rows, 1, 2)?;
+    come(&rt, &mut rows, 1, 2);
     assert!(&rt; rows.count() == 6);
     has(&rt, &rows, 1, 0, BASE_LEVEL, 0);
     has(&rt, &rows, 2, 0, BASE_LEVEL, 0);
@@ -73,25 +68,24 @@ fn rows_through_edits(rt: HostRuntime) -> Result<(), Fail> {
     assert!(&rt; rows.levels().count() == 5);
     assert!(&rt; rows.delete_handle(1) == Some(3) && rows.delete_handle(1) == None);
     assert!(&rt; rows.delete_all(Some(31)) && !rows.delete_all(None));
-    assert!(&rt; mark(&rt, &mut rows, 0, 0)? == 3);
+    assert!(&rt; mark(&rt, &mut rows, 0, 0) == 3);
     assert!(&rt; 0 < rows.count());
     assert!(&rt; rows.delete(0, None));
-    rows.reserve(1)?;
+    rows.reserve(1).expect(&rt, "memory");
     assert!(&rt; rows.count() <= 1000);
     rows.carry(&[LineEdit::Restart]);
     assert!(&rt; rows.count() == 1);
     has(&rt, &rows, 0, 0, BASE_LEVEL, 0);
-    Ok(())
 }
 
 // Room for many lines, and for all that they can have, is made at once.
 #[test]
-fn rows_of_many_lines(rt: HostRuntime) -> Result<(), Fail> {
-    let mut rows = LineRows::new(rt.alloc())?;
-    rows.reserve(100_000)?;
-    rows.reserve_levels(100_000)?;
-    rows.reserve_states(100_000)?;
-    rows.reserve_markers(100_000)?;
+fn rows_of_many_lines(rt: HostRuntime) {
+    let mut rows = LineRows::new(rt.alloc()).expect(&rt, "memory");
+    rows.reserve(100_000).expect(&rt, "memory");
+    rows.reserve_levels(100_000).expect(&rt, "memory");
+    rows.reserve_states(100_000).expect(&rt, "memory");
+    rows.reserve_markers(100_000).expect(&rt, "memory");
     let lines = rows.count();
     assert!(rt; lines == 1);
     rows.carry(&[LineEdit::Come {
@@ -101,5 +95,4 @@ fn rows_of_many_lines(rt: HostRuntime) -> Result<(), Fail> {
     assert!(rt; rows.count() == 100_000);
     let _ = rows.set_level(99_999, 0x401);
     assert!(rt; rows.level(99_999) == 0x401);
-    Ok(())
 }

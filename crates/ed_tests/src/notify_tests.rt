@@ -34,8 +34,8 @@ fn reply_of_six(alloc: Global) -> Result<Reply, AllocError> {
 }
 
 #[test]
-fn notes_with_their_texts(rt: HostRuntime) -> Result<(), AllocError> {
-    let reply = reply_of_six(rt.alloc())?;
+fn notes_with_their_texts(rt: HostRuntime) {
+    let reply = reply_of_six(rt.alloc()).expect(&rt, "memory");
     assert_eq!(rt; reply.value(), 7);
     assert_eq!(rt; reply.text().len(), 0);
     assert_eq!(rt; reply.note_count(), 6);
@@ -45,21 +45,19 @@ fn notes_with_their_texts(rt: HostRuntime) -> Result<(), AllocError> {
     assert_note(&rt, &reply, 3, 4, b"abc");
     assert_note(&rt, &reply, 4, 5, b"de");
     assert_note(&rt, &reply, 5, 6, b"de");
-    Ok(())
 }
 
 #[test]
-fn a_text_is_held_before_its_notes(rt: HostRuntime) -> Result<(), AllocError> {
+fn a_text_is_held_before_its_notes(rt: HostRuntime) {
     let mut notes = NoteList::new(rt.alloc());
-    notes.reserve(1, 2)?;
-    notes.reserve(2, 1)?;
+    notes.reserve(1, 2).expect(&rt, "memory");
+    notes.reserve(2, 1).expect(&rt, "memory");
     notes.share(b"x", b"y");
     notes.put_bare(note_to(1));
     notes.put_again(note_to(2));
     let reply = notes.finish(0, Bytes::empty(rt.alloc()));
     assert_note(&rt, &reply, 0, 1, b"");
     assert_note(&rt, &reply, 1, 2, b"xy");
-    Ok(())
 }
 
 #[test]

@@ -3,7 +3,6 @@
 use ed_types::{Bytes, Outcome};
 use macro_script::assemble;
 use script_stepper::{StepFault, Stepper};
-use std::test::Fail;
 
 /// A view, a text put in, all of the text handed out, and two questions, the first of which is refused.
 const INSERTION: &[u8] =
@@ -36,9 +35,9 @@ fn gives(stepper: &mut Stepper, values: &[i64]) -> bool {
 }
 
 #[test]
-fn steps_back_and_forwards(rt: HostRuntime) -> Result<(), Fail> {
+fn steps_back_and_forwards(rt: HostRuntime) {
     let alloc = rt.alloc();
-    let script = assemble(alloc, INSERTION)?;
+    let script = assemble(alloc, INSERTION).expect(&rt, "a script");
     let mut stepper = Stepper::new(alloc, script, Vec::new(alloc));
     assert_eq!(rt; stepper.state(), 0);
     assert_eq!(rt; stepper.commands().len(), 5);
@@ -61,19 +60,19 @@ fn steps_back_and_forwards(rt: HostRuntime) -> Result<(), Fail> {
     assert!(rt; gives(&mut stepper, &[-6, 0]));
     assert_eq!(rt; stepper.run_to(0), Ok(()));
     assert!(rt; gives(&mut stepper, &[1, 0, 3, -6, 0]));
-    Ok(())
 }
 
 #[test]
-fn loads_files_and_keeps_values(rt: HostRuntime) -> Result<(), Fail> {
+fn loads_files_and_keeps_values(rt: HostRuntime) {
     let alloc = rt.alloc();
-    let script = assemble(alloc, EVERY_COMMAND)?;
+    let script = assemble(alloc, EVERY_COMMAND).expect(&rt, "a script");
     let mut files = Vec::new(alloc);
-    files.push(Bytes::new(Vec::from_slice(alloc, b"hi")?))?;
+    files
+        .push(Bytes::new(Vec::from_slice(alloc, b"hi").expect(&rt, "memory")))
+        .expect(&rt, "memory");
     let mut stepper = Stepper::new(alloc, script, files);
     assert!(rt; gives(&mut stepper, &[1, 1, 0, -6, 2, 1, 0, 0]));
     // An expect looks at the value of the command before it, also behind where the stepper went back to.
     assert_eq!(rt; stepper.run_to(5), Ok(()));
     assert!(rt; gives(&mut stepper, &[1]));
-    Ok(())
 }

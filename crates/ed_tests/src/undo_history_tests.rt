@@ -1,22 +1,21 @@
 //! `undo_history`: steps appended, undone and redone. What joins is written out by hand.
-use std::test::Fail;
 use undo_history::{ChangeKind, StepKind, UndoHistory};
 
 #[test]
-fn typing_joins_until_the_save_point(rt: HostRuntime) -> Result<(), Fail> {
+fn typing_joins_until_the_save_point(rt: HostRuntime) {
     let mut history = UndoHistory::new(rt.alloc());
     assert!(rt; history.is_at_save_point());
     assert!(rt; history.is_collecting());
-    history.reserve(3, 3)?;
+    history.reserve(3, 3).expect(&rt, "memory");
     history.append_reserved(false, StepKind::Insert, 0, b"a");
     assert!(rt; !history.is_at_save_point());
     assert!(rt; !history.begins_transaction(false, StepKind::Insert, 1, b"b"));
     assert!(rt; history.begins_transaction(false, StepKind::Insert, 3, b"b"));
-    history.reserve(1, 1)?;
+    history.reserve(1, 1).expect(&rt, "memory");
     history.append_reserved(false, StepKind::Insert, 1, b"b");
     history.set_save_point();
     assert!(rt; history.begins_transaction(false, StepKind::Insert, 2, b"c"));
-    history.reserve(1, 1)?;
+    history.reserve(1, 1).expect(&rt, "memory");
     history.append_reserved(false, StepKind::Insert, 2, b"c");
     assert!(rt; !history.is_at_save_point());
     history.undo();
@@ -48,49 +47,46 @@ fn typing_joins_until_the_save_point(rt: HostRuntime) -> Result<(), Fail> {
     history.redo();
     history.redo();
     assert!(rt; !history.can_redo());
-    Ok(())
 }
 
 #[test]
-fn a_dropped_save_point(rt: HostRuntime) -> Result<(), Fail> {
+fn a_dropped_save_point(rt: HostRuntime) {
     let mut history = UndoHistory::new(rt.alloc());
-    history.reserve(1, 1)?;
+    history.reserve(1, 1).expect(&rt, "memory");
     history.append_reserved(false, StepKind::Insert, 0, b"a");
     history.set_save_point();
     history.undo();
-    history.reserve(1, 1)?;
+    history.reserve(1, 1).expect(&rt, "memory");
     history.append_reserved(false, StepKind::Insert, 0, b"b");
     assert!(rt; !history.is_at_save_point());
     history.undo();
     assert!(rt; !history.is_at_save_point());
-    Ok(())
 }
 
 #[test]
-fn a_step_of_many_bytes(rt: HostRuntime) -> Result<(), Fail> {
+fn a_step_of_many_bytes(rt: HostRuntime) {
     let mut text: Vec<u8> = Vec::new(rt.alloc());
     for place in 0u32..9001 {
-        text.push(place.to_le_bytes()[0])?;
+        text.push(place.to_le_bytes()[0]).expect(&rt, "memory");
     }
     let mut history = UndoHistory::new(rt.alloc());
-    history.reserve(1, text.len())?;
+    history.reserve(1, text.len()).expect(&rt, "memory");
     history.append_reserved(false, StepKind::Delete, 3, text.as_slice());
     assert_eq!(rt; history.undo_len(), 1);
     let step = history.change_to_undo(0);
     assert_eq!(rt; step.bytes, text.as_slice());
     assert!(rt; step.is_last);
-    Ok(())
 }
 
 #[test]
-fn groups_and_container_steps(rt: HostRuntime) -> Result<(), Fail> {
+fn groups_and_container_steps(rt: HostRuntime) {
     let mut history = UndoHistory::new(rt.alloc());
     assert!(rt; history.depth() == 0);
     history.begin_group();
     assert_eq!(rt; history.depth(), 1);
-    history.reserve(1, 2)?;
+    history.reserve(1, 2).expect(&rt, "memory");
     history.append_reserved(false, StepKind::Delete, 7, b"xy");
-    history.reserve(1, 0)?;
+    history.reserve(1, 0).expect(&rt, "memory");
     history.append_container_reserved(-5, false);
     assert!(rt; !history.can_undo());
     history.end_group();
@@ -100,7 +96,9 @@ fn groups_and_container_steps(rt: HostRuntime) -> Result<(), Fail> {
     history.set_collecting(false);
     assert!(rt; !history.can_redo());
     assert!(rt; history.is_at_save_point());
-    history.reserve(usize::MAX, usize::MAX)?;
+    history
+        .reserve(usize::MAX, usize::MAX)
+        .expect(&rt, "memory");
     history.append_reserved(false, StepKind::Insert, 0, b"a");
     assert!(rt; !history.can_undo());
     history.set_collecting(true);
@@ -108,13 +106,12 @@ fn groups_and_container_steps(rt: HostRuntime) -> Result<(), Fail> {
     history.empty();
     history.seal_outside_groups();
     assert!(rt; history.is_at_save_point());
-    Ok(())
 }
 
 #[test]
-fn steps_are_lent_in_the_order_in_which_they_are_performed(rt: HostRuntime) -> Result<(), Fail> {
+fn steps_are_lent_in_the_order_in_which_they_are_performed(rt: HostRuntime) {
     let mut history = UndoHistory::new(rt.alloc());
-    history.reserve(4, 9)?;
+    history.reserve(4, 9).expect(&rt, "memory");
     history.append_reserved(false, StepKind::Insert, 0, b"one");
     history.append_reserved(false, StepKind::Delete, 0, b"on");
     history.append_reserved(true, StepKind::Insert, 0, b"two");
@@ -152,10 +149,9 @@ fn steps_are_lent_in_the_order_in_which_they_are_performed(rt: HostRuntime) -> R
     assert_eq!(rt; step.bytes, b"two".as_slice());
     assert!(rt; !step.is_last);
     assert!(rt; history.change_to_redo(2).is_last);
-    history.reserve(1, 1)?;
+    history.reserve(1, 1).expect(&rt, "memory");
     history.append_reserved(false, StepKind::Insert, 0, b"x");
     assert_eq!(rt; history.redo_len(), 0);
     assert!(rt; history.begins_transaction(false, StepKind::Insert, 3, b"y"));
     assert!(rt; !history.begins_transaction(false, StepKind::Insert, 1, b"y"));
-    Ok(())
 }
