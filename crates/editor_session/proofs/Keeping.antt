@@ -9,7 +9,6 @@ use Rattle.ed_model.specs.Session.{Session, is_allowed}
 use Rattle.ed_model.specs.SoundLaws.{IsSound, MessageKeepsSound, OpeningKeepsSound, ClosingKeepsSound}
 use Rattle.ed_model.specs.Table.{table, opened, closed}
 use Rattle.scene.specs.Scenes.{AreNamed}
-use Rattle.message_plans.specs.TableSoFar.{table_so_far}
 use Rattle.message_plans.specs.Requested.{session_in}
 use Rattle.message_plans.specs.declared.state.SessionState.{SessionState}
 use Rattle.session_changes.specs.Kept.{IsKept, DocumentsAreNamed}
@@ -39,7 +38,7 @@ kept_after_closing law old new view (Ok u) kept done same limits documents views
     kept_with old new kept (subst (λ t. IfOk t IsSound) done (law (session_in old) view kept.sound)) limits documents views
 kept_after_closing law old new view (Err e) kept done same limits documents views = kept_with old new kept (subst IsSound (sym same) kept.sound) limits documents views
 
-pub kept_after_message : MessageKeepsSound → (old new : SessionState) (view : ℕ) (m : Message) (reply : Response) → IsKept old → table table_so_far (session_in old) view m ≡ Ok (session_in new, reply)
+pub kept_after_message : MessageKeepsSound → (old new : SessionState) (view : ℕ) (m : Message) (reply : Response) → IsKept old → table (session_in old) view m ≡ Ok (session_in new, reply)
     → new.limits ≡ old.limits → DocumentsAreNamed new.documents.entries → AreNamed new.views.entries → IsKept new
 kept_after_message law old new view m reply kept answer limits documents views =
-    kept_with old new kept (sound_after (table table_so_far (session_in old) view m) (session_in new) reply (law table_so_far (session_in old) view m kept.sound) answer) limits documents views
+    kept_with old new kept (sound_after (table (session_in old) view m) (session_in new) reply (law (session_in old) view m kept.sound) answer) limits documents views

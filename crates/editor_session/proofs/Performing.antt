@@ -33,7 +33,6 @@ use Rattle.ed_model.specs.PlansFit.{IsFitPlan, IsFitDocumentChange, IsFitEdit, I
 use Rattle.ed_model.specs.UndoPlans.{text_steps}
 use Rattle.ed_model.specs.Performing.{Scene, scene_of, session_of, step_made, steps_made, edit_made, sealed_scene, change_performed, changes_performed, transaction_performed, history_performed, caret_behind, is_last, changes_lines, save_point_change, followed, response, styled_text}
 use Rattle.ed_model.specs.Table.{table, performed, answered as answered_by, with_recording, record_note}
-use Rattle.message_plans.specs.TableSoFar.{table_so_far}
 use Rattle.id_table.specs.Entries.{value_at}
 use Rattle.notify.specs.Gathered.{Gathered}
 use Rattle.document.specs.Kept.{Kept, HasRoom}
@@ -502,7 +501,7 @@ module _ (s : SessionState) (view : ℕ) (m : Message) (task : Task) (t : IsTask
       go false = refl
 
   pub answered_so : (s' : SessionState) (before after : List Notice) (value : ℤ) (out : List ℕ) → before ≡ first_note task.is_recorded view m → IsDone t.request task.plan s' before after value out
-      → table table_so_far (session_in s) view m ≡ Ok (session_in s', response value out after)
+      → table (session_in s) view m ≡ Ok (session_in s', response value out after)
   answered_so s' before after value out first done =
       t.found.answer ∙ ap (answered_by t.kind t.request) t.planned
       ∙ ap (λ (x : Session × Response). Ok (x.0, with_recording t.kind t.request x.1)) done.done

@@ -12,11 +12,10 @@ use Rattle.ed_types.specs.Notices.{Response}
 use Rattle.ed_model.specs.Session.{Session}
 use Rattle.ed_model.specs.Table.{opened}
 use Rattle.ed_model.specs.Run.{Running, outcomes, run_to, after_command, after_message, after_opening}
-use Rattle.message_plans.specs.TableSoFar.{table_so_far}
 use Rattle.editor_session.specs.Answers.{AnswersBy}
 
 pub opened_state : (files : List (List ℕ)) (run : Running) (new : Session) (id : ℕ) → opened run.session ≡ Ok (new, id) →
-    record { session = new; value = Some (pos id) } ≡ (after_command table_so_far files OpenView run).0
+    record { session = new; value = Some (pos id) } ≡ (after_command files OpenView run).0
 opened_state files run new id e = ap (λ o. (after_opening run.session o).0) (sym e)
 
 -- a refusal that did not end the run is one that is said, and left the session
@@ -60,30 +59,30 @@ next_take i [] x e = absurd (cc)
 next_take zero (y ∷ ys) x e = let same : y ≡ x = cc in ap (λ z. z ∷ []) same
 next_take (suc i) (y ∷ ys) x e = ap (λ zs. y ∷ zs) (next_take i ys x e)
 
-run_on : (files : List (List ℕ)) (first later : List Command) (run : Running) → run_to table_so_far files (first ++ later) run ≡ run_to table_so_far files later (run_to table_so_far files first run)
+run_on : (files : List (List ℕ)) (first later : List Command) (run : Running) → run_to files (first ++ later) run ≡ run_to files later (run_to files first run)
 run_on files [] later run = refl
-run_on files (c ∷ cs) later run = run_on files cs later (after_command table_so_far files c run).0
+run_on files (c ∷ cs) later run = run_on files cs later (after_command files c run).0
 
 join_assoc : {X : Type 0} (xs : List X) (x : X) (ys : List X) → (xs ++ x ∷ []) ++ ys ≡ xs ++ x ∷ ys
 join_assoc [] x ys = refl
 join_assoc (z ∷ zs) x ys = ap (λ ws. z ∷ ws) (join_assoc zs x ys)
 
 pub one_more_outcome : (files : List (List ℕ)) (commands : List Command) (i : ℕ) (c : Command) (now new : Running) (done more all : List Outcome) (o : Outcome) → slice_get commands i ≡ Some c →
-    new ≡ (after_command table_so_far files c now).0 → o ≡ (after_command table_so_far files c now).1 → more ≡ done ++ o ∷ [] →
-    done ++ (outcomes table_so_far files (drop i commands) now) ≡ all → more ++ (outcomes table_so_far files (drop (i + 1) commands) new) ≡ all
+    new ≡ (after_command files c now).0 → o ≡ (after_command files c now).1 → more ≡ done ++ o ∷ [] →
+    done ++ outcomes files (drop i commands) now ≡ all → more ++ outcomes files (drop (i + 1) commands) new ≡ all
 one_more_outcome files commands i c now new done more all o e state outcome grown h =
     let after : i + 1 ≡ suc i = omega arith in
-    let rest = (outcomes table_so_far files (drop (suc i) commands) (after_command table_so_far files c now).0) in
-    rw (after, grown, state, outcome) (join_assoc done ((after_command table_so_far files c now).1) rest ∙ sym (ap (λ cs. done ++ (outcomes table_so_far files cs now)) (next_drop i commands c e)) ∙ h)
+    let rest = outcomes files (drop (suc i) commands) (after_command files c now).0 in
+    rw (after, grown, state, outcome) (join_assoc done (after_command files c now).1 rest ∙ sym (ap (λ cs. done ++ outcomes files cs now) (next_drop i commands c e)) ∙ h)
 
 pub one_more_state : (files : List (List ℕ)) (commands : List Command) (i : ℕ) (c : Command) (now new end : Running) → slice_get commands i ≡ Some c →
-    new ≡ (after_command table_so_far files c now).0 → run_to table_so_far files (drop i commands) now ≡ end → run_to table_so_far files (drop (i + 1) commands) new ≡ end
+    new ≡ (after_command files c now).0 → run_to files (drop i commands) now ≡ end → run_to files (drop (i + 1) commands) new ≡ end
 one_more_state files commands i c now new end e state h =
     let after : i + 1 ≡ suc i = omega arith in
-    rw (after, state) (sym (ap (λ cs. run_to table_so_far files cs now) (next_drop i commands c e)) ∙ h)
+    rw (after, state) (sym (ap (λ cs. run_to files cs now) (next_drop i commands c e)) ∙ h)
 
 pub one_more_done : (files : List (List ℕ)) (commands : List Command) (i : ℕ) (c : Command) (start now new : Running) → slice_get commands i ≡ Some c →
-    new ≡ (after_command table_so_far files c now).0 → now ≡ run_to table_so_far files (take i commands) start → new ≡ run_to table_so_far files (take (i + 1) commands) start
+    new ≡ (after_command files c now).0 → now ≡ run_to files (take i commands) start → new ≡ run_to files (take (i + 1) commands) start
 one_more_done files commands i c start now new e state h =
     let after : i + 1 ≡ suc i = omega arith in
-    rw (after, next_take i commands c e) (state ∙ ap (λ r. (after_command table_so_far files c r).0) h ∙ sym (run_on files (take i commands) (c ∷ []) start))
+    rw (after, next_take i commands c e) (state ∙ ap (λ r. (after_command files c r).0) h ∙ sym (run_on files (take i commands) (c ∷ []) start))

@@ -14,12 +14,11 @@ use Rattle.ed_model.specs.PlansFit.{IsFitPlan, IsFitPlanned}
 use Rattle.ed_model.specs.Performing.{quiet}
 use Rattle.ed_model.specs.declared.plan.Plan.{Plan}
 use Rattle.ed_model.specs.declared.plan.Plan.TheVariants as plan
-use Rattle.ed_model.specs.Table.{table, record_note, table_from_view, table_from_kind, table_if_known, table_from_document, answered, request, plan_of}
-use Rattle.message_plans.specs.TableSoFar.{table_so_far}
+use Rattle.ed_model.specs.Table.{table, record_note, table_from_view, table_from_kind, table_from_document, answered, request, plan_of}
 use Rattle.editor_session.proofs.Finding.{id_of_view_at}
 use Rattle.editor_session.specs.declared.find.Task.{Task}
-use Rattle.editor_session.specs.Plans.{needs_no_memory, planned_without_memory, is_free, is_free_request, is_free_from_document, is_free_if_known, is_free_from_kind, is_free_from_view, is_marked_free, is_recorded_by, MarkedMessagesAreFree}
-use Rattle.editor_session.specs.Tasks.{known_kind, IsFound, IsTask}
+use Rattle.editor_session.specs.Plans.{needs_no_memory, planned_without_memory, is_free, is_free_request, is_free_from_document, is_free_from_kind, is_free_from_view, is_marked_free, is_recorded_by, MarkedMessagesAreFree}
+use Rattle.editor_session.specs.Tasks.{IsFound, IsTask}
 use Rattle.ed_model.specs.FreePlans.{IsFreeDocumentChange, IsFreeViewChange, IsFreeSessionChange, IsFreePlan, IsFreePlanned, MarkedPlansAreFree}
 use Rattle.ed_model.specs.declared.plan.DocumentChange.{DocumentChange}
 use Rattle.ed_model.specs.declared.plan.DocumentChange.TheVariants as document_change
@@ -32,59 +31,31 @@ use Rattle.document_changes.specs.Needs.{needs_room, notes_of_change}
 use Rattle.session_changes.specs.Folding.{takes_fold_room}
 use Rattle.session_changes.specs.Ready.{takes_memory}
 
-pub all_known : (o : Option Kind) → o ≡ known_kind o
-all_known None = refl
-all_known (Some kind) = refl
+pub no_view : (s : Session) (id : ℕ) (m : Message) → view_at s.views id ≡ None → table s id m ≡ Err NoSuchView
+no_view s id m none = ap (table_from_view s m) none
 
-pub no_view : (s : Session) (id : ℕ) (m : Message) → view_at s.views id ≡ None → table table_so_far s id m ≡ Err NoSuchView
-no_view s id m none = ap (table_from_view table_so_far s m) none
+pub no_kind : (s : Session) (id : ℕ) (m : Message) (v : View) → view_at s.views id ≡ Some v → kind_of m.number ≡ None → table s id m ≡ Err UnknownMessage
+no_kind s id m v found none = ap (table_from_view s m) found ∙ ap (table_from_kind s v m) none
 
-unknown : (s : Session) (v : View) (m : Message) (kind : Option Kind) → known_kind kind ≡ None → table_from_kind table_so_far s v m kind ≡ Err UnknownMessage
-unknown s v m None e = refl
-unknown s v m (Some kind) e = go (table_so_far kind) e
-  where
-    go : (b : Bool) → cond b (Some kind) None ≡ None → table_if_known b s v kind m ≡ Err UnknownMessage
-    go true e = absurd (cc)
-    go false e = refl
+to_document : (s : Session) (id : ℕ) (m : Message) (v : View) (kind : Kind) → view_at s.views id ≡ Some v → kind_of m.number ≡ Some kind →
+    table s id m ≡ table_from_document s v kind m (document_at s.documents v.document)
+to_document s id m v kind found is = ap (table_from_view s m) found ∙ ap (table_from_kind s v m) is
 
-pub no_kind : (s : Session) (id : ℕ) (m : Message) (v : View) → view_at s.views id ≡ Some v → known_kind (kind_of m.number) ≡ None → table table_so_far s id m ≡ Err UnknownMessage
-no_kind s id m v found none = ap (table_from_view table_so_far s m) found ∙ unknown s v m (kind_of m.number) none
+pub no_document : (s : Session) (id : ℕ) (m : Message) (v : View) (kind : Kind) → view_at s.views id ≡ Some v → kind_of m.number ≡ Some kind → document_at s.documents v.document ≡ None →
+    table s id m ≡ Err NoSuchDocument
+no_document s id m v kind found is none = to_document s id m v kind found is ∙ ap (table_from_document s v kind m) none
 
--- a kind that is known
-pub record IsOfKind (o : Option Kind) (kind : Kind) : Type 0 where
-  pub known : table_so_far kind ≡ true
-  pub is : o ≡ Some kind
-
-pub of_known : (o : Option Kind) (kind : Kind) → known_kind o ≡ Some kind → IsOfKind o kind
-of_known None kind e = absurd (cc)
-of_known (Some k) kind e = go (table_so_far k) refl e
-  where
-    go : (b : Bool) → table_so_far k ≡ b → cond b (Some k) None ≡ Some kind → IsOfKind (Some k) kind
-    go true t e = let same : k ≡ kind = cc in record { known = subst (λ x. table_so_far x ≡ true) same t; is = ap Some same }
-    go false t e = absurd (cc)
-
-to_document : (s : Session) (id : ℕ) (m : Message) (v : View) (kind : Kind) → view_at s.views id ≡ Some v → known_kind (kind_of m.number) ≡ Some kind →
-    table table_so_far s id m ≡ table_from_document s v kind m (document_at s.documents v.document)
-to_document s id m v kind found known =
-    let of = of_known (kind_of m.number) kind known in
-    ap (table_from_view table_so_far s m) found ∙ ap (table_from_kind table_so_far s v m) of.is ∙ ap (λ b. table_if_known b s v kind m) of.known
-
-pub no_document : (s : Session) (id : ℕ) (m : Message) (v : View) (kind : Kind) → view_at s.views id ≡ Some v → known_kind (kind_of m.number) ≡ Some kind → document_at s.documents v.document ≡ None →
-    table table_so_far s id m ≡ Err NoSuchDocument
-no_document s id m v kind found known none = to_document s id m v kind found known ∙ ap (table_from_document s v kind m) none
-
-pub is_found : (s : Session) (id : ℕ) (m : Message) (v : View) (kind : Kind) (d : Document) → IsSound s → view_at s.views id ≡ Some v → known_kind (kind_of m.number) ≡ Some kind →
+pub is_found : (s : Session) (id : ℕ) (m : Message) (v : View) (kind : Kind) (d : Document) → IsSound s → view_at s.views id ≡ Some v → kind_of m.number ≡ Some kind →
     document_at s.documents v.document ≡ Some d → IsFound s id m kind (request s v d m)
-is_found s id m v kind d sound found known there =
+is_found s id m v kind d sound found is there =
     let own : v.id ≡ id = id_of_view_at s.views id v found in
     record {
       sound = record { sound = sound; view = ap (view_at s.views) own ∙ found; document = there };
-      known = (of_known (kind_of m.number) kind known).known;
-      decoded = (of_known (kind_of m.number) kind known).is;
+      decoded = is;
       session = refl;
       view_id = own;
       message = refl;
-      answer = to_document s id m v kind found known ∙ ap (table_from_document s v kind m) there;
+      answer = to_document s id m v kind found is ∙ ap (table_from_document s v kind m) there;
     }
 
 pub fit_of : {what : Plan} (kind : Kind) (r : Request) → plan_of kind r ≡ Ok what → IsFitPlanned r (plan_of kind r) → IsFitPlan r what
@@ -92,7 +63,7 @@ fit_of kind r planned fit = subst (IsFitPlanned r) planned fit
 
 -- a message that only answers a number, and is not recorded
 pub plain_answer : (s : Session) (view : ℕ) (m : Message) (kind : Kind) (r : Request) (value : ℤ) → IsFound s view m kind r → plan_of kind r ≡ Ok (plan.Answer value) → (r.view.records && (marks_of kind).r) ≡ false
-    → table table_so_far s view m ≡ Ok (s, quiet value)
+    → table s view m ≡ Ok (s, quiet value)
 plain_answer s view m kind r value f planned unheard =
     f.answer ∙ ap (answered kind r) planned
     ∙ ap (λ b. Ok (r.session, cond b (record (quiet value) { notes = record_note r ∷ [] }) (quiet value))) unheard
@@ -116,7 +87,7 @@ free_task s view m task t free =
     let there : document_at s.documents r.view.document ≡ Some r.document = subst (λ (x : Session). document_at x.documents r.view.document ≡ Some r.document) f.session f.sound.document in
     let same : request s r.view r.document m ≡ r = ap (λ x. request x r.view r.document m) (sym f.session) ∙ ap (λ x. request r.session r.view r.document x) (sym f.message) in
     let is : is_free s view m ≡ is_free_request t.kind r =
-    ap (is_free_from_view s m) seen ∙ ap (is_free_from_kind s r.view m) f.decoded ∙ ap (λ b. is_free_if_known b s r.view t.kind m) f.known ∙ ap (is_free_from_document s r.view t.kind m) there ∙ ap (is_free_request t.kind) same in
+    ap (is_free_from_view s m) seen ∙ ap (is_free_from_kind s r.view m) f.decoded ∙ ap (is_free_from_document s r.view t.kind m) there ∙ ap (is_free_request t.kind) same in
     let parts = both_true (planned_without_memory r (plan_of t.kind r)) (not (r.view.records && (marks_of t.kind).r)) (sym is ∙ free) in
     (subst (λ p. planned_without_memory r p ≡ true) t.planned parts.0, t.recorded ∙ not_true (r.view.records && (marks_of t.kind).r) parts.1)
 
@@ -162,19 +133,15 @@ marked_are_free law s view m marked unrecorded = from_view (view_at s.views view
     of_plan r (Ok what) h = free_needs_none r what h
     of_plan r (Err refusal) h = refl
 
-    from_document : (v : View) (kind : Kind) (o : Option Document) → table_so_far kind ≡ true → (marks_of kind).n ≡ true → (v.records && (marks_of kind).r) ≡ false → is_free_from_document s v kind m o ≡ true
-    from_document v kind None known n r = refl
-    from_document v kind (Some d) known n r =
+    from_document : (v : View) (kind : Kind) (o : Option Document) → (marks_of kind).n ≡ true → (v.records && (marks_of kind).r) ≡ false → is_free_from_document s v kind m o ≡ true
+    from_document v kind None n r = refl
+    from_document v kind (Some d) n r =
         let q = request s v d m in
         rw (of_plan q (plan_of kind q) (law kind q n), r) refl
 
-    if_known : (v : View) (kind : Kind) (b : Bool) → table_so_far kind ≡ b → (marks_of kind).n ≡ true → (v.records && (marks_of kind).r) ≡ false → is_free_if_known b s v kind m ≡ true
-    if_known v kind true known n r = from_document v kind (document_at s.documents v.document) known n r
-    if_known v kind false known n r = refl
-
     from_kind : (v : View) (kind : Option Kind) → is_marked_free kind ≡ true → is_recorded_by (Some v) kind ≡ false → is_free_from_kind s v m kind ≡ true
     from_kind v None n r = refl
-    from_kind v (Some kind) n r = if_known v kind (table_so_far kind) refl n r
+    from_kind v (Some kind) n r = from_document v kind (document_at s.documents v.document) n r
 
     from_view : (o : Option View) → is_marked_free (kind_of m.number) ≡ true → is_recorded_by o (kind_of m.number) ≡ false → is_free_from_view s m o ≡ true
     from_view None n r = refl

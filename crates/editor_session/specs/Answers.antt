@@ -6,7 +6,6 @@ use Rattle.ed_types.specs.declared.message.Message.{Message}
 use Rattle.ed_types.specs.declared.script.Command.{Command}
 use Rattle.ed_model.specs.Session.{Session}
 use Rattle.ed_model.specs.Run.{Running, run_to}
-use Rattle.message_plans.specs.TableSoFar.{table_so_far}
 
 -- a message with this text
 abbrev pub message_with : ℕ → ℤ → ℤ → List ℕ → Message
@@ -21,4 +20,4 @@ AnswersBy says old new (Err refusal) = (new ≡ old) × ((refusal ≡ OutOfMemor
 pub record StopsWithin (files : List (List ℕ)) (commands : List Command) (old new : Running) : Type 0 where
   pub count : ℕ
   pub within_commands : count ≤ length commands
-  pub stands : new ≡ run_to table_so_far files (take count commands) old
+  pub stands : new ≡ run_to files (take count commands) old

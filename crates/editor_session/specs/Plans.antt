@@ -11,7 +11,6 @@ use Rattle.ed_model.specs.Requests.{Request, Planned}
 use Rattle.ed_model.specs.Session.{Session, View, Document, view_at, document_at, watching}
 use Rattle.ed_model.specs.Edits.{steps_of, has_steps}
 use Rattle.ed_model.specs.Table.{request, plan_of}
-use Rattle.message_plans.specs.TableSoFar.{table_so_far}
 use Rattle.document_changes.specs.Needs.{needs_room, notes_of_change}
 use Rattle.session_changes.specs.Folding.{takes_fold_room}
 use Rattle.session_changes.specs.Ready.{takes_memory}
@@ -43,13 +42,9 @@ abbrev pub is_free_from_document : Session → View → Kind → Message → Opt
 is_free_from_document s v kind m None = true
 is_free_from_document s v kind m (Some d) = is_free_request kind (request s v d m)
 
-abbrev pub is_free_if_known : Bool → Session → View → Kind → Message → Bool
-is_free_if_known true s v kind m = is_free_from_document s v kind m (document_at s.documents v.document)
-is_free_if_known false s v kind m = true
-
 abbrev pub is_free_from_kind : Session → View → Message → Option Kind → Bool
 is_free_from_kind s v m None = true
-is_free_from_kind s v m (Some kind) = is_free_if_known (table_so_far kind) s v kind m
+is_free_from_kind s v m (Some kind) = is_free_from_document s v kind m (document_at s.documents v.document)
 
 abbrev pub is_free_from_view : Session → Message → Option View → Bool
 is_free_from_view s m None = true

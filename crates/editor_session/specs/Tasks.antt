@@ -1,5 +1,5 @@
 -- From a message to what is done for it.
-use Rattle.std.specs.Prelude.{◌≡◌, ℕ, ◌&&◌, if◌then◌else◌, Bool, true, false, List, [], ◌∷◌, Option, Some, None, Ok}
+use Rattle.std.specs.Prelude.{◌≡◌, ℕ, ◌&&◌, Bool, true, false, List, [], ◌∷◌, Some, Ok}
 use Rattle.ed_types.specs.declared.kind.Kind.{Kind}
 use Rattle.ed_types.specs.declared.message.Message.{Message}
 use Rattle.ed_types.specs.Messages.{kind_of, marks_of}
@@ -9,24 +9,17 @@ use Rattle.ed_model.specs.Session.{Session}
 use Rattle.ed_model.specs.PlansFit.{IsSoundRequest, IsFitPlan}
 use Rattle.ed_model.specs.Requests.{Request}
 use Rattle.ed_model.specs.Table.{table, plan_of, answered}
-use Rattle.message_plans.specs.TableSoFar.{table_so_far}
 use Rattle.editor_session.specs.declared.find.Task.{Task}
 use Rattle.session_changes.specs.Asked.{IsAsked}
 
--- the kind, if there is such a message yet
-abbrev pub known_kind : Option Kind → Option Kind
-known_kind None = None
-known_kind (Some kind) = if table_so_far kind then Some kind else None
-
--- a message came this far: its view and its document are found, it is known, and the table's answer is that of its plan
+-- a message came this far: its view, its kind and its document are found, and the table's answer is that of its plan
 pub record IsFound (s : Session) (view : ℕ) (m : Message) (kind : Kind) (r : Request) : Type 0 where
   pub sound : IsSoundRequest r
-  pub known : table_so_far kind ≡ true
   pub decoded : kind_of m.number ≡ Some kind
   pub session : r.session ≡ s
   pub view_id : r.view.id ≡ view
   pub message : r.message ≡ m
-  pub answer : table table_so_far s view m ≡ answered kind r (plan_of kind r)
+  pub answer : table s view m ≡ answered kind r (plan_of kind r)
 
 -- the task of a message: the request that it comes of, and its plan
 pub record IsTask (s : Session) (view : ℕ) (m : Message) (task : Task) : Type 0 where

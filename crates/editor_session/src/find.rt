@@ -2,13 +2,11 @@
 
 ghost use Rattle.std.specs.Prelude.{◌≡◌, ◌≢◌, Err, IfOk, IfErr};
 ghost use Rattle.ed_types.specs.declared.refusal.Refusal.TheVariants.{OutOfMemory};
-ghost use Rattle.ed_types.specs.Messages.{kind_of};
 ghost use Rattle.ed_model.specs.Table.{table};
 ghost use Rattle.message_plans.specs.Requested.{session_in};
-ghost use Rattle.message_plans.specs.TableSoFar.{table_so_far};
 ghost use Rattle.editor_session.specs.Answers.{message_with};
 ghost use Rattle.session_changes.specs.Kept.{IsKept};
-ghost use Rattle.editor_session.specs.Tasks.{known_kind, IsFound};
+ghost use Rattle.editor_session.specs.Tasks.{IsFound};
 
 use ed_model::Plan;
 use ed_types::{Kind, Refusal};
@@ -27,13 +25,6 @@ pub(crate) struct Task {
     pub is_recorded: bool,
 }
 
-/// The kind of a message by its number, if there is such a message.
-fn known_kind(number: u32) -> Option<Kind>
-    ensures { result ≡ known_kind (kind_of number) }
-{
-    Kind::from_number(number)
-}
-
 /// Finds the view of a message, its kind, and the view's document.
 ///
 /// # Errors
@@ -49,13 +40,13 @@ pub(crate) fn find<'a>(
 ) -> Result<(Kind, Request<'a>), Refusal>
     requires kept { IsKept state.now }
     ensures found { IfOk result (λ found. IsFound (session_in state.now) view (message_with number w l text.now) found.0 found.1) }
-    ensures refused { IfErr result (λ refusal. table table_so_far (session_in state.now) view (message_with number w l text.now) ≡ Err refusal) }
+    ensures refused { IfErr result (λ refusal. table (session_in state.now) view (message_with number w l text.now) ≡ Err refusal) }
     ensures memory { IfErr result (λ refusal. refusal ≢ OutOfMemory) }
 {
     let Some(view) = state.views.get(view) else {
         return Err(Refusal::NoSuchView);
     };
-    let Some(kind) = known_kind(number) else {
+    let Some(kind) = Kind::from_number(number) else {
         return Err(Refusal::UnknownMessage);
     };
     let Some(document) = state.documents.get(view.document()) else {

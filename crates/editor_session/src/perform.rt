@@ -8,7 +8,6 @@ ghost use Rattle.ed_model.specs.Table.{table};
 ghost use Rattle.id_table.specs.Entries.{value_at};
 ghost use Rattle.scene.specs.Scenes.{views_of, AreNamed};
 ghost use Rattle.message_plans.specs.Requested.{session_in};
-ghost use Rattle.message_plans.specs.TableSoFar.{table_so_far};
 ghost use Rattle.session_changes.specs.Kept.{IsKept, DocumentsAreNamed};
 ghost use Rattle.editor_session.specs.Answers.{message_with};
 ghost use Rattle.editor_session.specs.Tasks.{IsTask, IsAskedBy, IsPlanned, first_note};
@@ -168,7 +167,7 @@ pub(crate) fn perform(
     requires kept { IsKept state.old }
     requires task { IsTask (session_in state.old) task.now.view (message_with number w l text.now) task.now }
     requires prepared { (r : Request) → IsAskedBy (session_in state.old) task.now text.now r → HasAll r state.old task.now prepared }
-    ensures answer { table table_so_far (session_in state.old) task.now.view (message_with number w l text.now) ≡ Ok (session_in state.new, result) }
+    ensures answer { table (session_in state.old) task.now.view (message_with number w l text.now) ≡ Ok (session_in state.new, result) }
     ensures limits { state.new.limits ≡ state.old.limits }
     ensures documents { DocumentsAreNamed state.new.documents.entries }
     ensures views { AreNamed state.new.views.entries }

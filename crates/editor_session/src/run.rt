@@ -5,7 +5,6 @@ ghost use Rattle.ed_types.specs.declared.refusal.Refusal.TheVariants.{OutOfMemor
 ghost use Rattle.ed_types.specs.declared.script.Outcome.TheVariants.{Refused};
 ghost use Rattle.ed_model.specs.Session.{view_at};
 ghost use Rattle.ed_model.specs.Run.{starting, after_command, outcomes, run_to, loaded, file_at};
-ghost use Rattle.message_plans.specs.TableSoFar.{table_so_far};
 ghost use Rattle.editor_session.specs.Answers.{AnswersBy, StopsWithin};
 
 use crate::session::Session;
@@ -52,8 +51,8 @@ impl Run {
     ///
     /// `AllocError` where the command was refused for want of memory; the run is then as it was.
     pub fn step(&mut self, files: &[Bytes], command: &Command) -> Result<Outcome, AllocError>
-        ensures state { OnOk result (self.new ≡ (after_command table_so_far files.now command.now self.old).0) }
-        ensures outcome { IfOk result (λ outcome. outcome ≡ (after_command table_so_far files.now command.now self.old).1) }
+        ensures state { OnOk result (self.new ≡ (after_command files.now command.now self.old).0) }
+        ensures outcome { IfOk result (λ outcome. outcome ≡ (after_command files.now command.now self.old).1) }
         ensures err { OnErr result (self.new ≡ self.old) }
     {
         match command {
@@ -91,8 +90,8 @@ impl Run {
         files: &[Bytes],
         commands: &[Command],
     ) -> Result<Vec<Outcome>, AllocError>
-        ensures state { OnOk result (self.new ≡ run_to table_so_far files.now commands.now self.old) }
-        ensures outcomes { IfOk result (λ done. done.items ≡ outcomes table_so_far files.now commands.now self.old) }
+        ensures state { OnOk result (self.new ≡ run_to files.now commands.now self.old) }
+        ensures outcomes { IfOk result (λ done. done.items ≡ outcomes files.now commands.now self.old) }
         ensures err { OnErr result (StopsWithin files.now commands.now self.old self.new) }
     {
         let mut done = Vec::with_capacity(alloc, commands.len())?;
@@ -132,7 +131,7 @@ impl Run {
     ///
     /// `NoSuchView`, then `BadArgument` where there is no such file; else those of the message that sets the text.
     fn load(&mut self, files: &[Bytes], view: u32, file: u32) -> Result<Reply, Refusal>
-        ensures answer { AnswersBy (loaded table_so_far self.old.session view (view_at self.old.session.views view) (file_at files.now file)) self.old.session self.new.session result }
+        ensures answer { AnswersBy (loaded self.old.session view (view_at self.old.session.views view) (file_at files.now file)) self.old.session self.new.session result }
         ensures value { self.new.value ≡ self.old.value }
     {
         if !self.session.has_view(view) {

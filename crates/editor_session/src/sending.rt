@@ -5,7 +5,6 @@ ghost use Rattle.ed_types.specs.declared.refusal.Refusal.TheVariants.{OutOfMemor
 ghost use Rattle.ed_types.specs.Messages.{marks_of};
 ghost use Rattle.ed_model.specs.Table.{table};
 ghost use Rattle.message_plans.specs.Requested.{session_in};
-ghost use Rattle.message_plans.specs.TableSoFar.{table_so_far};
 ghost use Rattle.session_changes.specs.Kept.{IsKept};
 ghost use Rattle.editor_session.specs.Answers.{AnswersBy, message_with};
 ghost use Rattle.editor_session.specs.Plans.{is_free};
@@ -37,7 +36,7 @@ fn carry_out(
 ) -> Result<Reply, AllocError>
     requires kept { IsKept state.old }
     requires task { IsTask (session_in state.old) task.now.view (message_with number w l text.now) task.now }
-    ensures answer { IfOk result (λ reply. table table_so_far (session_in state.old) task.now.view (message_with number w l text.now) ≡ Ok (session_in state.new, reply)) }
+    ensures answer { IfOk result (λ reply. table (session_in state.old) task.now.view (message_with number w l text.now) ≡ Ok (session_in state.new, reply)) }
     ensures same { OnErr result (session_in state.new ≡ session_in state.old) }
     ensures kept { IsKept state.new }
     ensures free { is_free (session_in state.old) task.now.view (message_with number w l text.now) ≡ true → IsOk result }
@@ -70,8 +69,8 @@ pub(crate) fn answer_message(
     text: &[u8],
 ) -> Result<Reply, Refusal>
     requires kept { IsKept state.old }
-    ensures answer { AnswersBy (table table_so_far (session_in state.old) view (message_with number w l text.now)) (session_in state.old) (session_in state.new) result }
-    ensures refused { IfErr (table table_so_far (session_in state.old) view (message_with number w l text.now)) (λ refusal. result ≡ Err refusal) }
+    ensures answer { AnswersBy (table (session_in state.old) view (message_with number w l text.now)) (session_in state.old) (session_in state.new) result }
+    ensures refused { IfErr (table (session_in state.old) view (message_with number w l text.now)) (λ refusal. result ≡ Err refusal) }
     ensures kept { IsKept state.new }
     ensures free { is_free (session_in state.old) view (message_with number w l text.now) ≡ true → IfErr result (λ refusal. refusal ≢ OutOfMemory) }
 {

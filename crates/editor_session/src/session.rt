@@ -4,7 +4,6 @@ ghost use Rattle.std.specs.Prelude.{◌≡◌, ◌≢◌, ◌⊎◌, true, OnOk,
 ghost use Rattle.ed_types.specs.declared.refusal.Refusal.TheVariants.{BadArgument, NoSuchView, OutOfMemory};
 ghost use Rattle.ed_model.specs.Session.{new_session, greatest_limits, is_between_one_and, is_allowed, view_at};
 ghost use Rattle.ed_model.specs.Table.{table, limited, opened, closed};
-ghost use Rattle.message_plans.specs.TableSoFar.{table_so_far};
 ghost use Rattle.editor_session.specs.Answers.{AnswersBy, message_with};
 ghost use Rattle.editor_session.specs.Plans.{is_free};
 ghost use Rattle.editor_session.specs.Lent.{lent_range};
@@ -156,8 +155,8 @@ impl Session {
     /// `TooLong`, found before any memory is taken; else `OutOfMemory` where a growth is refused, which never comes of a
     /// message whose plan needs no memory, unless it is recorded. The session is then as it was.
     pub fn send(&mut self, view: u32, m: &Message) -> Result<Reply, Refusal>
-        ensures answer { AnswersBy (table table_so_far self.old view m.now) self.old self.new result }
-        ensures refused { IfErr (table table_so_far self.old view m.now) (λ refusal. result ≡ Err refusal) }
+        ensures answer { AnswersBy (table self.old view m.now) self.old self.new result }
+        ensures refused { IfErr (table self.old view m.now) (λ refusal. result ≡ Err refusal) }
         ensures free { is_free self.old view m.now ≡ true → IfErr result (λ refusal. refusal ≢ OutOfMemory) }
     {
         self.send_lent(view, m.number, m.w, m.l, m.text.as_slice())
@@ -176,8 +175,8 @@ impl Session {
         l: i64,
         text: &[u8],
     ) -> Result<Reply, Refusal>
-        ensures answer { AnswersBy (table table_so_far self.old view (message_with number w l text.now)) self.old self.new result }
-        ensures refused { IfErr (table table_so_far self.old view (message_with number w l text.now)) (λ refusal. result ≡ Err refusal) }
+        ensures answer { AnswersBy (table self.old view (message_with number w l text.now)) self.old self.new result }
+        ensures refused { IfErr (table self.old view (message_with number w l text.now)) (λ refusal. result ≡ Err refusal) }
         ensures free { is_free self.old view (message_with number w l text.now) ≡ true → IfErr result (λ refusal. refusal ≢ OutOfMemory) }
     {
         answer_message(self.alloc, &mut self.state, view, number, w, l, text)

@@ -9,7 +9,6 @@ use Rattle.editor_session.proofs.Finding.{found_some, found_none, view_in, id_of
 use Rattle.editor_session.proofs.TableWay.{no_view, no_kind, no_document, is_found}
 use Rattle.editor_session.proofs.find.find.Goals as goal
 
--- src/find.rt:59:9
 pub returns-in_default-clause-refused : goal.returns-in_default-clause-refused
 returns-in_default-clause-refused c =
     let s = session_in c.args.state.now in
@@ -17,40 +16,37 @@ returns-in_default-clause-refused c =
     no_view s c.args.view m
     (found_none view_in id_of_view c.args.state.now.views.entries c.args.view c.requires.kept.views (sym c.get.ensures ∙ ap option_copied c.in_default.is))
 
--- src/find.rt:62:9
-pub returns-in_default-known_kind-clause-refused :
-    goal.returns-in_default-known_kind-clause-refused
-returns-in_default-known_kind-clause-refused c =
+pub returns-in_default-from_number-clause-refused :
+    goal.returns-in_default-from_number-clause-refused
+returns-in_default-from_number-clause-refused c =
     let s = session_in c.args.state.now in
     let m = message_with c.args.number c.args.w c.args.l c.args.text.now in
     no_kind s c.args.view m c.in-Some.view.now.view
     (found_some view_in id_of_view c.args.state.now.views.entries c.args.view c.in-Some.view.now c.requires.kept.views (sym c.get.ensures ∙ ap option_copied c.in-Some.is))
     (search rules)
 
--- src/find.rt:65:9
 pub returns-in_default-get-clause-refused : goal.returns-in_default-get-clause-refused
 returns-in_default-get-clause-refused c =
     let s = session_in c.args.state.now in
     let m = message_with c.args.number c.args.w c.args.l c.args.text.now in
     let v = c.in-Some.view.now.view in
-    no_document s c.args.view m v c.in-Some-known_kind.kind
+    no_document s c.args.view m v c.in-Some-from_number.kind
     (found_some view_in id_of_view c.args.state.now.views.entries c.args.view c.in-Some.view.now c.requires.kept.views (sym c.get.ensures ∙ ap option_copied c.in-Some.is))
     (search rules)
     (subst (λ id. document_at s.documents id ≡ None) c.document.ensures
     (found_none document_in id_of_document c.args.state.now.documents.entries c.document.result c.requires.kept.documents (sym c.get-2.ensures ∙ ap option_copied c.in_default-get.is)))
 
--- src/find.rt:46:1
 pub returns-clause-found : goal.returns-clause-found
 returns-clause-found c =
     let s = session_in c.args.state.now in
     let m = message_with c.args.number c.args.w c.args.l c.args.text.now in
     let v = c.in-Some.view.now.view in
     let d = c.in-Some-get.document.now.document in
-    let found = is_found s c.args.view m v c.in-Some-known_kind.kind d c.requires.kept.sound
+    let found = is_found s c.args.view m v c.in-Some-from_number.kind d c.requires.kept.sound
     (found_some view_in id_of_view c.args.state.now.views.entries c.args.view c.in-Some.view.now c.requires.kept.views (sym c.get.ensures ∙ ap option_copied c.in-Some.is))
     (search rules)
     (subst (λ id. document_at s.documents id ≡ Some d) c.document.ensures
     (found_some document_in id_of_document c.args.state.now.documents.entries c.document.result c.in-Some-get.document.now c.requires.kept.documents (sym c.get-2.ensures ∙ ap option_copied c.in-Some-get.is)))
     in
     let same : m ≡ message_with c.args.number (to_z w64 (of_z w64 c.args.w)) (to_z w64 (of_z w64 c.args.l)) c.args.text.now = search rules in
-    subst (λ x. IsFound s c.args.view m c.in-Some-known_kind.kind (request s v d x)) same found
+    subst (λ x. IsFound s c.args.view m c.in-Some-from_number.kind (request s v d x)) same found

@@ -5,7 +5,6 @@ use Rattle.ed_model.specs.declared.plan.Plan.TheVariants.{Answer}
 use Rattle.ed_model.specs.PlansFit.{IsFitPlanned}
 use Rattle.ed_model.specs.Table.{table, plan_of}
 use Rattle.message_plans.specs.Requested.{session_in}
-use Rattle.message_plans.specs.TableSoFar.{table_so_far}
 use Rattle.editor_session.specs.Answers.{message_with}
 use Rattle.editor_session.specs.Plans.{is_free}
 use Rattle.editor_session.proofs.TableWay.{plain_answer, fit_of}
@@ -19,7 +18,7 @@ returns-in-Ok-Answer-clause-answer c =
     let planned : plan_of kind r ≡ Ok (Answer c.in-Ok-Answer.value) = search rules in
     let unheard : (r.view.records && (marks_of kind).r) ≡ false = search rules in
     let same : message_with a.number (to_z w64 (of_z w64 a.w)) (to_z w64 (of_z w64 a.l)) a.text.now ≡ message_with a.number a.w a.l a.text.now = search rules in
-    ap (table table_so_far (session_in a.state.now) a.view) (sym same)
+    ap (table (session_in a.state.now) a.view) (sym same)
     ∙ plain_answer (session_in a.state.now) a.view (message_with a.number (to_z w64 (of_z w64 a.w)) (to_z w64 (of_z w64 a.l)) a.text.now) kind r c.in-Ok-Answer.value c.in-Ok.ensures.found planned unheard
     ∙ ap (λ x. Ok (session_in a.state.now, x)) (search rules)
 
@@ -56,7 +55,7 @@ returns-in-Ok-carry_out-clause-answer c =
     let a = c.args in
     let s = session_in a.state.now in
     let same : message_with a.number (to_z w64 (of_z w64 a.w)) (to_z w64 (of_z w64 a.l)) a.text.now ≡ message_with a.number a.w a.l a.text.now = search rules in
-    subst (λ x. table table_so_far s a.view x ≡ Ok (session_in c.carry_out.new.state, c.in-Ok-carry_out.reply)) same c.in-Ok-carry_out.ensures.answer
+    subst (λ x. table s a.view x ≡ Ok (session_in c.carry_out.new.state, c.in-Ok-carry_out.reply)) same c.in-Ok-carry_out.ensures.answer
 
 pub returns-in-Err-carry_out-clause-free : goal.returns-in-Err-carry_out-clause-free
 returns-in-Err-carry_out-clause-free c free =

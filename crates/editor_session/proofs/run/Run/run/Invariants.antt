@@ -1,7 +1,6 @@
 use Rattle.std.proofs.Common.{◌≡◌, ◌≤◌, ◌++◌, take, drop, length}
 use Rattle.std.specs.Prelude.{vec_capacity}
 use Rattle.ed_model.specs.Run.{outcomes, run_to}
-use Rattle.message_plans.specs.TableSoFar.{table_so_far}
 use Rattle.editor_session.proofs.run.Run.run.Given as goal
 
 abbrev pub invariant-loop-command : goal.invariant-loop-command
@@ -9,7 +8,7 @@ invariant-loop-command l =
     record {
       room : length l.commands ≤ vec_capacity l.done;
       many : length l.done.items ≡ l.command-index;
-      outcomes : l.done.items ++ (outcomes table_so_far l.files (drop l.command-index l.commands) l.self) ≡ (outcomes table_so_far l.files l.commands l.fn.self);
-      state : run_to table_so_far l.files (drop l.command-index l.commands) l.self ≡ run_to table_so_far l.files l.commands l.fn.self;
-      so_far : l.self ≡ run_to table_so_far l.files (take l.command-index l.commands) l.fn.self;
+      outcomes : l.done.items ++ outcomes l.files (drop l.command-index l.commands) l.self ≡ outcomes l.files l.commands l.fn.self;
+      state : run_to l.files (drop l.command-index l.commands) l.self ≡ run_to l.files l.commands l.fn.self;
+      so_far : l.self ≡ run_to l.files (take l.command-index l.commands) l.fn.self;
     }

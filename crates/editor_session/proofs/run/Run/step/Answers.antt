@@ -6,7 +6,6 @@ use Rattle.ed_types.specs.Notices.{Response}
 use Rattle.ed_model.specs.Session.{Session, view_at}
 use Rattle.ed_model.specs.Run.{loaded, file_at}
 use Rattle.ed_model.specs.Table.{table, opened}
-use Rattle.message_plans.specs.TableSoFar.{table_so_far}
 use Rattle.editor_session.specs.Answers.{AnswersBy}
 use Rattle.editor_session.proofs.RunLemmas.{opened_state, refused_state, refused_outcome}
 use Rattle.editor_session.proofs.run.Run.step.Goals as goal
@@ -23,7 +22,7 @@ returns-in-Err-send-clause-state c =
     let p = c.in-SendMessage in
     let run = c.args.self.now in
     let command : c.args.command.now ≡ SendMessage p.view p.message = search rules in
-    let says = table table_so_far run.session p.view p.message in
+    let says = table run.session p.view p.message in
     let answer : AnswersBy {R = Response} says run.session c.send.new.self (Err c.in-Err-send.refusal) = search rules in
     let state : OnOk c.refused-in-Err-send.result (c.refused-in-Err-send.new.self ≡ record { session = c.send.new.self; value = None }) = search rules in
     rw command (refused_state run c.refused-in-Err-send.new.self says c.send.new.self c.in-Err-send.refusal c.refused-in-Err-send.result answer c.refused-in-Err-send.ensures.memory state)
@@ -33,6 +32,6 @@ returns-in-Err-send-clause-outcome c =
     let p = c.in-SendMessage in
     let run = c.args.self.now in
     let command : c.args.command.now ≡ SendMessage p.view p.message = search rules in
-    let says = table table_so_far run.session p.view p.message in
+    let says = table run.session p.view p.message in
     let answer : AnswersBy {R = Response} says run.session c.send.new.self (Err c.in-Err-send.refusal) = search rules in
     rw command (refused_outcome run says c.send.new.self c.in-Err-send.refusal c.refused-in-Err-send.result answer c.refused-in-Err-send.ensures.memory c.refused-in-Err-send.ensures.outcome)

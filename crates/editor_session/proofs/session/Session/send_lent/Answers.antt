@@ -4,7 +4,6 @@ use Rattle.std.specs.Prelude.{◌≢◌}
 use Rattle.ed_model.specs.Session.{Session}
 use Rattle.ed_model.specs.Table.{table}
 use Rattle.message_plans.specs.Requested.{session_in}
-use Rattle.message_plans.specs.TableSoFar.{table_so_far}
 use Rattle.editor_session.specs.Answers.{AnswersBy, message_with}
 use Rattle.editor_session.specs.Plans.{is_free}
 use Rattle.editor_session.proofs.session.Session.send_lent.Goals as goal
@@ -14,15 +13,15 @@ returns-clause-answer c =
     let a = c.args in
     let same : message_with a.number (to_z w64 (of_z w64 a.w)) (to_z w64 (of_z w64 a.l)) a.text.now ≡ message_with a.number a.w a.l a.text.now = search rules in
     let new = session_in c.answer_message.new.state in
-    subst (λ (s : Session). AnswersBy (table table_so_far s a.view (message_with a.number a.w a.l a.text.now)) s new c.answer_message.result) c.self.view_is
-    (subst (λ x. AnswersBy (table table_so_far (session_in c.self.inside.state) a.view x) (session_in c.self.inside.state) new c.answer_message.result) same c.answer_message.ensures.answer)
+    subst (λ (s : Session). AnswersBy (table s a.view (message_with a.number a.w a.l a.text.now)) s new c.answer_message.result) c.self.view_is
+    (subst (λ x. AnswersBy (table (session_in c.self.inside.state) a.view x) (session_in c.self.inside.state) new c.answer_message.result) same c.answer_message.ensures.answer)
 
 pub returns-clause-refused : goal.returns-clause-refused
 returns-clause-refused c =
     let a = c.args in
     let same : message_with a.number (to_z w64 (of_z w64 a.w)) (to_z w64 (of_z w64 a.l)) a.text.now ≡ message_with a.number a.w a.l a.text.now = search rules in
-    subst (λ (s : Session). IfErr (table table_so_far s a.view (message_with a.number a.w a.l a.text.now)) (λ refusal. c.answer_message.result ≡ Err refusal)) c.self.view_is
-    (subst (λ x. IfErr (table table_so_far (session_in c.self.inside.state) a.view x) (λ refusal. c.answer_message.result ≡ Err refusal)) same c.answer_message.ensures.refused)
+    subst (λ (s : Session). IfErr (table s a.view (message_with a.number a.w a.l a.text.now)) (λ refusal. c.answer_message.result ≡ Err refusal)) c.self.view_is
+    (subst (λ x. IfErr (table (session_in c.self.inside.state) a.view x) (λ refusal. c.answer_message.result ≡ Err refusal)) same c.answer_message.ensures.refused)
 
 pub returns-clause-free : goal.returns-clause-free
 returns-clause-free c =
