@@ -4,7 +4,6 @@ use Rattle.ed_types.specs.declared.script.Command.{Command}
 use Rattle.ed_types.specs.declared.script.Outcome.{Outcome}
 use Rattle.ed_model.specs.Run.{Running, starting, outcomes, run_to}
 use Rattle.ed_model.specs.Session.{Session, new_session, greatest_limits}
-use Rattle.message_plans.specs.TableSoFar.{table_so_far}
 
 -- a script's commands, the files that it loads, and how many of the commands are done
 pub record Stepping : Type 0 where
@@ -14,7 +13,7 @@ pub record Stepping : Type 0 where
 
 -- the run of the first `count` commands, from a new session
 abbrev pub run_of_first : ℕ → List Command → List (List ℕ) → Running
-run_of_first count commands files = run_to table_so_far files (take count commands) (starting (new_session greatest_limits))
+run_of_first count commands files = run_to files (take count commands) (starting (new_session greatest_limits))
 
 -- the session behind the commands that are done
 abbrev pub session_of : Stepping → Session
@@ -22,7 +21,7 @@ session_of s = (run_of_first s.state s.commands s.files).session
 
 -- what comes of the next command in the run of all of them; none behind the last
 abbrev pub next_outcome : Stepping → Option Outcome
-next_outcome s = slice_get (outcomes table_so_far s.files s.commands (starting (new_session greatest_limits))) s.state
+next_outcome s = slice_get (outcomes s.files s.commands (starting (new_session greatest_limits))) s.state
 
 -- one command more is done where there was one
 abbrev pub moved_on : Option Outcome → Stepping → Stepping

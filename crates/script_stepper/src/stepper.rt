@@ -4,7 +4,6 @@ ghost use Rattle.std.specs.Prelude.{◌≡◌, ◌≤◌, ◌<◌, ◌-◌, ◌�
 ghost use Rattle.script_stepper.specs.declared.fault.StepFault.TheVariants.{OutOfRange, OutOfMemory};
 ghost use Rattle.script_stepper.specs.Stepping.{Stepping, session_of, next_outcome, moved_on};
 ghost use Rattle.ed_model.specs.Run.{run_to};
-ghost use Rattle.message_plans.specs.TableSoFar.{table_so_far};
 
 use crate::fault::StepFault;
 use ed_types::{Bytes, Command, Outcome};
@@ -40,7 +39,7 @@ impl Model for Stepper {
 ///
 /// `AllocError` where memory is refused; the run then stands behind the commands that were done.
 fn do_all(run: &mut Run, files: &[Bytes], commands: &[Command]) -> Result<(), AllocError>
-    ensures { OnOk result (run.new ≡ run_to table_so_far files.now commands.now run.old) }
+    ensures { OnOk result (run.new ≡ run_to files.now commands.now run.old) }
 {
     for command in commands {
         run.step(files, command)?;
