@@ -6,7 +6,6 @@ use Rattle.std.proofs.lemmas.List.{drop_more, take_all, drop_all}
 use Rattle.std.proofs.lemmas.List.Sums.{sum_by-cons}
 use Rattle.std.specs.List.{count_by}
 use Rattle.std.specs.Io.KnownBytes.{Keeps, Appends}
-use Rattle.ed_types.specs.declared.kind.Kind.{Kind}
 use Rattle.ed_types.specs.declared.script.Command.{Command}
 use Rattle.ed_types.specs.declared.script.Outcome.{Outcome}
 use Rattle.ed_types.specs.declared.script.ScriptFault.{ScriptFault}
@@ -15,7 +14,6 @@ use Rattle.ed_model.specs.Reading.{reading}
 use Rattle.ed_model.specs.Printed.{printed, printed_outcome}
 use Rattle.ed_model.specs.Run.{Running, starting, outcomes, after_command, is_unmet}
 use Rattle.ed_model.specs.Session.{new_session, greatest_limits}
-use Rattle.message_plans.specs.TableSoFar.{table_so_far}
 use Rattle.sci_console.specs.declared.fault.RunFault.{RunFault}
 use Rattle.sci_console.specs.declared.fault.RunFault.TheVariants.{Script, Read, Write}
 use Rattle.sci_console.specs.declared.ends.WriteFailed.{WriteFailed}
@@ -147,19 +145,19 @@ step_failed r old now before after all rest fault is which so_far = subst (λ (q
 -- Commands, one after another.
 
 -- what comes of the commands from place i on
-abbrev pub left : (Kind → Bool) → List (List ℕ) → List Command → ℕ → Running → List Outcome
-left known files commands i s = (outcomes known files (drop i commands) s)
+abbrev pub left : List (List ℕ) → List Command → ℕ → Running → List Outcome
+left files commands i s = outcomes files (drop i commands) s
 
-pub next_outcomes : (known : Kind → Bool) (files : List (List ℕ)) (commands : List Command) (i : ℕ) (d : Command) (s : Running) → i < length commands → d ≡ get_or commands i d → outcomes known files (drop i commands) s ≡ (after_command known files d s).1 ∷ outcomes known files (drop (i + 1) commands) (after_command known files d s).0
-next_outcomes known files commands i d s h is =
-    ap (λ cs. outcomes known files cs s) (drop_more commands i d h)
-    ∙ ap (λ c. (after_command known files c s).1 ∷ outcomes known files (drop (i + 1) commands) (after_command known files c s).0) (sym is)
+pub next_outcomes : (files : List (List ℕ)) (commands : List Command) (i : ℕ) (d : Command) (s : Running) → i < length commands → d ≡ get_or commands i d → outcomes files (drop i commands) s ≡ (after_command files d s).1 ∷ outcomes files (drop (i + 1) commands) (after_command files d s).0
+next_outcomes files commands i d s h is =
+    ap (λ cs. outcomes files cs s) (drop_more commands i d h)
+    ∙ ap (λ c. (after_command files c s).1 ∷ outcomes files (drop (i + 1) commands) (after_command files c s).0) (sym is)
 
-pub unrolled : (known : Kind → Bool) (files : List (List ℕ)) (commands : List Command) (i : ℕ) (d : Command) (s new : Running) (outcome : Outcome) → i < length commands → d ≡ get_or commands i d → new ≡ (after_command known files d s).0 → outcome ≡ (after_command known files d s).1 → left known files commands i s ≡ outcome ∷ left known files commands (i + 1) new
-unrolled known files commands i d s new outcome h is state came =
-    next_outcomes known files commands i d s h is
-    ∙ ap (λ o. o ∷ left known files commands (i + 1) (after_command known files d s).0) (sym came)
-    ∙ ap (λ t. outcome ∷ left known files commands (i + 1) t) (sym state)
+pub unrolled : (files : List (List ℕ)) (commands : List Command) (i : ℕ) (d : Command) (s new : Running) (outcome : Outcome) → i < length commands → d ≡ get_or commands i d → new ≡ (after_command files d s).0 → outcome ≡ (after_command files d s).1 → left files commands i s ≡ outcome ∷ left files commands (i + 1) new
+unrolled files commands i d s new outcome h is state came =
+    next_outcomes files commands i d s h is
+    ∙ ap (λ o. o ∷ left files commands (i + 1) (after_command files d s).0) (sym came)
+    ∙ ap (λ t. outcome ∷ left files commands (i + 1) t) (sym state)
 
 -- the progress before a command, with its outcome in front
 pub before_outcome : (old now : Option (List ℕ)) (before after all : List ℕ) (rest more : List Outcome) (outcome : Outcome) → rest ≡ outcome ∷ more → Progress old now before after all (printed rest) → Progress old now before after all (printed_outcome outcome ++ printed more)
@@ -181,8 +179,8 @@ few_counted u v i true grown h = omega (arith, grown)
 few_counted u v i false grown h = omega (arith, grown)
 
 -- nothing is left behind the last command
-pub none_left : (known : Kind → Bool) (files : List (List ℕ)) (commands : List Command) (i : ℕ) (s : Running) → length commands ≤ i → left known files commands i s ≡ []
-none_left known files commands i s h = ap (λ cs. (outcomes known files cs s)) (drop_all i commands h)
+pub none_left : (files : List (List ℕ)) (commands : List Command) (i : ℕ) (s : Running) → length commands ≤ i → left files commands i s ≡ []
+none_left files commands i s h = ap (λ cs. outcomes files cs s) (drop_all i commands h)
 
 pub all_in : (old now : Option (List ℕ)) (before after all : List ℕ) (rest : List Outcome) → rest ≡ [] → Progress old now before after all (printed rest) → Moves old now before after all
 all_in old now before after all rest is so_far = gone_in old now before after all (subst (λ (os : List Outcome). Progress old now before after all (printed os)) is so_far)
@@ -245,7 +243,7 @@ no_memory text value r fault commands (Some bytes) old is which read =
 
 -- a run from a new session, whose buffer is written at the end
 abbrev pub from_start : List (List ℕ) → List Command → Running → List ℕ
-from_start files commands start = printed (outcomes table_so_far files commands start)
+from_start files commands start = printed (outcomes files commands start)
 
 pub run_cut : (files : List (List ℕ)) (commands : List Command) (start : Running) (old mid new : Option (List ℕ)) (before buffer shown : List ℕ) → start ≡ starting (new_session greatest_limits) → before ≡ [] → shown ≡ buffer → Moves old mid before buffer (from_start files commands start) → AppendsFront mid new shown → AppendsFront old new (printed_run files commands)
 run_cut files commands start old mid new before buffer shown begin none same moved more =

@@ -10,7 +10,6 @@ use Rattle.ed_model.specs.Listing.{ended_line, listing}
 use Rattle.ed_model.specs.Printed.{printed}
 use Rattle.ed_model.specs.Run.{starting, outcomes, is_unmet}
 use Rattle.ed_model.specs.Session.{new_session, greatest_limits}
-use Rattle.message_plans.specs.TableSoFar.{table_so_far}
 use Rattle.sci_console.specs.declared.fault.RunFault.{RunFault}
 use Rattle.sci_console.specs.declared.fault.RunFault.TheVariants.{Script, Read, Write}
 use Rattle.sci_console.specs.declared.words.Job.{Job}
@@ -19,7 +18,7 @@ use Rattle.sci_console.specs.Ends.{AppendsFront}
 
 -- what comes of a script's commands with these files, from a new session
 abbrev pub answers : List (List ℕ) → List Command → List Outcome
-answers files commands = outcomes table_so_far files commands (starting (new_session greatest_limits))
+answers files commands = outcomes files commands (starting (new_session greatest_limits))
 
 -- the text that is printed of them, and how many expects were not met
 abbrev pub printed_run : List (List ℕ) → List Command → List ℕ

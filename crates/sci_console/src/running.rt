@@ -5,7 +5,6 @@ ghost use Rattle.ed_model.specs.Listing.{listing};
 ghost use Rattle.ed_model.specs.Printed.{printed};
 ghost use Rattle.ed_model.specs.Reading.{reading};
 ghost use Rattle.ed_model.specs.Run.{outcomes, is_unmet as is_unmet_outcome};
-ghost use Rattle.message_plans.specs.TableSoFar.{table_so_far};
 ghost use Rattle.sci_console.specs.Ends.{TakesAtMost};
 ghost use Rattle.sci_console.specs.Answers.{Answers, HasCause, WritesNoneAtRead, Puts, PutCause, Writes, WriteCause, printed_run, unmet, checked, none, text_of_job, value_of_job};
 
@@ -42,8 +41,8 @@ fn run_commands<W: Sink>(
     commands: &[Command],
 ) -> Result<u64, RunFault>
     requires { W.has_failed sink.old ≡ false }
-    ensures put { Puts (printed (outcomes table_so_far files.now commands.now run.old)) result (W.contents sink.old) (W.contents sink.new) buffer.old.items buffer.new.items }
-    ensures unmet { IfOk result (λ k. k ≡ count_by is_unmet_outcome ((outcomes table_so_far files.now commands.now run.old))) }
+    ensures put { Puts (printed (outcomes files.now commands.now run.old)) result (W.contents sink.old) (W.contents sink.new) buffer.old.items buffer.new.items }
+    ensures unmet { IfOk result (λ k. k ≡ count_by is_unmet_outcome (outcomes files.now commands.now run.old)) }
     ensures cause { PutCause result (W.has_failed sink.new) }
 {
     let mut unmet = 0;

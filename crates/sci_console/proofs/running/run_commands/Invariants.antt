@@ -2,14 +2,13 @@ use Rattle.std.proofs.Common.{◌≡◌, ◌≤◌, ◌+◌, drop, false}
 use Rattle.std.specs.List.{count_by}
 use Rattle.ed_model.specs.Printed.{printed}
 use Rattle.ed_model.specs.Run.{outcomes, is_unmet}
-use Rattle.message_plans.specs.TableSoFar.{table_so_far}
 use Rattle.sci_console.proofs.Printing.{Progress}
 use Rattle.sci_console.proofs.running.run_commands.Given as goal
 
 abbrev pub invariant-loop-command : goal.invariant-loop-command
 invariant-loop-command g l =
-    let all = (outcomes table_so_far l.files l.commands l.fn.run) in
-    let rest = (outcomes table_so_far l.files (drop l.command-index l.commands) l.run) in
+    let all = outcomes l.files l.commands l.fn.run in
+    let rest = outcomes l.files (drop l.command-index l.commands) l.run in
     record {
       printed_so_far : Progress (g.W.Sink.contents l.fn.sink) (g.W.Sink.contents l.sink) l.fn.buffer.items l.buffer.items (printed all) (printed rest);
       counted : l.unmet + count_by is_unmet rest ≡ count_by is_unmet all;
