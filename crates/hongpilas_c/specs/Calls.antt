@@ -3,7 +3,6 @@ use Rattle.std.specs.Prelude.{◌≡◌, ℕ, ℤ, pos, true, List, [], Option, 
 use Rattle.ed_types.specs.declared.message.Message.{Message}
 use Rattle.ed_types.specs.Notices.{Response}
 use Rattle.ed_model.specs.Table.{table, opened, closed}
-use Rattle.message_plans.specs.TableSoFar.{table_so_far}
 use Rattle.editor_session.specs.Plans.{is_free}
 use Rattle.editor_session.specs.Lent.{lent_range}
 use Rattle.hongpilas_c.specs.declared.held.Held.{Held}
@@ -11,12 +10,12 @@ use Rattle.hongpilas_c.specs.Answers.{answered, refused_with}
 
 -- the message was done: session and reply are those of the table, and the value is the reply's
 abbrev pub IsSent : ℕ → Message → ℤ → Option Held → Option Held → Type 0
-IsSent view m value (Some old) (Some new) = (table table_so_far old.session view m ≡ Ok (new.session, new.reply)) × (value ≡ new.reply.value)
+IsSent view m value (Some old) (Some new) = (table old.session view m ≡ Ok (new.session, new.reply)) × (value ≡ new.reply.value)
 IsSent view m value _ _ = ⊥
 
 -- the message was refused with this number
 abbrev pub IsRefused : ℕ → Message → ℕ → Option Held → Type 0
-IsRefused view m number (Some old) = number ≡ refused_with (table table_so_far old.session view m)
+IsRefused view m number (Some old) = number ≡ refused_with (table old.session view m)
 IsRefused view m number None = ⊥
 
 -- the message needs no memory

@@ -4,7 +4,6 @@ ghost use Rattle.std.specs.Prelude.{◌≡◌, ◌≢◌, true, length, Ok};
 ghost use Rattle.ed_types.specs.declared.refusal.Refusal.TheVariants.{OutOfMemory};
 ghost use Rattle.ed_model.specs.Table.{table, opened, closed};
 ghost use Rattle.ed_model.specs.Printed.{refusal_number};
-ghost use Rattle.message_plans.specs.TableSoFar.{table_so_far};
 ghost use Rattle.editor_session.specs.Answers.{message_with};
 ghost use Rattle.editor_session.specs.Plans.{is_free};
 ghost use Rattle.editor_session.specs.Lent.{lent_range};
@@ -33,9 +32,9 @@ impl Held {
         text: &[u8],
         value: &mut i64,
     ) -> u32
-        ensures done { result ≡ 0 → table table_so_far self.old.session view (message_with number w l text.now) ≡ Ok (self.new.session, self.new.reply) }
+        ensures done { result ≡ 0 → table self.old.session view (message_with number w l text.now) ≡ Ok (self.new.session, self.new.reply) }
         ensures value { result ≡ 0 → value.new ≡ self.new.reply.value }
-        ensures refused { result ≢ 0 → result ≡ refused_with (table table_so_far self.old.session view (message_with number w l text.now)) }
+        ensures refused { result ≢ 0 → result ≡ refused_with (table self.old.session view (message_with number w l text.now)) }
         ensures kept { result ≢ 0 → self.new ≡ self.old }
         ensures value_kept { result ≢ 0 → value.new ≡ value.old }
         ensures free { is_free self.old.session view (message_with number w l text.now) ≡ true → result ≢ refusal_number OutOfMemory }

@@ -3,7 +3,6 @@ use Rattle.ed_types.specs.declared.message.Message.{Message}
 use Rattle.ed_types.specs.declared.refusal.Refusal.TheVariants.{OutOfMemory}
 use Rattle.ed_model.specs.Table.{table}
 use Rattle.ed_model.specs.Printed.{refusal_number}
-use Rattle.message_plans.specs.TableSoFar.{table_so_far}
 use Rattle.editor_session.specs.Answers.{message_with}
 use Rattle.editor_session.specs.Plans.{is_free}
 use Rattle.hongpilas_c.specs.Answers.{refused_with}
@@ -15,14 +14,14 @@ returns-clause-done c done =
     let m : Message = message_with c.args.number c.args.w c.args.l c.args.text.now in
     let same : message_with c.args.number (to_z w64 (of_z w64 c.args.w)) (to_z w64 (of_z w64 c.args.l)) c.args.text.now ≡ m = search rules in
     subst (λ h. IsSent c.args.view m c.send.new.value h (Some c.send.new.self)) (sym c.held-held.ensures.value)
-    (subst (λ x. table table_so_far c.held-held.result.now.session c.args.view x ≡ Ok (c.send.new.self.session, c.send.new.self.reply)) same (c.send.ensures.done done), c.send.ensures.value done)
+    (subst (λ x. table c.held-held.result.now.session c.args.view x ≡ Ok (c.send.new.self.session, c.send.new.self.reply)) same (c.send.ensures.done done), c.send.ensures.value done)
 
 pub returns-clause-refused : goal.returns-clause-refused
 returns-clause-refused c other =
     let m : Message = message_with c.args.number c.args.w c.args.l c.args.text.now in
     let same : message_with c.args.number (to_z w64 (of_z w64 c.args.w)) (to_z w64 (of_z w64 c.args.l)) c.args.text.now ≡ m = search rules in
     subst (λ h. IsRefused c.args.view m c.send.result h) (sym c.held-held.ensures.value)
-    (subst (λ x. c.send.result ≡ refused_with (table table_so_far c.held-held.result.now.session c.args.view x)) same (c.send.ensures.refused other))
+    (subst (λ x. c.send.result ≡ refused_with (table c.held-held.result.now.session c.args.view x)) same (c.send.ensures.refused other))
 
 pub returns-clause-free : goal.returns-clause-free
 returns-clause-free c free is =

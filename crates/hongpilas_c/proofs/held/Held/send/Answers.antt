@@ -2,7 +2,6 @@ use Rattle.std.proofs.Common.{rules, ◌≡◌, ◌≢◌, true, subst, sym, ◌
 use Rattle.ed_types.specs.declared.refusal.Refusal.TheVariants.{OutOfMemory}
 use Rattle.ed_types.specs.Notices.{Response}
 use Rattle.ed_model.specs.Table.{table}
-use Rattle.message_plans.specs.TableSoFar.{table_so_far}
 use Rattle.editor_session.specs.Answers.{message_with}
 use Rattle.editor_session.specs.Plans.{is_free}
 use Rattle.hongpilas_c.specs.Answers.{refused_with}
@@ -12,13 +11,13 @@ use Rattle.hongpilas_c.proofs.held.Held.send.Goals as goal
 pub returns-in-Ok-clause-done : goal.returns-in-Ok-clause-done
 returns-in-Ok-clause-done c done =
     let same : message_with c.args.number (to_z w64 (of_z w64 c.args.w)) (to_z w64 (of_z w64 c.args.l)) c.args.text.now ≡ message_with c.args.number c.args.w c.args.l c.args.text.now = search rules in
-    subst (λ m. table table_so_far c.args.self.now.session c.args.view m ≡ Ok (c.send_lent.new.self, c.in-Ok.reply)) same c.in-Ok.ensures.answer
+    subst (λ m. table c.args.self.now.session c.args.view m ≡ Ok (c.send_lent.new.self, c.in-Ok.reply)) same c.in-Ok.ensures.answer
 
 pub returns-in-Err-clause-refused : goal.returns-in-Err-clause-refused
 returns-in-Err-clause-refused c other =
     let same : message_with c.args.number (to_z w64 (of_z w64 c.args.w)) (to_z w64 (of_z w64 c.args.l)) c.args.text.now ≡ message_with c.args.number c.args.w c.args.l c.args.text.now = search rules in
-    subst (λ m. c.number_of.result ≡ refused_with (table table_so_far c.args.self.now.session c.args.view m)) same
-    (c.number_of.ensures ∙ refused_as_said Response (table table_so_far c.args.self.now.session c.args.view (message_with c.args.number (to_z w64 (of_z w64 c.args.w)) (to_z w64 (of_z w64 c.args.l)) c.args.text.now)) c.in-Err.refusal c.in-Err.ensures.refused c.in-Err.ensures.answer.1)
+    subst (λ m. c.number_of.result ≡ refused_with (table c.args.self.now.session c.args.view m)) same
+    (c.number_of.ensures ∙ refused_as_said Response (table c.args.self.now.session c.args.view (message_with c.args.number (to_z w64 (of_z w64 c.args.w)) (to_z w64 (of_z w64 c.args.l)) c.args.text.now)) c.in-Err.refusal c.in-Err.ensures.refused c.in-Err.ensures.answer.1)
 
 pub returns-in-Err-clause-free : goal.returns-in-Err-clause-free
 returns-in-Err-clause-free c free is =
