@@ -1,12 +1,11 @@
 //! `cell_buffer`: each call that takes memory once on its happy path, and what editing costs.
 use cell_buffer::Cells;
-use std::test::Fail;
 
 #[test]
-fn text_and_styles(rt: HostRuntime) -> Result<(), Fail> {
+fn text_and_styles(rt: HostRuntime) {
     let mut cells = Cells::new(rt.alloc());
     assert_eq!(rt; cells.room(), 0);
-    cells.reserve(6)?;
+    cells.reserve(6).expect(&rt, "memory");
     assert!(rt; cells.room() >= 6);
     cells.insert_reserved(0, b"held");
     assert!(rt; cells.room() >= 2);
@@ -17,7 +16,7 @@ fn text_and_styles(rt: HostRuntime) -> Result<(), Fail> {
     assert_eq!(rt; cells.byte(4), b'o');
     assert!(rt; !cells.keeps_styles());
     assert_eq!(rt; cells.style(2), 0);
-    cells.keep_styles()?;
+    cells.keep_styles().expect(&rt, "memory");
     assert!(rt; cells.keeps_styles());
     assert_eq!(rt; cells.style(2), 0);
     assert_eq!(rt; cells.set_style_run(1, 3, 7), Some((1, 3)));
@@ -26,47 +25,44 @@ fn text_and_styles(rt: HostRuntime) -> Result<(), Fail> {
     assert_eq!(rt; cells.style(2), 7);
     assert_eq!(rt; cells.style(3), 8);
     assert_eq!(rt; cells.style(4), 9);
-    Ok(())
 }
 
 #[test]
-fn text_of_both_halves(rt: HostRuntime) -> Result<(), Fail> {
+fn text_of_both_halves(rt: HostRuntime) {
     let mut cells = Cells::new(rt.alloc());
-    cells.reserve(5)?;
+    cells.reserve(5).expect(&rt, "memory");
     cells.insert_reserved(0, b"heo");
     cells.insert_reserved(2, b"ll");
     assert_eq!(rt; cells.gaps(), (4, 0));
     let mut text: Vec<u8> = Vec::new(rt.alloc());
-    cells.append_text_to(1, 4, &mut text)?;
-    cells.append_text_to(0, 2, &mut text)?;
-    cells.append_text_to(4, 1, &mut text)?;
-    cells.append_text_to(5, 0, &mut text)?;
+    cells.append_text_to(1, 4, &mut text).expect(&rt, "memory");
+    cells.append_text_to(0, 2, &mut text).expect(&rt, "memory");
+    cells.append_text_to(4, 1, &mut text).expect(&rt, "memory");
+    cells.append_text_to(5, 0, &mut text).expect(&rt, "memory");
     assert_eq!(rt; text.as_slice(), b"elloheo".as_slice());
     let mut copy = [0; 3];
     cells.copy_text(2, &mut copy);
     assert_eq!(rt; copy.as_slice(), b"llo".as_slice());
-    Ok(())
 }
 
 #[test]
-fn which_styles_changed(rt: HostRuntime) -> Result<(), Fail> {
+fn which_styles_changed(rt: HostRuntime) {
     let mut cells = Cells::new(rt.alloc());
-    cells.reserve(9)?;
+    cells.reserve(9).expect(&rt, "memory");
     cells.insert_reserved(0, b"123456789");
-    cells.keep_styles()?;
+    cells.keep_styles().expect(&rt, "memory");
     assert_eq!(rt; cells.set_style_run(0, 9, 0), None);
     assert_eq!(rt; cells.set_styles(2, &[0, 5, 0, 6, 0]), Some((3, 3)));
     assert_eq!(rt; cells.set_style_run(2, 5, 5), Some((2, 5)));
     assert_eq!(rt; cells.set_styles(2, &[5, 5, 4, 5, 5]), Some((4, 1)));
     assert_eq!(rt; cells.set_styles(0, &[]), None);
-    Ok(())
 }
 
 #[test]
-fn styles_go_with_their_bytes(rt: HostRuntime) -> Result<(), Fail> {
+fn styles_go_with_their_bytes(rt: HostRuntime) {
     let mut cells = Cells::new(rt.alloc());
-    cells.reserve(6)?;
-    cells.keep_styles()?;
+    cells.reserve(6).expect(&rt, "memory");
+    cells.keep_styles().expect(&rt, "memory");
     cells.insert_reserved(0, b"abcd");
     cells.set_styles(0, &[1, 2, 3, 4]);
     cells.insert_reserved(2, b"xy");
@@ -79,29 +75,27 @@ fn styles_go_with_their_bytes(rt: HostRuntime) -> Result<(), Fail> {
     assert_eq!(rt; cells.style(1), 0);
     assert_eq!(rt; cells.style(2), 3);
     assert_eq!(rt; cells.style(3), 4);
-    cells.reserve(3)?;
+    cells.reserve(3).expect(&rt, "memory");
     cells.insert_reserved(4, b"end");
     assert_eq!(rt; cells.style(6), 0);
-    Ok(())
 }
 
 #[test]
-fn a_refused_growth_changes_nothing(rt: HostRuntime) -> Result<(), Fail> {
+fn a_refused_growth_changes_nothing(rt: HostRuntime) {
     let mut cells = Cells::new(rt.alloc());
-    cells.reserve(3)?;
+    cells.reserve(3).expect(&rt, "memory");
     cells.insert_reserved(0, b"ab");
     let room = cells.room();
     assert!(rt; cells.reserve(usize::MAX).is_err());
     assert_eq!(rt; cells.room(), room);
     assert_eq!(rt; cells.lend(0, 2), b"ab".as_slice());
-    Ok(())
 }
 
 #[test]
-fn moves_are_counted(rt: HostRuntime) -> Result<(), Fail> {
+fn moves_are_counted(rt: HostRuntime) {
     let mut cells = Cells::new(rt.alloc());
-    cells.keep_styles()?;
-    cells.reserve(1001)?;
+    cells.keep_styles().expect(&rt, "memory");
+    cells.reserve(1001).expect(&rt, "memory");
     let (bytes_before, styles_before) = cells.moved();
     for _ in 0..1000 {
         let len = cells.len();
@@ -114,17 +108,15 @@ fn moves_are_counted(rt: HostRuntime) -> Result<(), Fail> {
     assert!(rt; bytes >= bytes_before && bytes - bytes_before >= 2000);
     assert!(rt; styles >= styles_before && styles - styles_before >= 2000);
     assert_eq!(rt; cells.gaps(), (1, 1));
-    Ok(())
 }
 
 #[test]
-fn no_moves_of_styles_that_are_not_kept(rt: HostRuntime) -> Result<(), Fail> {
+fn no_moves_of_styles_that_are_not_kept(rt: HostRuntime) {
     let mut cells = Cells::new(rt.alloc());
-    cells.reserve(4)?;
+    cells.reserve(4).expect(&rt, "memory");
     cells.insert_reserved(0, b"abc");
     cells.insert_reserved(1, b"d");
     cells.delete(0, 2);
     assert_eq!(rt; cells.moved().1, 0);
     assert_eq!(rt; cells.gaps().1, 0);
-    Ok(())
 }

@@ -3,21 +3,16 @@
 use contraction::{Contraction, Levels, folds};
 use line_index::LineEdit;
 use partitioning::Place;
-use std::alloc::{AllocError, Global};
+use std::alloc::Global;
 use std::process::Abort;
-use std::test::Fail;
 
 // All lines of a view, visible and expanded, with room to fold.
-fn view_of<P: Place>(
-    rt: &impl Abort,
-    alloc: Global,
-    lines: usize,
-) -> Result<Contraction<P>, AllocError> {
+fn view_of<P: Place>(rt: &impl Abort, alloc: Global, lines: usize) -> Contraction<P> {
     assert!(rt; lines <= P::GREATEST);
-    let mut view = Contraction::new(alloc, lines)?;
-    view.reserve_hidden(lines)?;
-    view.reserve_contracted(lines)?;
-    Ok(view)
+    let mut view = Contraction::new(alloc, lines).expect(rt, "memory");
+    view.reserve_hidden(lines).expect(rt, "memory");
+    view.reserve_contracted(lines).expect(rt, "memory");
+    view
 }
 
 // The lines are as many as these, and visible where these say so.
@@ -41,44 +36,26 @@ fn display_of<P: Place>(rt: &impl Abort, view: &Contraction<P>, line: usize) -> 
     view.display_of(line)
 }
 
-fn contract<P: Place>(
-    rt: &impl Abort,
-    view: &mut Contraction<P>,
-    levels: &Levels,
-    header: usize,
-) -> Result<(), AllocError> {
+fn contract<P: Place>(rt: &impl Abort, view: &mut Contraction<P>, levels: &Levels, header: usize) {
     assert!(rt; levels.count() == view.count());
     assert!(rt; header < view.count());
-    view.reserve_hidden(view.count())?;
-    view.reserve_contracted(1)?;
+    view.reserve_hidden(view.count()).expect(rt, "memory");
+    view.reserve_contracted(1).expect(rt, "memory");
     view.contract(levels, header);
-    Ok(())
 }
 
-fn expand<P: Place>(
-    rt: &impl Abort,
-    view: &mut Contraction<P>,
-    levels: &Levels,
-    header: usize,
-) -> Result<(), AllocError> {
+fn expand<P: Place>(rt: &impl Abort, view: &mut Contraction<P>, levels: &Levels, header: usize) {
     assert!(rt; levels.count() == view.count());
     assert!(rt; header < view.count());
-    view.reserve_hidden(view.count())?;
+    view.reserve_hidden(view.count()).expect(rt, "memory");
     view.expand(levels, header);
-    Ok(())
 }
 
-fn ensure<P: Place>(
-    rt: &impl Abort,
-    view: &mut Contraction<P>,
-    levels: &Levels,
-    line: usize,
-) -> Result<(), AllocError> {
+fn ensure<P: Place>(rt: &impl Abort, view: &mut Contraction<P>, levels: &Levels, line: usize) {
     assert!(rt; levels.count() == view.count());
     assert!(rt; line < view.count());
-    view.reserve_hidden(view.count())?;
+    view.reserve_hidden(view.count()).expect(rt, "memory");
     view.ensure(levels, line);
-    Ok(())
 }
 
 fn show<P: Place>(rt: &impl Abort, view: &mut Contraction<P>, first: usize, past: usize) {
@@ -86,28 +63,16 @@ fn show<P: Place>(rt: &impl Abort, view: &mut Contraction<P>, first: usize, past
     view.show(first, past);
 }
 
-fn hide<P: Place>(
-    rt: &impl Abort,
-    view: &mut Contraction<P>,
-    first: usize,
-    past: usize,
-) -> Result<(), AllocError> {
+fn hide<P: Place>(rt: &impl Abort, view: &mut Contraction<P>, first: usize, past: usize) {
     assert!(rt; past <= view.count());
-    view.reserve_hidden(view.count())?;
+    view.reserve_hidden(view.count()).expect(rt, "memory");
     view.hide(first, past);
-    Ok(())
 }
 
-fn set_expanded<P: Place>(
-    rt: &impl Abort,
-    view: &mut Contraction<P>,
-    line: usize,
-    on: bool,
-) -> Result<(), AllocError> {
+fn set_expanded<P: Place>(rt: &impl Abort, view: &mut Contraction<P>, line: usize, on: bool) {
     assert!(rt; line < view.count());
-    view.reserve_contracted(1)?;
+    view.reserve_contracted(1).expect(rt, "memory");
     view.set_expanded(line, on);
-    Ok(())
 }
 
 fn come<P: Place>(rt: &impl Abort, view: &mut Contraction<P>, line: usize, count: usize) {
@@ -123,31 +88,30 @@ fn join<P: Place>(rt: &impl Abort, view: &mut Contraction<P>, line: usize, count
     view.carry(&[LineEdit::Join { line, count }]);
 }
 
-fn inner_folds<P: Place>(rt: &impl Abort, alloc: Global) -> Result<(), AllocError> {
+fn inner_folds<P: Place>(rt: &impl Abort, alloc: Global) {
     let before = [0x2400, 0x2401];
     let after = [0x402, 0x401];
     let levels = Levels::new(&before, &after, 4);
-    let mut view: Contraction<P> = view_of(rt, alloc, 4)?;
+    let mut view: Contraction<P> = view_of(rt, alloc, 4);
     assert!(rt; view.is_all_visible());
-    contract(rt, &mut view, &levels, 1)?;
-    contract(rt, &mut view, &levels, 0)?;
-    expand(rt, &mut view, &levels, 0)?;
+    contract(rt, &mut view, &levels, 1);
+    contract(rt, &mut view, &levels, 0);
+    expand(rt, &mut view, &levels, 0);
     assert_visible(rt, &view, &[true, true, false, true]);
     assert_expanded(rt, &view, &[true, false, true, true]);
     assert!(rt; !view.is_all_visible());
     assert_eq!(rt; display_of(rt, &view, 2), 1);
     assert_eq!(rt; view.doc_of(2), 3);
     assert_eq!(rt; view.doc_of(3), 4);
-    ensure(rt, &mut view, &levels, 2)?;
+    ensure(rt, &mut view, &levels, 2);
     assert_visible(rt, &view, &[true, true, true, true]);
     assert_expanded(rt, &view, &[true, true, true, true]);
     assert!(rt; view.is_all_visible());
-    Ok(())
 }
 
-fn hidden_lines<P: Place>(rt: &impl Abort, alloc: Global) -> Result<(), AllocError> {
-    let mut view: Contraction<P> = view_of(rt, alloc, 4)?;
-    hide(rt, &mut view, 0, 4)?;
+fn hidden_lines<P: Place>(rt: &impl Abort, alloc: Global) {
+    let mut view: Contraction<P> = view_of(rt, alloc, 4);
+    hide(rt, &mut view, 0, 4);
     assert_visible(rt, &view, &[true, false, false, false]);
     assert!(rt; !view.is_all_visible());
     assert_eq!(rt; display_of(rt, &view, 3), 0);
@@ -156,13 +120,12 @@ fn hidden_lines<P: Place>(rt: &impl Abort, alloc: Global) -> Result<(), AllocErr
     show(rt, &mut view, 1, 3);
     assert_eq!(rt; view.doc_of(2), 2);
     assert_eq!(rt; display_of(rt, &view, 3), 2);
-    Ok(())
 }
 
-fn carried_lines<P: Place>(rt: &impl Abort, alloc: Global) -> Result<(), AllocError> {
-    let mut view: Contraction<P> = view_of(rt, alloc, 4)?;
-    hide(rt, &mut view, 2, 3)?;
-    set_expanded(rt, &mut view, 2, false)?;
+fn carried_lines<P: Place>(rt: &impl Abort, alloc: Global) {
+    let mut view: Contraction<P> = view_of(rt, alloc, 4);
+    hide(rt, &mut view, 2, 3);
+    set_expanded(rt, &mut view, 2, false);
     come(rt, &mut view, 2, 1);
     assert_visible(rt, &view, &[true, true, true, false, true]);
     assert_expanded(rt, &view, &[true, true, true, false, true]);
@@ -171,37 +134,33 @@ fn carried_lines<P: Place>(rt: &impl Abort, alloc: Global) -> Result<(), AllocEr
     join(rt, &mut view, 2, 1);
     assert_visible(rt, &view, &[true, true, true]);
     assert_expanded(rt, &view, &[true, true, true]);
-    set_expanded(rt, &mut view, 1, false)?;
-    set_expanded(rt, &mut view, 1, true)?;
+    set_expanded(rt, &mut view, 1, false);
+    set_expanded(rt, &mut view, 1, true);
     assert_expanded(rt, &view, &[true, true, true]);
-    hide(rt, &mut view, 1, 3)?;
+    hide(rt, &mut view, 1, 3);
     assert!(rt; 1 <= P::GREATEST);
     assert!(rt; view.count() < P::GREATEST);
     view.carry(&[LineEdit::Restart]);
     assert_visible(rt, &view, &[true]);
     assert!(rt; view.is_all_visible());
-    Ok(())
 }
 
 #[test]
-fn inner_folds_stay_contracted(rt: HostRuntime) -> Result<(), Fail> {
-    inner_folds::<u32>(&rt, rt.alloc())?;
-    inner_folds::<u64>(&rt, rt.alloc())?;
-    Ok(())
+fn inner_folds_stay_contracted(rt: HostRuntime) {
+    inner_folds::<u32>(&rt, rt.alloc());
+    inner_folds::<u64>(&rt, rt.alloc());
 }
 
 #[test]
-fn lines_are_hidden_and_shown(rt: HostRuntime) -> Result<(), Fail> {
-    hidden_lines::<u32>(&rt, rt.alloc())?;
-    hidden_lines::<u64>(&rt, rt.alloc())?;
-    Ok(())
+fn lines_are_hidden_and_shown(rt: HostRuntime) {
+    hidden_lines::<u32>(&rt, rt.alloc());
+    hidden_lines::<u64>(&rt, rt.alloc());
 }
 
 #[test]
-fn flags_go_with_their_lines(rt: HostRuntime) -> Result<(), Fail> {
-    carried_lines::<u32>(&rt, rt.alloc())?;
-    carried_lines::<u64>(&rt, rt.alloc())?;
-    Ok(())
+fn flags_go_with_their_lines(rt: HostRuntime) {
+    carried_lines::<u32>(&rt, rt.alloc());
+    carried_lines::<u64>(&rt, rt.alloc());
 }
 
 #[test]

@@ -8,7 +8,6 @@ use line_index::LineEdit;
 use line_rows::LineRows;
 use selection::{Movement, Selection};
 use std::process::Abort;
-use std::test::Fail;
 
 // The lines are as many as these, and visible where these say so.
 fn assert_visible(rt: &impl Abort, view: &View, wanted: &[bool]) {
@@ -90,10 +89,9 @@ fn assert_inner_folds(rt: &impl Abort, view: &mut View) {
 }
 
 #[test]
-fn inner_folds_of_a_view_stay_contracted(rt: HostRuntime) -> Result<(), Fail> {
-    let mut view = View::new(rt.alloc(), 1, 1, 4)?;
+fn inner_folds_of_a_view_stay_contracted(rt: HostRuntime) {
+    let mut view = View::new(rt.alloc(), 1, 1, 4).expect(&rt, "memory");
     assert_inner_folds(&rt, &mut view);
-    Ok(())
 }
 
 // Four lines, with the levels that a document keeps of them.
@@ -117,12 +115,11 @@ fn assert_folded_by_rows(rt: &impl Abort, rows: &LineRows, view: &mut View) {
 
 // The levels are lent.
 #[test]
-fn view_is_folded_by_the_levels_of_rows(rt: HostRuntime) -> Result<(), Fail> {
-    let mut rows = LineRows::new(rt.alloc())?;
+fn view_is_folded_by_the_levels_of_rows(rt: HostRuntime) {
+    let mut rows = LineRows::new(rt.alloc()).expect(&rt, "memory");
     make_rows(&rt, &mut rows);
-    let mut view = View::new(rt.alloc(), 1, 1, 4)?;
+    let mut view = View::new(rt.alloc(), 1, 1, 4).expect(&rt, "memory");
     assert_folded_by_rows(&rt, &rows, &mut view);
-    Ok(())
 }
 
 fn assert_first_line_stays(rt: &impl Abort, view: &mut View) {
@@ -136,10 +133,9 @@ fn assert_first_line_stays(rt: &impl Abort, view: &mut View) {
 }
 
 #[test]
-fn first_line_of_a_view_is_never_hidden(rt: HostRuntime) -> Result<(), Fail> {
-    let mut view = View::new(rt.alloc(), 1, 1, 4)?;
+fn first_line_of_a_view_is_never_hidden(rt: HostRuntime) {
+    let mut view = View::new(rt.alloc(), 1, 1, 4).expect(&rt, "memory");
     assert_first_line_stays(&rt, &mut view);
-    Ok(())
 }
 
 // Anchor and caret, and the ends of the target, stand here.
@@ -172,10 +168,9 @@ fn assert_followed(rt: &impl Abort, view: &mut View) {
 }
 
 #[test]
-fn folded_view_follows_steps(rt: HostRuntime) -> Result<(), Fail> {
-    let mut view = View::new(rt.alloc(), 2, 1, 4)?;
+fn folded_view_follows_steps(rt: HostRuntime) {
+    let mut view = View::new(rt.alloc(), 2, 1, 4).expect(&rt, "memory");
     assert_followed(&rt, &mut view);
-    Ok(())
 }
 
 fn assert_new(rt: &impl Abort, view: &View) {
@@ -225,8 +220,7 @@ fn assert_settings_stay(rt: &impl Abort, view: &mut View) {
 }
 
 #[test]
-fn attached_view_keeps_its_settings_alone(rt: HostRuntime) -> Result<(), Fail> {
-    let mut view = View::new(rt.alloc(), 3, 1, 2)?;
+fn attached_view_keeps_its_settings_alone(rt: HostRuntime) {
+    let mut view = View::new(rt.alloc(), 3, 1, 2).expect(&rt, "memory");
     assert_settings_stay(&rt, &mut view);
-    Ok(())
 }

@@ -8,7 +8,6 @@ use ed_types::{Bytes, Command, Kind, Limits, Message, Outcome, Refusal, Reply};
 use editor_session::{Run, Session};
 use std::alloc::{AllocError, Global};
 use std::process::Abort;
-use std::test::Fail;
 
 #[test]
 fn text_goes_in_and_out(rt: HostRuntime) {
@@ -67,20 +66,34 @@ fn message(alloc: Global, number: u32) -> Message {
 }
 
 /// Every kind of command, with expects that are met and one that is not.
-fn commands(alloc: Global) -> Result<Vec<Command>, AllocError> {
+fn commands(rt: &impl Abort, alloc: Global) -> Vec<Command> {
     let mut commands = Vec::new(alloc);
-    commands.push(Command::OpenView)?;
-    commands.push(Command::Expect { value: 1 })?;
-    commands.push(Command::SendMessage {
-        view: 1,
-        message: message(alloc, Kind::GetLength.number()),
-    })?;
-    commands.push(Command::Expect { value: 3 })?;
-    commands.push(Command::LoadFile { view: 9, file: 1 })?;
-    commands.push(Command::LoadFile { view: 1, file: 1 })?;
-    commands.push(Command::CloseView { view: 1 })?;
-    commands.push(Command::Expect { value: 0 })?;
-    Ok(commands)
+    commands.push(Command::OpenView).expect(rt, "memory");
+    commands
+        .push(Command::Expect { value: 1 })
+        .expect(rt, "memory");
+    commands
+        .push(Command::SendMessage {
+            view: 1,
+            message: message(alloc, Kind::GetLength.number()),
+        })
+        .expect(rt, "memory");
+    commands
+        .push(Command::Expect { value: 3 })
+        .expect(rt, "memory");
+    commands
+        .push(Command::LoadFile { view: 9, file: 1 })
+        .expect(rt, "memory");
+    commands
+        .push(Command::LoadFile { view: 1, file: 1 })
+        .expect(rt, "memory");
+    commands
+        .push(Command::CloseView { view: 1 })
+        .expect(rt, "memory");
+    commands
+        .push(Command::Expect { value: 0 })
+        .expect(rt, "memory");
+    commands
 }
 
 /// What comes of commands in a new session, without files.
@@ -98,9 +111,9 @@ fn is_expected(outcome: &Outcome, was_met: bool, wanted: i64) -> bool {
 }
 
 #[test]
-fn commands_run(rt: HostRuntime) -> Result<(), Fail> {
-    let commands = commands(rt.alloc())?;
-    let done = outcomes(rt.alloc(), &commands)?;
+fn commands_run(rt: HostRuntime) {
+    let commands = commands(&rt, rt.alloc());
+    let done = outcomes(rt.alloc(), &commands).expect(&rt, "memory");
     assert_eq!(rt; done.len(), 8);
     assert!(rt; matches!(done[0], Outcome::Opened(1)));
     assert!(rt; is_expected(&done[1], true, 1));
@@ -109,7 +122,6 @@ fn commands_run(rt: HostRuntime) -> Result<(), Fail> {
     assert!(rt; matches!(done[5], Outcome::Refused(Refusal::BadArgument)));
     assert!(rt; matches!(done[6], Outcome::Closed));
     assert!(rt; is_expected(&done[7], true, 0));
-    Ok(())
 }
 
 #[test]

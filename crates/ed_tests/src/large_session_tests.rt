@@ -7,7 +7,6 @@ use ed_types::{Kind, Refusal, Reply};
 use editor_session::Session;
 use std::alloc::{AllocError, Global};
 use std::process::Abort;
-use std::test::Fail;
 
 /// What a message without text answers, or the number of its refusal below 0.
 fn value_of(session: &mut Session, view: u32, kind: Kind, w: i64, l: i64) -> i64 {
@@ -64,11 +63,10 @@ fn assert_large_text_styled(rt: &impl Abort, session: &mut Session, piece: &[u8]
 }
 
 #[test]
-fn styled_text_of_a_large_size(rt: HostRuntime) -> Result<(), Fail> {
-    let piece = piece(rt.alloc())?;
+fn styled_text_of_a_large_size(rt: HostRuntime) {
+    let piece = piece(rt.alloc()).expect(&rt, "memory");
     let mut session = Session::new(rt.alloc());
     assert_large_text_styled(&rt, &mut session, &piece);
-    Ok(())
 }
 
 /// How many views may be open, and the one that is typed in.

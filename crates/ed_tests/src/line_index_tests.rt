@@ -1,5 +1,5 @@
 //! Small texts, edited step by step. Each helper makes the new text, and hands it in cut in two.
-ghost use Rattle.std.specs.Prelude.{◌≡◌, ◌+◌, ◌≤◌, ◌++◌, length, IfOk};
+ghost use Rattle.std.specs.Prelude.{◌≡◌, ◌+◌, ◌≤◌, ◌++◌, length};
 ghost use Rattle.line_index.specs.Index.{IsIndexOf};
 
 use ed_model::LineEndTypes;
@@ -8,9 +8,8 @@ use line_index::{
     lines_for_insertion, lines_in, near_step, room_for_steps,
 };
 use partitioning::{Place, Probes};
-use std::alloc::{AllocError, Global};
+use std::alloc::Global;
 use std::process::Abort;
-use std::test::Fail;
 
 pub(crate) fn insert<P: Place>(
     rt: &impl Abort,
@@ -20,25 +19,27 @@ pub(crate) fn insert<P: Place>(
     place: usize,
     bytes: &[u8],
     cut: usize,
-) -> Result<(Vec<u8>, LineChange), AllocError>
+) -> (Vec<u8>, LineChange)
     requires { IsIndexOf old.now index.old }
-    ensures { IfOk result (λ r. IsIndexOf r.0.items index.new) }
+    ensures { IsIndexOf result.0.items index.new }
 {
     assert!(rt; place <= old.len());
     let mut new: Vec<u8> = Vec::new(alloc);
-    new.extend_from_slice(&old[..place])?;
-    new.extend_from_slice(bytes)?;
-    new.extend_from_slice(&old[place..])?;
+    new.extend_from_slice(&old[..place]).expect(rt, "memory");
+    new.extend_from_slice(bytes).expect(rt, "memory");
+    new.extend_from_slice(&old[place..]).expect(rt, "memory");
     let types = index.types();
     room_for_steps();
-    index.reserve(lines_for_insertion(types, bytes))?;
+    index
+        .reserve(lines_for_insertion(types, bytes))
+        .expect(rt, "memory");
     let text = new.as_slice();
     assert!(rt; text.len() <= P::GREATEST);
     assert!(rt; cut <= text.len());
     let (before, after) = text.split_at(cut);
     let (before, after) = near_step(before, after, place, bytes.len());
     let change = index.inserted(place, bytes.len(), before, after);
-    Ok((new, change))
+    (new, change)
 }
 
 // The index is that of the new text afterwards, but no test goes on from there.
@@ -50,22 +51,23 @@ fn delete<P: Place>(
     place: usize,
     count: usize,
     cut: usize,
-) -> Result<(Vec<u8>, LineChange), AllocError>
+) -> (Vec<u8>, LineChange)
     requires { IsIndexOf old.now index.old }
 {
     assert!(rt; place <= old.len());
     assert!(rt; count <= old.len() - place);
     let mut new: Vec<u8> = Vec::new(alloc);
-    new.extend_from_slice(&old[..place])?;
-    new.extend_from_slice(&old[place + count..])?;
+    new.extend_from_slice(&old[..place]).expect(rt, "memory");
+    new.extend_from_slice(&old[place + count..])
+        .expect(rt, "memory");
     room_for_steps();
-    index.reserve(lines_for_deletion())?;
+    index.reserve(lines_for_deletion()).expect(rt, "memory");
     let text = new.as_slice();
     assert!(rt; cut <= text.len());
     let (before, after) = text.split_at(cut);
     let (before, after) = near_step(before, after, place, 0);
     let change = index.deleted(place, count, before, after);
-    Ok((new, change))
+    (new, change)
 }
 
 // The lines start so.
@@ -78,63 +80,66 @@ fn assert_starts<P: Place>(rt: &impl Abort, index: &LineIndex<P>, starts: &[usiz
     assert_eq!(rt; index.length(), length);
 }
 
-fn row_of_edits<P: Place>(rt: &impl Abort, alloc: Global) -> Result<(), Fail> {
-    let mut index: LineIndex<P> = LineIndex::new(alloc, LineEndTypes::Default)?;
+fn row_of_edits<P: Place>(rt: &impl Abort, alloc: Global) {
+    let mut index: LineIndex<P> = LineIndex::new(alloc, LineEndTypes::Default).expect(rt, "memory");
     assert_starts(rt, &index, &[0], 0);
-    let (text, _) = insert(rt, alloc, &mut index, b"", 0, b"a\r\nb\rc\nd", 3)?;
+    let (text, _) = insert(rt, alloc, &mut index, b"", 0, b"a\r\nb\rc\nd", 3);
     assert_starts(rt, &index, &[0, 3, 5, 7], 8);
     let mut probes = Probes::new();
     assert_eq!(rt; index.line_of(2, &mut probes), 0);
     assert_eq!(rt; index.line_of(3, &mut probes), 1);
     assert_eq!(rt; index.line_of(usize::MAX, &mut probes), 3);
-    let (text, change) = delete(rt, alloc, &mut index, text.as_slice(), 2, 3, 1)?;
+    let (text, change) = delete(rt, alloc, &mut index, text.as_slice(), 2, 3, 1);
     assert_eq!(rt; text.as_slice(), b"a\rc\nd".as_slice());
     assert_starts(rt, &index, &[0, 2, 4], 5);
-    Ok(())
 }
 
 #[test]
-fn small_places(rt: HostRuntime) -> Result<(), Fail> {
-    row_of_edits::<u32>(&rt, rt.alloc())
+fn small_places(rt: HostRuntime) {
+    row_of_edits::<u32>(&rt, rt.alloc());
 }
 
 #[test]
-fn large_places(rt: HostRuntime) -> Result<(), Fail> {
-    row_of_edits::<u64>(&rt, rt.alloc())
+fn large_places(rt: HostRuntime) {
+    row_of_edits::<u64>(&rt, rt.alloc());
 }
 
 #[test]
-fn a_line_end_split_and_joined(rt: HostRuntime) -> Result<(), Fail> {
+fn a_line_end_split_and_joined(rt: HostRuntime) {
     let alloc = rt.alloc();
-    let mut index: LineIndex<u32> = LineIndex::new(alloc, LineEndTypes::Default)?;
-    let (text, _) = insert(&rt, alloc, &mut index, b"", 0, b"x\r\na", 2)?;
+    let mut index: LineIndex<u32> = LineIndex::new(alloc, LineEndTypes::Default).expect(
+        &rt, "memory",
+    );
+    let (text, _) = insert(&rt, alloc, &mut index, b"", 0, b"x\r\na", 2);
     assert_starts(&rt, &index, &[0, 3], 4);
-    let (text, _) = insert(&rt, alloc, &mut index, text.as_slice(), 2, b"z", 3)?;
+    let (text, _) = insert(&rt, alloc, &mut index, text.as_slice(), 2, b"z", 3);
     assert_starts(&rt, &index, &[0, 2, 4], 5);
-    let (_, _) = delete(&rt, alloc, &mut index, text.as_slice(), 2, 1, 2)?;
+    let (_, _) = delete(&rt, alloc, &mut index, text.as_slice(), 2, 1, 2);
     assert_starts(&rt, &index, &[0, 3], 4);
-    Ok(())
 }
 
 #[test]
-fn line_ends_of_unicode(rt: HostRuntime) -> Result<(), Fail> {
+fn line_ends_of_unicode(rt: HostRuntime) {
     let alloc = rt.alloc();
-    let mut index: LineIndex<u32> = LineIndex::new(alloc, LineEndTypes::Unicode)?;
-    let (text, _) = insert(&rt, alloc, &mut index, b"", 0, b"\xE2\x80", 0)?;
+    let mut index: LineIndex<u32> = LineIndex::new(alloc, LineEndTypes::Unicode).expect(
+        &rt, "memory",
+    );
+    let (text, _) = insert(&rt, alloc, &mut index, b"", 0, b"\xE2\x80", 0);
     assert_starts(&rt, &index, &[0], 2);
-    let (text, _) = insert(&rt, alloc, &mut index, text.as_slice(), 2, b"\xA8", 1)?;
+    let (text, _) = insert(&rt, alloc, &mut index, text.as_slice(), 2, b"\xA8", 1);
     assert_starts(&rt, &index, &[0, 3], 3);
-    let (_, _) = delete(&rt, alloc, &mut index, text.as_slice(), 0, 3, 0)?;
+    let (_, _) = delete(&rt, alloc, &mut index, text.as_slice(), 0, 3, 0);
     assert_starts(&rt, &index, &[0], 0);
-    let mut index: LineIndex<u32> = LineIndex::new(alloc, LineEndTypes::Unicode)?;
+    let mut index: LineIndex<u32> = LineIndex::new(alloc, LineEndTypes::Unicode).expect(
+        &rt, "memory",
+    );
     let bytes = b"a\xC2\x85b\xE2\x80\xA8c";
-    let (text, _) = insert(&rt, alloc, &mut index, b"", 0, bytes, 5)?;
+    let (text, _) = insert(&rt, alloc, &mut index, b"", 0, bytes, 5);
     assert_starts(&rt, &index, &[0, 3, 7], 8);
-    let (text, _) = insert(&rt, alloc, &mut index, text.as_slice(), 2, b"x", 2)?;
+    let (text, _) = insert(&rt, alloc, &mut index, text.as_slice(), 2, b"x", 2);
     assert_starts(&rt, &index, &[0, 8], 9);
-    let (_, _) = delete(&rt, alloc, &mut index, text.as_slice(), 2, 1, 2)?;
+    let (_, _) = delete(&rt, alloc, &mut index, text.as_slice(), 2, 1, 2);
     assert_starts(&rt, &index, &[0, 3, 7], 8);
-    Ok(())
 }
 
 // What is kept of each line is told of the step by these edits.
@@ -158,29 +163,32 @@ fn assert_moves(rt: &impl Abort, change: &LineChange, lines: &[usize]) {
 }
 
 #[test]
-fn lines_come_to_lines(rt: HostRuntime) -> Result<(), Fail> {
+fn lines_come_to_lines(rt: HostRuntime) {
     let alloc = rt.alloc();
-    let mut index: LineIndex<u32> = LineIndex::new(alloc, LineEndTypes::Default)?;
-    let (text, change) = insert(&rt, alloc, &mut index, b"", 0, b"x\ry", 1)?;
+    let mut index: LineIndex<u32> = LineIndex::new(alloc, LineEndTypes::Default).expect(
+        &rt, "memory",
+    );
+    let (text, change) = insert(&rt, alloc, &mut index, b"", 0, b"x\ry", 1);
     assert_moves(&rt, &change, &[1]);
-    let (text, change) = insert(&rt, alloc, &mut index, text.as_slice(), 2, b"\n", 1)?;
+    let (text, change) = insert(&rt, alloc, &mut index, text.as_slice(), 2, b"\n", 1);
     assert_starts(&rt, &index, &[0, 3], 4);
     assert_moves(&rt, &change, &[0, 1]);
-    let (text, change) = insert(&rt, alloc, &mut index, text.as_slice(), 3, b"1\n2\n", 4)?;
+    let (text, change) = insert(&rt, alloc, &mut index, text.as_slice(), 3, b"1\n2\n", 4);
     assert_starts(&rt, &index, &[0, 3, 5, 7], 8);
     assert_moves(&rt, &change, &[0, 3]);
-    let (_, change) = delete(&rt, alloc, &mut index, text.as_slice(), 1, 5, 2)?;
+    let (_, change) = delete(&rt, alloc, &mut index, text.as_slice(), 1, 5, 2);
     assert_starts(&rt, &index, &[0, 2], 3);
     assert_moves(&rt, &change, &[0, 0, 0, 1]);
-    Ok(())
 }
 
 #[test]
-fn ends_of_lines(rt: HostRuntime) -> Result<(), Fail> {
+fn ends_of_lines(rt: HostRuntime) {
     let alloc = rt.alloc();
-    let mut index: LineIndex<u32> = LineIndex::new(alloc, LineEndTypes::Unicode)?;
+    let mut index: LineIndex<u32> = LineIndex::new(alloc, LineEndTypes::Unicode).expect(
+        &rt, "memory",
+    );
     let bytes = b"a\r\nb\rc\xE2\x80\xA9d";
-    let (text, _) = insert(&rt, alloc, &mut index, b"", 0, bytes, 4)?;
+    let (text, _) = insert(&rt, alloc, &mut index, b"", 0, bytes, 4);
     let text = text.as_slice();
     assert!(rt; text.len() >= 2);
     let (before, after) = text.split_at(2);
@@ -190,128 +198,129 @@ fn ends_of_lines(rt: HostRuntime) -> Result<(), Fail> {
     assert_eq!(rt; index.end(1, before, after), 4);
     assert_eq!(rt; index.end(2, before, after), 6);
     assert_eq!(rt; index.end(3, before, after), 10);
-    Ok(())
 }
 
 // Lines of five letters, a CR and an LF, and at last one that a CR alone ends.
-fn long_text(alloc: Global) -> Result<Vec<u8>, AllocError> {
+fn long_text(rt: &impl Abort, alloc: Global) -> Vec<u8> {
     let mut text: Vec<u8> = Vec::new(alloc);
     for place in 0..1000 {
         text.push(match place % 7 {
             5 => b'\r',
             6 => b'\n',
             _ => b'x',
-        })?;
+        })
+        .expect(rt, "memory");
     }
-    Ok(text)
+    text
 }
 
 #[test]
-fn lines_of_a_long_text(rt: HostRuntime) -> Result<(), Fail> {
+fn lines_of_a_long_text(rt: HostRuntime) {
     let alloc = rt.alloc();
-    let bytes = long_text(alloc)?;
+    let bytes = long_text(&rt, alloc);
     for types in [LineEndTypes::Default, LineEndTypes::Unicode] {
         assert_eq!(rt; lines_in(types, bytes.as_slice()), 144);
-        let mut index: LineIndex<u32> = LineIndex::new(alloc, types)?;
-        let (text, _) = insert(&rt, alloc, &mut index, b"", 0, bytes.as_slice(), 500)?;
+        let mut index: LineIndex<u32> = LineIndex::new(alloc, types).expect(&rt, "memory");
+        let (text, _) = insert(&rt, alloc, &mut index, b"", 0, bytes.as_slice(), 500);
         assert_eq!(rt; index.count(), 144);
         for line in 0..143 {
             assert_eq!(rt; index.start(line), 7 * line);
         }
         assert_eq!(rt; index.start(143), 1000);
-        let (_, _) = insert(&rt, alloc, &mut index, text.as_slice(), 1000, b"\n", 0)?;
+        let (_, _) = insert(&rt, alloc, &mut index, text.as_slice(), 1000, b"\n", 0);
         assert_eq!(rt; index.count(), 144);
         assert_eq!(rt; index.start(143), 1001);
     }
-    Ok(())
 }
 
 // Eleven bytes with four line ends, over and over: more than two groups of four rows, with the borders of rows and groups
 // behind a CR, behind an LF, and between the two.
 #[test]
-fn lines_of_many_rows(rt: HostRuntime) -> Result<(), Fail> {
+fn lines_of_many_rows(rt: HostRuntime) {
     let mut text: Vec<u8> = Vec::new(rt.alloc());
     for _ in 0..9000 {
-        text.extend_from_slice(b"x\r\n\r\n\rx\nxxx")?;
+        text.extend_from_slice(b"x\r\n\r\n\rx\nxxx")
+            .expect(&rt, "memory");
     }
     for types in [LineEndTypes::Default, LineEndTypes::Unicode] {
         assert_eq!(rt; lines_in(types, text.as_slice()), 36001);
     }
-    Ok(())
 }
 
 #[test]
-fn a_refused_growth_changes_nothing(rt: HostRuntime) -> Result<(), Fail> {
-    let mut index: LineIndex<u32> = LineIndex::new(rt.alloc(), LineEndTypes::Default)?;
+fn a_refused_growth_changes_nothing(rt: HostRuntime) {
+    let mut index: LineIndex<u32> = LineIndex::new(rt.alloc(), LineEndTypes::Default).expect(
+        &rt, "memory",
+    );
     assert!(rt; index.reserve(usize::MAX).is_err());
     assert_starts(&rt, &index, &[0], 0);
-    Ok(())
 }
 
-fn row_of_changes<P: Place>(rt: &impl Abort, alloc: Global) -> Result<(), Fail> {
-    let mut index: LineIndex<P> = LineIndex::new(alloc, LineEndTypes::Default)?;
-    let (text, change) = insert(rt, alloc, &mut index, b"", 0, b"x\nY", 1)?;
+fn row_of_changes<P: Place>(rt: &impl Abort, alloc: Global) {
+    let mut index: LineIndex<P> = LineIndex::new(alloc, LineEndTypes::Default).expect(rt, "memory");
+    let (text, change) = insert(rt, alloc, &mut index, b"", 0, b"x\nY", 1);
     assert_edits(rt, &change, &[LineEdit::Come { line: 0, count: 1 }]);
-    let (text, change) = insert(rt, alloc, &mut index, text.as_slice(), 2, b"abc\n", 3)?;
+    let (text, change) = insert(rt, alloc, &mut index, text.as_slice(), 2, b"abc\n", 3);
     assert_edits(rt, &change, &[LineEdit::Come { line: 1, count: 1 }]);
-    let (text, change) = insert(rt, alloc, &mut index, text.as_slice(), 1, b"z", 3)?;
+    let (text, change) = insert(rt, alloc, &mut index, text.as_slice(), 1, b"z", 3);
     assert_edits(rt, &change, &[]);
-    let (text, change) = delete(rt, alloc, &mut index, text.as_slice(), 1, 6, 1)?;
+    let (text, change) = delete(rt, alloc, &mut index, text.as_slice(), 1, 6, 1);
     assert_eq!(rt; text.as_slice(), b"xY".as_slice());
     assert_edits(rt, &change, &[LineEdit::Join { line: 0, count: 2 }]);
-    let mut index: LineIndex<P> = LineIndex::new(alloc, LineEndTypes::Default)?;
-    let (text, _) = insert(rt, alloc, &mut index, b"", 0, b"x\nY", 1)?;
-    let (_, change) = delete(rt, alloc, &mut index, text.as_slice(), 0, 3, 0)?;
+    let mut index: LineIndex<P> = LineIndex::new(alloc, LineEndTypes::Default).expect(rt, "memory");
+    let (text, _) = insert(rt, alloc, &mut index, b"", 0, b"x\nY", 1);
+    let (_, change) = delete(rt, alloc, &mut index, text.as_slice(), 0, 3, 0);
     assert_edits(rt, &change, &[LineEdit::Restart]);
-    Ok(())
 }
 
 #[test]
-fn edits_of_steps_in_small_places(rt: HostRuntime) -> Result<(), Fail> {
-    row_of_changes::<u32>(&rt, rt.alloc())
+fn edits_of_steps_in_small_places(rt: HostRuntime) {
+    row_of_changes::<u32>(&rt, rt.alloc());
 }
 
 #[test]
-fn edits_of_steps_in_large_places(rt: HostRuntime) -> Result<(), Fail> {
-    row_of_changes::<u64>(&rt, rt.alloc())
+fn edits_of_steps_in_large_places(rt: HostRuntime) {
+    row_of_changes::<u64>(&rt, rt.alloc());
 }
 
 // A CR LF is split and joined again, and an LF comes behind a CR alone: its row stays with the line behind it.
 #[test]
-fn edits_about_line_ends(rt: HostRuntime) -> Result<(), Fail> {
+fn edits_about_line_ends(rt: HostRuntime) {
     let alloc = rt.alloc();
-    let mut index: LineIndex<u32> = LineIndex::new(alloc, LineEndTypes::Default)?;
-    let (text, _) = insert(&rt, alloc, &mut index, b"", 0, b"x\r\na", 2)?;
-    let (text, change) = insert(&rt, alloc, &mut index, text.as_slice(), 2, b"z", 3)?;
+    let mut index: LineIndex<u32> = LineIndex::new(alloc, LineEndTypes::Default).expect(
+        &rt, "memory",
+    );
+    let (text, _) = insert(&rt, alloc, &mut index, b"", 0, b"x\r\na", 2);
+    let (text, change) = insert(&rt, alloc, &mut index, text.as_slice(), 2, b"z", 3);
     assert_edits(&rt, &change, &[LineEdit::Come { line: 1, count: 1 }]);
-    let (_, change) = delete(&rt, alloc, &mut index, text.as_slice(), 2, 1, 2)?;
+    let (_, change) = delete(&rt, alloc, &mut index, text.as_slice(), 2, 1, 2);
     assert_edits(&rt, &change, &[LineEdit::Join { line: 0, count: 1 }]);
-    let mut index: LineIndex<u32> = LineIndex::new(alloc, LineEndTypes::Default)?;
-    let (text, _) = insert(&rt, alloc, &mut index, b"", 0, b"x\ra", 1)?;
-    let (_, change) = insert(&rt, alloc, &mut index, text.as_slice(), 2, b"\n", 2)?;
+    let mut index: LineIndex<u32> = LineIndex::new(alloc, LineEndTypes::Default).expect(
+        &rt, "memory",
+    );
+    let (text, _) = insert(&rt, alloc, &mut index, b"", 0, b"x\ra", 1);
+    let (_, change) = insert(&rt, alloc, &mut index, text.as_slice(), 2, b"\n", 2);
     assert_edits(&rt, &change, &[]);
-    Ok(())
 }
 
 // The bytes of one step come piece after piece: the row of line 1 goes with `Y`.
-fn row_of_pieces<P: Place>(rt: &impl Abort, alloc: Global) -> Result<(), Fail> {
-    let mut index: LineIndex<P> = LineIndex::new(alloc, LineEndTypes::Default)?;
-    let (text, _) = insert(rt, alloc, &mut index, b"", 0, b"x\nY", 1)?;
+fn row_of_pieces<P: Place>(rt: &impl Abort, alloc: Global) {
+    let mut index: LineIndex<P> = LineIndex::new(alloc, LineEndTypes::Default).expect(rt, "memory");
+    let (text, _) = insert(rt, alloc, &mut index, b"", 0, b"x\nY", 1);
     let about = index.lines_about(2, 2);
-    let (text, first) = insert(rt, alloc, &mut index, text.as_slice(), 2, b"ab", 3)?;
+    let (text, first) = insert(rt, alloc, &mut index, text.as_slice(), 2, b"ab", 3);
     assert_edits(rt, &first, &[]);
-    let (text, last) = insert(rt, alloc, &mut index, text.as_slice(), 4, b"c\n", 3)?;
+    let (text, last) = insert(rt, alloc, &mut index, text.as_slice(), 4, b"c\n", 3);
     assert_eq!(rt; text.as_slice(), b"x\nabc\nY".as_slice());
     assert_edits(rt, &last, &[LineEdit::Come { line: 2, count: 1 }]);
     let whole = index.change_since(about, 6);
     assert_edits(rt, &whole, &[LineEdit::Come { line: 1, count: 1 }]);
-    Ok(())
 }
 
 #[test]
-fn one_change_of_many_pieces(rt: HostRuntime) -> Result<(), Fail> {
-    row_of_pieces::<u32>(&rt, rt.alloc())?;
-    row_of_pieces::<u64>(&rt, rt.alloc())
+fn one_change_of_many_pieces(rt: HostRuntime) {
+    row_of_pieces::<u32>(&rt, rt.alloc());
+    row_of_pieces::<u64>(&rt, rt.alloc());
 }
 
 // Another setting of line ends, with the lines that come by it or are joined.
@@ -323,24 +332,27 @@ fn set_types<P: Place>(
     before: &[u8],
     after: &[u8],
     wanted: &[LineEdit],
-) -> Result<(), AllocError>
+)
     requires { IsIndexOf (before.now ++ after.now) index.old }
-    ensures { IfOk result (λ _. IsIndexOf (before.now ++ after.now) index.new) }
+    ensures { IsIndexOf (before.now ++ after.now) index.new }
 {
     edits_of_settings();
     let length = index.length();
     assert!(rt; length < 1 << 63);
-    let edits = index.edits_for_types(alloc, types, before, after)?;
+    let edits = index
+        .edits_for_types(alloc, types, before, after)
+        .expect(rt, "memory");
     assert_eq!(rt; edits.as_slice(), wanted);
-    index.reserve(fresh_lines(edits.as_slice()))?;
+    index
+        .reserve(fresh_lines(edits.as_slice()))
+        .expect(rt, "memory");
     index.set_types(types, before, after);
-    Ok(())
 }
 
-fn row_of_settings<P: Place>(rt: &impl Abort, alloc: Global) -> Result<(), Fail> {
-    let mut index: LineIndex<P> = LineIndex::new(alloc, LineEndTypes::Default)?;
+fn row_of_settings<P: Place>(rt: &impl Abort, alloc: Global) {
+    let mut index: LineIndex<P> = LineIndex::new(alloc, LineEndTypes::Default).expect(rt, "memory");
     let bytes = b"a\xC2\x85b\xE2\x80\xA8c";
-    let (text, _) = insert(rt, alloc, &mut index, b"", 0, bytes, 5)?;
+    let (text, _) = insert(rt, alloc, &mut index, b"", 0, bytes, 5);
     let text = text.as_slice();
     assert!(rt; text.len() >= 2);
     let (before, after) = text.split_at(2);
@@ -354,7 +366,7 @@ fn row_of_settings<P: Place>(rt: &impl Abort, alloc: Global) -> Result<(), Fail>
         before,
         after,
         &come,
-    )?;
+    );
     assert_starts(rt, &index, &[0, 3, 7], 8);
     let count = index.count();
     assert_eq!(rt; count, 3);
@@ -368,7 +380,7 @@ fn row_of_settings<P: Place>(rt: &impl Abort, alloc: Global) -> Result<(), Fail>
         before,
         after,
         &[],
-    )?;
+    );
     assert_starts(rt, &index, &[0, 3, 7], 8);
     let join = [LineEdit::Join { line: 0, count: 2 }];
     set_types(
@@ -379,28 +391,29 @@ fn row_of_settings<P: Place>(rt: &impl Abort, alloc: Global) -> Result<(), Fail>
         before,
         after,
         &join,
-    )?;
+    );
     assert_starts(rt, &index, &[0], 8);
-    Ok(())
 }
 
 #[test]
-fn settings_in_small_places(rt: HostRuntime) -> Result<(), Fail> {
-    row_of_settings::<u32>(&rt, rt.alloc())
+fn settings_in_small_places(rt: HostRuntime) {
+    row_of_settings::<u32>(&rt, rt.alloc());
 }
 
 #[test]
-fn settings_in_large_places(rt: HostRuntime) -> Result<(), Fail> {
-    row_of_settings::<u64>(&rt, rt.alloc())
+fn settings_in_large_places(rt: HostRuntime) {
+    row_of_settings::<u64>(&rt, rt.alloc());
 }
 
 // Line ends of both kinds: those of Unicode lie in the first line, the third and the last, at the text's end.
 #[test]
-fn settings_with_line_ends_between(rt: HostRuntime) -> Result<(), Fail> {
+fn settings_with_line_ends_between(rt: HostRuntime) {
     let alloc = rt.alloc();
-    let mut index: LineIndex<u32> = LineIndex::new(alloc, LineEndTypes::Default)?;
+    let mut index: LineIndex<u32> = LineIndex::new(alloc, LineEndTypes::Default).expect(
+        &rt, "memory",
+    );
     let bytes = b"\xC2\x85a\nb\r\n\xE2\x80\xA9\xC2\x85\rc\xC2\x85";
-    let (text, _) = insert(&rt, alloc, &mut index, b"", 0, bytes, 9)?;
+    let (text, _) = insert(&rt, alloc, &mut index, b"", 0, bytes, 9);
     let text = text.as_slice();
     assert!(rt; text.len() >= 8);
     let (before, after) = text.split_at(8);
@@ -418,7 +431,7 @@ fn settings_with_line_ends_between(rt: HostRuntime) -> Result<(), Fail> {
         before,
         after,
         &come,
-    )?;
+    );
     assert_starts(&rt, &index, &[0, 2, 4, 7, 10, 12, 13, 16], 16);
     let join = [
         LineEdit::Join { line: 0, count: 1 },
@@ -433,7 +446,6 @@ fn settings_with_line_ends_between(rt: HostRuntime) -> Result<(), Fail> {
         before,
         after,
         &join,
-    )?;
+    );
     assert_starts(&rt, &index, &[0, 4, 7, 13], 16);
-    Ok(())
 }

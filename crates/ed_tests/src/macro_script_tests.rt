@@ -4,7 +4,6 @@ use ed_types::{Bytes, Kind, Message, Note, Outcome, Refusal, Reply};
 use macro_script::printing::{append_integer, append_number, append_outcome, append_text};
 use macro_script::{Cause, Command, Script, ScriptFault, assemble, list};
 use std::alloc::{AllocError, Global};
-use std::test::Fail;
 
 /// The script of an insertion's notes, 95 bytes.
 const INSERTION: &[u8] =
@@ -15,20 +14,19 @@ const EVERY_KIND: &[u8] =
     b"sci 2\nopen\nload 1 4294967295\nsend 1 2282 4 -9223372036854775808 \"\\\"\\\\\\x00\\x80 ~\"\nexpect -1\nclose 1\n";
 
 #[test]
-fn lists_what_it_assembles(rt: HostRuntime) -> Result<(), Fail> {
+fn lists_what_it_assembles(rt: HostRuntime) {
     for text in [INSERTION, EVERY_KIND] {
-        let script = assemble(rt.alloc(), text)?;
-        let listed = list(rt.alloc(), &script)?;
+        let script = assemble(rt.alloc(), text).expect(&rt, "a script");
+        let listed = list(rt.alloc(), &script).expect(&rt, "memory");
         assert!(rt; listed.starts_with(b"sci 2\n"));
         assert!(rt; text.ends_with(&listed[5..]));
         assert_eq!(rt; listed.len(), text.len());
     }
-    Ok(())
 }
 
 #[test]
-fn pushes_what_it_assembles(rt: HostRuntime) -> Result<(), Fail> {
-    let text = Vec::from_slice(rt.alloc(), b"\"\\\x00\x80 ~")?;
+fn pushes_what_it_assembles(rt: HostRuntime) {
+    let text = Vec::from_slice(rt.alloc(), b"\"\\\x00\x80 ~").expect(&rt, "memory");
     let message = Message {
         number: Kind::AppendText.number(),
         w: 4,
@@ -36,22 +34,29 @@ fn pushes_what_it_assembles(rt: HostRuntime) -> Result<(), Fail> {
         text: Bytes::new(text),
     };
     let mut script = Script::new(rt.alloc());
-    script.push(Command::OpenView)?;
-    script.push(Command::LoadFile {
-        view: 1,
-        file: u32::MAX,
-    })?;
-    script.push(Command::SendMessage { view: 1, message })?;
-    script.push(Command::Expect { value: -1 })?;
-    script.push(Command::CloseView { view: 1 })?;
+    script.push(Command::OpenView).expect(&rt, "memory");
+    script
+        .push(Command::LoadFile {
+            view: 1,
+            file: u32::MAX,
+        })
+        .expect(&rt, "memory");
+    script
+        .push(Command::SendMessage { view: 1, message })
+        .expect(&rt, "memory");
+    script
+        .push(Command::Expect { value: -1 })
+        .expect(&rt, "memory");
+    script
+        .push(Command::CloseView { view: 1 })
+        .expect(&rt, "memory");
     assert_eq!(rt; script.commands().len(), 5);
-    let listed = list(rt.alloc(), &script)?;
+    let listed = list(rt.alloc(), &script).expect(&rt, "memory");
     assert!(rt; listed.as_slice() == EVERY_KIND);
-    Ok(())
 }
 
 #[test]
-fn names_the_first_fault(rt: HostRuntime) -> Result<(), Fail> {
+fn names_the_first_fault(rt: HostRuntime) {
     let faults: [(&[u8], u64, Cause); 7] = [
         (b"", 1, Cause::NoLineEnd),
         (b"sci 3\n", 1, Cause::BadVersion),
@@ -65,7 +70,6 @@ fn names_the_first_fault(rt: HostRuntime) -> Result<(), Fail> {
         let fault = assemble(rt.alloc(), text).err().expect(&rt, "a fault");
         assert!(rt; fault == ScriptFault::BadLine { line, cause });
     }
-    Ok(())
 }
 
 /// A text of so many bytes.
@@ -86,30 +90,28 @@ fn long_line(alloc: Global, len: usize) -> Result<Vec<u8>, AllocError> {
 }
 
 #[test]
-fn takes_the_longest_line(rt: HostRuntime) -> Result<(), Fail> {
-    let longest = long_line(rt.alloc(), 65_518)?;
+fn takes_the_longest_line(rt: HostRuntime) {
+    let longest = long_line(rt.alloc(), 65_518).expect(&rt, "memory");
     assert_eq!(rt; longest.len(), 65_536 + 7);
     assert!(rt; assemble(rt.alloc(), &longest).is_ok());
-    let longer = long_line(rt.alloc(), 65_519)?;
+    let longer = long_line(rt.alloc(), 65_519).expect(&rt, "memory");
     let fault = assemble(rt.alloc(), &longer).err().expect(&rt, "a fault");
     let cause = Cause::LineTooLong;
     assert!(rt; fault == ScriptFault::BadLine { line: 2, cause });
-    Ok(())
 }
 
 #[test]
-fn takes_the_longest_script(rt: HostRuntime) -> Result<(), Fail> {
+fn takes_the_longest_script(rt: HostRuntime) {
     let mut text = Vec::new(rt.alloc());
     for _ in 0..16_777_216u32 {
-        text.push(b'\n')?;
+        text.push(b'\n').expect(&rt, "memory");
     }
     let fault = assemble(rt.alloc(), &text).err().expect(&rt, "a fault");
     let cause = Cause::BadVersion;
     assert!(rt; fault == ScriptFault::BadLine { line: 1, cause });
-    text.push(b'\n')?;
+    text.push(b'\n').expect(&rt, "memory");
     let fault = assemble(rt.alloc(), &text).err().expect(&rt, "a fault");
     assert!(rt; fault == ScriptFault::TooLong);
-    Ok(())
 }
 
 /// A message with a text of so many bytes.
@@ -124,26 +126,39 @@ fn long_message(alloc: Global, len: usize) -> Result<Command, AllocError> {
 }
 
 #[test]
-fn pushes_up_to_the_limits(rt: HostRuntime) -> Result<(), Fail> {
+fn pushes_up_to_the_limits(rt: HostRuntime) {
     let mut script = Script::new(rt.alloc());
-    assert!(rt; script.push(long_message(rt.alloc(), 65_519)?) == Err(ScriptFault::TooLong));
+    assert!(rt;
+        script.push(long_message(rt.alloc(), 65_519).expect(&rt, "memory"))
+            == Err(ScriptFault::TooLong)
+    );
     // 255 lines of 65,537 bytes, and one that fills the script up to its limit.
     for _ in 0..255u32 {
-        assert!(rt; script.push(long_message(rt.alloc(), 65_518)?).is_ok());
+        assert!(rt;
+            script
+                .push(long_message(rt.alloc(), 65_518).expect(&rt, "memory"))
+                .is_ok()
+        );
     }
-    assert!(rt; script.push(long_message(rt.alloc(), 65_257)?) == Err(ScriptFault::TooLong));
-    assert!(rt; script.push(long_message(rt.alloc(), 65_256)?).is_ok());
+    assert!(rt;
+        script.push(long_message(rt.alloc(), 65_257).expect(&rt, "memory"))
+            == Err(ScriptFault::TooLong)
+    );
+    assert!(rt;
+        script
+            .push(long_message(rt.alloc(), 65_256).expect(&rt, "memory"))
+            .is_ok()
+    );
     assert!(rt; script.push(Command::OpenView) == Err(ScriptFault::TooLong));
-    let listed = list(rt.alloc(), &script)?;
+    let listed = list(rt.alloc(), &script).expect(&rt, "memory");
     assert_eq!(rt; listed.len(), 16_777_216);
-    let again = assemble(rt.alloc(), &listed)?;
+    let again = assemble(rt.alloc(), &listed).expect(&rt, "a script");
     assert_eq!(rt; again.commands().len(), 256);
-    Ok(())
 }
 
 #[test]
-fn prints_outcomes(rt: HostRuntime) -> Result<(), Fail> {
-    let pool = Bytes::new(Vec::from_slice(rt.alloc(), b"ab\n")?);
+fn prints_outcomes(rt: HostRuntime) {
+    let pool = Bytes::new(Vec::from_slice(rt.alloc(), b"ab\n").expect(&rt, "memory"));
     let mut notes = Vec::new(rt.alloc());
     let note = Note {
         view: 1,
@@ -161,7 +176,7 @@ fn prints_outcomes(rt: HostRuntime) -> Result<(), Fail> {
         l: 0,
         text: 0..3,
     };
-    notes.push(note)?;
+    notes.push(note).expect(&rt, "memory");
     let reply = Reply::new(5, Bytes::empty(rt.alloc()), notes, pool);
     let mut out = Vec::new(rt.alloc());
     for outcome in [
@@ -178,13 +193,12 @@ fn prints_outcomes(rt: HostRuntime) -> Result<(), Fail> {
             value: -3,
         },
     ] {
-        append_outcome(&mut out, &outcome)?;
+        append_outcome(&mut out, &outcome).expect(&rt, "memory");
     }
-    append_number(&mut out, 256)?;
-    append_integer(&mut out, -1)?;
-    append_text(&mut out, b"\r")?;
+    append_number(&mut out, 256).expect(&rt, "memory");
+    append_integer(&mut out, -1).expect(&rt, "memory");
+    append_text(&mut out, b"\r").expect(&rt, "memory");
     let want =
         b"= 1 \"\"\n= 0 \"\"\n= 5 \"\"\n@ 1 2008 8209 0 3 1 0 0 0 -7 0 0 0 \"ab\\x0a\"\n! 6\n+ 1\n- -3\n256-1\"\\x0d\"";
     assert!(rt; out.as_slice() == want.as_slice());
-    Ok(())
 }

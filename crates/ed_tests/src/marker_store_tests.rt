@@ -1,20 +1,14 @@
 //! Rows of calls of a store of markers. Each helper tests what its call asks for.
 use marker_store::{GREATEST_LINES, MarkerStore};
-use std::alloc::{AllocError, Global};
+use std::alloc::Global;
 use std::process::Abort;
-use std::test::Fail;
 
-fn add(
-    rt: &impl Abort,
-    store: &mut MarkerStore,
-    line: usize,
-    number: u32,
-) -> Result<u32, AllocError> {
-    store.reserve(1)?;
+fn add(rt: &impl Abort, store: &mut MarkerStore, line: usize, number: u32) -> u32 {
+    store.reserve(1).expect(rt, "memory");
     assert!(rt; line < store.lines());
     assert!(rt; number < 32);
     assert!(rt; store.next_handle() < u32::MAX);
-    Ok(store.add_reserved(line, number))
+    store.add_reserved(line, number)
 }
 
 fn remove(rt: &impl Abort, store: &mut MarkerStore, line: usize, number: Option<u32>) -> bool {
@@ -46,31 +40,30 @@ fn assert_masks(rt: &impl Abort, store: &MarkerStore, masks: &[u32]) {
 }
 
 // Four lines: two copies of 3 with a 5 between them on line 1, and a 0 on line 3. Handles are 1 to 4.
-fn marked_lines(rt: &impl Abort, alloc: Global) -> Result<MarkerStore, Fail> {
-    let mut store = MarkerStore::new(alloc)?;
+fn marked_lines(rt: &impl Abort, alloc: Global) -> MarkerStore {
+    let mut store = MarkerStore::new(alloc).expect(rt, "memory");
     shift(rt, &mut store, 1, 3);
-    assert_eq!(rt; add(rt, &mut store, 1, 3)?, 1);
-    assert_eq!(rt; add(rt, &mut store, 1, 5)?, 2);
-    assert_eq!(rt; add(rt, &mut store, 3, 0)?, 3);
-    assert_eq!(rt; add(rt, &mut store, 1, 3)?, 4);
-    Ok(store)
+    assert_eq!(rt; add(rt, &mut store, 1, 3), 1);
+    assert_eq!(rt; add(rt, &mut store, 1, 5), 2);
+    assert_eq!(rt; add(rt, &mut store, 3, 0), 3);
+    assert_eq!(rt; add(rt, &mut store, 1, 3), 4);
+    store
 }
 
 #[test]
-fn a_fresh_store(rt: HostRuntime) -> Result<(), Fail> {
-    let store = MarkerStore::new(rt.alloc())?;
+fn a_fresh_store(rt: HostRuntime) {
+    let store = MarkerStore::new(rt.alloc()).expect(&rt, "memory");
     assert_masks(&rt, &store, &[0]);
     assert_eq!(rt; store.markers(), 0);
     assert_eq!(rt; store.next_handle(), 1);
     assert_eq!(rt; store.next(0, u32::MAX), None);
     assert_eq!(rt; store.previous(0, u32::MAX), None);
     assert_eq!(rt; store.line_of_handle(1), None);
-    Ok(())
 }
 
 #[test]
-fn looks_markers_up(rt: HostRuntime) -> Result<(), Fail> {
-    let store = marked_lines(&rt, rt.alloc())?;
+fn looks_markers_up(rt: HostRuntime) {
+    let store = marked_lines(&rt, rt.alloc());
     assert_masks(&rt, &store, &[0, 40, 0, 1]);
     assert_eq!(rt; store.markers(), 4);
     assert_eq!(rt; store.line_of_handle(2), Some(1));
@@ -87,12 +80,11 @@ fn looks_markers_up(rt: HostRuntime) -> Result<(), Fail> {
     assert_eq!(rt; store.previous(2, 1), None);
     assert_eq!(rt; store.previous(1, 32), Some(1));
     assert_eq!(rt; store.previous(0, u32::MAX), None);
-    Ok(())
 }
 
 #[test]
-fn takes_the_first_copy_away(rt: HostRuntime) -> Result<(), Fail> {
-    let mut store = marked_lines(&rt, rt.alloc())?;
+fn takes_the_first_copy_away(rt: HostRuntime) {
+    let mut store = marked_lines(&rt, rt.alloc());
     assert!(rt; remove(&rt, &mut store, 1, Some(3)));
     assert_eq!(rt; store.line_of_handle(1), None);
     assert_eq!(rt; store.line_of_handle(4), Some(1));
@@ -101,16 +93,15 @@ fn takes_the_first_copy_away(rt: HostRuntime) -> Result<(), Fail> {
     assert_masks(&rt, &store, &[0, 40, 0, 1]);
     assert!(rt; remove(&rt, &mut store, 1, Some(3)));
     assert_masks(&rt, &store, &[0, 32, 0, 1]);
-    assert_eq!(rt; add(&rt, &mut store, 0, 31)?, 5);
+    assert_eq!(rt; add(&rt, &mut store, 0, 31), 5);
     assert!(rt; remove(&rt, &mut store, 1, None));
     assert_masks(&rt, &store, &[1 << 31, 0, 0, 1]);
     assert_eq!(rt; store.markers(), 2);
-    Ok(())
 }
 
 #[test]
-fn takes_markers_of_all_lines_away(rt: HostRuntime) -> Result<(), Fail> {
-    let mut store = marked_lines(&rt, rt.alloc())?;
+fn takes_markers_of_all_lines_away(rt: HostRuntime) {
+    let mut store = marked_lines(&rt, rt.alloc());
     assert!(rt; !store.delete_all(Some(7)));
     assert!(rt; store.delete_all(Some(3)));
     assert_masks(&rt, &store, &[0, 32, 0, 1]);
@@ -120,12 +111,11 @@ fn takes_markers_of_all_lines_away(rt: HostRuntime) -> Result<(), Fail> {
     assert!(rt; store.delete_all(None));
     assert!(rt; !store.delete_all(None));
     assert_masks(&rt, &store, &[0, 0, 0, 0]);
-    Ok(())
 }
 
 #[test]
-fn lines_come_and_go(rt: HostRuntime) -> Result<(), Fail> {
-    let mut store = marked_lines(&rt, rt.alloc())?;
+fn lines_come_and_go(rt: HostRuntime) {
+    let mut store = marked_lines(&rt, rt.alloc());
     shift(&rt, &mut store, 1, 2);
     assert_masks(&rt, &store, &[0, 0, 0, 40, 0, 1]);
     shift(&rt, &mut store, 6, 1);
@@ -139,7 +129,7 @@ fn lines_come_and_go(rt: HostRuntime) -> Result<(), Fail> {
     assert_eq!(rt; store.line_of_handle(3), Some(0));
 
     shift(&rt, &mut store, 0, 1);
-    assert_eq!(rt; add(&rt, &mut store, 0, 3)?, 5);
+    assert_eq!(rt; add(&rt, &mut store, 0, 3), 5);
     merge(&rt, &mut store, 0, 1);
     assert!(rt; remove(&rt, &mut store, 0, Some(3)));
     assert_eq!(rt; store.line_of_handle(5), None);
@@ -148,22 +138,20 @@ fn lines_come_and_go(rt: HostRuntime) -> Result<(), Fail> {
     store.restart();
     assert_masks(&rt, &store, &[0]);
     assert_eq!(rt; store.markers(), 0);
-    assert_eq!(rt; add(&rt, &mut store, 0, 2)?, 6);
-    Ok(())
+    assert_eq!(rt; add(&rt, &mut store, 0, 2), 6);
 }
 
 #[test]
-fn as_many_lines_as_can_be(rt: HostRuntime) -> Result<(), Fail> {
-    let mut store = MarkerStore::new(rt.alloc())?;
+fn as_many_lines_as_can_be(rt: HostRuntime) {
+    let mut store = MarkerStore::new(rt.alloc()).expect(&rt, "memory");
     let last = GREATEST_LINES - 1;
     shift(&rt, &mut store, 0, last);
     assert_eq!(rt; store.lines(), GREATEST_LINES);
-    assert_eq!(rt; add(&rt, &mut store, last, 31)?, 1);
-    assert_eq!(rt; add(&rt, &mut store, 7, 0)?, 2);
+    assert_eq!(rt; add(&rt, &mut store, last, 31), 1);
+    assert_eq!(rt; add(&rt, &mut store, 7, 0), 2);
     assert_eq!(rt; store.next(8, u32::MAX), Some(last));
     assert_eq!(rt; store.previous(last - 1, u32::MAX), Some(7));
     merge(&rt, &mut store, 7, last - 7);
     assert_eq!(rt; store.lines(), 8);
     assert_eq!(rt; store.line_of_handle(1), Some(7));
-    Ok(())
 }

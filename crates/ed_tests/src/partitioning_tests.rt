@@ -1,8 +1,7 @@
 //! Rows of calls, at both kinds of place. Each helper tests what its call asks for.
 use partitioning::{Partitioning, Place, Probes};
-use std::alloc::{AllocError, Global};
+use std::alloc::Global;
 use std::process::Abort;
-use std::test::Fail;
 
 fn put_in<P: Place>(rt: &impl Abort, table: &mut Partitioning<P>, index: usize, count: usize) {
     assert!(rt; index < table.count());
@@ -19,19 +18,13 @@ fn take_out<P: Place>(rt: &impl Abort, table: &mut Partitioning<P>, index: usize
     table.delete_text(index, count);
 }
 
-fn split<P: Place>(
-    rt: &impl Abort,
-    table: &mut Partitioning<P>,
-    index: usize,
-    start: usize,
-) -> Result<(), AllocError> {
-    table.reserve(1)?;
+fn split<P: Place>(rt: &impl Abort, table: &mut Partitioning<P>, index: usize, start: usize) {
+    table.reserve(1).expect(rt, "memory");
     let partitions = table.count();
     assert!(rt; 0 < index && index <= partitions);
     assert!(rt; table.start_of(index - 1) < start && start <= table.length());
     assert!(rt; index == partitions || start < table.start_of(index));
     table.insert_reserved(index, start);
-    Ok(())
 }
 
 fn join<P: Place>(rt: &impl Abort, table: &mut Partitioning<P>, index: usize) {
@@ -54,13 +47,13 @@ fn assert_starts<P: Place>(
     assert_eq!(rt; table.length(), length);
 }
 
-fn row_of_edits<P: Place>(rt: &impl Abort, alloc: Global) -> Result<(), Fail> {
-    let mut table: Partitioning<P> = Partitioning::new(alloc)?;
+fn row_of_edits<P: Place>(rt: &impl Abort, alloc: Global) {
+    let mut table: Partitioning<P> = Partitioning::new(alloc).expect(rt, "memory");
     assert_starts(rt, &table, &[0], 0);
     put_in(rt, &mut table, 0, 5);
-    table.reserve(2)?;
-    split(rt, &mut table, 1, 2)?;
-    split(rt, &mut table, 2, 4)?;
+    table.reserve(2).expect(rt, "memory");
+    split(rt, &mut table, 1, 2);
+    split(rt, &mut table, 2, 4);
     assert_starts(rt, &table, &[0, 2, 4], 5);
     put_in(rt, &mut table, 0, 3);
     assert_starts(rt, &table, &[0, 5, 7], 8);
@@ -81,32 +74,27 @@ fn row_of_edits<P: Place>(rt: &impl Abort, alloc: Global) -> Result<(), Fail> {
     assert_starts(rt, &table, &[0, 7], 10);
     assert_eq!(rt; table.partition_of(6, &mut probes), 0);
     assert_eq!(rt; table.partition_of(7, &mut probes), 1);
-    Ok(())
 }
 
 #[test]
-fn edits_at_both_places(rt: HostRuntime) -> Result<(), Fail> {
-    row_of_edits::<u32>(&rt, rt.alloc())?;
-    row_of_edits::<u64>(&rt, rt.alloc())
+fn edits_at_both_places(rt: HostRuntime) {
+    row_of_edits::<u32>(&rt, rt.alloc());
+    row_of_edits::<u64>(&rt, rt.alloc());
 }
 
 // One partition of as many bytes as there are partitions to be, cut into partitions of one byte.
-fn single_bytes<P: Place>(
-    rt: &impl Abort,
-    alloc: Global,
-    count: usize,
-) -> Result<Partitioning<P>, AllocError> {
-    let mut table = Partitioning::new(alloc)?;
+fn single_bytes<P: Place>(rt: &impl Abort, alloc: Global, count: usize) -> Partitioning<P> {
+    let mut table = Partitioning::new(alloc).expect(rt, "memory");
     put_in(rt, &mut table, 0, count);
     for index in 1..count {
-        split(rt, &mut table, index, index)?;
+        split(rt, &mut table, index, index);
     }
-    Ok(table)
+    table
 }
 
-fn row_of_counts<P: Place>(rt: &impl Abort, alloc: Global) -> Result<(), Fail> {
+fn row_of_counts<P: Place>(rt: &impl Abort, alloc: Global) {
     for (partitions, least, most) in [(1, 0, 2), (3, 1, 3), (1000, 9, 11)] {
-        let table: Partitioning<P> = single_bytes(rt, alloc, partitions)?;
+        let table: Partitioning<P> = single_bytes(rt, alloc, partitions);
         for place in 0..partitions + 2 {
             let mut probes = Probes::new();
             let found = table.partition_of(place, &mut probes);
@@ -119,7 +107,7 @@ fn row_of_counts<P: Place>(rt: &impl Abort, alloc: Global) -> Result<(), Fail> {
         }
     }
 
-    let mut table: Partitioning<P> = single_bytes(rt, alloc, 1000)?;
+    let mut table: Partitioning<P> = single_bytes(rt, alloc, 1000);
     put_in(rt, &mut table, 0, 1);
     assert_eq!(rt; table.step_at(), 0);
     let before = table.stepped();
@@ -127,24 +115,23 @@ fn row_of_counts<P: Place>(rt: &impl Abort, alloc: Global) -> Result<(), Fail> {
     assert_eq!(rt; table.step_at(), 999);
     let after = table.stepped();
     assert!(rt; before <= after && 998 <= after - before);
-    Ok(())
 }
 
 #[test]
-fn counts_at_both_places(rt: HostRuntime) -> Result<(), Fail> {
-    row_of_counts::<u32>(&rt, rt.alloc())?;
-    row_of_counts::<u64>(&rt, rt.alloc())
+fn counts_at_both_places(rt: HostRuntime) {
+    row_of_counts::<u32>(&rt, rt.alloc());
+    row_of_counts::<u64>(&rt, rt.alloc());
 }
 
 // A start that comes or goes on either side of the step leaves the others as they are stored.
-fn row_of_starts<P: Place>(rt: &impl Abort, alloc: Global) -> Result<(), Fail> {
-    let mut table: Partitioning<P> = single_bytes(rt, alloc, 3)?;
+fn row_of_starts<P: Place>(rt: &impl Abort, alloc: Global) {
+    let mut table: Partitioning<P> = single_bytes(rt, alloc, 3);
     put_in(rt, &mut table, 0, 4);
     let stepped = table.stepped();
-    split(rt, &mut table, 3, 7)?;
+    split(rt, &mut table, 3, 7);
     assert_starts(rt, &table, &[0, 5, 6, 7], 7);
     assert_eq!(rt; table.step_at(), 0);
-    split(rt, &mut table, 1, 2)?;
+    split(rt, &mut table, 1, 2);
     assert_starts(rt, &table, &[0, 2, 5, 6, 7], 7);
     assert_eq!(rt; table.step_at(), 1);
     join(rt, &mut table, 3);
@@ -154,11 +141,10 @@ fn row_of_starts<P: Place>(rt: &impl Abort, alloc: Global) -> Result<(), Fail> {
     assert_eq!(rt; table.stepped(), stepped);
     put_in(rt, &mut table, 0, 1);
     assert_starts(rt, &table, &[0, 6, 8], 8);
-    Ok(())
 }
 
 #[test]
-fn starts_at_both_places(rt: HostRuntime) -> Result<(), Fail> {
-    row_of_starts::<u32>(&rt, rt.alloc())?;
-    row_of_starts::<u64>(&rt, rt.alloc())
+fn starts_at_both_places(rt: HostRuntime) {
+    row_of_starts::<u32>(&rt, rt.alloc());
+    row_of_starts::<u64>(&rt, rt.alloc());
 }

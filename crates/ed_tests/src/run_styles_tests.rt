@@ -3,21 +3,19 @@ ghost use Rattle.run_styles.specs.Expansion.{IsExact};
 
 use partitioning::Place;
 use run_styles::RunStyles;
-use std::alloc::{AllocError, Global};
+use std::alloc::Global;
 use std::process::Abort;
-use std::test::Fail;
 
 fn put_space<P: Place, V: Copy + Eq>(
     rt: &impl Abort,
     styles: &mut RunStyles<P, V>,
     place: usize,
     count: usize,
-) -> Result<(), AllocError> {
-    styles.reserve(1)?;
+) {
+    styles.reserve(1).expect(rt, "memory");
     let length = styles.length();
     assert!(rt; place <= length && count <= P::GREATEST - length);
     styles.insert_space(place, count);
-    Ok(())
 }
 
 fn put_value<P: Place, V: Copy + Eq>(
@@ -26,12 +24,11 @@ fn put_value<P: Place, V: Copy + Eq>(
     place: usize,
     count: usize,
     value: V,
-) -> Result<(), AllocError> {
-    styles.reserve(2)?;
+) {
+    styles.reserve(2).expect(rt, "memory");
     let length = styles.length();
     assert!(rt; place <= length && count <= P::GREATEST - length);
     styles.insert_value(place, count, value);
-    Ok(())
 }
 
 fn set<P: Place, V: Copy + Eq>(
@@ -40,11 +37,11 @@ fn set<P: Place, V: Copy + Eq>(
     place: usize,
     count: usize,
     value: V,
-) -> Result<Option<(usize, usize)>, AllocError> {
-    styles.reserve(2)?;
+) -> Option<(usize, usize)> {
+    styles.reserve(2).expect(rt, "memory");
     let length = styles.length();
     assert!(rt; place <= length && count <= length - place);
-    Ok(styles.fill(place, count, value))
+    styles.fill(place, count, value)
 }
 
 fn take_out<P: Place, V: Copy + Eq>(
@@ -86,63 +83,52 @@ fn four_defaults<P: Place, V: Copy + Eq>(
     rt: &impl Abort,
     alloc: Global,
     default: V,
-) -> Result<RunStyles<P, V>, AllocError>
+) -> RunStyles<P, V>
     requires { IsExact V.eq }
 {
-    let mut styles: RunStyles<P, V> = RunStyles::new(alloc, default)?;
-    put_space(rt, &mut styles, 0, 4)?;
-    Ok(styles)
+    let mut styles: RunStyles<P, V> = RunStyles::new(alloc, default).expect(rt, "memory");
+    put_space(rt, &mut styles, 0, 4);
+    styles
 }
 
-fn row_of_fills<P: Place, V: Copy + Eq>(
-    rt: &impl Abort,
-    alloc: Global,
-    default: V,
-    other: V,
-) -> Result<(), Fail>
+fn row_of_fills<P: Place, V: Copy + Eq>(rt: &impl Abort, alloc: Global, default: V, other: V)
     requires { IsExact V.eq }
 {
-    let mut styles: RunStyles<P, V> = four_defaults(rt, alloc, default)?;
+    let mut styles: RunStyles<P, V> = four_defaults(rt, alloc, default);
     assert!(rt; styles.is_all(default) && !styles.is_all(other));
-    assert_eq!(rt; set(rt, &mut styles, 1, 2, other)?, Some((1, 2)));
+    assert_eq!(rt; set(rt, &mut styles, 1, 2, other), Some((1, 2)));
     assert_values(rt, &styles, &[false, true, true, false], default, other);
-    assert_eq!(rt; set(rt, &mut styles, 0, 3, other)?, Some((0, 1)));
-    assert_eq!(rt; set(rt, &mut styles, 0, 3, other)?, None);
+    assert_eq!(rt; set(rt, &mut styles, 0, 3, other), Some((0, 1)));
+    assert_eq!(rt; set(rt, &mut styles, 0, 3, other), None);
     assert_values(rt, &styles, &[true, true, true, false], default, other);
-    assert_eq!(rt; set(rt, &mut styles, 2, 2, other)?, Some((3, 1)));
+    assert_eq!(rt; set(rt, &mut styles, 2, 2, other), Some((3, 1)));
     assert!(rt; styles.is_all(other) && !styles.is_all(default));
-    assert_eq!(rt; set(rt, &mut styles, 2, 0, default)?, None);
-    assert_eq!(rt; set(rt, &mut styles, 1, 2, default)?, Some((1, 2)));
+    assert_eq!(rt; set(rt, &mut styles, 2, 0, default), None);
+    assert_eq!(rt; set(rt, &mut styles, 1, 2, default), Some((1, 2)));
     assert_values(rt, &styles, &[true, false, false, true], default, other);
     assert!(rt; !styles.is_all(other));
-    Ok(())
 }
 
-fn row_of_insertions<P: Place, V: Copy + Eq>(
-    rt: &impl Abort,
-    alloc: Global,
-    default: V,
-    other: V,
-) -> Result<(), Fail>
+fn row_of_insertions<P: Place, V: Copy + Eq>(rt: &impl Abort, alloc: Global, default: V, other: V)
     requires { IsExact V.eq }
 {
     for place in 0..5 {
-        let mut styles: RunStyles<P, V> = four_defaults(rt, alloc, default)?;
-        let _ = set(rt, &mut styles, 1, 2, other)?;
-        put_space(rt, &mut styles, place, 1)?;
+        let mut styles: RunStyles<P, V> = four_defaults(rt, alloc, default);
+        let _ = set(rt, &mut styles, 1, 2, other);
+        put_space(rt, &mut styles, place, 1);
         assert!(rt; place < styles.length());
         let want = if place == 2 { other } else { default };
         assert!(rt; styles.value_at(place) == want);
     }
-    let mut styles: RunStyles<P, V> = RunStyles::new(alloc, default)?;
+    let mut styles: RunStyles<P, V> = RunStyles::new(alloc, default).expect(rt, "memory");
     assert_eq!(rt; styles.runs(), 1);
     assert!(rt; styles.is_all(default) && styles.is_all(other));
-    put_value(rt, &mut styles, 0, 2, other)?;
-    put_space(rt, &mut styles, 0, 1)?;
-    put_space(rt, &mut styles, 3, 1)?;
+    put_value(rt, &mut styles, 0, 2, other);
+    put_space(rt, &mut styles, 0, 1);
+    put_space(rt, &mut styles, 3, 1);
     assert_values(rt, &styles, &[false, true, true, false], default, other);
-    put_value(rt, &mut styles, 2, 1, default)?;
-    put_value(rt, &mut styles, 5, 1, other)?;
+    put_value(rt, &mut styles, 2, 1, default);
+    put_value(rt, &mut styles, 5, 1, other);
     assert_values(
         rt,
         &styles,
@@ -150,31 +136,24 @@ fn row_of_insertions<P: Place, V: Copy + Eq>(
         default,
         other,
     );
-    Ok(())
 }
 
-fn row_of_deletions<P: Place, V: Copy + Eq>(
-    rt: &impl Abort,
-    alloc: Global,
-    default: V,
-    other: V,
-) -> Result<(), Fail>
+fn row_of_deletions<P: Place, V: Copy + Eq>(rt: &impl Abort, alloc: Global, default: V, other: V)
     requires { IsExact V.eq }
 {
-    let mut styles: RunStyles<P, V> = four_defaults(rt, alloc, default)?;
-    let _ = set(rt, &mut styles, 1, 2, other)?;
+    let mut styles: RunStyles<P, V> = four_defaults(rt, alloc, default);
+    let _ = set(rt, &mut styles, 1, 2, other);
     take_out(rt, &mut styles, 1, 1);
     assert_values(rt, &styles, &[false, true, false], default, other);
     take_out(rt, &mut styles, 1, 1);
     assert_values(rt, &styles, &[false, false], default, other);
-    let _ = set(rt, &mut styles, 1, 1, other)?;
+    let _ = set(rt, &mut styles, 1, 1, other);
     take_out(rt, &mut styles, 0, 2);
     assert_values(rt, &styles, &[], default, other);
-    put_space(rt, &mut styles, 0, 3)?;
-    let _ = set(rt, &mut styles, 1, 1, other)?;
+    put_space(rt, &mut styles, 0, 3);
+    let _ = set(rt, &mut styles, 1, 1, other);
     take_out(rt, &mut styles, 0, 2);
     assert_values(rt, &styles, &[false], default, other);
-    Ok(())
 }
 
 // A body that keeps a plain list of values cannot run this.
@@ -184,11 +163,11 @@ fn long_list<P: Place, V: Copy + Eq>(
     size: usize,
     default: V,
     other: V,
-) -> Result<(), Fail>
+)
     requires { IsExact V.eq }
 {
-    let mut styles: RunStyles<P, V> = RunStyles::new(alloc, default)?;
-    styles.reserve(4)?;
+    let mut styles: RunStyles<P, V> = RunStyles::new(alloc, default).expect(rt, "memory");
+    styles.reserve(4).expect(rt, "memory");
     assert!(rt; size <= P::GREATEST && 4 <= size);
     assert_eq!(rt; styles.length(), 0);
     styles.insert_space(0, size);
@@ -201,34 +180,33 @@ fn long_list<P: Place, V: Copy + Eq>(
     take_out(rt, &mut styles, 2, half);
     assert_eq!(rt; styles.length(), size - half);
     assert_eq!(rt; styles.runs(), 3);
-    Ok(())
 }
 
 #[test]
-fn fills(rt: HostRuntime) -> Result<(), Fail> {
+fn fills(rt: HostRuntime) {
     let alloc = rt.alloc();
-    row_of_fills::<u32, u8>(&rt, alloc, 0, 8)?;
-    row_of_fills::<u64, u8>(&rt, alloc, 0, 8)?;
-    row_of_fills::<u32, bool>(&rt, alloc, true, false)
+    row_of_fills::<u32, u8>(&rt, alloc, 0, 8);
+    row_of_fills::<u64, u8>(&rt, alloc, 0, 8);
+    row_of_fills::<u32, bool>(&rt, alloc, true, false);
 }
 
 #[test]
-fn insertions(rt: HostRuntime) -> Result<(), Fail> {
+fn insertions(rt: HostRuntime) {
     let alloc = rt.alloc();
-    row_of_insertions::<u32, u8>(&rt, alloc, 0, 1)?;
-    row_of_insertions::<u64, bool>(&rt, alloc, false, true)
+    row_of_insertions::<u32, u8>(&rt, alloc, 0, 1);
+    row_of_insertions::<u64, bool>(&rt, alloc, false, true);
 }
 
 #[test]
-fn deletions(rt: HostRuntime) -> Result<(), Fail> {
+fn deletions(rt: HostRuntime) {
     let alloc = rt.alloc();
-    row_of_deletions::<u32, bool>(&rt, alloc, false, true)?;
-    row_of_deletions::<u64, u8>(&rt, alloc, 0, 1)
+    row_of_deletions::<u32, bool>(&rt, alloc, false, true);
+    row_of_deletions::<u64, u8>(&rt, alloc, 0, 1);
 }
 
 #[test]
-fn long_lists(rt: HostRuntime) -> Result<(), Fail> {
+fn long_lists(rt: HostRuntime) {
     let alloc = rt.alloc();
-    long_list::<u64, u8>(&rt, alloc, 1 << 40, 0, 8)?;
-    long_list::<u32, bool>(&rt, alloc, 1 << 31, true, false)
+    long_list::<u64, u8>(&rt, alloc, 1 << 40, 0, 8);
+    long_list::<u32, bool>(&rt, alloc, 1 << 31, true, false);
 }

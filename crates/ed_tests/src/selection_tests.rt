@@ -1,5 +1,5 @@
 //! Positions about a step, and each key on a text of three lines, in each two halves and at both widths of places.
-ghost use Rattle.std.specs.Prelude.{◌≡◌, ◌++◌, IfOk};
+ghost use Rattle.std.specs.Prelude.{◌≡◌, ◌++◌};
 ghost use Rattle.line_index.specs.Index.{IsIndexOf};
 
 use crate::line_index_tests::insert;
@@ -7,24 +7,19 @@ use ed_model::LineEndTypes;
 use line_index::LineIndex;
 use partitioning::Place;
 use selection::{Motion, Movement, Selection};
-use std::alloc::{AllocError, Global};
+use std::alloc::Global;
 use std::process::Abort;
-use std::test::Fail;
 
 // `ab`, CRLF, `c`, U+00E9, LF: lines from 0, 4 and 8 on
 const TEXT: [u8; 8] = [0x61, 0x62, 0x0D, 0x0A, 0x63, 0xC3, 0xA9, 0x0A];
 
-fn index_of<P: Place>(
-    rt: &impl Abort,
-    alloc: Global,
-    text: &[u8],
-) -> Result<LineIndex<P>, AllocError>
-    ensures { IfOk result (λ t. IsIndexOf text.now t) }
+fn index_of<P: Place>(rt: &impl Abort, alloc: Global, text: &[u8]) -> LineIndex<P>
+    ensures { IsIndexOf text.now result }
 {
-    let mut index = LineIndex::new(alloc, LineEndTypes::Default)?;
-    let (made, _) = insert(rt, alloc, &mut index, b"", 0, text, 0)?;
+    let mut index = LineIndex::new(alloc, LineEndTypes::Default).expect(rt, "memory");
+    let (made, _) = insert(rt, alloc, &mut index, b"", 0, text, 0);
     assert!(rt; made.as_slice() == text);
-    Ok(index)
+    index
 }
 
 fn selection(anchor: usize, caret: usize) -> Selection
@@ -54,8 +49,8 @@ fn after_key<P: Place>(
     Some(whole)
 }
 
-fn keys_at<P: Place>(rt: &impl Abort, alloc: Global) -> Result<(), Fail> {
-    let lines = index_of::<P>(rt, alloc, &TEXT)?;
+fn keys_at<P: Place>(rt: &impl Abort, alloc: Global) {
+    let lines = index_of::<P>(rt, alloc, &TEXT);
     let empty = selection(6, 6);
     let back = selection(7, 2);
     let cases = [
@@ -99,17 +94,16 @@ fn keys_at<P: Place>(rt: &impl Abort, alloc: Global) -> Result<(), Fail> {
         assert_eq!(rt; after_key(rt, &lines, from, motion, false), Some(both));
         assert_eq!(rt; after_key(rt, &lines, from, motion, true), Some(extended));
     }
-    Ok(())
 }
 
 #[test]
-fn keys_on_small_places(rt: HostRuntime) -> Result<(), Fail> {
-    keys_at::<u32>(&rt, rt.alloc())
+fn keys_on_small_places(rt: HostRuntime) {
+    keys_at::<u32>(&rt, rt.alloc());
 }
 
 #[test]
-fn keys_on_large_places(rt: HostRuntime) -> Result<(), Fail> {
-    keys_at::<u64>(&rt, rt.alloc())
+fn keys_on_large_places(rt: HostRuntime) {
+    keys_at::<u64>(&rt, rt.alloc());
 }
 
 #[test]

@@ -1,7 +1,6 @@
 //! The calls in rows, at several types of items. The lists are written out by hand.
 use split_vector::SplitVector;
 use std::alloc::AllocError;
-use std::test::Fail;
 
 #[derive(Clone, Copy, Debug, PartialEq)]
 struct Mark {
@@ -18,57 +17,66 @@ fn joined(v: &SplitVector<u8>, rt: &HostRuntime) -> Result<Vec<u8>, AllocError> 
 }
 
 #[test]
-fn bytes_go_in_and_out(rt: HostRuntime) -> Result<(), Fail> {
+fn bytes_go_in_and_out(rt: HostRuntime) {
     let mut v: SplitVector<u8> = SplitVector::new(rt.alloc());
     assert_eq!(rt; v.spare(), 0);
     assert!(rt; v.is_empty());
-    v.reserve(3)?;
+    v.reserve(3).expect(&rt, "memory");
     v.insert_slice_reserved(0, b"abc");
-    v.reserve(2)?;
-    assert_eq!(rt; joined(&v, &rt)?.as_slice(), b"abc".as_slice());
+    v.reserve(2).expect(&rt, "memory");
+    assert_eq!(rt;
+        joined(&v, &rt).expect(&rt, "memory").as_slice(),
+        b"abc".as_slice()
+    );
     assert!(rt; v.spare() >= 2);
     v.insert_reserved(1, b'x');
     assert_eq!(rt; v.gap(), 2);
-    assert_eq!(rt; joined(&v, &rt)?.as_slice(), b"axbc".as_slice());
+    assert_eq!(rt;
+        joined(&v, &rt).expect(&rt, "memory").as_slice(),
+        b"axbc".as_slice()
+    );
     assert_eq!(rt; v.lend(0, 4), b"axbc".as_slice());
     v.delete(0, 4);
     assert!(rt; v.spare() >= 5);
     assert!(rt; v.is_empty());
-    Ok(())
 }
 
 #[test]
-fn a_deletion_across_the_gap(rt: HostRuntime) -> Result<(), Fail> {
+fn a_deletion_across_the_gap(rt: HostRuntime) {
     let mut v: SplitVector<u8> = SplitVector::new(rt.alloc());
-    v.reserve(4)?;
+    v.reserve(4).expect(&rt, "memory");
     v.insert_slice_reserved(0, b"abc");
     v.insert_reserved(1, b'x');
     assert_eq!(rt; v.moved(), 6);
     v.delete(0, 2);
     assert_eq!(rt; v.moved(), 6);
     assert_eq!(rt; v.gap(), 0);
-    assert_eq!(rt; joined(&v, &rt)?.as_slice(), b"bc".as_slice());
+    assert_eq!(rt;
+        joined(&v, &rt).expect(&rt, "memory").as_slice(),
+        b"bc".as_slice()
+    );
     assert_eq!(rt; v.lend(0, 2), b"bc".as_slice());
-    Ok(())
 }
 
 #[test]
-fn a_refused_growth_changes_nothing(rt: HostRuntime) -> Result<(), Fail> {
+fn a_refused_growth_changes_nothing(rt: HostRuntime) {
     let mut v: SplitVector<u8> = SplitVector::new(rt.alloc());
-    v.reserve(5)?;
+    v.reserve(5).expect(&rt, "memory");
     v.insert_slice_reserved(0, b"abc");
     let spare = v.spare();
     assert!(rt; v.reserve(usize::MAX).is_err());
     assert!(rt; v.reserve(usize::MAX / 2).is_err());
     assert_eq!(rt; v.spare(), spare);
-    assert_eq!(rt; joined(&v, &rt)?.as_slice(), b"abc".as_slice());
-    Ok(())
+    assert_eq!(rt;
+        joined(&v, &rt).expect(&rt, "memory").as_slice(),
+        b"abc".as_slice()
+    );
 }
 
 #[test]
-fn moves_are_counted(rt: HostRuntime) -> Result<(), Fail> {
+fn moves_are_counted(rt: HostRuntime) {
     let mut v: SplitVector<u8> = SplitVector::new(rt.alloc());
-    v.reserve(1001)?;
+    v.reserve(1001).expect(&rt, "memory");
     for _ in 0..1000 {
         let len = v.len();
         assert!(rt; v.spare() > 0);
@@ -79,16 +87,15 @@ fn moves_are_counted(rt: HostRuntime) -> Result<(), Fail> {
     v.insert_reserved(0, b'^');
     assert_eq!(rt; v.moved(), 2001);
     assert_eq!(rt; v.len(), 1001);
-    Ok(())
 }
 
 #[test]
-fn growth_keeps_both_sides(rt: HostRuntime) -> Result<(), Fail> {
+fn growth_keeps_both_sides(rt: HostRuntime) {
     let mut v: SplitVector<u32> = SplitVector::new(rt.alloc());
-    v.reserve(4)?;
+    v.reserve(4).expect(&rt, "memory");
     v.insert_slice_reserved(0, &[10, 20, 30, 40]);
     v.delete(1, 1);
-    v.reserve(100)?;
+    v.reserve(100).expect(&rt, "memory");
     assert_eq!(rt; v.gap(), 1);
     assert!(rt; v.spare() >= 100);
     assert_eq!(rt; v.len(), 3);
@@ -100,15 +107,14 @@ fn growth_keeps_both_sides(rt: HostRuntime) -> Result<(), Fail> {
     assert_eq!(rt; v.len(), 5);
     v.copy_out(1, &mut part);
     assert_eq!(rt; part.as_slice(), [31, 40, 7, 7].as_slice());
-    Ok(())
 }
 
 #[test]
-fn marks_are_copied(rt: HostRuntime) -> Result<(), Fail> {
+fn marks_are_copied(rt: HostRuntime) {
     let mut v: SplitVector<Mark> = SplitVector::new(rt.alloc());
     let first = Mark { line: 1, kind: 2 };
     let other = Mark { line: 9, kind: 0 };
-    v.reserve(3)?;
+    v.reserve(3).expect(&rt, "memory");
     v.insert_fill_reserved(0, 2, first);
     v.insert_reserved(1, other);
     assert_eq!(rt; v.len(), 3);
@@ -117,5 +123,4 @@ fn marks_are_copied(rt: HostRuntime) -> Result<(), Fail> {
     v.copy_out(0, &mut part);
     assert_eq!(rt; part.as_slice(), [first, other, first].as_slice());
     assert_eq!(rt; v.lend(1, 2), [other, first].as_slice());
-    Ok(())
 }

@@ -2,7 +2,6 @@
 
 use std::alloc::{AllocError, Global};
 use std::process::Abort;
-use std::test::Fail;
 use target_search::{SearchFlags, find};
 
 const WHOLE_WORD: u32 = 2;
@@ -119,12 +118,14 @@ fn long_text(alloc: Global, lines: usize) -> Result<Vec<u8>, AllocError> {
 }
 
 #[test]
-fn long_texts(rt: HostRuntime) -> Result<(), Fail> {
+fn long_texts(rt: HostRuntime) {
     let alloc = rt.alloc();
-    let mut text = long_text(alloc, 100)?;
-    text.extend_from_slice(b"A lazy Dog\n")?;
-    let more = long_text(alloc, 100)?;
-    text.extend_from_slice(more.as_slice())?;
+    let mut text = long_text(alloc, 100).expect(&rt, "memory");
+    text.extend_from_slice(b"A lazy Dog\n")
+        .expect(&rt, "memory");
+    let more = long_text(alloc, 100).expect(&rt, "memory");
+    text.extend_from_slice(more.as_slice())
+        .expect(&rt, "memory");
     let text = text.as_slice();
     let end = text.len();
     assert_eq!(rt; end, 4011);
@@ -146,7 +147,6 @@ fn long_texts(rt: HostRuntime) -> Result<(), Fail> {
         assert_found_at(&rt, 0, text, middle, b"lazy", 2005, 0, None);
         assert_found_at(&rt, 0, text, middle, b"lazy", 2006, 0, Some(2002));
     }
-    Ok(())
 }
 
 // So many times `ab`, one after the other, then ` AB `, and as many again.
@@ -163,8 +163,8 @@ fn text_of_candidates(alloc: Global, count: usize) -> Result<Vec<u8>, AllocError
 }
 
 #[test]
-fn many_candidates(rt: HostRuntime) -> Result<(), Fail> {
-    let text = text_of_candidates(rt.alloc(), 2000)?;
+fn many_candidates(rt: HostRuntime) {
+    let text = text_of_candidates(rt.alloc(), 2000).expect(&rt, "memory");
     let text = text.as_slice();
     let end = text.len();
     assert_eq!(rt; end, 8004);
@@ -179,5 +179,4 @@ fn many_candidates(rt: HostRuntime) -> Result<(), Fail> {
         assert_found_at(&rt, exact, text, middle, b"ab", end, 0, None);
         assert_found_at(&rt, exact, text, middle, b"AB", end, 0, Some(4001));
     }
-    Ok(())
 }
