@@ -5,6 +5,7 @@ ghost use Rattle.std.specs.Prelude.{◌≤◌, ◌+◌, length};
 use crate::tell;
 use char_cut::{after, before};
 use selection::{Movement, Selection};
+use std::alloc::{AllocError, Global};
 use std::io;
 use std::time::Instant;
 
@@ -50,12 +51,17 @@ fn move_on(count: usize) -> usize {
 }
 
 /// A text of so many bytes with characters of one to four bytes and CRLF.
-pub fn run(rt: &HostRuntime, bytes: usize) -> io::Result<()> {
-    let mut text: Vec<u8> = Vec::new(rt.alloc());
+fn text_of(alloc: Global, bytes: usize) -> Result<Vec<u8>, AllocError> {
+    let mut text: Vec<u8> = Vec::new(alloc);
     for _ in 0..bytes / 14 {
         text.extend_from_slice("aé€😀b\r\n.".as_bytes())?;
     }
-    let (first, second) = text.as_slice().split_at(text.len() / 2);
+    Ok(text)
+}
+
+/// Passes a text in two halves both ways, and moves as many selections as it has bytes.
+fn measure(rt: &HostRuntime, text: &[u8], bytes: usize) -> io::Result<()> {
+    let (first, second) = text.split_at(text.len() / 2);
     let start = Instant::now(rt)?;
     let forwards = count_forwards(first, second);
     tell(rt, "characters passed forwards", start, forwards)?;
@@ -66,4 +72,10 @@ pub fn run(rt: &HostRuntime, bytes: usize) -> io::Result<()> {
     let caret = move_on(bytes);
     tell(rt, "selections moved", start, bytes)?;
     println!(rt; "characters {forwards} {backwards} {caret}")
+}
+
+/// A text of so many bytes with characters of one to four bytes and CRLF.
+pub fn run(rt: &HostRuntime, bytes: usize) -> io::Result<()> {
+    let text = text_of(rt.alloc(), bytes)?;
+    measure(rt, text.as_slice(), bytes)
 }

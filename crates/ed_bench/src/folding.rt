@@ -3,7 +3,7 @@
 use crate::tell;
 use contraction::{Contraction, Levels};
 use line_index::LineEdit;
-use std::alloc::AllocError;
+use std::alloc::{AllocError, Global};
 use std::io;
 use std::time::Instant;
 
@@ -55,32 +55,82 @@ fn look_up(view: &Contraction<u32>, count: usize) -> usize {
     sum
 }
 
-/// A view of so many lines, each second of them hidden; then one with all headers contracted.
-pub fn run(rt: &HostRuntime, lines: usize, count: usize) -> io::Result<()> {
-    let lines = lines.min(u32::MAX as usize);
-    let mut view: Contraction<u32> = Contraction::new(rt.alloc(), lines)?;
-    let start = Instant::now(rt)?;
+/// Hides each second line.
+fn hide_half(view: &mut Contraction<u32>, lines: usize) -> Result<(), AllocError> {
     for line in 0..lines / 2 {
-        hide(&mut view, line * 2 + 1)?;
+        hide(view, line * 2 + 1)?;
     }
+    Ok(())
+}
+
+/// Hides lines, looks display lines up, and puts lines in: answers the sum of what was found.
+fn measure_hidden(
+    rt: &HostRuntime,
+    view: &mut Contraction<u32>,
+    lines: usize,
+    count: usize,
+) -> io::Result<usize> {
+    let start = Instant::now(rt)?;
+    hide_half(view, lines)?;
     tell(rt, "lines hidden", start, lines / 2)?;
     let start = Instant::now(rt)?;
-    let sum = look_up(&view, count);
+    let sum = look_up(view, count);
     tell(rt, "display lines looked up both ways", start, count)?;
     let start = Instant::now(rt)?;
     for _ in 0..count {
-        come(&mut view, lines / 2);
+        come(view, lines / 2);
     }
     tell(rt, "lines put in among hidden ones", start, count)?;
-    let mut levels: Vec<u32> = Vec::new(rt.alloc());
+    Ok(sum)
+}
+
+/// The levels of so many lines.
+fn levels_of(alloc: Global, lines: usize) -> Result<Vec<u32>, AllocError> {
+    let mut levels: Vec<u32> = Vec::with_capacity(alloc, lines)?;
     for line in 0..lines {
         levels.push(block_level(line))?;
     }
-    let mut view: Contraction<u32> = Contraction::new(rt.alloc(), lines)?;
-    let start = Instant::now(rt)?;
-    for header in 0..lines / 8 {
-        contract(&mut view, levels.as_slice(), header * 8)?;
+    Ok(levels)
+}
+
+/// Contracts all headers.
+fn contract_all(view: &mut Contraction<u32>, levels: &[u32]) -> Result<(), AllocError> {
+    for header in 0..levels.len() / 8 {
+        contract(view, levels, header * 8)?;
     }
-    tell(rt, "headers contracted", start, lines / 8)?;
-    println!(rt; "folded {sum} {}", view.doc_of(1))
+    Ok(())
+}
+
+/// Contracts all headers, and answers the line on the second display line.
+fn measure_contracted(
+    rt: &HostRuntime,
+    view: &mut Contraction<u32>,
+    levels: &[u32],
+) -> io::Result<usize> {
+    let start = Instant::now(rt)?;
+    contract_all(view, levels)?;
+    tell(rt, "headers contracted", start, levels.len() / 8)?;
+    Ok(view.doc_of(1))
+}
+
+/// A view of so many lines, each second of them hidden.
+fn run_hidden(rt: &HostRuntime, lines: usize, count: usize) -> io::Result<usize> {
+    let lines = lines.min(u32::MAX as usize);
+    let mut view: Contraction<u32> = Contraction::new(rt.alloc(), lines)?;
+    measure_hidden(rt, &mut view, lines, count)
+}
+
+/// A view of so many lines with all headers contracted.
+fn run_contracted(rt: &HostRuntime, lines: usize) -> io::Result<usize> {
+    let lines = lines.min(u32::MAX as usize);
+    let levels = levels_of(rt.alloc(), lines)?;
+    let mut view: Contraction<u32> = Contraction::new(rt.alloc(), lines)?;
+    measure_contracted(rt, &mut view, levels.as_slice())
+}
+
+/// A view of so many lines, each second of them hidden; then one with all headers contracted.
+pub fn run(rt: &HostRuntime, lines: usize, count: usize) -> io::Result<()> {
+    let sum = run_hidden(rt, lines, count)?;
+    let shown = run_contracted(rt, lines)?;
+    println!(rt; "folded {sum} {shown}")
 }

@@ -46,29 +46,54 @@ fn tell_all(notes: &mut NoteList, count: usize) -> Result<(), AllocError> {
     Ok(())
 }
 
-/// So many steps, undone and redone, and as many notes.
-pub fn run(rt: &HostRuntime, count: usize) -> io::Result<()> {
-    let mut history = UndoHistory::new(rt.alloc());
+/// Appends so many steps, undoes and redoes them, and answers how many bytes that were, each way.
+fn measure_steps(
+    rt: &HostRuntime,
+    history: &mut UndoHistory,
+    count: usize,
+) -> io::Result<(usize, usize)> {
     let start = Instant::now(rt)?;
-    append(&mut history, count)?;
+    append(history, count)?;
     tell(rt, "steps appended", start, count)?;
     let start = Instant::now(rt)?;
     let mut undone = 0usize;
     for _ in 0..count {
-        undone = undone.wrapping_add(undo(&mut history));
+        undone = undone.wrapping_add(undo(history));
     }
     tell(rt, "transactions undone", start, count)?;
     let start = Instant::now(rt)?;
     let mut redone = 0usize;
     for _ in 0..count {
-        redone = redone.wrapping_add(redo(&mut history));
+        redone = redone.wrapping_add(redo(history));
     }
     tell(rt, "transactions redone", start, count)?;
-    let mut notes = NoteList::new(rt.alloc());
+    Ok((undone, redone))
+}
+
+/// Puts so many notes that share a text.
+fn measure_notes(rt: &HostRuntime, notes: &mut NoteList, count: usize) -> io::Result<()> {
     notes.reserve(0, 8)?;
     notes.share(b"8 bytes.", &[]);
     let start = Instant::now(rt)?;
-    tell_all(&mut notes, count)?;
-    tell(rt, "notes put", start, count)?;
+    tell_all(notes, count)?;
+    tell(rt, "notes put", start, count)
+}
+
+/// So many steps, undone and redone.
+fn run_steps(rt: &HostRuntime, count: usize) -> io::Result<(usize, usize)> {
+    let mut history = UndoHistory::new(rt.alloc());
+    measure_steps(rt, &mut history, count)
+}
+
+/// So many notes.
+fn run_notes(rt: &HostRuntime, count: usize) -> io::Result<()> {
+    let mut notes = NoteList::new(rt.alloc());
+    measure_notes(rt, &mut notes, count)
+}
+
+/// So many steps, undone and redone, and as many notes.
+pub fn run(rt: &HostRuntime, count: usize) -> io::Result<()> {
+    let (undone, redone) = run_steps(rt, count)?;
+    run_notes(rt, count)?;
     println!(rt; "history {undone} {redone}")
 }

@@ -64,22 +64,33 @@ fn edit_near(table: &mut Partitioning<u32>, count: usize) -> Result<(), AllocErr
     Ok(())
 }
 
-/// `starts` starts, `look_ups` look-ups and `edits` edits: prints sums and counters.
-pub fn run(rt: &HostRuntime, starts: usize, look_ups: usize, edits: usize) -> io::Result<()> {
-    let mut table = Partitioning::<u32>::new(rt.alloc())?;
-    put_text(&mut table, 0, starts.saturating_mul(2));
-    let start = Instant::now(rt)?;
-    for i in 1..starts {
-        put_in(&mut table, i, i.saturating_mul(2))?;
+/// Puts so many starts in.
+fn put_all_in(table: &mut Partitioning<u32>, starts: usize) -> Result<(), AllocError> {
+    put_text(table, 0, starts.saturating_mul(2));
+    for index in 1..starts {
+        put_in(table, index, index.saturating_mul(2))?;
     }
+    Ok(())
+}
+
+/// Measures a table: prints sums and counters.
+fn measure(
+    rt: &HostRuntime,
+    table: &mut Partitioning<u32>,
+    starts: usize,
+    look_ups: usize,
+    edits: usize,
+) -> io::Result<()> {
+    let start = Instant::now(rt)?;
+    put_all_in(table, starts)?;
     tell(rt, "starts put in", start, starts)?;
     let mut probes = Probes::new();
     let start = Instant::now(rt)?;
-    let sum = look_up(&table, look_ups, &mut probes);
+    let sum = look_up(table, look_ups, &mut probes);
     tell(rt, "look-ups", start, look_ups)?;
     println!(rt; "look-ups {} {sum} {}", table.count(), probes.count())?;
     let start = Instant::now(rt)?;
-    edit_near(&mut table, edits)?;
+    edit_near(table, edits)?;
     tell(rt, "edits near one place", start, edits)?;
     println!(rt;
         "edits {} {} {}",
@@ -87,4 +98,10 @@ pub fn run(rt: &HostRuntime, starts: usize, look_ups: usize, edits: usize) -> io
         table.length(),
         table.stepped()
     )
+}
+
+/// `starts` starts, `look_ups` look-ups and `edits` edits: prints sums and counters.
+pub fn run(rt: &HostRuntime, starts: usize, look_ups: usize, edits: usize) -> io::Result<()> {
+    let mut table = Partitioning::<u32>::new(rt.alloc())?;
+    measure(rt, &mut table, starts, look_ups, edits)
 }

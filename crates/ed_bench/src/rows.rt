@@ -61,38 +61,50 @@ fn count_marked(rows: &LineRows) -> usize {
     found
 }
 
+/// Puts so many lines in at the top, one by one.
+fn come_one_by_one(rows: &mut LineRows, count: usize) -> Result<(), AllocError> {
+    for _ in 0..count {
+        come(rows, 0, 1)?;
+    }
+    Ok(())
+}
+
+/// Marks lines and finds them, and puts lines in above them: answers how many were found.
+fn measure_markers(rt: &HostRuntime, rows: &mut LineRows, lines: usize) -> io::Result<usize> {
+    let some = lines / 100;
+    let start = Instant::now(rt)?;
+    mark_some(rows)?;
+    tell(rt, "markers added", start, some)?;
+    let start = Instant::now(rt)?;
+    let marked = count_marked(rows);
+    tell(rt, "marked lines found", start, marked)?;
+    let start = Instant::now(rt)?;
+    come_one_by_one(rows, some)?;
+    tell(rt, "lines put in at the top, with markers", start, some)?;
+    Ok(marked)
+}
+
+/// Sets levels, and puts lines in above them.
+fn measure_levels(rt: &HostRuntime, rows: &mut LineRows, lines: usize) -> io::Result<()> {
+    let some = lines / 100;
+    let start = Instant::now(rt)?;
+    set_levels(rows)?;
+    tell(rt, "levels set", start, lines)?;
+    let start = Instant::now(rt)?;
+    come_one_by_one(rows, some)?;
+    tell(rt, "lines put in at the top, with levels", start, some)
+}
+
+/// Measures so many lines: prints how many are marked.
+fn measure(rt: &HostRuntime, rows: &mut LineRows, lines: usize) -> io::Result<()> {
+    come(rows, 0, lines)?;
+    let marked = measure_markers(rt, rows, lines)?;
+    measure_levels(rt, rows, lines)?;
+    println!(rt; "rows {marked} {}", rows.count())
+}
+
 /// So many lines, with markers and levels: prints how many are marked.
 pub fn run(rt: &HostRuntime, lines: usize) -> io::Result<()> {
     let mut rows = LineRows::new(rt.alloc())?;
-    come(&mut rows, 0, lines)?;
-    let start = Instant::now(rt)?;
-    mark_some(&mut rows)?;
-    tell(rt, "markers added", start, lines / 100)?;
-    let start = Instant::now(rt)?;
-    let marked = count_marked(&rows);
-    tell(rt, "marked lines found", start, marked)?;
-    let start = Instant::now(rt)?;
-    for _ in 0..lines / 100 {
-        come(&mut rows, 0, 1)?;
-    }
-    tell(
-        rt,
-        "lines put in at the top, with markers",
-        start,
-        lines / 100,
-    )?;
-    let start = Instant::now(rt)?;
-    set_levels(&mut rows)?;
-    tell(rt, "levels set", start, lines)?;
-    let start = Instant::now(rt)?;
-    for _ in 0..lines / 100 {
-        come(&mut rows, 0, 1)?;
-    }
-    tell(
-        rt,
-        "lines put in at the top, with levels",
-        start,
-        lines / 100,
-    )?;
-    println!(rt; "rows {marked} {}", rows.count())
+    measure(rt, &mut rows, lines)
 }

@@ -61,10 +61,8 @@ fn search(
     println!(rt; "{what} {found:?}")
 }
 
-/// A text of about `bytes` bytes, searched in each way: prints where the patterns were found.
-pub fn run(rt: &HostRuntime, bytes: usize) -> io::Result<()> {
-    let text = words(rt.alloc(), bytes)?;
-    let text = text.as_slice();
+/// Searches for rare words, beside `memchr`'s own search.
+fn search_words(rt: &HostRuntime, text: &[u8]) -> io::Result<()> {
     let start = Instant::now(rt)?;
     let found = memmem::find(text, RARE);
     tell(rt, "memchr forwards", start, text.len())?;
@@ -76,21 +74,36 @@ pub fn run(rt: &HostRuntime, bytes: usize) -> io::Result<()> {
     let found = memmem::rfind(text, b"Jackdaws hate");
     tell(rt, "memchr backwards", start, text.len())?;
     println!(rt; "memchr {found:?}")?;
-    search(
-        rt,
-        "with case backwards",
-        exact,
-        text,
-        b"Jackdaws hate",
-        true,
-    )?;
-    search(rt, "any case backwards", 0, text, b"jackDAWS HATE", true)?;
-    let text = pairs(rt.alloc(), bytes)?;
-    let text = text.as_slice();
+    let absent = b"Jackdaws hate";
+    search(rt, "with case backwards", exact, text, absent, true)?;
+    search(rt, "any case backwards", 0, text, b"jackDAWS HATE", true)
+}
+
+/// Searches for patterns that nearly meet everywhere.
+fn search_pairs(rt: &HostRuntime, text: &[u8]) -> io::Result<()> {
+    let exact = SearchFlags::MATCH_CASE;
     let word = SearchFlags::WHOLE_WORD;
     search(rt, "words with case", exact | word, text, b"ab", false)?;
     search(rt, "words in any case", word, text, b"AB", false)?;
     search(rt, "words backwards", exact | word, text, b"ab", true)?;
     search(rt, "words in any case backwards", word, text, b"AB", true)?;
     search(rt, "pairs in any case", 0, text, b"ABABABABABABABAC", false)
+}
+
+/// A text of words of so many bytes.
+fn run_words(rt: &HostRuntime, bytes: usize) -> io::Result<()> {
+    let text = words(rt.alloc(), bytes)?;
+    search_words(rt, text.as_slice())
+}
+
+/// A text of pairs of so many bytes.
+fn run_pairs(rt: &HostRuntime, bytes: usize) -> io::Result<()> {
+    let text = pairs(rt.alloc(), bytes)?;
+    search_pairs(rt, text.as_slice())
+}
+
+/// A text of about `bytes` bytes, searched in each way: prints where the patterns were found.
+pub fn run(rt: &HostRuntime, bytes: usize) -> io::Result<()> {
+    run_words(rt, bytes)?;
+    run_pairs(rt, bytes)
 }

@@ -79,41 +79,45 @@ pub fn look_up(
     )
 }
 
+/// Counts the line ends of a copy that took from `start` on.
+fn tell_copy(rt: &HostRuntime, copied: &[u8], start: Instant) -> io::Result<()> {
+    tell(rt, "as many bytes copied", start, copied.len())?;
+    let ends = memchr_iter(b'\n', copied).count();
+    let what = "as many bytes copied, and line ends counted";
+    tell(rt, what, start, copied.len())?;
+    println!(rt; "copied {} {ends}", copied.len())
+}
+
 /// Copies a text `times` times into one block, and counts the line ends there.
 fn copy(rt: &HostRuntime, text: &[u8], times: usize) -> io::Result<()> {
     let start = Instant::now(rt)?;
     let copied = text_of(rt.alloc(), text, times)?;
-    tell(rt, "as many bytes copied", start, copied.len())?;
-    let ends = memchr_iter(b'\n', copied.as_slice()).count();
-    tell(
-        rt,
-        "as many bytes copied, and line ends counted",
-        start,
-        copied.len(),
-    )?;
-    println!(rt; "copied {} {ends}", copied.len())
+    tell_copy(rt, copied.as_slice(), start)
 }
 
 /// How often the whole text is handed out: what comes first takes new memory.
 const ROUNDS: usize = 3;
 
+/// Hands out the whole text, beside a copy of it, in turn.
+fn hand_out_and_copy(
+    rt: &HostRuntime,
+    session: &mut Session,
+    view: u32,
+    text: &[u8],
+) -> io::Result<()> {
+    let what = "the whole text handed out";
+    for _ in 0..ROUNDS {
+        copy(rt, text, 1)?;
+        measure_once(rt, session, view, what, Kind::GetText, &[], text.len())?;
+    }
+    Ok(())
+}
+
 /// Hands out the whole text, beside a copy of as many bytes, in turn.
 pub fn hand_out(rt: &HostRuntime, session: &mut Session, lines: usize) -> io::Result<()> {
     let view = open_on(rt, session, LINE, lines)?;
     let text = text_of(rt.alloc(), LINE, lines)?;
-    for _ in 0..ROUNDS {
-        copy(rt, text.as_slice(), 1)?;
-        measure_once(
-            rt,
-            session,
-            view,
-            "the whole text handed out",
-            Kind::GetText,
-            &[],
-            text.len(),
-        )?;
-    }
-    Ok(())
+    hand_out_and_copy(rt, session, view, text.as_slice())
 }
 
 /// Sets a text while no history is kept.
@@ -132,18 +136,22 @@ pub fn load(rt: &HostRuntime, session: &mut Session, lines: usize) -> io::Result
     )
 }
 
+/// Sets a text over another one, and copies it twice.
+fn set_and_copy(
+    rt: &HostRuntime,
+    session: &mut Session,
+    view: u32,
+    text: &[u8],
+    lines: usize,
+) -> io::Result<()> {
+    let what = "a text set over another";
+    measure_once(rt, session, view, what, Kind::SetText, text, lines)?;
+    copy(rt, text, 2)
+}
+
 /// Sets a text over another one of as many bytes.
 pub fn set_over(rt: &HostRuntime, session: &mut Session, lines: usize) -> io::Result<()> {
     let view = open_on(rt, session, LINE, lines)?;
     let text = text_of(rt.alloc(), LINE, lines)?;
-    measure_once(
-        rt,
-        session,
-        view,
-        "a text set over another",
-        Kind::SetText,
-        text.as_slice(),
-        lines,
-    )?;
-    copy(rt, text.as_slice(), 2)
+    set_and_copy(rt, session, view, text.as_slice(), lines)
 }

@@ -64,6 +64,63 @@ fn move_within<T: Copy>(items: &mut Vec<T>, count: usize) {
     }
 }
 
+/// Moves as many items by std's own `copy_within`.
+fn measure_plain<T: Copy>(rt: &HostRuntime, plain: &mut Vec<T>, count: usize) -> io::Result<()> {
+    let start = Instant::now(rt)?;
+    move_within(plain, count);
+    tell(rt, "std copy_within", start, count)
+}
+
+/// The same items in std's own vector.
+fn run_plain<T: Copy>(rt: &HostRuntime, item: T, items: usize, count: usize) -> io::Result<()> {
+    let mut plain = Vec::from_elem(rt.alloc(), item, items)?;
+    measure_plain(rt, &mut plain, count)
+}
+
+/// Inserts far apart: prints how many items were moved, and how many there are.
+fn measure_far<T: Copy>(
+    rt: &HostRuntime,
+    vector: &mut SplitVector<T>,
+    name: &str,
+    item: T,
+    far: usize,
+) -> io::Result<()> {
+    let start = Instant::now(rt)?;
+    insert_far(vector, item, far)?;
+    tell(rt, name, start, far)?;
+    println!(rt; "{name} far {} {}", vector.len(), vector.moved())
+}
+
+/// Inserts at one place, for which room is made before: prints the same.
+fn measure_near<T: Copy>(
+    rt: &HostRuntime,
+    vector: &mut SplitVector<T>,
+    name: &str,
+    item: T,
+    near: usize,
+) -> io::Result<()> {
+    vector.reserve(near)?;
+    let start = Instant::now(rt)?;
+    insert_near(vector, item, near)?;
+    tell(rt, "near", start, near)?;
+    println!(rt; "{name} near {} {}", vector.len(), vector.moved())
+}
+
+/// A vector of one width of item, and std's own between.
+fn measure<T: Copy>(
+    rt: &HostRuntime,
+    vector: &mut SplitVector<T>,
+    name: &str,
+    item: T,
+    far: usize,
+    near: usize,
+) -> io::Result<()> {
+    let items = vector.len();
+    measure_far(rt, vector, name, item, far)?;
+    run_plain(rt, item, items, far)?;
+    measure_near(rt, vector, name, item, near)
+}
+
 /// One width of item: prints how many items were moved, and how many there are.
 fn run_items<T: Copy>(
     rt: &HostRuntime,
@@ -74,19 +131,7 @@ fn run_items<T: Copy>(
     near: usize,
 ) -> io::Result<()> {
     let mut vector = filled(rt.alloc(), item, items)?;
-    let start = Instant::now(rt)?;
-    insert_far(&mut vector, item, far)?;
-    tell(rt, name, start, far)?;
-    println!(rt; "{name} far {} {}", vector.len(), vector.moved())?;
-    let mut plain = Vec::from_elem(rt.alloc(), item, items)?;
-    let start = Instant::now(rt)?;
-    move_within(&mut plain, far);
-    tell(rt, "std copy_within", start, far)?;
-    vector.reserve(near)?;
-    let start = Instant::now(rt)?;
-    insert_near(&mut vector, item, near)?;
-    tell(rt, "near", start, near)?;
-    println!(rt; "{name} near {} {}", vector.len(), vector.moved())
+    measure(rt, &mut vector, name, item, far, near)
 }
 
 /// Bytes, then numbers of 32 bits.

@@ -61,31 +61,63 @@ fn put_far(indicators: &mut Decorations<u32>, count: usize) -> Result<(), AllocE
     Ok(())
 }
 
-/// A text of so many bytes, styled, and `ranges` ranges of an indicator in one as long.
-pub fn run(rt: &HostRuntime, bytes: usize, ranges: usize) -> io::Result<()> {
-    let mut text: Vec<u8> = Vec::new(rt.alloc());
-    text.resize(bytes, b'x')?;
-    let mut cells = Cells::new(rt.alloc());
-    cells.reserve(bytes)?;
-    cells.insert_reserved(0, text.as_slice());
+/// Puts a text in and styles it, and answers how many bytes changed.
+fn measure_styles(rt: &HostRuntime, cells: &mut Cells, text: &[u8]) -> io::Result<usize> {
+    cells.reserve(text.len())?;
+    cells.insert_reserved(0, text);
     let start = Instant::now(rt)?;
     cells.keep_styles()?;
-    tell(rt, "styles kept from now on", start, bytes)?;
+    tell(rt, "styles kept from now on", start, text.len())?;
     let start = Instant::now(rt)?;
-    let changed = style_all(&mut cells);
-    tell(rt, "runs of 8 styled", start, bytes / 8)?;
-    let mut indicators: Decorations<u32> = Decorations::new(rt.alloc());
-    put(&mut indicators, 0, bytes)?;
+    let changed = style_all(cells);
+    tell(rt, "runs of 8 styled", start, text.len() / 8)?;
+    Ok(changed)
+}
+
+/// Fills so many ranges.
+fn fill_ranges(indicators: &mut Decorations<u32>, ranges: usize) -> Result<(), AllocError> {
+    for range in 0..ranges {
+        fill(indicators, range.saturating_mul(16), 5)?;
+    }
+    Ok(())
+}
+
+/// Puts bytes in before and after so many ranges of an indicator are filled, and answers how many bytes there are then.
+fn measure_ranges(
+    rt: &HostRuntime,
+    indicators: &mut Decorations<u32>,
+    bytes: usize,
+    ranges: usize,
+) -> io::Result<usize> {
+    put(indicators, 0, bytes)?;
     let start = Instant::now(rt)?;
-    put_far(&mut indicators, ranges)?;
+    put_far(indicators, ranges)?;
     tell(rt, "bytes put in without indicators", start, ranges)?;
     let start = Instant::now(rt)?;
-    for range in 0..ranges {
-        fill(&mut indicators, range.saturating_mul(16), 5)?;
-    }
+    fill_ranges(indicators, ranges)?;
     tell(rt, "ranges filled", start, ranges)?;
     let start = Instant::now(rt)?;
-    put_far(&mut indicators, ranges)?;
+    put_far(indicators, ranges)?;
     tell(rt, "bytes put in among ranges", start, ranges)?;
-    println!(rt; "styled {changed} {}", indicators.length())
+    Ok(indicators.length())
+}
+
+/// A text of so many bytes, styled.
+fn run_styles(rt: &HostRuntime, bytes: usize) -> io::Result<usize> {
+    let text: Vec<u8> = Vec::from_elem(rt.alloc(), b'x', bytes)?;
+    let mut cells = Cells::new(rt.alloc());
+    measure_styles(rt, &mut cells, text.as_slice())
+}
+
+/// `ranges` ranges of an indicator in a text of so many bytes: answers how many bytes there are then.
+fn run_ranges(rt: &HostRuntime, bytes: usize, ranges: usize) -> io::Result<usize> {
+    let mut indicators: Decorations<u32> = Decorations::new(rt.alloc());
+    measure_ranges(rt, &mut indicators, bytes, ranges)
+}
+
+/// A text of so many bytes, styled, and `ranges` ranges of an indicator in one as long.
+pub fn run(rt: &HostRuntime, bytes: usize, ranges: usize) -> io::Result<()> {
+    let changed = run_styles(rt, bytes)?;
+    let length = run_ranges(rt, bytes, ranges)?;
+    println!(rt; "styled {changed} {length}")
 }
