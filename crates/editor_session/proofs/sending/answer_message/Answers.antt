@@ -77,7 +77,7 @@ returns-in-Ok-HandOut-clause-answer c =
     let unheard : (r.view.records && (marks_of kind).r) ≡ false = search rules in
     let same : message_with a.number (to_z w64 (of_z w64 a.w)) (to_z w64 (of_z w64 a.l)) a.text.now ≡ message_with a.number a.w a.l a.text.now = search rules in
     let is = ap (table (session_in a.state.now) a.view) (sym same)
-        ∙ text_handed_out (session_in a.state.now) a.view (message_with a.number (to_z w64 (of_z w64 a.w)) (to_z w64 (of_z w64 a.l)) a.text.now) kind r h.value h.start h.count c.in-Ok.ensures.found planned unheard in
+    ∙ text_handed_out (session_in a.state.now) a.view (message_with a.number (to_z w64 (of_z w64 a.w)) (to_z w64 (of_z w64 a.l)) a.text.now) kind r h.value h.start h.count c.in-Ok.ensures.found planned unheard in
     let reply : IfOk c.hand_out.result (λ x. x ≡ response h.value (slice_range (text_of r.document) h.start (h.start + h.count)) []) = search rules in
     handed_so (table (session_in a.state.now) a.view (message_with a.number a.w a.l a.text.now)) (session_in a.state.now) (response h.value (slice_range (text_of r.document) h.start (h.start + h.count)) []) c.hand_out.result is reply c.hand_out.ensures.refused
 
@@ -91,7 +91,7 @@ returns-in-Ok-HandOut-clause-refused c =
     let unheard : (r.view.records && (marks_of kind).r) ≡ false = search rules in
     let same : message_with a.number (to_z w64 (of_z w64 a.w)) (to_z w64 (of_z w64 a.l)) a.text.now ≡ message_with a.number a.w a.l a.text.now = search rules in
     let is = ap (table (session_in a.state.now) a.view) (sym same)
-        ∙ text_handed_out (session_in a.state.now) a.view (message_with a.number (to_z w64 (of_z w64 a.w)) (to_z w64 (of_z w64 a.l)) a.text.now) kind r h.value h.start h.count c.in-Ok.ensures.found planned unheard in
+    ∙ text_handed_out (session_in a.state.now) a.view (message_with a.number (to_z w64 (of_z w64 a.w)) (to_z w64 (of_z w64 a.l)) a.text.now) kind r h.value h.start h.count c.in-Ok.ensures.found planned unheard in
     subst (λ t. IfErr t (λ refusal. c.hand_out.result ≡ Err refusal)) (sym is) tt
 
 pub returns-in-Ok-HandOut-clause-free : goal.returns-in-Ok-HandOut-clause-free
