@@ -20,11 +20,20 @@ abbrev pub steps_after : Steps → List (ℕ × Steps) → Steps
 steps_after was [] = was
 steps_after was (call ∷ calls) = steps_after call.1 calls
 
--- the sum of what each may change: the way from the partition that the call before it named, and one
-abbrev pub sum_of_ways : ℕ → List (ℕ × Steps) → ℕ
-sum_of_ways from [] = 0
-sum_of_ways from (call ∷ calls) = (apart call.0 from + 1) + sum_of_ways call.0 calls
+-- the sum of what each may change: the step's way to the partition that it names, from where the step stands by then, and one
+abbrev pub sum_of_ways : Steps → List (ℕ × Steps) → ℕ
+sum_of_ways was [] = 0
+sum_of_ways was (call ∷ calls) = (apart call.0 was.step_at + 1) + sum_of_ways call.1 calls
 
--- a list of calls changes no more than the sum of what each may change
+-- the same with the way from the partition that the call before it named
+abbrev pub sum_between : ℕ → List (ℕ × Steps) → ℕ
+sum_between from [] = 0
+sum_between from (call ∷ calls) = (apart call.0 from + 1) + sum_between call.0 calls
+
+-- a list of calls changes no more than either sum
+pub record IsWithinSums (was : Steps) (calls : List (ℕ × Steps)) : Type 0 where
+  pub by_step : (steps_after was calls).stepped ≤ was.stepped + sum_of_ways was calls
+  pub by_names : (steps_after was calls).stepped ≤ was.stepped + sum_between was.step_at calls
+
 abbrev pub StepsAddUp : Type 0
-StepsAddUp = (was : Steps) (calls : List (ℕ × Steps)) → EachKeepsTo was calls → (steps_after was calls).stepped ≤ was.stepped + sum_of_ways was.step_at calls
+StepsAddUp = (was : Steps) (calls : List (ℕ × Steps)) → EachKeepsTo was calls → IsWithinSums was calls
