@@ -1,0 +1,181 @@
+#!/usr/bin/env python3
+"""Tries wrong bodies: wrong_bodies.py [--rules] [CRATE..]
+
+Those of crates/CRATE/must-fail/rules.md, and without --rules also those of more.md, which the gate leaves out; of all crates where none is
+named. It takes the libraries that `rt ci` has proved and built. `rt` itself tries the .edit files of must-fail/, one by one and each over
+the whole crate; here as many bodies as stand in functions of their own are put into one copy of the crate, and those functions alone are
+proved: each has to be refused. A body that this does not refuse is tried once more by itself, over the whole crate, as `rt` does."""
+import concurrent.futures
+import os
+import re
+import shutil
+import subprocess
+import sys
+import tempfile
+
+import kit
+
+BLOCK = re.compile(r"^## (\w+)\n\n```\n(.*?)\n```$", re.M | re.S)
+HEAD = re.compile(r"^( *)(?:pub(?:\(\w+\))? )?(?:const |unsafe |extern \"C\" )*fn (\w+)", re.M)
+IMPL = re.compile(r"^impl\b.*", re.M)
+REFUSED = re.compile(r"^fn (\S+): (?:not proved|no proof)", re.M)
+TOLD = re.compile(r"^(?:note: )?\S+:\d+:\d+: .*", re.M)
+
+
+class Body:
+    """A wrong body: its name, and the texts that it puts in the place of others, by file."""
+
+    def __init__(self, crate, name, text):
+        self.crate, self.name, self.swaps, self.only = crate, name, [], set()
+        file = old = None
+        for line in text.split("\n"):
+            word, _, rest = line.partition(":")
+            rest = rest.removeprefix(" ")
+            if word == "only":
+                self.only.add(rest.strip())
+            elif word == "file":
+                file = rest.strip()
+            elif word == "old":
+                old = rest
+            elif word == "new":
+                self.swaps.append((file, old, rest))
+
+    def put_into(self, folder):
+        """Puts it into a copy of the crate; says what is wrong with it, or nothing."""
+        texts = {}
+        for file, old, new in self.swaps:
+            if file not in texts:
+                with open(f"{folder}/{file}", encoding="utf-8") as source:
+                    texts[file] = source.read()
+            if texts[file].count(old) != 1:
+                return f"{old!r} stands in {file} {texts[file].count(old)} times"
+            texts[file] = texts[file].replace(old, new)
+        for file, text in texts.items():
+            with open(f"{folder}/{file}", "w", encoding="utf-8") as source:
+                source.write(text)
+        return None if texts else "it changes nothing"
+
+    def functions(self):
+        """The functions that its lines `only:` name, else those in whose bodies all of it stands; None where some of it stands elsewhere."""
+        if self.only:
+            return self.only
+        found = set()
+        for file, old, _ in self.swaps:
+            with open(f"{kit.TOP}/crates/{self.crate}/{file}", encoding="utf-8") as source:
+                found.add(function_around(file, source.read(), old))
+        return None if None in found else found
+
+
+def function_around(file, text, part):
+    """The function in whose body the text stands, as a check names it by the end of its path; None where it is in none."""
+    at = text.find(part)
+    heads = [it for it in HEAD.finditer(text) if it.start() <= at]
+    if not file.startswith("src/") or not heads:
+        return None
+    head = heads[-1]
+    indent, name = head.groups()
+    body = re.compile(rf"^{indent}\{{$|\{{$", re.M).search(text, head.start())
+    end = re.compile(rf"^{indent}\}}$", re.M).search(text, head.end())
+    if not body or at < body.end() or (end and end.end() < at):
+        return None
+    owners = [it.group() for it in IMPL.finditer(text) if it.start() < head.start()]
+    if indent and owners:
+        owner = re.sub(r"<[^<>]*>", "", re.sub(r"<[^<>]*>", "", re.sub(r"<[^<>]*>", "", owners[-1])))
+        return f"{re.sub(r'^.* for |^impl', '', owner).split()[0]}::{name}"
+    stem = os.path.basename(file).removesuffix(".rt")
+    return name if stem in ("lib", "main") else f"{stem}::{name}"
+
+
+def bodies_of(crate, pages):
+    """The wrong bodies that a crate's pages hold."""
+    for page in pages:
+        path = f"{kit.TOP}/crates/{crate}/must-fail/{page}"
+        if os.path.exists(path):
+            with open(path, encoding="utf-8") as it:
+                yield from (Body(crate, name, text) for name, text in BLOCK.findall(it.read()))
+
+
+def checked(crate, bodies, only):
+    """What the prover says of a copy of the crate with these bodies in it, and its status. Where a body cannot be put in, that is said."""
+    with tempfile.TemporaryDirectory(prefix="wrong-bodies-") as copy:
+        for part in ("src", "specs", "proofs"):
+            if os.path.isdir(f"{kit.TOP}/crates/{crate}/{part}"):
+                shutil.copytree(f"{kit.TOP}/crates/{crate}/{part}", f"{copy}/{part}")
+        for body in bodies:
+            why = body.put_into(copy)
+            if why:
+                return why, 2
+        check = [f"{kit.kit()}/bin/rattle", "check", *kit.words(crate), "--jobs", "1"]
+        for function in sorted(only):
+            check += ["--only", function]
+        ran = subprocess.run(check, cwd=copy, capture_output=True, text=True, errors="replace")
+        return ran.stdout + ran.stderr, ran.returncode
+
+
+def batches(bodies):
+    """The bodies in groups, no two of a group in one function; what stands in no function's body is left out."""
+    groups = []
+    for body in bodies:
+        functions = body.functions()
+        if functions is None:
+            continue
+        group = next((it for it in groups if not functions & it[1]), None)
+        if group is None:
+            group = ([], set())
+            groups.append(group)
+        group[0].append(body)
+        group[1].update(functions)
+    return groups
+
+
+def refused_together(crate, bodies, functions):
+    """Those of the bodies whose functions the prover refuses when all stand in one copy."""
+    said, _ = checked(crate, bodies, functions)
+    refused = REFUSED.findall(said)
+    return [it for it in bodies if any(name.endswith(f"::{of}") for name in refused for of in it.functions())]
+
+
+def refused_alone(body):
+    """Whether the prover refuses the crate with this body alone, and what it said."""
+    said, status = checked(body.crate, [body], [])
+    told = TOLD.findall(said) or said.strip().split("\n")[-1:]
+    return status == 1 and bool(REFUSED.search(said)), told[0] if told else ""
+
+
+def try_crate(crate, pages):
+    """Tries a crate's bodies; returns how many were refused, and a line for each that was not."""
+    bodies = list(bodies_of(crate, pages))
+    names = {it.name for it in bodies}
+    assert len(names) == len(bodies), f"{crate}: two wrong bodies have one name"
+    refused = [it for group in batches(bodies) for it in refused_together(crate, *group)]
+    wrong = []
+    for body in bodies:
+        if body not in refused:
+            is_refused, told = refused_alone(body)
+            if is_refused:
+                refused.append(body)
+                print(f"{crate}/{body.name}: refused over the whole crate: {told[:160]}", flush=True)
+            else:
+                wrong.append(f"{crate}/{body.name}: NOT REFUSED: {told[:160]}")
+    print(f"{crate}: {len(refused)} of {len(bodies)} wrong bodies refused", flush=True)
+    return len(refused), wrong
+
+
+def main(arguments):
+    pages = ["rules.md"] if "--rules" in arguments else ["rules.md", "more.md"]
+    named = [it for it in arguments if not it.startswith("-")]
+    listed = kit.crates()
+    if not set(named) <= set(listed) or not set(arguments) - set(named) <= {"--rules"}:
+        sys.exit(__doc__)
+    size = {it: sum(len(body.swaps) for body in bodies_of(it, pages)) for it in named or listed}
+    crates = sorted((it for it in size if size[it]), key=lambda it: -len(listed[it]))
+    with concurrent.futures.ThreadPoolExecutor(len(os.sched_getaffinity(0))) as pool:
+        tried = list(pool.map(lambda it: try_crate(it, pages), crates))
+    wrong = [line for _, lines in tried for line in lines]
+    print(*wrong, sep="\n" if wrong else "")
+    print(f"{sum(count for count, _ in tried)} passed, {len(wrong)} failed")
+    return 1 if wrong else 0
+
+
+if __name__ == "__main__":
+    sys.exit(main(sys.argv[1:]))
