@@ -106,8 +106,10 @@ bound() {
 
 # Each test of each crate by itself.
 large=0
-for tests in "$top"/crates/*/out/*_tests; do
-    [ -x "$tests" ] || continue
+for crate in "$top"/crates/*; do
+    grep -rqs '#\[test\]' "$crate/src" || continue
+    tests=$crate/out/$(basename "$crate")_tests
+    [ -x "$tests" ] || { echo "FAILED  the tests of $(basename "$crate") were not built"; failed=$((failed + 1)); continue; }
     for name in $("$tests" --list | sed -n 's/: test$//p'); do
         kept "$name" 2000000000 "$tests" "$name"
         case "$name" in

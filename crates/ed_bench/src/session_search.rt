@@ -1,7 +1,7 @@
 //! Sessions: searches in the target, beside the same searches without a session, replacements, and line ends converted.
 
-use crate::sessions::{LINE, argument, measure_once, open_on, send, text_of};
-use crate::tell;
+use crate::sessions::{LINE, argument, measure_once, open_on, send};
+use bench_support::{repeated, tell};
 use ed_types::Kind;
 use editor_session::Session;
 use std::io;
@@ -140,7 +140,7 @@ pub fn searches(
     let view = open_on(rt, session, LINE, lines)?;
     search_with_case(rt, session, view, count)?;
     search_in_any_case(rt, session, view, count)?;
-    let text = text_of(rt.alloc(), LINE, lines)?;
+    let text = repeated(rt.alloc(), LINE, lines)?;
     find_both_ways(rt, text.as_slice(), count)
 }
 

@@ -1,7 +1,7 @@
 //! Sessions: styles by short runs, and bytes put in among ranges of an indicator.
 
 use crate::sessions::{LINE, Series, far_apart, measure, open_on, send};
-use crate::tell;
+use bench_support::tell;
 use ed_types::Kind;
 use editor_session::Session;
 use std::io;

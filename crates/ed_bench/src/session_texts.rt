@@ -2,9 +2,9 @@
 
 use crate::sessions::{
     LINE, Series, far_apart, measure, measure_once, measure_ranges, measure_typing, open, open_on,
-    send, text_of,
+    send,
 };
-use crate::tell;
+use bench_support::{repeated, tell};
 use ed_types::Kind;
 use editor_session::Session;
 use memchr::memchr_iter;
@@ -91,7 +91,7 @@ fn tell_copy(rt: &HostRuntime, copied: &[u8], start: Instant) -> io::Result<()> 
 /// Copies a text `times` times into one block, and counts the line ends there.
 fn copy(rt: &HostRuntime, text: &[u8], times: usize) -> io::Result<()> {
     let start = Instant::now(rt)?;
-    let copied = text_of(rt.alloc(), text, times)?;
+    let copied = repeated(rt.alloc(), text, times)?;
     tell_copy(rt, copied.as_slice(), start)
 }
 
@@ -116,7 +116,7 @@ fn hand_out_and_copy(
 /// Hands out the whole text, beside a copy of as many bytes, in turn.
 pub fn hand_out(rt: &HostRuntime, session: &mut Session, lines: usize) -> io::Result<()> {
     let view = open_on(rt, session, LINE, lines)?;
-    let text = text_of(rt.alloc(), LINE, lines)?;
+    let text = repeated(rt.alloc(), LINE, lines)?;
     hand_out_and_copy(rt, session, view, text.as_slice())
 }
 
@@ -124,7 +124,7 @@ pub fn hand_out(rt: &HostRuntime, session: &mut Session, lines: usize) -> io::Re
 pub fn load(rt: &HostRuntime, session: &mut Session, lines: usize) -> io::Result<()> {
     let view = open(session);
     send(session, view, Kind::SetUndoCollection, 0, 0, &[]);
-    let text = text_of(rt.alloc(), LINE, lines)?;
+    let text = repeated(rt.alloc(), LINE, lines)?;
     measure_once(
         rt,
         session,
@@ -152,6 +152,6 @@ fn set_and_copy(
 /// Sets a text over another one of as many bytes.
 pub fn set_over(rt: &HostRuntime, session: &mut Session, lines: usize) -> io::Result<()> {
     let view = open_on(rt, session, LINE, lines)?;
-    let text = text_of(rt.alloc(), LINE, lines)?;
+    let text = repeated(rt.alloc(), LINE, lines)?;
     set_and_copy(rt, session, view, text.as_slice(), lines)
 }

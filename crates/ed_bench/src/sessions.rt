@@ -1,9 +1,8 @@
 //! Sessions: messages through the door that a program uses, to a view that hears nothing where nothing else is said.
 
-use crate::tell;
+use bench_support::{repeated, tell};
 use ed_types::Kind;
 use editor_session::Session;
-use std::alloc::{AllocError, Global};
 use std::io;
 use std::time::Instant;
 
@@ -191,15 +190,6 @@ pub fn measure_typing(
     println!(rt; "{what}: {sum} {}", length(session, view))
 }
 
-/// A text of so many equal lines.
-pub fn text_of(alloc: Global, line: &[u8], lines: usize) -> Result<Vec<u8>, AllocError> {
-    let mut text = Vec::with_capacity(alloc, line.len().saturating_mul(lines))?;
-    for _ in 0..lines {
-        text.extend_from_slice(line)?;
-    }
-    Ok(text)
-}
-
 /// Opens a view that hears nothing.
 pub fn open(session: &mut Session) -> u32 {
     let view = session.new_view().unwrap_or(0);
@@ -215,7 +205,7 @@ pub fn open_on(
     lines: usize,
 ) -> io::Result<u32> {
     let view = open(session);
-    let text = text_of(rt.alloc(), line, lines)?;
+    let text = repeated(rt.alloc(), line, lines)?;
     send(session, view, Kind::SetText, 0, 0, text.as_slice());
     send(session, view, Kind::EmptyUndoBuffer, 0, 0, &[]);
     Ok(view)

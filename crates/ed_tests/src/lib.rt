@@ -1,4 +1,4 @@
-//! Tests of the libraries below, over their public calls.
+//! Tests of the parts below documents and sessions, over their public calls.
 #![tactic(auto)]
 
 #[cfg(test)]
@@ -14,17 +14,9 @@ mod ed_types_tests;
 #[cfg(test)]
 mod ed_view_tests;
 #[cfg(test)]
-mod editor_session_tests;
-#[cfg(test)]
-mod exchanges;
-#[cfg(test)]
 mod id_table_tests;
 #[cfg(test)]
-mod large_session_tests;
-#[cfg(test)]
 mod large_tests;
-#[cfg(test)]
-mod lending;
 #[cfg(test)]
 mod line_index_tests;
 #[cfg(test)]
@@ -34,15 +26,11 @@ mod macro_script_tests;
 #[cfg(test)]
 mod marker_store_tests;
 #[cfg(test)]
-mod message_tests;
-#[cfg(test)]
 mod notify_tests;
 #[cfg(test)]
 mod partitioning_tests;
 #[cfg(test)]
 mod run_styles_tests;
-#[cfg(test)]
-mod script_stepper_tests;
 #[cfg(test)]
 mod selection_tests;
 #[cfg(test)]

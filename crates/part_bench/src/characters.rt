@@ -2,10 +2,9 @@
 
 ghost use Rattle.std.specs.Prelude.{◌≤◌, ◌+◌, length};
 
-use crate::tell;
+use bench_support::{repeated, tell};
 use char_cut::{after, before};
 use selection::{Movement, Selection};
-use std::alloc::{AllocError, Global};
 use std::io;
 use std::time::Instant;
 
@@ -50,15 +49,6 @@ fn move_on(count: usize) -> usize {
     selection.caret
 }
 
-/// A text of so many bytes with characters of one to four bytes and CRLF.
-fn text_of(alloc: Global, bytes: usize) -> Result<Vec<u8>, AllocError> {
-    let mut text: Vec<u8> = Vec::new(alloc);
-    for _ in 0..bytes / 14 {
-        text.extend_from_slice("aé€😀b\r\n.".as_bytes())?;
-    }
-    Ok(text)
-}
-
 /// Passes a text in two halves both ways, and moves as many selections as it has bytes.
 fn measure(rt: &HostRuntime, text: &[u8], bytes: usize) -> io::Result<()> {
     let (first, second) = text.split_at(text.len() / 2);
@@ -76,6 +66,6 @@ fn measure(rt: &HostRuntime, text: &[u8], bytes: usize) -> io::Result<()> {
 
 /// A text of so many bytes with characters of one to four bytes and CRLF.
 pub fn run(rt: &HostRuntime, bytes: usize) -> io::Result<()> {
-    let text = text_of(rt.alloc(), bytes)?;
+    let text = repeated(rt.alloc(), "aé€😀b\r\n.".as_bytes(), bytes / 14)?;
     measure(rt, text.as_slice(), bytes)
 }

@@ -1,6 +1,6 @@
 //! Partitions: look-ups over many starts, and insertions of text and of starts near one place.
 
-use crate::tell;
+use bench_support::{next_seed, tell};
 use partitioning::{Partitioning, Probes};
 use std::alloc::AllocError;
 use std::io;
@@ -36,9 +36,7 @@ fn look_up(table: &Partitioning<u32>, count: usize, probes: &mut Probes) -> u64 
     let mut place = 1u64;
     let mut sum = 0u64;
     for _ in 0..count {
-        place = place
-            .wrapping_mul(6364136223846793005)
-            .wrapping_add(1442695040888963407);
+        place = next_seed(place);
         let at = if length == 0 {
             0
         } else {

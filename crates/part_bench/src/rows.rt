@@ -1,6 +1,6 @@
 //! Rows of lines: markers added and found, levels set, and lines that come at the top, with markers on each hundredth line.
 
-use crate::tell;
+use bench_support::tell;
 use line_index::LineEdit;
 use line_rows::LineRows;
 use std::alloc::AllocError;

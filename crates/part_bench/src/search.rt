@@ -1,7 +1,7 @@
 //! Searches: of a rare pattern, with case and without, beside `memchr`'s own search of one slice; and of patterns that
 //! nearly meet everywhere.
 
-use crate::tell;
+use bench_support::{next_seed, repeated, tell};
 use memchr::memmem;
 use std::alloc::{AllocError, Global};
 use std::io;
@@ -22,21 +22,10 @@ fn words(alloc: Global, bytes: usize) -> Result<Vec<u8>, AllocError> {
     let mut text = Vec::new(alloc);
     let mut seed = 1u64;
     for _ in 0..bytes / 5 {
-        seed = seed
-            .wrapping_mul(6364136223846793005)
-            .wrapping_add(1442695040888963407);
+        seed = next_seed(seed);
         text.extend_from_slice(some[(seed >> 60) as usize % 8])?;
     }
     text.extend_from_slice(RARE)?;
-    Ok(text)
-}
-
-/// `ab` over and over.
-fn pairs(alloc: Global, bytes: usize) -> Result<Vec<u8>, AllocError> {
-    let mut text = Vec::new(alloc);
-    for _ in 0..bytes / 2 {
-        text.extend_from_slice(b"ab")?;
-    }
     Ok(text)
 }
 
@@ -96,9 +85,9 @@ fn run_words(rt: &HostRuntime, bytes: usize) -> io::Result<()> {
     search_words(rt, text.as_slice())
 }
 
-/// A text of pairs of so many bytes.
+/// A text of so many bytes: `ab` over and over.
 fn run_pairs(rt: &HostRuntime, bytes: usize) -> io::Result<()> {
-    let text = pairs(rt.alloc(), bytes)?;
+    let text = repeated(rt.alloc(), b"ab", bytes / 2)?;
     search_pairs(rt, text.as_slice())
 }
 

@@ -2,7 +2,7 @@
 
 ghost use Rattle.std.specs.Prelude.{◌≤◌, length};
 
-use crate::tell;
+use bench_support::tell;
 use document::{Document, TextStep};
 use memchr::memchr_iter;
 use std::alloc::{AllocError, Global};

@@ -1,7 +1,7 @@
 //! The gap buffer: insertions at far apart places, beside std's own `copy_within` over as many items, and insertions
 //! at one place.
 
-use crate::tell;
+use bench_support::tell;
 use split_vector::SplitVector;
 use std::alloc::{AllocError, Global};
 use std::io;

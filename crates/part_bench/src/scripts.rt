@@ -1,5 +1,6 @@
 //! Scripts: a long one assembled and listed.
 
+use bench_support::tell_rate;
 use macro_script::{assemble, list};
 use std::alloc::{AllocError, Global};
 use std::io;
@@ -14,13 +15,6 @@ fn script_text(alloc: Global, size: usize) -> Result<Vec<u8>, AllocError> {
         text.extend_from_slice(line)?;
     }
     Ok(text)
-}
-
-/// Tells how long it took since `start`, and how many bytes that is in a microsecond.
-fn tell_rate(rt: &HostRuntime, what: &str, start: Instant, bytes: usize) -> io::Result<()> {
-    let micros = start.elapsed(rt)?.as_micros();
-    let rate = bytes as u128 / micros.max(1);
-    eprintln!(rt; "{what}: {micros} us, {rate} MB/s")
 }
 
 /// Assembles a script of about `size` bytes and lists it: prints how many commands and bytes that makes.

@@ -1,6 +1,6 @@
 //! Undo history: steps appended, undone one transaction after the other, and redone; and notes put that share a text.
 
-use crate::tell;
+use bench_support::tell;
 use notify::{NoteList, blank};
 use std::alloc::AllocError;
 use std::io;

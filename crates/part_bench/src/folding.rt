@@ -1,6 +1,6 @@
 //! Folding: each second line hidden, and display lines looked up; headers contracted and lines put in among them.
 
-use crate::tell;
+use bench_support::{next_seed, tell};
 use contraction::{Contraction, Levels};
 use line_index::LineEdit;
 use std::alloc::{AllocError, Global};
@@ -43,9 +43,7 @@ fn look_up(view: &Contraction<u32>, count: usize) -> usize {
     let mut sum = 0usize;
     let mut seed = 1u64;
     for _ in 0..count {
-        seed = seed
-            .wrapping_mul(6364136223846793005)
-            .wrapping_add(1442695040888963407);
+        seed = next_seed(seed);
         let line = (seed >> 33) as usize % view.count().max(1);
         if line < view.count() {
             let display = view.display_of(line);

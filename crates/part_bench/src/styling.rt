@@ -1,6 +1,6 @@
 //! Styles by short runs, and ranges of an indicator with insertions among them.
 
-use crate::tell;
+use bench_support::{next_seed, tell};
 use cell_buffer::Cells;
 use decorations::Decorations;
 use std::alloc::AllocError;
@@ -52,9 +52,7 @@ fn fill(indicators: &mut Decorations<u32>, place: usize, count: usize) -> Result
 fn put_far(indicators: &mut Decorations<u32>, count: usize) -> Result<(), AllocError> {
     let mut seed = 1u64;
     for _ in 0..count {
-        seed = seed
-            .wrapping_mul(6364136223846793005)
-            .wrapping_add(1442695040888963407);
+        seed = next_seed(seed);
         let place = (seed >> 33) as usize % (indicators.length() + 1);
         put(indicators, place, 1)?;
     }
