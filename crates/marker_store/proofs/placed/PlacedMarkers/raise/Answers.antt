@@ -1,4 +1,4 @@
-use Rattle.std.proofs.Common.{◌≡◌, ◌≤◌, length, arith, ◌∙◌, ap}
+use Rattle.std.proofs.Common.{◌≤◌, length, arith}
 use Rattle.marker_store.proofs.Moves.{placed_moved, placed_raised}
 use Rattle.marker_store.proofs.StoredEntries.{length-entries, raised_entries}
 use Rattle.marker_store.proofs.placed.PlacedMarkers.raise.Goals as goal
