@@ -1,5 +1,5 @@
 //! The markers of all lines in one list, each with its line.
-ghost use Rattle.std.specs.Prelude.{◌≡◌, ◌≢◌, ◌≤◌, ◌<◌, ◌+◌, ◌-◌, ◌∷◌, ◌++◌, ◌^◌, [], length, max, take, drop, filter, not, slice_index_or, MatchOption, IfOk, OnOk, OnErr, IsOk};
+ghost use Rattle.std.specs.Prelude.{◌≡◌, ◌≢◌, ◌≤◌, ◌<◌, ◌+◌, ◌-◌, ◌∷◌, ◌++◌, ◌^◌, [], length, max, take, drop, filter, not, slice_index_or, MatchOption, IsTrue, ◌↔◌, IfOk, OnOk, OnErr, IsOk};
 ghost use Rattle.split_vector.specs.Split.{most_room};
 ghost use Rattle.ed_model.specs.LinePlans.{mask_of};
 ghost use Rattle.marker_store.specs.Dropping.{kept};
@@ -113,6 +113,38 @@ impl<A: Allocator> PlacedMarkers<A> {
         low
     }
 
+    // Returns whether the markers before the index are those on lines before the line.
+    fn is_cut(&self, line: usize, index: usize) -> bool
+        requires { index ≤ length self.now.entries }
+        ensures { IsTrue result ↔ IsCut line self.now.entries index }
+    {
+        if index > 0 {
+            let (before, _) = self.entry_at(index - 1);
+            if before >= line {
+                return false;
+            }
+        }
+        if index == self.len() {
+            return true;
+        }
+        let (behind, _) = self.entry_at(index);
+        if behind < line {
+            return false;
+        }
+        true
+    }
+
+    // Returns how many markers are on lines before the line, as `cut` does. The step is tried first: lines mostly come and
+    // go where others did before, or behind all markers, and then no search is needed.
+    fn cut_at_step(&self, line: usize) -> usize
+        ensures { IsCut line self.now.entries result }
+    {
+        if self.is_cut(line, self.step) {
+            return self.step;
+        }
+        self.cut(line)
+    }
+
     /// Returns how many markers are on the line and those before it.
     fn cut_behind(&self, line: usize) -> usize
         requires { line < self.now.count }
@@ -120,7 +152,7 @@ impl<A: Allocator> PlacedMarkers<A> {
     {
         let lines = self.count();
         prove!(line < lines);
-        self.cut(line + 1)
+        self.cut_at_step(line + 1)
     }
 
     /// Puts `count` lines in before the line.
@@ -132,7 +164,7 @@ impl<A: Allocator> PlacedMarkers<A> {
         ensures room { self.new.room ≡ self.old.room }
         ensures block { self.new.block ≡ self.old.block }
     {
-        let index = self.cut(line);
+        let index = self.cut_at_step(line);
         move_step(&mut self.stored, self.lines, self.step, index);
         self.step = index;
         self.lines += count;
