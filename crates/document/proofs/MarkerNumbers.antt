@@ -68,9 +68,9 @@ one_more line number numbers k within =
     ∙ ap (λ (ms : List Marker). slice_set k.rows line (record row { markers = ms })) (append_assoc row.markers (marker ∷ []) others) in
     let handle : (k.next_handle + 1) + length numbers ≡ k.next_handle + suc (length numbers) = omega arith in
     let markers : (room.markers - 1) - length numbers ≡ room.markers - suc (length numbers) = omega arith in
-    ap (λ (rs : List Row). kept_rows rs ((k.next_handle + 1) + length numbers) (record room { markers = (room.markers - 1) - length numbers })) rows_are
-    ∙ ap (λ n. kept_rows (with_markers line (row.markers ++ marker ∷ others) k.rows) n (record room { markers = (room.markers - 1) - length numbers })) handle
-    ∙ ap (λ n. kept_rows (with_markers line (row.markers ++ marker ∷ others) k.rows) (k.next_handle + suc (length numbers)) (record room { markers = n })) markers
+    ap (λ (rs : List Row). kept_rows rs ((k.next_handle + 1) + length numbers) (record room { markers = (room.markers - 1) - length numbers }) k.blocks) rows_are
+    ∙ ap (λ n. kept_rows (with_markers line (row.markers ++ marker ∷ others) k.rows) n (record room { markers = (room.markers - 1) - length numbers }) k.blocks) handle
+    ∙ ap (λ n. kept_rows (with_markers line (row.markers ++ marker ∷ others) k.rows) (k.next_handle + suc (length numbers)) (record room { markers = n }) k.blocks) markers
 
 -- none
 pub none_more : (line : ℕ) (k : KeptRows) → with_more_markers line [] k ≡ k
@@ -81,9 +81,9 @@ none_more line k =
     ap (λ (ms : List Marker). slice_set k.rows line (record row { markers = ms })) (append-nil row.markers) ∙ set-get_or k.rows line fresh_row in
     let handle : k.next_handle + 0 ≡ k.next_handle = omega arith in
     let markers : room.markers - 0 ≡ room.markers = omega arith in
-    ap (λ (rs : List Row). kept_rows rs (k.next_handle + 0) (record room { markers = room.markers - 0 })) rows_are
-    ∙ ap (λ n. kept_rows k.rows n (record room { markers = room.markers - 0 })) handle
-    ∙ ap (λ n. kept_rows k.rows k.next_handle (record room { markers = n })) markers
+    ap (λ (rs : List Row). kept_rows rs (k.next_handle + 0) (record room { markers = room.markers - 0 }) k.blocks) rows_are
+    ∙ ap (λ n. kept_rows k.rows n (record room { markers = room.markers - 0 }) k.blocks) handle
+    ∙ ap (λ n. kept_rows k.rows k.next_handle (record room { markers = n }) k.blocks) markers
 
 -- the document with them, and its room
 

@@ -33,4 +33,4 @@ abbrev pub with_more_markers : ℕ → List ℕ → KeptRows → KeptRows
 with_more_markers line numbers rows =
     let room = rows.room in
     kept_rows (with_markers line ((row_at rows.rows line).markers ++ new_markers rows.next_handle numbers) rows.rows) (rows.next_handle + length numbers)
-    (record room { markers = room.markers - length numbers })
+    (record room { markers = room.markers - length numbers }) rows.blocks

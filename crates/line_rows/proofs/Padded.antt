@@ -1,6 +1,6 @@
 -- The stored values of the first lines, padded with the default, through edits of lines.
-use Rattle.std.proofs.Common.{◌≡◌, ◌≤◌, ◌<◌, ◌+◌, ◌-◌, ℕ, zero, suc, List, [], ◌∷◌, ◌++◌, length, take, drop, replicate, get_or, set, min, refl, ap, sym, ◌∙◌, arith, append_assoc, inl, inr, add-one}
-use Rattle.std.proofs.lemmas.List.{length-append, length-take, length-take-le, length-drop, length-replicate, take-append-le, drop-append-le, take-replicate, drop-replicate, replicate-append-replicate, drop_all, take_all, append-nil, set-append_left, length-set, drop_more, take_more}
+use Rattle.std.proofs.Common.{◌≡◌, ◌≤◌, ◌<◌, ◌+◌, ◌-◌, ℕ, suc, List, [], ◌∷◌, ◌++◌, length, take, drop, replicate, get_or, set, min, refl, ap, sym, ◌∙◌, arith, append_assoc, inl, inr}
+use Rattle.std.proofs.lemmas.List.{length-append, length-take, length-take-le, length-drop, length-replicate, take-append-le, drop-append-le, take-replicate, drop-replicate, replicate-append-replicate, drop_all, append-nil, set-append_left, length-set, drop_more, take_more}
 use Rattle.std.proofs.lemmas.Bool.{cases_lt}
 use Rattle.std.proofs.Math.Seq.{take-append-add, drop-append-add}
 use Rattle.std.specs.List.{slice_range}

@@ -1,12 +1,12 @@
 -- What is read of rows, and what is changed in them, part by part.
-use Rattle.std.proofs.Common.{◌≡◌, ◌≢◌, ◌↔◌, IsTrue, min, reverse, ◌<◌, ◌≤◌, ◌+◌, ◌-◌, ℕ, zero, suc, ℤ, pos, Bool, not, cond, List, [], ◌∷◌, ◌++◌, length, map, filter, get_or, set, Option, Some, None, refl, sym, ap, ◌∙◌, arith}
-use Rattle.std.specs.List.{range_with_len, list_any, find}
+use Rattle.std.proofs.Common.{◌≡◌, ◌≢◌, ◌↔◌, IsTrue, min, max, reverse, ◌<◌, ◌+◌, ◌-◌, ℕ, zero, suc, ℤ, pos, Bool, not, cond, List, [], ◌∷◌, ◌++◌, length, filter, get_or, set, Option, Some, refl, sym, ap, ◌∙◌, arith}
+use Rattle.std.specs.List.{range_with_len, find}
 use Rattle.std.proofs.lemmas.List.{set-get_or, get_or_read}
 use Rattle.std.proofs.lemmas.List.Sums.{sum_by-cons}
-use Rattle.ed_model.specs.Rows.{Marker, Row, base_level, fresh_row}
+use Rattle.ed_model.specs.Rows.{Marker, Row, base_level}
 use Rattle.ed_model.specs.Changes.{with_markers, without_markers, new_markers, without_marker, marker_count}
 use Rattle.marker_store.specs.Lines.{markers_of, marker_total, without}
-use Rattle.line_rows.specs.Kept.{KeptRows, RowRoom, kept_rows, row_room, row_at, levels_of}
+use Rattle.line_rows.specs.Kept.{KeptRows, RowRoom, RowBlocks, kept_rows, row_room, row_at, levels_of}
 use Rattle.line_rows.specs.Rows.{rows_of}
 
 abbrev pub row : List Marker → ℕ → ℤ → Row
@@ -74,62 +74,64 @@ find_same p q e (k ∷ ks) = rw (e k) (ap (λ rest. cond (q k) (Some k) rest) (f
 
 -- Against the value of a `LineRows`.
 
-pub parts_length : (ms : List (List Marker)) (ls : List ℕ) (ss : List ℤ) (h : ℕ) (room : RowRoom) (r : KeptRows) → length ms ≡ length ls → length ms ≡ length ss → kept_rows (rows_of ms ls ss) h room ≡ r → length ms ≡ length r.rows
-parts_length ms ls ss h room r e f view = sym (rows_length ms ls ss e f) ∙ ap (λ (v : KeptRows). length v.rows) view
+pub parts_length : (ms : List (List Marker)) (ls : List ℕ) (ss : List ℤ) (h : ℕ) (room : RowRoom) (blocks : RowBlocks) (r : KeptRows) → length ms ≡ length ls → length ms ≡ length ss → kept_rows (rows_of ms ls ss) h room blocks ≡ r → length ms ≡ length r.rows
+parts_length ms ls ss h room blocks r e f view = sym (rows_length ms ls ss e f) ∙ ap (λ (v : KeptRows). length v.rows) view
 
-pub parts_level : (ms : List (List Marker)) (ls : List ℕ) (ss : List ℤ) (h : ℕ) (room : RowRoom) (r : KeptRows) (k x : ℕ) → length ms ≡ length ls → length ms ≡ length ss → kept_rows (rows_of ms ls ss) h room ≡ r → k < length ls → x ≡ get_or ls k x → x ≡ (row_at r.rows k).level
-parts_level ms ls ss h room r k x e f view inside read = get_or_read ls k x inside read base_level ∙ ap (λ (w : Row). w.level) (sym (rows_at ms ls ss k e f)) ∙ ap (λ (v : KeptRows). (row_at v.rows k).level) view
+pub parts_level : (ms : List (List Marker)) (ls : List ℕ) (ss : List ℤ) (h : ℕ) (room : RowRoom) (blocks : RowBlocks) (r : KeptRows) (k x : ℕ) → length ms ≡ length ls → length ms ≡ length ss → kept_rows (rows_of ms ls ss) h room blocks ≡ r → k < length ls → x ≡ get_or ls k x → x ≡ (row_at r.rows k).level
+parts_level ms ls ss h room blocks r k x e f view inside read = get_or_read ls k x inside read base_level ∙ ap (λ (w : Row). w.level) (sym (rows_at ms ls ss k e f)) ∙ ap (λ (v : KeptRows). (row_at v.rows k).level) view
 
-pub parts_state : (ms : List (List Marker)) (ls : List ℕ) (ss : List ℤ) (h : ℕ) (room : RowRoom) (r : KeptRows) (k : ℕ) (x : ℤ) → length ms ≡ length ls → length ms ≡ length ss → kept_rows (rows_of ms ls ss) h room ≡ r → k < length ss → x ≡ get_or ss k x → x ≡ (row_at r.rows k).state
-parts_state ms ls ss h room r k x e f view inside read = get_or_read ss k x inside read (pos 0) ∙ ap (λ (w : Row). w.state) (sym (rows_at ms ls ss k e f)) ∙ ap (λ (v : KeptRows). (row_at v.rows k).state) view
+pub parts_state : (ms : List (List Marker)) (ls : List ℕ) (ss : List ℤ) (h : ℕ) (room : RowRoom) (blocks : RowBlocks) (r : KeptRows) (k : ℕ) (x : ℤ) → length ms ≡ length ls → length ms ≡ length ss → kept_rows (rows_of ms ls ss) h room blocks ≡ r → k < length ss → x ≡ get_or ss k x → x ≡ (row_at r.rows k).state
+parts_state ms ls ss h room blocks r k x e f view inside read = get_or_read ss k x inside read (pos 0) ∙ ap (λ (w : Row). w.state) (sym (rows_at ms ls ss k e f)) ∙ ap (λ (v : KeptRows). (row_at v.rows k).state) view
 
-pub parts_markers : (ms : List (List Marker)) (ls : List ℕ) (ss : List ℤ) (h : ℕ) (room : RowRoom) (r : KeptRows) (k : ℕ) → length ms ≡ length ls → length ms ≡ length ss → kept_rows (rows_of ms ls ss) h room ≡ r → markers_of k ms ≡ (row_at r.rows k).markers
-parts_markers ms ls ss h room r k e f view = markers_at ms ls ss k e f ∙ ap (λ (v : KeptRows). (row_at v.rows k).markers) view
+pub parts_markers : (ms : List (List Marker)) (ls : List ℕ) (ss : List ℤ) (h : ℕ) (room : RowRoom) (blocks : RowBlocks) (r : KeptRows) (k : ℕ) → length ms ≡ length ls → length ms ≡ length ss → kept_rows (rows_of ms ls ss) h room blocks ≡ r → markers_of k ms ≡ (row_at r.rows k).markers
+parts_markers ms ls ss h room blocks r k e f view = markers_at ms ls ss k e f ∙ ap (λ (v : KeptRows). (row_at v.rows k).markers) view
 
-pub with_level : (ms : List (List Marker)) (ls ls' : List ℕ) (ss : List ℤ) (h : ℕ) (room : RowRoom) (r : KeptRows) (k l : ℕ) → length ms ≡ length ls → length ms ≡ length ss → ls' ≡ set ls k l → kept_rows (rows_of ms ls ss) h room ≡ r →
-    kept_rows (rows_of ms ls' ss) h room ≡ record r { rows = set r.rows k (record (row_at r.rows k) { level = l }) }
-with_level ms ls ls' ss h room r k l e f was view =
-    ap (λ rows. kept_rows rows h room) (ap (λ levels. rows_of ms levels ss) was ∙ level_set ms ls ss k l e f)
-    ∙ ap (λ (v : KeptRows). kept_rows (set v.rows k (record (row_at v.rows k) { level = l })) v.next_handle v.room) view
+pub with_level : (ms : List (List Marker)) (ls ls' : List ℕ) (ss : List ℤ) (h : ℕ) (room : RowRoom) (blocks : RowBlocks) (r : KeptRows) (k l : ℕ) → length ms ≡ length ls → length ms ≡ length ss → ls' ≡ set ls k l → kept_rows (rows_of ms ls ss) h room blocks ≡ r →
+    kept_rows (rows_of ms ls' ss) h room (record blocks { stored_levels = max blocks.stored_levels (k + 1) })
+    ≡ record r { rows = set r.rows k (record (row_at r.rows k) { level = l }); blocks = record r.blocks { stored_levels = max r.blocks.stored_levels (k + 1) } }
+with_level ms ls ls' ss h room blocks r k l e f was view =
+    ap (λ rows. kept_rows rows h room (record blocks { stored_levels = max blocks.stored_levels (k + 1) })) (ap (λ levels. rows_of ms levels ss) was ∙ level_set ms ls ss k l e f)
+    ∙ ap (λ (v : KeptRows). kept_rows (set v.rows k (record (row_at v.rows k) { level = l })) v.next_handle v.room (record v.blocks { stored_levels = max v.blocks.stored_levels (k + 1) })) view
 
-pub with_state : (ms : List (List Marker)) (ls : List ℕ) (ss ss' : List ℤ) (h : ℕ) (room : RowRoom) (r : KeptRows) (k : ℕ) (s : ℤ) → length ms ≡ length ls → length ms ≡ length ss → ss' ≡ set ss k s → kept_rows (rows_of ms ls ss) h room ≡ r →
-    kept_rows (rows_of ms ls ss') h room ≡ record r { rows = set r.rows k (record (row_at r.rows k) { state = s }) }
-with_state ms ls ss ss' h room r k s e f was view =
-    ap (λ rows. kept_rows rows h room) (ap (rows_of ms ls) was ∙ state_set ms ls ss k s e f)
-    ∙ ap (λ (v : KeptRows). kept_rows (set v.rows k (record (row_at v.rows k) { state = s })) v.next_handle v.room) view
+pub with_state : (ms : List (List Marker)) (ls : List ℕ) (ss ss' : List ℤ) (h : ℕ) (room : RowRoom) (blocks : RowBlocks) (r : KeptRows) (k : ℕ) (s : ℤ) → length ms ≡ length ls → length ms ≡ length ss → ss' ≡ set ss k s → kept_rows (rows_of ms ls ss) h room blocks ≡ r →
+    kept_rows (rows_of ms ls ss') h room (record blocks { stored_states = max blocks.stored_states (k + 1) })
+    ≡ record r { rows = set r.rows k (record (row_at r.rows k) { state = s }); blocks = record r.blocks { stored_states = max r.blocks.stored_states (k + 1) } }
+with_state ms ls ss ss' h room blocks r k s e f was view =
+    ap (λ rows. kept_rows rows h room (record blocks { stored_states = max blocks.stored_states (k + 1) })) (ap (rows_of ms ls) was ∙ state_set ms ls ss k s e f)
+    ∙ ap (λ (v : KeptRows). kept_rows (set v.rows k (record (row_at v.rows k) { state = s })) v.next_handle v.room (record v.blocks { stored_states = max v.blocks.stored_states (k + 1) })) view
 
-pub with_marker : (ms ms' : List (List Marker)) (ls : List ℕ) (ss : List ℤ) (h h' lines levels states m m' k n : ℕ) (r : KeptRows) → length ms ≡ length ls → length ms ≡ length ss →
-    ms' ≡ set ms k (markers_of k ms ++ new_markers h (n ∷ [])) → h' ≡ h + 1 → m' + 1 ≡ m → kept_rows (rows_of ms ls ss) h (row_room lines levels states m) ≡ r →
-    kept_rows (rows_of ms' ls ss) h' (row_room lines levels states m') ≡ record r { rows = with_markers k ((row_at r.rows k).markers ++ new_markers r.next_handle (n ∷ [])) r.rows; next_handle = r.next_handle + 1; room = record r.room { markers = r.room.markers - 1 } }
-with_marker ms ms' ls ss h h' lines levels states m m' k n r e f was next room view =
+pub with_marker : (ms ms' : List (List Marker)) (ls : List ℕ) (ss : List ℤ) (h h' lines levels states m m' : ℕ) (blocks : RowBlocks) (k n : ℕ) (r : KeptRows) → length ms ≡ length ls → length ms ≡ length ss →
+    ms' ≡ set ms k (markers_of k ms ++ new_markers h (n ∷ [])) → h' ≡ h + 1 → m' + 1 ≡ m → kept_rows (rows_of ms ls ss) h (row_room lines levels states m) blocks ≡ r →
+    kept_rows (rows_of ms' ls ss) h' (row_room lines levels states m') blocks ≡ record r { rows = with_markers k ((row_at r.rows k).markers ++ new_markers r.next_handle (n ∷ [])) r.rows; next_handle = r.next_handle + 1; room = record r.room { markers = r.room.markers - 1 } }
+with_marker ms ms' ls ss h h' lines levels states m m' blocks k n r e f was next room view =
     let less : m' ≡ m - 1 = omega arith in
-    ap (λ rows. kept_rows rows h' (row_room lines levels states m'))
+    ap (λ rows. kept_rows rows h' (row_room lines levels states m') blocks)
     (ap (λ l. rows_of l ls ss) was ∙ markers_set ms ls ss k (markers_of k ms ++ new_markers h (n ∷ [])) e f ∙ ap (λ mk. with_markers k (mk ++ new_markers h (n ∷ [])) (rows_of ms ls ss)) (markers_at ms ls ss k e f))
-    ∙ ap (λ j. kept_rows (with_markers k ((row_at (rows_of ms ls ss) k).markers ++ new_markers h (n ∷ [])) (rows_of ms ls ss)) j (row_room lines levels states m')) next
-    ∙ ap (λ j. kept_rows (with_markers k ((row_at (rows_of ms ls ss) k).markers ++ new_markers h (n ∷ [])) (rows_of ms ls ss)) (h + 1) (row_room lines levels states j)) less
-    ∙ ap (λ (v : KeptRows). kept_rows (with_markers k ((row_at v.rows k).markers ++ new_markers v.next_handle (n ∷ [])) v.rows) (v.next_handle + 1) (row_room v.room.lines v.room.levels v.room.states (v.room.markers - 1))) view
+    ∙ ap (λ j. kept_rows (with_markers k ((row_at (rows_of ms ls ss) k).markers ++ new_markers h (n ∷ [])) (rows_of ms ls ss)) j (row_room lines levels states m') blocks) next
+    ∙ ap (λ j. kept_rows (with_markers k ((row_at (rows_of ms ls ss) k).markers ++ new_markers h (n ∷ [])) (rows_of ms ls ss)) (h + 1) (row_room lines levels states j) blocks) less
+    ∙ ap (λ (v : KeptRows). kept_rows (with_markers k ((row_at v.rows k).markers ++ new_markers v.next_handle (n ∷ [])) v.rows) (v.next_handle + 1) (row_room v.room.lines v.room.levels v.room.states (v.room.markers - 1)) v.blocks) view
 
-pub rows_deleted : (ms ms' : List (List Marker)) (ls : List ℕ) (ss : List ℤ) (h : ℕ) (room : RowRoom) (r : KeptRows) (k : ℕ) (number : Option ℕ) → length ms ≡ length ls → length ms ≡ length ss → ms' ≡ set ms k (without_marker number (markers_of k ms)) →
-    kept_rows (rows_of ms ls ss) h room ≡ r → rows_of ms' ls ss ≡ with_markers k (without_marker number (row_at r.rows k).markers) r.rows
-rows_deleted ms ms' ls ss h room r k number e f was view =
+pub rows_deleted : (ms ms' : List (List Marker)) (ls : List ℕ) (ss : List ℤ) (h : ℕ) (room : RowRoom) (blocks : RowBlocks) (r : KeptRows) (k : ℕ) (number : Option ℕ) → length ms ≡ length ls → length ms ≡ length ss → ms' ≡ set ms k (without_marker number (markers_of k ms)) →
+    kept_rows (rows_of ms ls ss) h room blocks ≡ r → rows_of ms' ls ss ≡ with_markers k (without_marker number (row_at r.rows k).markers) r.rows
+rows_deleted ms ms' ls ss h room blocks r k number e f was view =
     ap (λ l. rows_of l ls ss) was ∙ markers_set ms ls ss k (without_marker number (markers_of k ms)) e f ∙ ap (λ mk. with_markers k (without_marker number mk) (rows_of ms ls ss)) (markers_at ms ls ss k e f)
     ∙ ap (λ (v : KeptRows). with_markers k (without_marker number (row_at v.rows k).markers) v.rows) view
 
-pub rows_dropped : (drops : Marker → Bool) (ms ms' : List (List Marker)) (ls : List ℕ) (ss : List ℤ) (h : ℕ) (room : RowRoom) (r : KeptRows) → ms' ≡ without drops ms → kept_rows (rows_of ms ls ss) h room ≡ r → rows_of ms' ls ss ≡ without_markers drops r.rows
-rows_dropped drops ms ms' ls ss h room r was view = ap (λ l. rows_of l ls ss) was ∙ rows_without drops ms ls ss ∙ ap (λ (v : KeptRows). without_markers drops v.rows) view
+pub rows_dropped : (drops : Marker → Bool) (ms ms' : List (List Marker)) (ls : List ℕ) (ss : List ℤ) (h : ℕ) (room : RowRoom) (blocks : RowBlocks) (r : KeptRows) → ms' ≡ without drops ms → kept_rows (rows_of ms ls ss) h room blocks ≡ r → rows_of ms' ls ss ≡ without_markers drops r.rows
+rows_dropped drops ms ms' ls ss h room blocks r was view = ap (λ l. rows_of l ls ss) was ∙ rows_without drops ms ls ss ∙ ap (λ (v : KeptRows). without_markers drops v.rows) view
 
 -- a search among the lines, by their markers
-pub found_from : (P : List Marker → Bool) (ms : List (List Marker)) (ls : List ℕ) (ss : List ℤ) (h : ℕ) (room : RowRoom) (r : KeptRows) (from : ℕ) → length ms ≡ length ls → length ms ≡ length ss → kept_rows (rows_of ms ls ss) h room ≡ r →
+pub found_from : (P : List Marker → Bool) (ms : List (List Marker)) (ls : List ℕ) (ss : List ℤ) (h : ℕ) (room : RowRoom) (blocks : RowBlocks) (r : KeptRows) (from : ℕ) → length ms ≡ length ls → length ms ≡ length ss → kept_rows (rows_of ms ls ss) h room blocks ≡ r →
     find (λ k. P (markers_of k ms)) (range_with_len from (length ms - from)) ≡ find (λ k. P (row_at r.rows k).markers) (range_with_len from (length r.rows - from))
-found_from P ms ls ss h room r from e f view =
-    ap (λ n. find (λ k. P (markers_of k ms)) (range_with_len from (n - from))) (parts_length ms ls ss h room r e f view)
-    ∙ find_same (λ k. P (markers_of k ms)) (λ k. P (row_at r.rows k).markers) (λ k. ap P (parts_markers ms ls ss h room r k e f view)) (range_with_len from (length r.rows - from))
+found_from P ms ls ss h room blocks r from e f view =
+    ap (λ n. find (λ k. P (markers_of k ms)) (range_with_len from (n - from))) (parts_length ms ls ss h room blocks r e f view)
+    ∙ find_same (λ k. P (markers_of k ms)) (λ k. P (row_at r.rows k).markers) (λ k. ap P (parts_markers ms ls ss h room blocks r k e f view)) (range_with_len from (length r.rows - from))
 
-pub found_up_to : (P : List Marker → Bool) (ms : List (List Marker)) (ls : List ℕ) (ss : List ℤ) (h : ℕ) (room : RowRoom) (r : KeptRows) (from : ℕ) → length ms ≡ length ls → length ms ≡ length ss → kept_rows (rows_of ms ls ss) h room ≡ r →
+pub found_up_to : (P : List Marker → Bool) (ms : List (List Marker)) (ls : List ℕ) (ss : List ℤ) (h : ℕ) (room : RowRoom) (blocks : RowBlocks) (r : KeptRows) (from : ℕ) → length ms ≡ length ls → length ms ≡ length ss → kept_rows (rows_of ms ls ss) h room blocks ≡ r →
     find (λ k. P (markers_of k ms)) (reverse (range_with_len 0 (min (from + 1) (length ms)))) ≡ find (λ k. P (row_at r.rows k).markers) (reverse (range_with_len 0 (min (from + 1) (length r.rows))))
-found_up_to P ms ls ss h room r from e f view =
-    ap (λ n. find (λ k. P (markers_of k ms)) (reverse (range_with_len 0 (min (from + 1) n)))) (parts_length ms ls ss h room r e f view)
-    ∙ find_same (λ k. P (markers_of k ms)) (λ k. P (row_at r.rows k).markers) (λ k. ap P (parts_markers ms ls ss h room r k e f view)) (reverse (range_with_len 0 (min (from + 1) (length r.rows))))
+found_up_to P ms ls ss h room blocks r from e f view =
+    ap (λ n. find (λ k. P (markers_of k ms)) (reverse (range_with_len 0 (min (from + 1) n)))) (parts_length ms ls ss h room blocks r e f view)
+    ∙ find_same (λ k. P (markers_of k ms)) (λ k. P (row_at r.rows k).markers) (λ k. ap P (parts_markers ms ls ss h room blocks r k e f view)) (reverse (range_with_len 0 (min (from + 1) (length r.rows))))
 
 -- how many markers there are
 pub rows_count : (ms : List (List Marker)) (ls : List ℕ) (ss : List ℤ) → length ms ≡ length ls → length ms ≡ length ss → marker_total ms ≡ marker_count (rows_of ms ls ss)

@@ -13,17 +13,32 @@ pub record RowRoom : Type 0 where
   pub states : ℕ
   pub markers : ℕ
 
+-- What memory is taken for: of how many lines, from the first on, levels are stored, and of how many states; for how many of each, and for
+-- how many markers, there is memory in all. And for how many fresh lines there is room among the states, which may be more than promised.
+pub record RowBlocks : Type 0 where
+  pub stored_levels : ℕ
+  pub level_block : ℕ
+  pub stored_states : ℕ
+  pub state_block : ℕ
+  pub state_lines : ℕ
+  pub marker_block : ℕ
+
 -- the row of each line, and the handle that the next marker gets
 pub record KeptRows : Type 0 where
   pub rows : List Row
   pub next_handle : ℕ
   pub room : RowRoom
+  pub blocks : RowBlocks
 
 abbrev pub row_room : ℕ → ℕ → ℕ → ℕ → RowRoom
 row_room lines levels states markers = record { lines = lines; levels = levels; states = states; markers = markers }
 
-abbrev pub kept_rows : List Row → ℕ → RowRoom → KeptRows
-kept_rows rows handle room = record { rows = rows; next_handle = handle; room = room }
+abbrev pub row_blocks : (stored_levels level_block stored_states state_block state_lines marker_block : ℕ) → RowBlocks
+row_blocks stored_levels level_block stored_states state_block state_lines marker_block =
+    record { stored_levels = stored_levels; level_block = level_block; stored_states = stored_states; state_block = state_block; state_lines = state_lines; marker_block = marker_block }
+
+abbrev pub kept_rows : List Row → ℕ → RowRoom → RowBlocks → KeptRows
+kept_rows rows handle room blocks = record { rows = rows; next_handle = handle; room = room; blocks = blocks }
 
 abbrev pub row_at : List Row → ℕ → Row
 row_at rows line = slice_index_or rows line fresh_row

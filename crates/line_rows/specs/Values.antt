@@ -1,22 +1,28 @@
 -- What a contract sees of `LineValues`.
-use Rattle.std.specs.Prelude.{ℕ, ◌+◌, ◌-◌, List, [], ◌∷◌, ◌++◌, length, replicate, refl}
+use Rattle.std.specs.Prelude.{ℕ, ◌+◌, ◌-◌, nat_le, if◌then◌else◌, min, max, List, [], ◌∷◌, ◌++◌, length, replicate, fold, refl}
 use Rattle.std.specs.Coded.{Coded, code_by, coded×, coded_list, coded_ℕ}
+use Rattle.split_vector.specs.Split.{most_room}
+use Rattle.line_index.specs.declared.edit.LineEdit.{LineEdit}
+use Rattle.line_index.specs.declared.edit.LineEdit.TheVariants.{Come, Join, Restart}
 
 -- What a line has that none was set for, and the value of each line. For how many fresh lines there is room, and of how many lines,
--- from the first on, a value can be set.
+-- from the first on, a value can be set. Of how many lines, from the first on, the values are stored, and for how many there is memory.
 pub record Valued (V : Type 0) : Type 0 where
   pub default : V
   pub values : List V
   pub room : ℕ
   pub reach : ℕ
+  pub stored : ℕ
+  pub block : ℕ
 
 module _ {V : Type 0} where
-  abbrev pub valued : V → List V → ℕ → ℕ → Valued V
-  valued value values room reach = record { default = value; values = values; room = room; reach = reach }
+  abbrev pub valued : V → List V → ℕ → ℕ → ℕ → ℕ → Valued V
+  valued value values room reach stored block = record { default = value; values = values; room = room; reach = reach; stored = stored; block = block }
 
   abbrev pub valued_code : Coded V → Coded (Valued V)
   valued_code c =
-      code_by (V × (List V × (ℕ × ℕ))) (coded× c (coded× (coded_list c) (coded× coded_ℕ coded_ℕ))) (λ r. (r.default, (r.values, (r.room, r.reach)))) (λ p. valued p.0 p.1.0 p.1.1.0 p.1.1.1) (λ _. refl)
+      code_by (V × (List V × (ℕ × (ℕ × (ℕ × ℕ))))) (coded× c (coded× (coded_list c) (coded× coded_ℕ (coded× coded_ℕ (coded× coded_ℕ coded_ℕ)))))
+      (λ r. (r.default, (r.values, (r.room, (r.reach, (r.stored, r.block)))))) (λ p. valued p.0 p.1.0 p.1.1.0 p.1.1.1.0 p.1.1.1.1.0 p.1.1.1.1.1) (λ _. refl)
 
   -- values that meet: the first
   abbrev pub first_or : V → List V → V
@@ -30,3 +36,17 @@ module _ {V : Type 0} where
   -- the same, where they are stored in two halves
   abbrev pub padded_halves : V → ℕ → List V → List V → List V
   padded_halves value lines first second = first ++ second ++ replicate (lines - (length first + length second)) value
+
+-- For how many values there is memory at most, where so many are stored and there was memory for a block of them, once there is
+-- room for so many fresh lines and for the values of the first `reach` lines: for those that are then to fit in, or for twice the block.
+abbrev pub most_block : (stored block room reach : ℕ) → ℕ
+most_block stored block room reach = most_room 0 block (max stored reach + room)
+
+-- How many values are stored after an edit. Fresh lines behind the stored ones are not stored, and lines that go take theirs away.
+abbrev pub stored_after_edit : ℕ → LineEdit → ℕ
+stored_after_edit stored (Come line count) = if nat_le stored line then stored else stored + count
+stored_after_edit stored (Join line count) = stored - min count (stored - (line + 1))
+stored_after_edit stored Restart = 0
+
+abbrev pub stored_after : List LineEdit → ℕ → ℕ
+stored_after edits stored = fold stored_after_edit stored edits

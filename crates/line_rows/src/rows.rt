@@ -4,7 +4,9 @@ ghost use Rattle.ed_model.specs.Changes.{with_markers, new_markers, without_mark
 ghost use Rattle.ed_model.specs.LinePlans.{mask_of};
 ghost use Rattle.ed_model.specs.Rows.{Marker, base_level, fresh_row, rows_together};
 ghost use Rattle.line_index.specs.Edits.{after_edit, after_edits, FitsLines, FitLines, fresh_by, fresh_lines};
-ghost use Rattle.line_rows.specs.Kept.{kept_rows, row_room, row_at, levels_of, is_marked, has_handle, first_from, last_up_to};
+ghost use Rattle.split_vector.specs.Split.{most_room};
+ghost use Rattle.line_rows.specs.Values.{most_block, stored_after};
+ghost use Rattle.line_rows.specs.Kept.{kept_rows, row_room, row_blocks, row_at, levels_of, is_marked, has_handle, first_from, last_up_to};
 ghost use Rattle.line_rows.specs.Rows.{markers_together};
 
 use crate::values::LineValues;
@@ -25,12 +27,12 @@ pub struct LineRows {
 }
 
 impl Model for LineRows {
-    ghost use Rattle.line_rows.specs.Kept.{KeptRows, kept_rows, row_room, AreParts};
+    ghost use Rattle.line_rows.specs.Kept.{KeptRows, kept_rows, row_room, row_blocks, AreParts};
     ghost use Rattle.line_rows.specs.Rows.{rows_of};
 
     ghost Value = { KeptRows };
 
-    ghost view = { λ r. kept_rows (rows_of r.markers.lines r.levels.values r.states.values) r.markers.next_handle (row_room r.levels.room r.levels.reach r.states.reach r.markers.room) };
+    ghost view = { λ r. kept_rows (rows_of r.markers.lines r.levels.values r.states.values) r.markers.next_handle (row_room r.levels.room r.levels.reach r.states.reach r.markers.room) (row_blocks r.levels.stored r.levels.block r.states.stored r.states.block r.states.room r.markers.block) };
 
     ghost invariant = { λ r. AreParts r.markers.lines r.levels.values r.states.values r.levels.default r.states.default r.levels.room r.states.room };
 }
@@ -42,6 +44,7 @@ fn carry_one(markers: &mut MarkerStore, edit: LineEdit)
     ensures lines { markers.new.lines ≡ after_edit markers_together markers.old.lines edit }
     ensures next_handle { markers.new.next_handle ≡ markers.old.next_handle }
     ensures room { markers.old.room ≤ markers.new.room }
+    ensures block { markers.new.block ≡ markers.old.block }
 {
     match edit {
         LineEdit::Come { line, count } => markers.shift(line, count),
@@ -57,6 +60,7 @@ fn carry_markers(markers: &mut MarkerStore, edits: &[LineEdit])
     ensures lines { markers.new.lines ≡ after_edits markers_together edits.now markers.old.lines }
     ensures next_handle { markers.new.next_handle ≡ markers.old.next_handle }
     ensures room { markers.old.room ≤ markers.new.room }
+    ensures block { markers.new.block ≡ markers.old.block }
 {
     for edit in edits {
         carry_one(markers, *edit);
@@ -73,6 +77,7 @@ impl LineRows {
         ensures rows { IfOk result (λ r. r.rows ≡ fresh_row ∷ []) }
         ensures next_handle { IfOk result (λ r. r.next_handle ≡ 1) }
         ensures room { IfOk result (λ r. r.room ≡ row_room 0 0 0 0) }
+        ensures blocks { IfOk result (λ r. r.blocks ≡ row_blocks 0 0 0 0 0 0) }
     {
         let markers = MarkerStore::new(alloc)?;
         Ok(LineRows {
@@ -94,11 +99,14 @@ impl LineRows {
     ///
     /// # Errors
     ///
-    /// `AllocError` where memory is refused. All is then as it was.
+    /// `AllocError` where memory is refused. All is then as it was, but that the states may have got the memory.
     pub fn reserve(&mut self, lines: usize) -> Result<(), AllocError>
-        ensures ok { OnOk result (self.new ≡ record self.old { room = record self.old.room { lines = max self.old.room.lines lines } }) }
+        ensures ok { OnOk result (self.new ≡ record self.old { room = record self.old.room { lines = max self.old.room.lines lines }; blocks = record self.old.blocks { level_block = self.new.blocks.level_block; state_block = self.new.blocks.state_block; state_lines = max self.old.blocks.state_lines lines } }) }
         ensures room_is_there { lines ≤ self.old.room.lines → IsOk result × (self.new ≡ self.old) }
-        ensures err { OnErr result (self.new ≡ self.old) }
+        ensures levels_at_most { self.new.blocks.level_block ≤ most_block self.old.blocks.stored_levels self.old.blocks.level_block (max self.old.room.lines lines) self.old.room.levels }
+        ensures states_at_most { self.new.blocks.state_block ≤ most_block self.old.blocks.stored_states self.old.blocks.state_block (max self.old.blocks.state_lines lines) self.old.room.states }
+        ensures state_lines { (self.old.blocks.state_lines ≤ self.new.blocks.state_lines) × (self.new.blocks.state_lines ≤ max self.old.blocks.state_lines lines) }
+        ensures err { OnErr result (self.new ≡ record self.old { blocks = record self.old.blocks { state_block = self.new.blocks.state_block; state_lines = self.new.blocks.state_lines } }) }
     {
         let Ok(()) = self.states.reserve(lines, 0) else {
             return Err(AllocError);
@@ -115,8 +123,9 @@ impl LineRows {
     ///
     /// `AllocError` where memory is refused. All is then as it was.
     pub fn reserve_levels(&mut self, count: usize) -> Result<(), AllocError>
-        ensures ok { OnOk result (self.new ≡ record self.old { room = record self.old.room { levels = max self.old.room.levels count } }) }
+        ensures ok { OnOk result (self.new ≡ record self.old { room = record self.old.room { levels = max self.old.room.levels count }; blocks = record self.old.blocks { level_block = self.new.blocks.level_block } }) }
         ensures room_is_there { count ≤ self.old.room.levels → IsOk result × (self.new ≡ self.old) }
+        ensures at_most { self.new.blocks.level_block ≤ most_block self.old.blocks.stored_levels self.old.blocks.level_block self.old.room.lines (max self.old.room.levels count) }
         ensures err { OnErr result (self.new ≡ self.old) }
     {
         let Ok(()) = self.levels.reserve(0, count) else {
@@ -131,8 +140,9 @@ impl LineRows {
     ///
     /// `AllocError` where memory is refused. All is then as it was.
     pub fn reserve_states(&mut self, count: usize) -> Result<(), AllocError>
-        ensures ok { OnOk result (self.new ≡ record self.old { room = record self.old.room { states = max self.old.room.states count } }) }
+        ensures ok { OnOk result (self.new ≡ record self.old { room = record self.old.room { states = max self.old.room.states count }; blocks = record self.old.blocks { state_block = self.new.blocks.state_block } }) }
         ensures room_is_there { count ≤ self.old.room.states → IsOk result × (self.new ≡ self.old) }
+        ensures at_most { self.new.blocks.state_block ≤ most_block self.old.blocks.stored_states self.old.blocks.state_block self.old.blocks.state_lines (max self.old.room.states count) }
         ensures err { OnErr result (self.new ≡ self.old) }
     {
         let Ok(()) = self.states.reserve(0, count) else {
@@ -147,8 +157,9 @@ impl LineRows {
     ///
     /// `AllocError` where memory is refused. All is then as it was.
     pub fn reserve_markers(&mut self, count: usize) -> Result<(), AllocError>
-        ensures ok { OnOk result (self.new ≡ record self.old { room = record self.old.room { markers = max self.old.room.markers count } }) }
+        ensures ok { OnOk result (self.new ≡ record self.old { room = record self.old.room { markers = max self.old.room.markers count }; blocks = record self.old.blocks { marker_block = self.new.blocks.marker_block } }) }
         ensures room_is_there { count ≤ self.old.room.markers → IsOk result × (self.new ≡ self.old) }
+        ensures at_most { self.new.blocks.marker_block ≤ most_room 0 self.old.blocks.marker_block (marker_count self.old.rows + count) }
         ensures err { OnErr result (self.new ≡ self.old) }
     {
         let Ok(()) = self.markers.reserve(count) else {
@@ -169,6 +180,7 @@ impl LineRows {
         ensures level_room { self.new.room.levels ≡ self.old.room.levels }
         ensures state_room { self.new.room.states ≡ self.old.room.states }
         ensures marker_room { self.old.room.markers ≤ self.new.room.markers }
+        ensures blocks { self.new.blocks ≡ record self.old.blocks { stored_levels = stored_after edits.now self.old.blocks.stored_levels; stored_states = stored_after edits.now self.old.blocks.stored_states; state_lines = self.old.blocks.state_lines - fresh_lines edits.now } }
     {
         carry_markers(&mut self.markers, edits);
         self.levels.carry(edits);
@@ -204,7 +216,7 @@ impl LineRows {
         requires line { line < length self.old.rows }
         requires room { line < self.old.room.levels }
         ensures before { result ≡ (row_at self.old.rows line).level }
-        ensures rows { self.new ≡ record self.old { rows = slice_set self.old.rows line (record (row_at self.old.rows line) { level = level }) } }
+        ensures rows { self.new ≡ record self.old { rows = slice_set self.old.rows line (record (row_at self.old.rows line) { level = level }); blocks = record self.old.blocks { stored_levels = max self.old.blocks.stored_levels (line + 1) } } }
     {
         let before = self.levels.get(line);
         self.levels.set(line, level);
@@ -216,7 +228,7 @@ impl LineRows {
         requires line { line < length self.old.rows }
         requires room { line < self.old.room.states }
         ensures before { result ≡ (row_at self.old.rows line).state }
-        ensures rows { self.new ≡ record self.old { rows = slice_set self.old.rows line (record (row_at self.old.rows line) { state = state }) } }
+        ensures rows { self.new ≡ record self.old { rows = slice_set self.old.rows line (record (row_at self.old.rows line) { state = state }); blocks = record self.old.blocks { stored_states = max self.old.blocks.stored_states (line + 1) } } }
     {
         let before = self.states.get(line);
         self.states.set(line, state);
@@ -251,6 +263,7 @@ impl LineRows {
         ensures next_handle { self.new.next_handle ≡ self.old.next_handle }
         ensures room { self.new.room ≡ record self.old.room { markers = self.new.room.markers } }
         ensures marker_room { self.new.room.markers + marker_count self.new.rows ≡ self.old.room.markers + marker_count self.old.rows }
+        ensures blocks { self.new.blocks ≡ self.old.blocks }
     {
         self.markers.delete(line, number)
     }
@@ -263,6 +276,7 @@ impl LineRows {
         ensures next_handle { self.new.next_handle ≡ self.old.next_handle }
         ensures room { self.new.room ≡ record self.old.room { markers = self.new.room.markers } }
         ensures marker_room { self.new.room.markers + marker_count self.new.rows ≡ self.old.room.markers + marker_count self.old.rows }
+        ensures blocks { self.new.blocks ≡ self.old.blocks }
     {
         self.markers.delete_all(number)
     }
@@ -274,6 +288,7 @@ impl LineRows {
         ensures next_handle { self.new.next_handle ≡ self.old.next_handle }
         ensures room { self.new.room ≡ record self.old.room { markers = self.new.room.markers } }
         ensures marker_room { self.new.room.markers + marker_count self.new.rows ≡ self.old.room.markers + marker_count self.old.rows }
+        ensures blocks { self.new.blocks ≡ self.old.blocks }
     {
         self.markers.delete_handle(handle)
     }

@@ -1,7 +1,8 @@
 //! `LineValues`: a value for each line, as a fold level or a line state.
 ghost use Rattle.std.specs.Prelude.{◌≡◌, ◌≤◌, ◌<◌, ◌+◌, ◌-◌, ◌^◌, ℕ, ◌∷◌, [], length, max, slice_set, slice_index_or, OnOk, OnErr, IsOk};
 ghost use Rattle.line_index.specs.Edits.{with_fresh, with_joined, after_edit, after_edits, FitsLines, FitLines, fresh_by, fresh_lines};
-ghost use Rattle.line_rows.specs.Values.{valued, first_or, padded, padded_halves};
+ghost use Rattle.line_index.specs.declared.edit.LineEdit.TheVariants.{Come, Join};
+ghost use Rattle.line_rows.specs.Values.{valued, first_or, padded, padded_halves, most_block, stored_after_edit, stored_after};
 
 use line_index::LineEdit;
 use split_vector::SplitVector;
@@ -30,7 +31,7 @@ impl<T: Copy> Model for LineValues<T> {
 
     ghost coded = { valued_code T.code };
 
-    ghost view = { λ v. valued v.default (padded v.default v.lines v.stored.items) v.room v.reach };
+    ghost view = { λ v. valued v.default (padded v.default v.lines v.stored.items) v.room v.reach (length v.stored.items) (length v.stored.items + v.stored.spare) };
 
     ghost invariant = { λ v. record { fewer : length v.stored.items ≤ v.lines; for_lines : v.room ≤ v.stored.spare; for_values : v.reach + v.room ≤ length v.stored.items + v.stored.spare } };
 }
@@ -50,6 +51,7 @@ fn put_in<T: Copy>(stored: &mut SplitVector<T>, default: T, line: usize, count: 
     requires { count ≤ stored.old.spare }
     ensures values { (lines : ℕ) → length stored.old.items ≤ lines → line ≤ lines → padded default (lines + count) stored.new.items ≡ with_fresh (first_or default) line count (padded default lines stored.old.items) }
     ensures few { length stored.new.items ≤ length stored.old.items + count }
+    ensures stored { length stored.new.items ≡ stored_after_edit (length stored.old.items) (Come line count) }
     ensures spare { stored.old.spare ≤ stored.new.spare + count }
     ensures all { length stored.new.items + stored.new.spare ≡ length stored.old.items + stored.old.spare }
 {
@@ -63,6 +65,7 @@ fn put_in<T: Copy>(stored: &mut SplitVector<T>, default: T, line: usize, count: 
 fn take_behind<T: Copy>(stored: &mut SplitVector<T>, line: usize, count: usize)
     ensures values { (default : T) (lines : ℕ) → length stored.old.items ≤ lines → line + count < lines → padded default (lines - count) stored.new.items ≡ with_joined (first_or default) line count (padded default lines stored.old.items) }
     ensures few { (lines : ℕ) → length stored.old.items ≤ lines → line + count < lines → length stored.new.items ≤ lines - count }
+    ensures stored { length stored.new.items ≡ stored_after_edit (length stored.old.items) (Join line count) }
     ensures spare { stored.old.spare ≤ stored.new.spare }
     ensures all { length stored.new.items + stored.new.spare ≡ length stored.old.items + stored.old.spare }
 {
@@ -77,7 +80,7 @@ fn take_behind<T: Copy>(stored: &mut SplitVector<T>, line: usize, count: usize)
 impl<T: Copy> LineValues<T> {
     /// Returns the values of one line, which has the default. Takes no memory.
     pub fn new(alloc: Global, default: T) -> Self
-        ensures { result ≡ valued default (default ∷ []) 0 0 }
+        ensures { result ≡ valued default (default ∷ []) 0 0 0 0 }
     {
         LineValues {
             stored: SplitVector::new(alloc),
@@ -110,19 +113,22 @@ impl<T: Copy> LineValues<T> {
     /// Lends the stored values, in two halves: those of the first lines. All lines behind them have the default.
     pub fn stored(&self) -> (&[T], &[T])
         ensures few { length result.0.now + length result.1.now ≤ length self.now.values }
+        ensures stored { length result.0.now + length result.1.now ≡ self.now.stored }
         ensures values { self.now.values ≡ padded_halves self.now.default (length self.now.values) result.0.now result.1.now }
     {
         self.stored.halves()
     }
 
-    /// Makes room for `lines` fresh lines, and for the values of the first `reach` lines.
+    /// Makes room for `lines` fresh lines, and for the values of the first `reach` lines. Memory is taken for the values that are
+    /// then to fit in, or for twice as many as there was for.
     ///
     /// # Errors
     ///
     /// `AllocError` where memory is refused. All is then as it was.
     pub fn reserve(&mut self, lines: usize, reach: usize) -> Result<(), AllocError>
-        ensures ok { OnOk result (self.new ≡ record self.old { room = max self.old.room lines; reach = max self.old.reach reach }) }
+        ensures ok { OnOk result (self.new ≡ record self.old { room = max self.old.room lines; reach = max self.old.reach reach; block = self.new.block }) }
         ensures room_is_there { lines ≤ self.old.room → reach ≤ self.old.reach → IsOk result × (self.new ≡ self.old) }
+        ensures at_most { self.new.block ≤ most_block self.old.stored self.old.block (max self.old.room lines) (max self.old.reach reach) }
         ensures err { OnErr result (self.new ≡ self.old) }
     {
         if lines <= self.room && reach <= self.reach {
@@ -145,7 +151,7 @@ impl<T: Copy> LineValues<T> {
     pub fn set(&mut self, line: usize, value: T)
         requires line { line < length self.old.values }
         requires room { line < self.old.reach }
-        ensures { self.new ≡ record self.old { values = slice_set self.old.values line value } }
+        ensures { self.new ≡ record self.old { values = slice_set self.old.values line value; stored = max self.old.stored (line + 1) } }
     {
         let reached = self.stored.len().max(line + 1);
         pad(&mut self.stored, self.default, reached);
@@ -160,6 +166,8 @@ impl<T: Copy> LineValues<T> {
         ensures default { self.new.default ≡ self.old.default }
         ensures room { self.new.room + fresh_by edit ≡ self.old.room }
         ensures reach { self.new.reach ≡ self.old.reach }
+        ensures stored { self.new.stored ≡ stored_after_edit self.old.stored edit }
+        ensures block { self.new.block ≡ self.old.block }
     {
         match edit {
             LineEdit::Come { line, count } => {
@@ -190,6 +198,8 @@ impl<T: Copy> LineValues<T> {
         ensures default { self.new.default ≡ self.old.default }
         ensures room { self.new.room + fresh_lines edits.now ≡ self.old.room }
         ensures reach { self.new.reach ≡ self.old.reach }
+        ensures stored { self.new.stored ≡ stored_after edits.now self.old.stored }
+        ensures block { self.new.block ≡ self.old.block }
     {
         for edit in edits {
             self.carry_one(*edit);

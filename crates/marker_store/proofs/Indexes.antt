@@ -1,8 +1,8 @@
 -- Entries by their index.
-use Rattle.std.proofs.Common.{ℕ, ◌<◌, ◌≤◌, inl, inr, zero, suc, List, [], ◌∷◌, length, get_or, take, drop, arith}
+use Rattle.std.proofs.Common.{ℕ, ◌≡◌, ◌+◌, ◌-◌, ◌<◌, ◌≤◌, inl, inr, zero, suc, List, [], ◌∷◌, length, get_or, take, drop, arith}
 use Rattle.std.proofs.lemmas.Bool.{cases_lt}
 use Rattle.marker_store.specs.Entries.{Entry, no_entry, AllBefore, AllFrom, IsCut, Ordered}
-use Rattle.marker_store.proofs.Rows.{from_less}
+use Rattle.marker_store.proofs.Rows.{before_more, from_less}
 
 pub before_at : (line n i : ℕ) (es : List Entry) → AllBefore line (take n es) → i < n → i < length es → (get_or es i no_entry).line < line
 before_at line zero i es a h l = absurd (omega arith)
@@ -59,3 +59,14 @@ from_past line zero [] h = tt
 from_past line zero (e ∷ es) h = absurd (omega arith)
 from_past line (suc n) [] h = tt
 from_past line (suc n) (e ∷ es) h = from_past line n es (omega arith)
+
+-- What is before an index, by the entry before it.
+
+pub before_first : (line i : ℕ) (es : List Entry) → i ≡ 0 → AllBefore line (take i es)
+before_first line i es e = rw e tt
+
+pub before_next : (line found i : ℕ) (es : List Entry) → 0 < i → found < line → AllBefore (found + 1) (take (i - 1 + 1) es) → AllBefore line (take i es)
+before_next line found i es some h a =
+    let e : i - 1 + 1 ≡ i = omega arith in
+    let b = rw e at a in
+    before_more (found + 1) line (take i es) (omega arith) b

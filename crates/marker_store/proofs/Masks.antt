@@ -1,5 +1,5 @@
 -- What a search of lines for a mask finds.
-use Rattle.std.proofs.Common.{◌≡◌, ℕ, ◌+◌, ◌-◌, ◌<◌, ◌≤◌, inl, inr, Bool, true, false, suc, List, [], ◌∷◌, ◌++◌, length, get_or, take, drop, map, refl, sym, ap, subst, ◌∙◌, arith, eq-eqb, drop-cons}
+use Rattle.std.proofs.Common.{◌≡◌, ℕ, ◌+◌, ◌-◌, ◌<◌, ◌≤◌, inl, inr, true, false, suc, List, [], ◌∷◌, ◌++◌, length, get_or, take, drop, map, refl, sym, ap, subst, ◌∙◌, arith, eq-eqb, drop-cons}
 use Rattle.std.specs.Prelude.{find, reverse, min, not, fold, bit_and, bit_or, ◌^◌, Some, None}
 use Rattle.std.specs.List.{range_with_len}
 use Rattle.std.specs.Int.Bits.{and_zero_l}

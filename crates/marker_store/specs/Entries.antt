@@ -13,22 +13,24 @@ pub record Entry : Type 0 where
 abbrev pub entry : ℕ → Marker → Entry
 entry line marker = record { line = line; marker = marker }
 
--- how many lines there are, the markers in order, and how many more fit in without more memory
+-- how many lines there are, the markers in order, how many more fit in without more memory, as promised, and for how many in
+-- all there is memory
 pub record Placed : Type 0 where
   pub count : ℕ
   pub entries : List Entry
   pub room : ℕ
+  pub block : ℕ
 
-abbrev pub placed : ℕ → List Entry → ℕ → Placed
-placed count entries room = record { count = count; entries = entries; room = room }
+abbrev pub placed : ℕ → List Entry → ℕ → ℕ → Placed
+placed count entries room block = record { count = count; entries = entries; room = room; block = block }
 
 abbrev pub entry_code : Coded Entry
 entry_code = code_by (ℕ × Marker) (coded× coded_ℕ marker_code) (λ e. (e.line, e.marker)) (λ p. entry p.0 p.1) (λ _. refl)
 
 abbrev pub placed_code : Coded Placed
 placed_code =
-    code_by (ℕ × (List Entry × ℕ)) (coded× coded_ℕ (coded× (coded_list entry_code) coded_ℕ))
-    (λ p. (p.count, (p.entries, p.room))) (λ q. placed q.0 q.1.0 q.1.1) (λ _. refl)
+    code_by (ℕ × (List Entry × (ℕ × ℕ))) (coded× coded_ℕ (coded× (coded_list entry_code) (coded× coded_ℕ coded_ℕ)))
+    (λ p. (p.count, (p.entries, (p.room, p.block)))) (λ q. placed q.0 q.1.0 q.1.1.0 q.1.1.1) (λ _. refl)
 
 -- the entries with the distances of their lines to a number of lines
 abbrev pub turned : ℕ → List Entry → List Entry

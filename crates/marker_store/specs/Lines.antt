@@ -6,12 +6,13 @@ use Rattle.ed_model.specs.Rows.{Marker}
 use Rattle.ed_model.specs.Numbers.{meets}
 use Rattle.ed_model.specs.LinePlans.{mask_of}
 
--- the markers of each line in their order, the handle that the next marker gets, and how many more markers fit in
--- without more memory
+-- the markers of each line in their order, the handle that the next marker gets, how many more markers fit in without
+-- more memory, as promised, and for how many in all there is memory
 pub record MarkedLines : Type 0 where
   pub lines : List (List Marker)
   pub next_handle : ℕ
   pub room : ℕ
+  pub block : ℕ
 
 abbrev pub marker : ℕ → ℕ → Marker
 marker handle number = record { handle = handle; number = number }
@@ -19,13 +20,13 @@ marker handle number = record { handle = handle; number = number }
 abbrev pub marker_code : Coded Marker
 marker_code = code_by (ℕ × ℕ) (coded× coded_ℕ coded_ℕ) (λ m. (m.handle, m.number)) (λ p. marker p.0 p.1) (λ _. refl)
 
-abbrev pub marked_lines : List (List Marker) → ℕ → ℕ → MarkedLines
-marked_lines lines handle room = record { lines = lines; next_handle = handle; room = room }
+abbrev pub marked_lines : List (List Marker) → ℕ → ℕ → ℕ → MarkedLines
+marked_lines lines handle room block = record { lines = lines; next_handle = handle; room = room; block = block }
 
 abbrev pub marked_lines_code : Coded MarkedLines
 marked_lines_code =
-    code_by (List (List Marker) × (ℕ × ℕ)) (coded× (coded_list (coded_list marker_code)) (coded× coded_ℕ coded_ℕ))
-    (λ s. (s.lines, (s.next_handle, s.room))) (λ p. marked_lines p.0 p.1.0 p.1.1) (λ _. refl)
+    code_by (List (List Marker) × (ℕ × (ℕ × ℕ))) (coded× (coded_list (coded_list marker_code)) (coded× coded_ℕ (coded× coded_ℕ coded_ℕ)))
+    (λ s. (s.lines, (s.next_handle, (s.room, s.block)))) (λ p. marked_lines p.0 p.1.0 p.1.1.0 p.1.1.1) (λ _. refl)
 
 -- the markers of a line; a line that there is not has none
 abbrev pub markers_of : ℕ → List (List Marker) → List Marker

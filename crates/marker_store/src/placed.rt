@@ -1,5 +1,6 @@
 //! The markers of all lines in one list, each with its line.
-ghost use Rattle.std.specs.Prelude.{◌≡◌, ◌≢◌, ◌≤◌, ◌<◌, ◌+◌, ◌-◌, ◌∷◌, ◌++◌, ◌^◌, [], length, max, take, drop, filter, not, slice_index_or, MatchOption, IfOk, OnOk, OnErr, IsOk};
+ghost use Rattle.std.specs.Prelude.{◌≡◌, ◌≢◌, ◌≤◌, ◌<◌, ◌+◌, ◌-◌, ◌∷◌, ◌++◌, ◌^◌, [], length, max, take, drop, filter, not, slice_index_or, MatchOption, IsTrue, ◌↔◌, IfOk, OnOk, OnErr, IsOk};
+ghost use Rattle.split_vector.specs.Split.{most_room};
 ghost use Rattle.ed_model.specs.LinePlans.{mask_of};
 ghost use Rattle.marker_store.specs.Dropping.{kept};
 ghost use Rattle.marker_store.specs.Lines.{has_handle, is_met, first_from, last_up_to};
@@ -26,13 +27,14 @@ pub struct PlacedMarkers<A: Allocator = Global> {
 }
 
 impl<A: Allocator> Model for PlacedMarkers<A> {
+    ghost use Rattle.std.specs.Prelude.{◌+◌, length};
     ghost use Rattle.marker_store.specs.Entries.{Placed, placed, placed_code, entries_of, IsPlaced};
 
     ghost Value = { Placed };
 
     ghost coded = { placed_code };
 
-    ghost view = { λ p. placed p.lines (entries_of p.lines p.step p.stored.items) p.room };
+    ghost view = { λ p. placed p.lines (entries_of p.lines p.step p.stored.items) p.room (length p.stored.items + p.stored.spare) };
 
     ghost invariant = { λ p. IsPlaced p.lines p.step p.stored.items p.stored.spare p.room };
 }
@@ -40,7 +42,7 @@ impl<A: Allocator> Model for PlacedMarkers<A> {
 impl<A: Allocator> PlacedMarkers<A> {
     /// Returns one line, without markers. It takes no memory.
     pub(crate) fn new(alloc: A) -> Self
-        ensures { result ≡ placed 1 [] 0 }
+        ensures { result ≡ placed 1 [] 0 0 }
     {
         PlacedMarkers {
             stored: SplitVector::new(alloc),
@@ -68,8 +70,9 @@ impl<A: Allocator> PlacedMarkers<A> {
 
     /// Makes room for `count` more markers.
     pub(crate) fn reserve(&mut self, count: usize) -> Result<(), AllocError>
-        ensures ok { OnOk result (self.new ≡ record self.old { room = max self.old.room count }) }
+        ensures ok { OnOk result (self.new ≡ record self.old { room = max self.old.room count; block = self.new.block }) }
         ensures room_is_there { count ≤ self.old.room → IsOk result × (self.new ≡ self.old) }
+        ensures block_at_most { self.new.block ≤ most_room 0 self.old.block (length self.old.entries + count) }
         ensures err { OnErr result (self.new ≡ self.old) }
     {
         if count <= self.room {
@@ -110,6 +113,38 @@ impl<A: Allocator> PlacedMarkers<A> {
         low
     }
 
+    // Returns whether the markers before the index are those on lines before the line.
+    fn is_cut(&self, line: usize, index: usize) -> bool
+        requires { index ≤ length self.now.entries }
+        ensures { IsTrue result ↔ IsCut line self.now.entries index }
+    {
+        if index > 0 {
+            let (before, _) = self.entry_at(index - 1);
+            if before >= line {
+                return false;
+            }
+        }
+        if index == self.len() {
+            return true;
+        }
+        let (behind, _) = self.entry_at(index);
+        if behind < line {
+            return false;
+        }
+        true
+    }
+
+    // Returns how many markers are on lines before the line, as `cut` does. The step is tried first: lines mostly come and
+    // go where others did before, or behind all markers, and then no search is needed.
+    fn cut_at_step(&self, line: usize) -> usize
+        ensures { IsCut line self.now.entries result }
+    {
+        if self.is_cut(line, self.step) {
+            return self.step;
+        }
+        self.cut(line)
+    }
+
     /// Returns how many markers are on the line and those before it.
     fn cut_behind(&self, line: usize) -> usize
         requires { line < self.now.count }
@@ -117,7 +152,7 @@ impl<A: Allocator> PlacedMarkers<A> {
     {
         let lines = self.count();
         prove!(line < lines);
-        self.cut(line + 1)
+        self.cut_at_step(line + 1)
     }
 
     /// Puts `count` lines in before the line.
@@ -127,8 +162,9 @@ impl<A: Allocator> PlacedMarkers<A> {
         ensures entries { IsRaised line count self.old.entries self.new.entries }
         ensures count { self.new.count ≡ self.old.count + count }
         ensures room { self.new.room ≡ self.old.room }
+        ensures block { self.new.block ≡ self.old.block }
     {
-        let index = self.cut(line);
+        let index = self.cut_at_step(line);
         move_step(&mut self.stored, self.lines, self.step, index);
         self.step = index;
         self.lines += count;
@@ -156,6 +192,7 @@ impl<A: Allocator> PlacedMarkers<A> {
         ensures entries { IsLowered line result self.old.entries self.new.entries }
         ensures count { self.new.count + result ≡ self.old.count }
         ensures room { self.new.room ≡ self.old.room }
+        ensures block { self.new.block ≡ self.old.block }
     {
         let index = self.cut_behind(line);
         let count = self.free_lines(line, index, most);
@@ -172,6 +209,7 @@ impl<A: Allocator> PlacedMarkers<A> {
         ensures entries { IsPut line marker self.old.entries self.new.entries }
         ensures count { self.new.count ≡ self.old.count }
         ensures room { self.new.room + 1 ≡ self.old.room }
+        ensures block { self.new.block ≡ self.old.block }
     {
         let index = self.cut_behind(line);
         let entry = Entry::new(line, marker);
@@ -185,6 +223,7 @@ impl<A: Allocator> PlacedMarkers<A> {
         ensures entries { self.new.entries ≡ take index self.old.entries ++ drop (index + 1) self.old.entries }
         ensures count { self.new.count ≡ self.old.count }
         ensures room { self.new.room ≡ self.old.room + 1 }
+        ensures block { self.new.block ≡ self.old.block }
     {
         let count = self.stored.len();
         prove!(index < count);
@@ -198,6 +237,7 @@ impl<A: Allocator> PlacedMarkers<A> {
         ensures entries { IsCleared line self.old.entries self.new.entries }
         ensures count { self.new.count ≡ self.old.count }
         ensures room { self.new.room + length self.new.entries ≡ self.old.room + length self.old.entries }
+        ensures block { self.new.block ≡ self.old.block }
         ensures fewer { length self.new.entries ≤ length self.old.entries }
     {
         let from = self.cut(line);
@@ -230,6 +270,7 @@ impl<A: Allocator> PlacedMarkers<A> {
         ensures entries { IsFirstGone line number self.old.entries self.new.entries }
         ensures count { self.new.count ≡ self.old.count }
         ensures room { self.new.room + length self.new.entries ≡ self.old.room + length self.old.entries }
+        ensures block { self.new.block ≡ self.old.block }
         ensures fewer { length self.new.entries ≤ length self.old.entries }
     {
         if let Some(index) = self.first_of(line, number) {
@@ -242,6 +283,7 @@ impl<A: Allocator> PlacedMarkers<A> {
         ensures entries { self.new.entries ≡ kept drops self.old.entries }
         ensures count { self.new.count ≡ self.old.count }
         ensures room { self.new.room + length self.new.entries ≡ self.old.room + length self.old.entries }
+        ensures block { self.new.block ≡ self.old.block }
         ensures fewer { length self.new.entries ≤ length self.old.entries }
     {
         let mut index = 0;

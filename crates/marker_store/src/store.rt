@@ -1,5 +1,6 @@
-//! `MarkerStore` and its calls. A clause sees it as the list of markers of each line, the next handle and its room.
+//! `MarkerStore` and its calls. A clause sees it as the list of markers of each line, the next handle, its room and its block.
 ghost use Rattle.std.specs.Prelude.{◌≡◌, ◌≢◌, ◌≤◌, ◌<◌, ◌+◌, ◌-◌, ◌^◌, ◌==◌, ◌↔◌, [], ◌∷◌, ◌++◌, length, max, slice_set, option_map, is_some, IsTrue, IsSome, IfOk, OnOk, OnErr, IsOk};
+ghost use Rattle.split_vector.specs.Split.{most_room};
 ghost use Rattle.ed_model.specs.Changes.{new_markers, without_marker, is_of_number};
 ghost use Rattle.ed_model.specs.LinePlans.{mask_of};
 ghost use Rattle.marker_store.specs.Lines.{marked_lines, markers_of, marker_total, with_fresh, with_joined, without, is_met, has_handle, first_from, last_up_to};
@@ -31,7 +32,7 @@ impl<A: Allocator> Model for MarkerStore<A> {
 
     ghost coded = { marked_lines_code };
 
-    ghost view = { λ s. marked_lines (rows_of s.placed) s.next_handle s.placed.room };
+    ghost view = { λ s. marked_lines (rows_of s.placed) s.next_handle s.placed.room s.placed.block };
 
     ghost invariant = { λ s. IsStore s.placed s.next_handle };
 }
@@ -39,7 +40,7 @@ impl<A: Allocator> Model for MarkerStore<A> {
 impl<A: Allocator> MarkerStore<A> {
     /// Returns the markers of one line, which has none. The next handle is 1. It takes no memory, so there is no error.
     pub fn new(alloc: A) -> Result<Self, AllocError>
-        ensures { IfOk result (λ s. s ≡ marked_lines ([] ∷ []) 1 0) }
+        ensures { IfOk result (λ s. s ≡ marked_lines ([] ∷ []) 1 0 0) }
     {
         Ok(MarkerStore {
             placed: PlacedMarkers::new(alloc),
@@ -70,16 +71,18 @@ impl<A: Allocator> MarkerStore<A> {
         self.next_handle
     }
 
-    /// Makes room for `count` more markers, on whichever lines.
+    /// Makes room for `count` more markers, on whichever lines. Memory is taken for all markers that are then to fit in, or
+    /// for twice as many as there was for.
     ///
     /// # Errors
     ///
     /// `AllocError` where the memory is refused. All is then as it was.
     pub fn reserve(&mut self, count: usize) -> Result<(), AllocError>
-        ensures ok { OnOk result (self.new ≡ record self.old { room = max self.old.room count }) }
+        ensures ok { OnOk result (self.new ≡ record self.old { room = max self.old.room count; block = self.new.block }) }
         ensures room_is_there { count ≤ self.old.room → IsOk result × (self.new ≡ self.old) }
         ensures room_stays { self.old.room ≤ self.new.room }
         ensures at_most { self.new.room ≤ max self.old.room count }
+        ensures block_at_most { self.new.block ≤ most_room 0 self.old.block (marker_total self.old.lines + count) }
         ensures err { OnErr result (self.new ≡ self.old) }
     {
         self.placed.reserve(count)
@@ -95,6 +98,7 @@ impl<A: Allocator> MarkerStore<A> {
         ensures lines { self.new.lines ≡ slice_set self.old.lines line (markers_of line self.old.lines ++ new_markers self.old.next_handle (number ∷ [])) }
         ensures next_handle { self.new.next_handle ≡ self.old.next_handle + 1 }
         ensures room { self.new.room + 1 ≡ self.old.room }
+        ensures block { self.new.block ≡ self.old.block }
     {
         let handle = self.next_handle;
         self.placed.put(line, Marker::new(handle, number));
@@ -110,6 +114,7 @@ impl<A: Allocator> MarkerStore<A> {
         ensures lines { self.new.lines ≡ slice_set self.old.lines line (without_marker number (markers_of line self.old.lines)) }
         ensures next_handle { self.new.next_handle ≡ self.old.next_handle }
         ensures room { self.new.room + marker_total self.new.lines ≡ self.old.room + marker_total self.old.lines }
+        ensures block { self.new.block ≡ self.old.block }
     {
         let markers = self.placed.len();
         match number {
@@ -126,6 +131,7 @@ impl<A: Allocator> MarkerStore<A> {
         ensures lines { self.new.lines ≡ without (is_of_number number) self.old.lines }
         ensures next_handle { self.new.next_handle ≡ self.old.next_handle }
         ensures room { self.new.room + marker_total self.new.lines ≡ self.old.room + marker_total self.old.lines }
+        ensures block { self.new.block ≡ self.old.block }
     {
         let markers = self.placed.len();
         match number {
@@ -142,6 +148,7 @@ impl<A: Allocator> MarkerStore<A> {
         ensures lines { self.new.lines ≡ without (λ m. m.handle == handle) self.old.lines }
         ensures next_handle { self.new.next_handle ≡ self.old.next_handle }
         ensures room { self.new.room + marker_total self.new.lines ≡ self.old.room + marker_total self.old.lines }
+        ensures block { self.new.block ≡ self.old.block }
     {
         let line = self.line_of_handle(handle);
         self.placed.remove_all(Drops::Handle(handle));
@@ -202,6 +209,7 @@ impl<A: Allocator> MarkerStore<A> {
         ensures lines { self.new.lines ≡ [] ∷ [] }
         ensures next_handle { self.new.next_handle ≡ self.old.next_handle }
         ensures room { self.new.room ≡ self.old.room + marker_total self.old.lines }
+        ensures block { self.new.block ≡ self.old.block }
     {
         self.placed.remove_all(Drops::Each);
         let lines = self.placed.count();

@@ -105,6 +105,7 @@ pub(crate) fn put_in<A: Allocator>(
     ensures small { AllBefore (lines + 1) stored.new.items }
     ensures step { result ≤ length stored.new.items }
     ensures spare { stored.new.spare + 1 ≡ stored.old.spare }
+    ensures block { length stored.new.items + stored.new.spare ≡ length stored.old.items + stored.old.spare }
 {
     let count = stored.len();
     prove!(step <= count);
@@ -130,6 +131,7 @@ pub(crate) fn take_out<A: Allocator>(
     ensures small { AllBefore (lines + 1) stored.new.items }
     ensures step { result ≤ length stored.new.items }
     ensures spare { stored.new.spare ≡ stored.old.spare + 1 }
+    ensures block { length stored.new.items + stored.new.spare ≡ length stored.old.items + stored.old.spare }
 {
     stored.delete(index, 1);
     if index < step {

@@ -27,4 +27,5 @@ loop-edit-preserved c =
       lines = rw long fit.1;
       fits = omega (arith, c.loop-edit.invariant.fits);
       room = omega (arith, c.loop-edit.invariant.room, c.carry_one.ensures.room);
+      block = c.carry_one.ensures.block ∙ c.loop-edit.invariant.block;
     }

@@ -13,4 +13,5 @@ invariant-loop-edit l =
       lines : FitLines (length l.markers.lines) left;
       fits : length l.markers.lines + fresh_lines left ≤ 2 ^ 62;
       room : l.initial.markers.room ≤ l.markers.room;
+      block : l.markers.block ≡ l.initial.markers.block;
     }

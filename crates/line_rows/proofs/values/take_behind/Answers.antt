@@ -1,4 +1,4 @@
-use Rattle.std.proofs.Common.{◌≡◌, ◌+◌, ◌-◌, ◌∙◌, ap, arith}
+use Rattle.std.proofs.Common.{◌+◌, ◌-◌, ◌∙◌, ap, arith}
 use Rattle.split_vector.specs.Split.{deleted}
 use Rattle.line_rows.specs.Values.{padded}
 use Rattle.line_rows.proofs.Padded.{padded_joined, padded_joined_behind}

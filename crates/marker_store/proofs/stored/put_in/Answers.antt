@@ -1,6 +1,6 @@
-use Rattle.std.proofs.Common.{◌≡◌, ◌+◌, ◌-◌, ◌<◌, ◌≤◌, ◌∷◌, ◌++◌, [], length, take, drop, ap, sym, ◌∙◌, arith, append_assoc, length-append}
+use Rattle.std.proofs.Common.{◌+◌, ◌∷◌, ◌++◌, [], length, take, drop, ap, ◌∙◌, arith, append_assoc, length-append}
 use Rattle.std.proofs.lemmas.List.{length-take-le, length-drop}
-use Rattle.marker_store.specs.Entries.{Entry, entry, entries_of}
+use Rattle.marker_store.specs.Entries.{Entry, entries_of}
 use Rattle.marker_store.proofs.Rows.{before-append, before-take, before-drop}
 use Rattle.marker_store.proofs.StoredEntries.{put_near, put_far}
 use Rattle.marker_store.proofs.stored.put_in.Goals as goal
@@ -46,3 +46,15 @@ returns-clause-step g c =
     let items = c.args.stored.now.items in
     let i = c.args.index in
     omega (arith, ap length c.insert_reserved-2.ensures.items, length-append (take i items ++ c.turned.result ∷ []) (drop i items), length-append (take i items) (c.turned.result ∷ []), length-take-le i items c.requires.index, length-drop i items, c.requires.step)
+
+pub returns-then-index-step-clause-block : goal.returns-then-index-step-clause-block
+returns-then-index-step-clause-block g c =
+    let items = c.args.stored.now.items in
+    let i = c.args.index in
+    omega (arith, ap length c.insert_reserved.ensures.items, length-append (take i items ++ c.args.entry ∷ []) (drop i items), length-append (take i items) (c.args.entry ∷ []), length-take-le i items c.requires.index, length-drop i items, c.insert_reserved.ensures.spare)
+
+pub returns-clause-block : goal.returns-clause-block
+returns-clause-block g c =
+    let items = c.args.stored.now.items in
+    let i = c.args.index in
+    omega (arith, ap length c.insert_reserved-2.ensures.items, length-append (take i items ++ c.turned.result ∷ []) (drop i items), length-append (take i items) (c.turned.result ∷ []), length-take-le i items c.requires.index, length-drop i items, c.insert_reserved-2.ensures.spare)

@@ -1,7 +1,7 @@
-use Rattle.std.proofs.Common.{◌≡◌, ◌+◌, ◌-◌, ◌<◌, length, set, ap, sym, ◌∙◌, arith}
+use Rattle.std.proofs.Common.{◌≡◌, ◌+◌, ◌<◌, length, set, ap, ◌∙◌, arith}
 use Rattle.std.proofs.lemmas.List.{get_or_default}
 use Rattle.std.proofs.Math.ListN.{length-set}
-use Rattle.marker_store.specs.Entries.{Entry, entry, no_entry, entries_of}
+use Rattle.marker_store.specs.Entries.{Entry, no_entry, entries_of}
 use Rattle.marker_store.proofs.Indexes.{all_before_at}
 use Rattle.marker_store.proofs.StoredEntries.{passed_up, before-set}
 use Rattle.marker_store.proofs.stored.raise_step.Goals as goal

@@ -1,4 +1,4 @@
-use Rattle.std.proofs.Common.{◌≡◌, ◌+◌, ◌-◌, ◌<◌, ◌≤◌, ◌++◌, length, take, drop, ap, sym, ◌∙◌, arith, length-append}
+use Rattle.std.proofs.Common.{◌+◌, ◌-◌, length, take, drop, ap, ◌∙◌, arith, length-append}
 use Rattle.std.proofs.lemmas.List.{length-take-le, length-drop}
 use Rattle.marker_store.specs.Entries.{entries_of}
 use Rattle.marker_store.proofs.Rows.{before-append, before-take, before-drop}
@@ -36,3 +36,15 @@ returns-clause-step g c =
     let items = c.args.stored.now.items in
     let i = c.args.index in
     omega (arith, ap length c.delete.ensures.items, length-append (take i items) (drop (i + 1) items), length-take-le i items (omega (arith, c.requires.index)), length-drop (i + 1) items, c.requires.step, c.if-index-step.false)
+
+pub returns-then-index-step-clause-block : goal.returns-then-index-step-clause-block
+returns-then-index-step-clause-block g c =
+    let items = c.args.stored.now.items in
+    let i = c.args.index in
+    omega (arith, ap length c.delete.ensures.items, length-append (take i items) (drop (i + 1) items), length-take-le i items (omega (arith, c.requires.index)), length-drop (i + 1) items, c.delete.ensures.spare, c.requires.index)
+
+pub returns-clause-block : goal.returns-clause-block
+returns-clause-block g c =
+    let items = c.args.stored.now.items in
+    let i = c.args.index in
+    omega (arith, ap length c.delete.ensures.items, length-append (take i items) (drop (i + 1) items), length-take-le i items (omega (arith, c.requires.index)), length-drop (i + 1) items, c.delete.ensures.spare, c.requires.index)

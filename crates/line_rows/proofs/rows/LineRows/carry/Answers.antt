@@ -1,45 +1,45 @@
-use Rattle.std.proofs.Common.{◌≡◌, ◌+◌, ◌-◌, ◌<◌, ◌≤◌, ◌==◌, ◌∷◌, ◌++◌, ℕ, ℤ, pos, Bool, List, length, set, drop, Option, sym, ap, ◌∙◌, subst, arith}
+use Rattle.std.proofs.Common.{ℕ, length, sym, ap, ◌∙◌, subst, arith}
 use Rattle.line_rows.proofs.RowReads.{parts_length}
 use Rattle.line_rows.proofs.RowParts.{same_edits, carried}
 use Rattle.line_index.specs.Edits.{FitLines, after_edits}
 use Rattle.ed_model.specs.Rows.{rows_together}
 use Rattle.line_rows.specs.Rows.{markers_together}
 use Rattle.line_rows.specs.Values.{first_or}
-use Rattle.line_rows.specs.Kept.{row_room, KeptRows, levels_of, row_at}
+use Rattle.line_rows.specs.Kept.{row_room, row_blocks, KeptRows}
 use Rattle.line_rows.proofs.rows.LineRows.carry.Goals as goal
 
 pub carry_markers-requires-clause-lines : goal.carry_markers-requires-clause-lines
 carry_markers-requires-clause-lines c =
     let d = c.self.inside in
     let P : ℕ → Type 0 = λ n. FitLines n c.args.edits.now in
-    subst P (sym (parts_length d.markers.lines d.levels.values d.states.values d.markers.next_handle (row_room d.levels.room d.levels.reach d.states.reach d.markers.room) c.args.self.now c.self.invariant.levelled c.self.invariant.stated c.self.view_is)) c.requires.lines
+    subst P (sym (parts_length d.markers.lines d.levels.values d.states.values d.markers.next_handle (row_room d.levels.room d.levels.reach d.states.reach d.markers.room) (row_blocks d.levels.stored d.levels.block d.states.stored d.states.block d.states.room d.markers.block) c.args.self.now c.self.invariant.levelled c.self.invariant.stated c.self.view_is)) c.requires.lines
 
 pub carry-requires-clause-lines : goal.carry-requires-clause-lines
 carry-requires-clause-lines c =
     let d = c.self.inside in
     let P : ℕ → Type 0 = λ n. FitLines n c.args.edits.now in
-    subst P (sym (sym c.self.invariant.levelled ∙ parts_length d.markers.lines d.levels.values d.states.values d.markers.next_handle (row_room d.levels.room d.levels.reach d.states.reach d.markers.room) c.args.self.now c.self.invariant.levelled c.self.invariant.stated c.self.view_is)) c.requires.lines
+    subst P (sym (sym c.self.invariant.levelled ∙ parts_length d.markers.lines d.levels.values d.states.values d.markers.next_handle (row_room d.levels.room d.levels.reach d.states.reach d.markers.room) (row_blocks d.levels.stored d.levels.block d.states.stored d.states.block d.states.room d.markers.block) c.args.self.now c.self.invariant.levelled c.self.invariant.stated c.self.view_is)) c.requires.lines
 
 pub carry-requires-2-clause-lines : goal.carry-requires-2-clause-lines
 carry-requires-2-clause-lines c =
     let d = c.self.inside in
     let P : ℕ → Type 0 = λ n. FitLines n c.args.edits.now in
-    subst P (sym (sym c.self.invariant.stated ∙ parts_length d.markers.lines d.levels.values d.states.values d.markers.next_handle (row_room d.levels.room d.levels.reach d.states.reach d.markers.room) c.args.self.now c.self.invariant.levelled c.self.invariant.stated c.self.view_is)) c.requires.lines
+    subst P (sym (sym c.self.invariant.stated ∙ parts_length d.markers.lines d.levels.values d.states.values d.markers.next_handle (row_room d.levels.room d.levels.reach d.states.reach d.markers.room) (row_blocks d.levels.stored d.levels.block d.states.stored d.states.block d.states.room d.markers.block) c.args.self.now c.self.invariant.levelled c.self.invariant.stated c.self.view_is)) c.requires.lines
 
 pub carry_markers-requires-clause-fits : goal.carry_markers-requires-clause-fits
 carry_markers-requires-clause-fits c =
     let d = c.self.inside in
-    omega (arith, c.requires.fits, parts_length d.markers.lines d.levels.values d.states.values d.markers.next_handle (row_room d.levels.room d.levels.reach d.states.reach d.markers.room) c.args.self.now c.self.invariant.levelled c.self.invariant.stated c.self.view_is)
+    omega (arith, c.requires.fits, parts_length d.markers.lines d.levels.values d.states.values d.markers.next_handle (row_room d.levels.room d.levels.reach d.states.reach d.markers.room) (row_blocks d.levels.stored d.levels.block d.states.stored d.states.block d.states.room d.markers.block) c.args.self.now c.self.invariant.levelled c.self.invariant.stated c.self.view_is)
 
 pub carry-requires-clause-fits : goal.carry-requires-clause-fits
 carry-requires-clause-fits c =
     let d = c.self.inside in
-    omega (arith, c.requires.fits, parts_length d.markers.lines d.levels.values d.states.values d.markers.next_handle (row_room d.levels.room d.levels.reach d.states.reach d.markers.room) c.args.self.now c.self.invariant.levelled c.self.invariant.stated c.self.view_is)
+    omega (arith, c.requires.fits, parts_length d.markers.lines d.levels.values d.states.values d.markers.next_handle (row_room d.levels.room d.levels.reach d.states.reach d.markers.room) (row_blocks d.levels.stored d.levels.block d.states.stored d.states.block d.states.room d.markers.block) c.args.self.now c.self.invariant.levelled c.self.invariant.stated c.self.view_is)
 
 pub carry-requires-2-clause-fits : goal.carry-requires-2-clause-fits
 carry-requires-2-clause-fits c =
     let d = c.self.inside in
-    omega (arith, c.requires.fits, parts_length d.markers.lines d.levels.values d.states.values d.markers.next_handle (row_room d.levels.room d.levels.reach d.states.reach d.markers.room) c.args.self.now c.self.invariant.levelled c.self.invariant.stated c.self.view_is)
+    omega (arith, c.requires.fits, parts_length d.markers.lines d.levels.values d.states.values d.markers.next_handle (row_room d.levels.room d.levels.reach d.states.reach d.markers.room) (row_blocks d.levels.stored d.levels.block d.states.stored d.states.block d.states.room d.markers.block) c.args.self.now c.self.invariant.levelled c.self.invariant.stated c.self.view_is)
 
 pub invariant_of-self : goal.invariant_of-self
 invariant_of-self c =

@@ -1,21 +1,21 @@
-use Rattle.std.proofs.Common.{◌≡◌, ◌+◌, ◌-◌, ◌<◌, ◌≤◌, ◌==◌, ◌∷◌, ◌++◌, ℕ, ℤ, pos, Bool, List, length, set, drop, Option, sym, ap, ◌∙◌, subst, arith}
+use Rattle.std.proofs.Common.{◌≡◌, ◌+◌, List, length, sym, ap, ◌∙◌, arith}
 use Rattle.line_rows.proofs.RowReads.{went, rows_count, parts_length, rows_deleted}
 use Rattle.ed_model.specs.Changes.{marker_count}
-use Rattle.std.proofs.lemmas.List.{length-set, length-map}
+use Rattle.std.proofs.lemmas.List.{length-set}
 use Rattle.marker_store.specs.Lines.{marker_total}
 use Rattle.ed_model.specs.Rows.{Marker}
-use Rattle.line_rows.specs.Kept.{row_room, KeptRows, levels_of, row_at}
+use Rattle.line_rows.specs.Kept.{row_room, row_blocks, KeptRows}
 use Rattle.line_rows.proofs.rows.LineRows.delete.Goals as goal
 
 pub delete-requires : goal.delete-requires
 delete-requires c =
     let d = c.self.inside in
-    omega (arith, parts_length d.markers.lines d.levels.values d.states.values d.markers.next_handle (row_room d.levels.room d.levels.reach d.states.reach d.markers.room) c.args.self.now c.self.invariant.levelled c.self.invariant.stated c.self.view_is)
+    omega (arith, parts_length d.markers.lines d.levels.values d.states.values d.markers.next_handle (row_room d.levels.room d.levels.reach d.states.reach d.markers.room) (row_blocks d.levels.stored d.levels.block d.states.stored d.states.block d.states.room d.markers.block) c.args.self.now c.self.invariant.levelled c.self.invariant.stated c.self.view_is)
 
 pub returns-clause-rows : goal.returns-clause-rows
 returns-clause-rows c =
     let d = c.self.inside in
-    rows_deleted d.markers.lines c.delete.new.self.lines d.levels.values d.states.values d.markers.next_handle (row_room d.levels.room d.levels.reach d.states.reach d.markers.room) c.args.self.now c.args.line c.args.number c.self.invariant.levelled c.self.invariant.stated c.delete.ensures.lines c.self.view_is
+    rows_deleted d.markers.lines c.delete.new.self.lines d.levels.values d.states.values d.markers.next_handle (row_room d.levels.room d.levels.reach d.states.reach d.markers.room) (row_blocks d.levels.stored d.levels.block d.states.stored d.states.block d.states.room d.markers.block) c.args.self.now c.args.line c.args.number c.self.invariant.levelled c.self.invariant.stated c.delete.ensures.lines c.self.view_is
 
 pub returns-clause-went : goal.returns-clause-went
 returns-clause-went c =

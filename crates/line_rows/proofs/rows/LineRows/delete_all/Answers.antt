@@ -1,17 +1,17 @@
-use Rattle.std.proofs.Common.{◌≡◌, ◌+◌, ◌-◌, ◌<◌, ◌≤◌, ◌==◌, ◌∷◌, ◌++◌, ℕ, ℤ, pos, Bool, List, length, set, drop, Option, sym, ap, ◌∙◌, subst, arith}
+use Rattle.std.proofs.Common.{◌≡◌, ◌+◌, List, length, sym, ap, ◌∙◌}
 use Rattle.line_rows.proofs.RowReads.{went, rows_count, rows_dropped}
 use Rattle.ed_model.specs.Changes.{is_of_number}
 use Rattle.ed_model.specs.Changes.{marker_count}
-use Rattle.std.proofs.lemmas.List.{length-set, length-map}
+use Rattle.std.proofs.lemmas.List.{length-map}
 use Rattle.marker_store.specs.Lines.{marker_total}
 use Rattle.ed_model.specs.Rows.{Marker}
-use Rattle.line_rows.specs.Kept.{row_room, KeptRows, levels_of, row_at}
+use Rattle.line_rows.specs.Kept.{row_room, row_blocks, KeptRows}
 use Rattle.line_rows.proofs.rows.LineRows.delete_all.Goals as goal
 
 pub returns-clause-rows : goal.returns-clause-rows
 returns-clause-rows c =
     let d = c.self.inside in
-    rows_dropped (is_of_number c.args.number) d.markers.lines c.delete_all.new.self.lines d.levels.values d.states.values d.markers.next_handle (row_room d.levels.room d.levels.reach d.states.reach d.markers.room) c.args.self.now c.delete_all.ensures.lines c.self.view_is
+    rows_dropped (is_of_number c.args.number) d.markers.lines c.delete_all.new.self.lines d.levels.values d.states.values d.markers.next_handle (row_room d.levels.room d.levels.reach d.states.reach d.markers.room) (row_blocks d.levels.stored d.levels.block d.states.stored d.states.block d.states.room d.markers.block) c.args.self.now c.delete_all.ensures.lines c.self.view_is
 
 pub returns-clause-went : goal.returns-clause-went
 returns-clause-went c =

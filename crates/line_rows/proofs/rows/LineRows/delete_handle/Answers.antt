@@ -1,24 +1,21 @@
-use Rattle.std.proofs.Common.{◌≡◌, ◌+◌, ◌-◌, ◌<◌, ◌≤◌, ◌==◌, ◌∷◌, ◌++◌, ℕ, ℤ, pos, Bool, List, length, set, drop, Option, sym, ap, ◌∙◌, subst, arith}
-use Rattle.line_rows.proofs.RowReads.{went, rows_count, rows_dropped, found_from}
+use Rattle.std.proofs.Common.{◌≡◌, ◌+◌, ◌==◌, List, length, sym, ap, ◌∙◌}
+use Rattle.line_rows.proofs.RowReads.{rows_count, rows_dropped, found_from}
 use Rattle.ed_model.specs.Rows.{Marker}
 use Rattle.std.specs.List.{list_any}
-use Rattle.ed_model.specs.Numbers.{meets}
-use Rattle.ed_model.specs.LinePlans.{mask_of}
 use Rattle.ed_model.specs.Changes.{marker_count}
-use Rattle.std.proofs.lemmas.List.{length-set, length-map}
-use Rattle.marker_store.specs.Lines.{marker_total}
-use Rattle.line_rows.specs.Kept.{row_room, KeptRows, levels_of, row_at}
+use Rattle.std.proofs.lemmas.List.{length-map}
+use Rattle.line_rows.specs.Kept.{row_room, row_blocks, KeptRows}
 use Rattle.line_rows.proofs.rows.LineRows.delete_handle.Goals as goal
 
 pub returns-clause-line : goal.returns-clause-line
 returns-clause-line c =
     let d = c.self.inside in
-    c.delete_handle.ensures.line ∙ found_from (λ ms. list_any (λ (m : Marker). m.handle == c.args.handle) ms) d.markers.lines d.levels.values d.states.values d.markers.next_handle (row_room d.levels.room d.levels.reach d.states.reach d.markers.room) c.args.self.now 0 c.self.invariant.levelled c.self.invariant.stated c.self.view_is
+    c.delete_handle.ensures.line ∙ found_from (λ ms. list_any (λ (m : Marker). m.handle == c.args.handle) ms) d.markers.lines d.levels.values d.states.values d.markers.next_handle (row_room d.levels.room d.levels.reach d.states.reach d.markers.room) (row_blocks d.levels.stored d.levels.block d.states.stored d.states.block d.states.room d.markers.block) c.args.self.now 0 c.self.invariant.levelled c.self.invariant.stated c.self.view_is
 
 pub returns-clause-rows : goal.returns-clause-rows
 returns-clause-rows c =
     let d = c.self.inside in
-    rows_dropped (λ (m : Marker). m.handle == c.args.handle) d.markers.lines c.delete_handle.new.self.lines d.levels.values d.states.values d.markers.next_handle (row_room d.levels.room d.levels.reach d.states.reach d.markers.room) c.args.self.now c.delete_handle.ensures.lines c.self.view_is
+    rows_dropped (λ (m : Marker). m.handle == c.args.handle) d.markers.lines c.delete_handle.new.self.lines d.levels.values d.states.values d.markers.next_handle (row_room d.levels.room d.levels.reach d.states.reach d.markers.room) (row_blocks d.levels.stored d.levels.block d.states.stored d.states.block d.states.room d.markers.block) c.args.self.now c.delete_handle.ensures.lines c.self.view_is
 
 pub returns-clause-marker_room : goal.returns-clause-marker_room
 returns-clause-marker_room c =

@@ -1,6 +1,6 @@
-use Rattle.std.proofs.Common.{◌≡◌, ◌+◌, ◌-◌, ◌<◌, ◌≤◌, ◌==◌, ◌∷◌, ◌++◌, ℕ, ℤ, pos, Bool, List, length, set, drop, Option, sym, ap, ◌∙◌, subst, arith}
+use Rattle.std.proofs.Common.{ap, ◌∙◌}
 use Rattle.line_rows.proofs.RowReads.{rows_levels}
-use Rattle.line_rows.specs.Kept.{row_room, KeptRows, levels_of, row_at}
+use Rattle.line_rows.specs.Kept.{KeptRows, levels_of}
 use Rattle.line_rows.proofs.rows.LineRows.levels.Goals as goal
 
 pub returns-clause-values : goal.returns-clause-values

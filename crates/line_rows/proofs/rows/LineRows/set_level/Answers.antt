@@ -1,27 +1,29 @@
-use Rattle.std.proofs.Common.{◌≡◌, ◌+◌, ◌-◌, ◌<◌, ◌≤◌, ◌==◌, ◌∷◌, ◌++◌, ℕ, ℤ, pos, Bool, List, length, set, drop, Option, refl, sym, ap, ◌∙◌, subst, arith}
+use Rattle.std.proofs.Common.{ℕ, set, refl, ap, ◌∙◌, arith}
 use Rattle.line_rows.proofs.RowReads.{parts_length, parts_level, with_level}
 use Rattle.line_rows.specs.Values.{Valued}
-use Rattle.line_rows.specs.Kept.{kept_rows, row_room, KeptRows, levels_of, row_at}
+use Rattle.line_rows.specs.Kept.{kept_rows, row_room, row_blocks}
 use Rattle.line_rows.specs.Rows.{rows_of}
 use Rattle.line_rows.proofs.rows.LineRows.set_level.Goals as goal
 
 pub get-before-requires : goal.get-before-requires
 get-before-requires c =
     let d = c.self.inside in
-    omega (arith, parts_length d.markers.lines d.levels.values d.states.values d.markers.next_handle (row_room d.levels.room d.levels.reach d.states.reach d.markers.room) c.args.self.now c.self.invariant.levelled c.self.invariant.stated c.self.view_is)
+    omega (arith, parts_length d.markers.lines d.levels.values d.states.values d.markers.next_handle (row_room d.levels.room d.levels.reach d.states.reach d.markers.room) (row_blocks d.levels.stored d.levels.block d.states.stored d.states.block d.states.room d.markers.block) c.args.self.now c.self.invariant.levelled c.self.invariant.stated c.self.view_is)
 
 pub set-requires-clause-line : goal.set-requires-clause-line
 set-requires-clause-line c =
     let d = c.self.inside in
-    omega (arith, parts_length d.markers.lines d.levels.values d.states.values d.markers.next_handle (row_room d.levels.room d.levels.reach d.states.reach d.markers.room) c.args.self.now c.self.invariant.levelled c.self.invariant.stated c.self.view_is)
+    omega (arith, parts_length d.markers.lines d.levels.values d.states.values d.markers.next_handle (row_room d.levels.room d.levels.reach d.states.reach d.markers.room) (row_blocks d.levels.stored d.levels.block d.states.stored d.states.block d.states.room d.markers.block) c.args.self.now c.self.invariant.levelled c.self.invariant.stated c.self.view_is)
 
 pub returns-clause-before : goal.returns-clause-before
 returns-clause-before c =
     let d = c.self.inside in
-    parts_level d.markers.lines d.levels.values d.states.values d.markers.next_handle (row_room d.levels.room d.levels.reach d.states.reach d.markers.room) c.args.self.now c.args.line c.get-before.result c.self.invariant.levelled c.self.invariant.stated c.self.view_is (omega (arith, parts_length d.markers.lines d.levels.values d.states.values d.markers.next_handle (row_room d.levels.room d.levels.reach d.states.reach d.markers.room) c.args.self.now c.self.invariant.levelled c.self.invariant.stated c.self.view_is)) c.get-before.ensures
+    parts_level d.markers.lines d.levels.values d.states.values d.markers.next_handle (row_room d.levels.room d.levels.reach d.states.reach d.markers.room) (row_blocks d.levels.stored d.levels.block d.states.stored d.states.block d.states.room d.markers.block) c.args.self.now c.args.line c.get-before.result c.self.invariant.levelled c.self.invariant.stated c.self.view_is (omega (arith, parts_length d.markers.lines d.levels.values d.states.values d.markers.next_handle (row_room d.levels.room d.levels.reach d.states.reach d.markers.room) (row_blocks d.levels.stored d.levels.block d.states.stored d.states.block d.states.room d.markers.block) c.args.self.now c.self.invariant.levelled c.self.invariant.stated c.self.view_is)) c.get-before.ensures
 
 pub returns-clause-rows : goal.returns-clause-rows
 returns-clause-rows c =
     let d = c.self.inside in
-    ap (λ (v : Valued ℕ). kept_rows (rows_of d.markers.lines v.values d.states.values) d.markers.next_handle (row_room v.room v.reach d.states.reach d.markers.room)) c.set.ensures
-    ∙ with_level d.markers.lines d.levels.values (set d.levels.values c.args.line c.args.level) d.states.values d.markers.next_handle (row_room d.levels.room d.levels.reach d.states.reach d.markers.room) c.args.self.now c.args.line c.args.level c.self.invariant.levelled c.self.invariant.stated refl c.self.view_is
+    let room = row_room d.levels.room d.levels.reach d.states.reach d.markers.room in
+    let blocks = row_blocks d.levels.stored d.levels.block d.states.stored d.states.block d.states.room d.markers.block in
+    ap (λ (v : Valued ℕ). kept_rows (rows_of d.markers.lines v.values d.states.values) d.markers.next_handle (row_room v.room v.reach d.states.reach d.markers.room) (row_blocks v.stored v.block d.states.stored d.states.block d.states.room d.markers.block)) c.set.ensures
+    ∙ with_level d.markers.lines d.levels.values (set d.levels.values c.args.line c.args.level) d.states.values d.markers.next_handle room blocks c.args.self.now c.args.line c.args.level c.self.invariant.levelled c.self.invariant.stated refl c.self.view_is

@@ -3,7 +3,7 @@ use Rattle.std.proofs.lemmas.List.{drop_more}
 use Rattle.line_index.specs.declared.edit.LineEdit.{LineEdit}
 use Rattle.line_index.specs.declared.edit.LineEdit.TheVariants.{Come}
 use Rattle.line_index.specs.Edits.{after_edit, after_edits, FitLines, lines_after_edit, fresh_by, fresh_lines}
-use Rattle.line_rows.specs.Values.{first_or}
+use Rattle.line_rows.specs.Values.{first_or, stored_after}
 use Rattle.line_index.specs.proved.Edits.{length_after_edit, edit_adds}
 use Rattle.line_rows.proofs.values.LineValues.carry.Goals as goal
 
@@ -35,4 +35,6 @@ loop-edit-preserved g c =
       room = omega arith;
       enough = omega (arith, c.loop-edit.invariant.enough);
       reach = c.carry_one.ensures.reach ∙ c.loop-edit.invariant.reach;
+      stored = ap (stored_after left) c.carry_one.ensures.stored ∙ ap (λ es. stored_after es old.stored) (sym next) ∙ c.loop-edit.invariant.stored;
+      block = c.carry_one.ensures.block ∙ c.loop-edit.invariant.block;
     }

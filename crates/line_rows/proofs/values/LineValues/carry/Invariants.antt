@@ -1,6 +1,6 @@
 use Rattle.std.proofs.Common.{◌≡◌, ◌+◌, ◌<◌, ◌≤◌, ◌^◌, length, drop}
 use Rattle.line_index.specs.Edits.{after_edits, FitLines, fresh_lines}
-use Rattle.line_rows.specs.Values.{first_or}
+use Rattle.line_rows.specs.Values.{first_or, stored_after}
 use Rattle.line_rows.proofs.values.LineValues.carry.Given as goal
 
 -- the edits that are left lead to the same values, and there is room for them
@@ -15,4 +15,6 @@ invariant-loop-edit g l =
       room : l.self.room + fresh_lines l.edits ≡ l.initial.self.room + fresh_lines left;
       enough : fresh_lines left ≤ l.self.room;
       reach : l.self.reach ≡ l.initial.self.reach;
+      stored : stored_after left l.self.stored ≡ stored_after l.edits l.initial.self.stored;
+      block : l.self.block ≡ l.initial.self.block;
     }

@@ -1,5 +1,6 @@
-use Rattle.std.proofs.Common.{◌≡◌, ◌<◌, ◌≤◌, ◌∙◌, ap, sym, arith, length, set}
-use Rattle.line_rows.specs.Values.{padded, valued, Valued}
+use Rattle.std.proofs.Common.{◌≡◌, ◌<◌, ◌≤◌, ◌+◌, ◌∙◌, max, ap, arith, length, set}
+use Rattle.std.proofs.lemmas.List.{length-set}
+use Rattle.line_rows.specs.Values.{padded, valued}
 use Rattle.line_rows.proofs.Padded.{padded_set, padded_length}
 use Rattle.line_rows.proofs.values.LineValues.set.Goals as goal
 
@@ -13,6 +14,12 @@ returns g c =
     let same : length (padded d.default d.lines items) ≡ length c.args.self.now.values = ap (λ v. length v.values) c.self.view_is in
     let inside : line < d.lines = omega arith in
     let fewer : length items ≤ d.lines = c.self.invariant.fewer in
-    ap (λ xs. valued d.default (padded d.default d.lines xs) d.room d.reach) (c.set.ensures.items ∙ ap (λ xs. set xs line c.args.value) c.pad.ensures.items)
-    ∙ ap (λ vs. valued d.default vs d.room d.reach) (padded_set d.default items d.lines end line c.args.value fewer (omega arith) (omega arith) (omega arith))
-    ∙ ap (λ v. valued v.default (set v.values line c.args.value) v.room v.reach) c.self.view_is
+    let new = c.set.new.self in
+    let all : length (padded d.default end items) ≡ end = padded_length d.default end items (omega arith) in
+    let reached : length new.items ≡ max (length items) (line + 1) = omega (arith, ap length c.set.ensures.items, length-set c.pad.new.stored.items line c.args.value, ap length c.pad.ensures.items, all) in
+    let kept : length new.items + new.spare ≡ length items + d.stored.spare = omega (arith, ap length c.set.ensures.items, length-set c.pad.new.stored.items line c.args.value, c.set.ensures.spare, c.pad.ensures.all) in
+    ap (λ xs. valued d.default (padded d.default d.lines xs) d.room d.reach (length new.items) (length new.items + new.spare)) (c.set.ensures.items ∙ ap (λ xs. set xs line c.args.value) c.pad.ensures.items)
+    ∙ ap (λ vs. valued d.default vs d.room d.reach (length new.items) (length new.items + new.spare)) (padded_set d.default items d.lines end line c.args.value fewer (omega arith) (omega arith) (omega arith))
+    ∙ ap (λ n. valued d.default (set (padded d.default d.lines items) line c.args.value) d.room d.reach n (length new.items + new.spare)) reached
+    ∙ ap (λ n. valued d.default (set (padded d.default d.lines items) line c.args.value) d.room d.reach (max (length items) (line + 1)) n) kept
+    ∙ ap (λ v. valued v.default (set v.values line c.args.value) v.room v.reach (max v.stored (line + 1)) v.block) c.self.view_is

@@ -13,6 +13,7 @@ loop-gone-preserved g c =
       c.remove.ensures.entries ∙ gone_more from gone c.loop-gone.self.entries c.args.self.now.entries i.0 least inside,
       c.remove.ensures.count ∙ i.1,
       omega (arith, i.2, c.remove.ensures.room),
+      c.remove.ensures.block ∙ i.3,
     )
 
 pub returns-clause-entries : goal.returns-clause-entries

@@ -1,4 +1,4 @@
-use Rattle.std.proofs.Common.{◌≡◌, ◌+◌, ◌<◌, length, suc, ap, sym, ◌∙◌, arith}
+use Rattle.std.proofs.Common.{◌≡◌, ◌+◌, ◌<◌, length, suc, ap, ◌∙◌, arith}
 use Rattle.marker_store.specs.Entries.{entries_of, entry, Entry}
 use Rattle.marker_store.proofs.Indexes.{ordered_before, ordered_behind, all_before_at}
 use Rattle.marker_store.proofs.StoredEntries.{length-entries}

@@ -1,4 +1,4 @@
-use Rattle.std.proofs.Common.{◌≡◌, ◌≤◌, length, arith, ◌∙◌, ap}
+use Rattle.std.proofs.Common.{◌≤◌, length, arith}
 use Rattle.marker_store.proofs.Moves.{placed_moved, placed_lowered}
 use Rattle.marker_store.proofs.StoredEntries.{length-entries, lowered_entries}
 use Rattle.marker_store.proofs.placed.PlacedMarkers.join_next.Goals as goal

@@ -1,4 +1,4 @@
-use Rattle.std.proofs.Common.{◌≡◌, ℕ, ◌+◌, ◌-◌, ◌<◌, ◌≤◌, ◌^◌, length, drop, min, arith, sym, ap, subst, ◌∙◌}
+use Rattle.std.proofs.Common.{◌≡◌, ℕ, ◌+◌, ◌-◌, ◌<◌, ◌^◌, length, drop, min, arith, sym, ap, subst, ◌∙◌}
 use Rattle.std.specs.Prelude.{bit_and}
 use Rattle.marker_store.specs.Entries.{Entry, entry, row}
 use Rattle.marker_store.proofs.Indexes.{before_at}

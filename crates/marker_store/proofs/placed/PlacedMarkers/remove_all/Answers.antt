@@ -19,4 +19,5 @@ passing-preserved-then-takes g c =
       c.remove.ensures.count ∙ i.3,
       omega (arith, i.4, c.remove.ensures.room),
       omega (arith, i.5),
+      c.remove.ensures.block ∙ i.6,
     )

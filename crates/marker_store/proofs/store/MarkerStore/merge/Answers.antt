@@ -13,7 +13,7 @@ joining-init g c =
     let fits = rw (← c.self.view_is) at c.requires in
     let size = length-rows 0 old.count old.entries in
     let none : c.args.count - c.args.count ≡ 0 = omega arith in
-    (omega arith, omega arith, rw none (sym (joined_none c.args.line (rows_of old) (omega (arith, fits)))), refl, refl, refl, c.self.invariant.within)
+    (omega arith, omega arith, rw none (sym (joined_none c.args.line (rows_of old) (omega (arith, fits)))), refl, refl, refl, c.self.invariant.within, refl)
 
 pub join_next-left-requires : goal.join_next-left-requires
 join_next-left-requires g c =
@@ -47,4 +47,5 @@ joining-preserved g c =
       i.4,
       length-lowered c.args.line r now.entries new.entries e.entries ∙ i.5,
       within_lowered c.args.line r now.count new.count now.entries new.entries e.entries inside e.count i.6,
+      e.block ∙ i.7,
     )

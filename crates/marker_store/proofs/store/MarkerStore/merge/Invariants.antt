@@ -9,7 +9,7 @@ invariant-joining g l =
     let new = l.self-inside.placed in
     (l.left ≤ l.count) × (new.count + (l.count - l.left) ≡ old.count) × (rows_of new ≡ with_joined l.line (l.count - l.left) (rows_of old))
     × (new.room ≡ old.room) × (l.self-inside.next_handle ≡ l.initial.self-inside.next_handle) × (length new.entries ≡ length old.entries)
-    × AllBefore new.count new.entries
+    × AllBefore new.count new.entries × (new.block ≡ old.block)
 
 abbrev pub decreases-joining : goal.decreases-joining
 decreases-joining g l = l.left

@@ -28,4 +28,7 @@ returns g c =
     let line = rw (← c.self.view_is) at c.requires.line in
     let inside : c.args.line ≤ old.count = omega (arith, line, length-rows 0 old.count old.entries) in
     let rows = ap (λ n. rows_from 0 n new.entries) c.raise.ensures.count ∙ rows_raised c.args.line c.args.count old.count old.entries new.entries inside c.raise.ensures.entries in
-    rw (← c.self.view_is) (ap (λ l. marked_lines l c.self.inside.next_handle new.room) rows ∙ ap (λ n. marked_lines (with_fresh c.args.line c.args.count (rows_from 0 old.count old.entries)) c.self.inside.next_handle n) c.raise.ensures.room)
+    rw (← c.self.view_is)
+    (ap (λ l. marked_lines l c.self.inside.next_handle new.room new.block) rows
+    ∙ ap (λ n. marked_lines (with_fresh c.args.line c.args.count (rows_from 0 old.count old.entries)) c.self.inside.next_handle n new.block) c.raise.ensures.room
+    ∙ ap (λ n. marked_lines (with_fresh c.args.line c.args.count (rows_from 0 old.count old.entries)) c.self.inside.next_handle old.room n) c.raise.ensures.block)
