@@ -34,7 +34,7 @@ impl<P: Place> Model for Contraction<P> {
 // A set of none of so many lines.
 fn no_lines<P: Place>(alloc: Global, lines: usize) -> Result<Partitioning<P>, AllocError>
     requires { lines ≤ P.GREATEST }
-    ensures { IfOk result (λ s. (s.starts ≡ 0 ∷ []) × (s.length ≡ lines)) }
+    ensures { IfOk result (λ s. (s.starts ≡ 0 ∷ []) × (s.length ≡ lines) × (s.room ≡ 0)) }
 {
     let mut set = Partitioning::new(alloc)?;
     set.insert_text(0, lines);
@@ -42,14 +42,15 @@ fn no_lines<P: Place>(alloc: Global, lines: usize) -> Result<Partitioning<P>, Al
 }
 
 impl<P: Place> Contraction<P> {
-    /// Returns the flags of so many lines, all visible and expanded.
+    /// Returns the flags of so many lines, all visible and expanded. It takes memory for two numbers, and for no more.
     ///
     /// # Errors
     ///
     /// `AllocError` where the memory for two numbers is refused.
     pub fn new(alloc: Global, lines: usize) -> Result<Self, AllocError>
         requires { lines ≤ P.GREATEST }
-        ensures { IfOk result (λ c. c.flags ≡ replicate lines fresh_flags) }
+        ensures flags { IfOk result (λ c. c.flags ≡ replicate lines fresh_flags) }
+        ensures room { IfOk result (λ c. c.room ≡ record { hidden = 0; contracted = 0 }) }
     {
         let hidden = no_lines(alloc, lines)?;
         let contracted = no_lines(alloc, lines)?;

@@ -50,10 +50,11 @@ impl View {
     ///
     /// # Errors
     ///
-    /// `AllocError` where memory is refused. As much is asked for, however many lines there are.
+    /// `AllocError` where memory is refused. As much is asked for, however many lines there are: two numbers.
     pub fn new(alloc: Global, id: u32, document: u32, lines: usize) -> Result<Self, AllocError>
         requires lines { 0 < lines }
         ensures view { IfOk result (λ v. (d : Document) → d.id ≡ document → lines_in d ≡ lines → v.view ≡ new_view id d) }
+        ensures room { IfOk result (λ v. v.room ≡ record { hidden = 0; contracted = 0 }) }
     {
         let lines = Contraction::new(alloc, lines)?;
         Ok(View {

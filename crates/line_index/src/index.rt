@@ -31,13 +31,14 @@ impl<P: Place> Model for LineIndex<P> {
 }
 
 impl<P: Place> LineIndex<P> {
-    /// Returns the index of the empty text, which has one line.
+    /// Returns the index of the empty text, which has one line. It takes memory for its start, and for no more.
     ///
     /// # Errors
     ///
     /// `AllocError` where the memory for its start is refused.
     pub fn new(alloc: Global, types: LineEndTypes) -> Result<Self, AllocError>
-        ensures { IfOk result (λ t. (t.types ≡ types) × IsIndexOf [] t) }
+        ensures index { IfOk result (λ t. (t.types ≡ types) × IsIndexOf [] t) }
+        ensures room { IfOk result (λ t. t.room ≡ 0) }
     {
         let starts = Partitioning::new(alloc)?;
         Ok(LineIndex { starts, types })

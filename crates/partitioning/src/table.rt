@@ -40,13 +40,14 @@ impl<P: Place, A: Allocator> Model for Partitioning<P, A> {
 }
 
 impl<P: Place, A: Allocator> Partitioning<P, A> {
-    /// Returns one partition, which starts at 0 and is empty.
+    /// Returns one partition, which starts at 0 and is empty. It takes memory for its start, and for no more.
     ///
     /// # Errors
     ///
     /// `AllocError` where the memory for its start is refused.
     pub fn new(alloc: A) -> Result<Self, AllocError>
-        ensures { IfOk result (λ t. (t.starts ≡ 0 ∷ []) × (t.length ≡ 0) × (t.stepped ≡ 0) × (t.step_at ≡ 0)) }
+        ensures start { IfOk result (λ t. (t.starts ≡ 0 ∷ []) × (t.length ≡ 0) × (t.stepped ≡ 0) × (t.step_at ≡ 0)) }
+        ensures room { IfOk result (λ t. t.room ≡ 0) }
     {
         let mut body = SplitVector::new(alloc);
         body.reserve(1)?;

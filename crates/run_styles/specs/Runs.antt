@@ -1,19 +1,36 @@
 -- What a contract sees of a `RunStyles`, and what its calls do to the list.
 use Rattle.std.specs.Prelude.{◌≡◌, ◌≢◌, ℕ, ◌+◌, ◌-◌, ◌<◌, ◌≤◌, Bool, ◌||◌, ◌==◌, if◌then◌else◌, List, [], ◌∷◌, ◌++◌, length, take, drop, replicate, slice_get, slice_index_or, refl}
 use Rattle.std.specs.Coded.{Coded, code_by, coded×, coded_list, coded_ℕ}
+use Rattle.split_vector.specs.Split.{most_room}
 
--- the default value, the value at each place, and how many more runs fit in without more memory
+-- how many more starts of runs, and how many more values of runs, fit into the memory that there is
+pub record Spare : Type 0 where
+  pub starts : ℕ
+  pub values : ℕ
+
+abbrev pub spare : ℕ → ℕ → Spare
+spare starts values = record { starts = starts; values = values }
+
+-- of so many runs there is room for no more than what was asked for, `count`, or than what blocks of twice the size have
+pub record IsSpareFor (runs count : ℕ) (old new : Spare) : Type 0 where
+  pub starts : new.starts ≤ most_room runs old.starts count
+  pub values : new.values ≤ most_room runs old.values count
+
+-- the default value, the value at each place, how many more runs may come as they were asked for, and for how many there is memory
 pub record Runs (V : Type 0) : Type 0 where
   pub default : V
   pub values : List V
   pub room : ℕ
+  pub spare : Spare
 
 module _ {V : Type 0} where
-  abbrev pub runs : V → List V → ℕ → Runs V
-  runs value values room = record { default = value; values = values; room = room }
+  abbrev pub runs : V → List V → ℕ → Spare → Runs V
+  runs value values room spare = record { default = value; values = values; room = room; spare = spare }
 
   abbrev pub runs_code : Coded V → Coded (Runs V)
-  runs_code c = code_by (V × (List V × ℕ)) (coded× c (coded× (coded_list c) coded_ℕ)) (λ r. (r.default, (r.values, r.room))) (λ p. runs p.0 p.1.0 p.1.1) (λ _. refl)
+  runs_code c =
+      code_by (V × (List V × (ℕ × (ℕ × ℕ)))) (coded× c (coded× (coded_list c) (coded× coded_ℕ (coded× coded_ℕ coded_ℕ))))
+      (λ r. (r.default, (r.values, (r.room, (r.spare.starts, r.spare.values))))) (λ p. runs p.0 p.1.0 p.1.1.0 (spare p.1.1.1.0 p.1.1.1.1)) (λ _. refl)
 
   -- xs with count places put in before the place, each with the value x
   abbrev pub inserted : List V → ℕ → ℕ → V → List V

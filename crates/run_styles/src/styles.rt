@@ -1,7 +1,7 @@
 //! `RunStyles` and its calls. A clause sees it as its default value, its list of values and its room for runs.
 ghost use Rattle.std.specs.Prelude.{◌≡◌, ◌≤◌, ◌<◌, ◌+◌, ◌↔◌, [], length, max, slice_get, Some, All, IsTrue, IfOk, IfNone, IfSome, OnOk, OnErr, IsOk};
 ghost use Rattle.run_styles.specs.Expansion.{IsExact};
-ghost use Rattle.run_styles.specs.Runs.{runs, inserted, deleted, filled, inserted_value, run_count, IsRunStart, IsRunEnd, IsChangedRange};
+ghost use Rattle.run_styles.specs.Runs.{runs, spare, inserted, deleted, filled, inserted_value, run_count, IsSpareFor, IsRunStart, IsRunEnd, IsChangedRange};
 
 use crate::edits::{delete_places, insert_default};
 use crate::table::{changed_range, end_of, overwrite, run_at, run_near, run_of};
@@ -23,7 +23,7 @@ pub struct RunStyles<P: Place, V: Copy + Eq, A: Allocator = Global> {
 }
 
 impl<P: Place, V: Copy + Eq, A: Allocator> Model for RunStyles<P, V, A> {
-    ghost use Rattle.run_styles.specs.Runs.{Runs, runs, runs_code};
+    ghost use Rattle.run_styles.specs.Runs.{Runs, runs, runs_code, spare};
 
     ghost Value = { Runs V };
 
@@ -31,20 +31,21 @@ impl<P: Place, V: Copy + Eq, A: Allocator> Model for RunStyles<P, V, A> {
 
     ghost use Rattle.run_styles.specs.Expansion.{expansion, AreRuns};
 
-    ghost view = { λ s. runs s.default (expansion s.starts.starts s.values.items s.starts.length) s.room };
+    ghost view = { λ s. runs s.default (expansion s.starts.starts s.values.items s.starts.length) s.room (spare s.starts.room s.values.spare) };
 
     ghost invariant = { λ s. AreRuns V.eq s.starts.starts s.starts.length s.starts.room s.values.items s.values.spare s.room };
 }
 
 impl<P: Place, V: Copy + Eq, A: Allocator + Copy> RunStyles<P, V, A> {
-    /// Returns an empty list, whose places will have the value `default` where a call names none.
+    /// Returns an empty list, whose places will have the value `default` where a call names none. It has memory for the one run
+    /// of an empty list, and for no more.
     ///
     /// # Errors
     ///
     /// `AllocError` where the memory for the one run of an empty list is refused.
     pub fn new(alloc: A, default: V) -> Result<Self, AllocError>
         requires exact { IsExact V.eq }
-        ensures { IfOk result (λ s. s ≡ runs default [] 0) }
+        ensures { IfOk result (λ s. s ≡ runs default [] 0 (spare 0 0)) }
     {
         let starts = Partitioning::new(alloc)?;
         let mut values = SplitVector::new(alloc);
@@ -110,13 +111,14 @@ impl<P: Place, V: Copy + Eq, A: Allocator> RunStyles<P, V, A> {
     ///
     /// # Errors
     ///
-    /// `AllocError` where the memory is refused. All is then as it was.
+    /// `AllocError` where the memory is refused. All is then as it was, but that there may be memory for more starts.
     pub fn reserve(&mut self, count: usize) -> Result<(), AllocError>
-        ensures ok { OnOk result ((count ≤ self.new.room) × (self.new ≡ record self.old { room = self.new.room })) }
+        ensures ok { OnOk result ((count ≤ self.new.room) × (self.new ≡ record self.old { room = self.new.room; spare = self.new.spare })) }
         ensures room_is_there { count ≤ self.old.room → IsOk result × (self.new ≡ self.old) }
         ensures room_stays { self.old.room ≤ self.new.room }
         ensures at_most { OnOk result (self.new.room ≤ max self.old.room count) }
-        ensures err { OnErr result (self.new ≡ self.old) }
+        ensures spare_at_most { IsSpareFor (run_count V.eq self.old.values) count self.old.spare self.new.spare }
+        ensures err { OnErr result (self.new ≡ record self.old { spare = self.new.spare }) }
     {
         if count <= self.room {
             return Ok(());
