@@ -6,8 +6,6 @@ ghost use Rattle.ed_model.specs.Session.{text_of};
 ghost use Rattle.ed_model.specs.Performing.{document_after};
 ghost use Rattle.line_index.specs.StepEdits.{SmallLines, change_of};
 ghost use Rattle.document.specs.Kept.{HasRoom, HasTextRoom, HasHistoryRoom, TakesRoom, IsAtMost, FitsWidth, no_room, text_part, history_part};
-ghost use Rattle.undo_history.specs.Kept.{HasRoom as HasStepRoom};
-ghost use Rattle.undo_history.specs.Steps.{step_of};
 ghost use Rattle.line_index.specs.RoomLaws.{lines_for_insertion, lines_for_deletion};
 ghost use Rattle.document.specs.TextSteps.{step_in, IsStepOn, need_of};
 
@@ -17,26 +15,7 @@ use crate::room::DocumentRoom;
 use crate::text_step::TextStep;
 use line_index::{LineChange, lines_for_deletion, lines_for_insertion};
 use std::alloc::AllocError;
-use undo_history::{StepKind, UndoHistory};
-
-// Appends a step to a history, and answers whether it begins a transaction.
-fn append_step(
-    history: &mut UndoHistory,
-    later: bool,
-    kind: StepKind,
-    place: usize,
-    bytes: &[u8],
-) -> bool
-    requires { HasStepRoom history.old 1 (length bytes.now) }
-    ensures history { history.new.history ≡ appended later (Text (step_of kind place bytes.now)) history.old.history }
-    ensures begins { result ≡ begins_transaction later (Text (step_of kind place bytes.now)) history.old.history }
-    ensures steps_left { history.old.step_room ≤ history.new.step_room + 1 }
-    ensures bytes_left { history.old.byte_room ≤ history.new.byte_room + length bytes.now }
-{
-    let begins = history.begins_transaction(later, kind, place, bytes);
-    history.append_reserved(later, kind, place, bytes);
-    begins
-}
+use undo_history::StepKind;
 
 impl Document {
     /// The room that a step needs, of the text and of the history.
@@ -125,16 +104,14 @@ impl Document {
         ensures spare { self.new.spare ≡ self.old.spare }
     {
         match step {
-            TextStep::Insert { place, bytes } => append_step(
-                &mut self.history,
-                later,
-                StepKind::Insert,
-                place,
-                bytes,
-            ),
+            TextStep::Insert { place, bytes } => {
+                self.history
+                    .append_reserved(later, StepKind::Insert, place, bytes)
+            }
             TextStep::Delete { place, count } => {
                 let bytes = self.cells.lend(place, count);
-                append_step(&mut self.history, later, StepKind::Delete, place, bytes)
+                self.history
+                    .append_reserved(later, StepKind::Delete, place, bytes)
             }
         }
     }

@@ -1,6 +1,6 @@
 //! What a step does to lines, as edits: a short list, for which no memory is taken.
 
-ghost use Rattle.std.specs.Prelude.{◌≡◌, ◌+◌, ◌-◌, ◌^◌, ◌≤◌, ◌<◌, ◌∷◌, ◌++◌, [], length};
+ghost use Rattle.std.specs.Prelude.{◌≡◌, ◌+◌, ◌-◌, ◌^◌, ◌≤◌, ◌<◌, ◌∷◌, ◌++◌, [], true, length};
 ghost use Rattle.line_index.specs.StepEdits.{SmallLines, came, edits_of, joined, last_at, last_one_behind, settled};
 
 use crate::change::{LineChange, NearLines};
@@ -119,7 +119,35 @@ fn last_line_one_behind(old: &NearLines, new: &NearLines) -> usize
     }
 }
 
+// Whether it is the line, or the one behind it.
+fn is_next(line: usize, other: usize) -> bool
+    requires { line < 2 ^ 63 }
+    ensures { result ≡ true → (line ≤ other) × (other ≤ line + 1) }
+{
+    other == line || other == line + 1
+}
+
 impl LineChange {
+    // Whether the lines about the step are as they were, with the same neighbours: there is then no edit. It is told by a few
+    // comparisons, and true of an ordinary step inside a line.
+    fn is_quiet(&self) -> bool
+        requires { SmallLines self.now.old_lines }
+        ensures { result ≡ true → edits_of self.now ≡ [] }
+    {
+        let old = &self.old_lines;
+        let new = &self.new_lines;
+        if old.at != new.at
+            || old.one_behind != new.one_behind
+            || old.two_behind != new.two_behind
+        {
+            return false;
+        }
+        !self.emptied
+            && is_next(old.at, self.before)
+            && is_next(old.at, old.one_behind)
+            && is_next(old.one_behind, old.two_behind)
+    }
+
     /// The edits that make of what was kept of each old line what is to be kept of each new one. An ordinary step inside
     /// a line has none.
     pub fn edits(&self) -> LineEdits
@@ -127,6 +155,9 @@ impl LineChange {
         ensures { result ≡ edits_of self.now }
     {
         let mut edits = LineEdits::none();
+        if self.is_quiet() {
+            return edits;
+        }
         if self.emptied {
             edits.push(LineEdit::Restart);
             return edits;

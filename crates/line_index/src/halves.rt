@@ -89,35 +89,62 @@ pub(crate) fn end_length(before: &[u8], after: &[u8], start: usize) -> usize
     }
 }
 
+// Up to how many bytes are looked at one by one: a search by vectors takes longer to begin.
+const FEW: usize = 16;
+
+// Whether the byte may be the last one of a line end.
+fn may_be_last(types: LineEndTypes, byte: u8) -> bool
+    ensures { result ≡ may_end types byte }
+{
+    match types {
+        LineEndTypes::Default => matches!(byte, b'\n' | b'\r'),
+        LineEndTypes::Unicode => matches!(byte, b'\n' | b'\r' | 0x85 | 0xA8 | 0xA9),
+    }
+}
+
 // How many bytes from the first on cannot be the last one of a line end.
 fn quiet_bytes(types: LineEndTypes, bytes: &[u8]) -> usize
     ensures within { result ≤ length bytes.now }
     ensures quiet { (k : ℕ) → k < result → may_end types (slice_index bytes.now k) ≡ false }
 {
     match types {
-        LineEndTypes::Default => match memchr2(b'\n', b'\r', bytes) {
-            Some(end) => end,
-            None => bytes.len(),
-        },
-        LineEndTypes::Unicode => quiet_in_unicode(bytes),
+        LineEndTypes::Default if bytes.len() > FEW => quiet_by_default(bytes),
+        _ => quiet_one_by_one(types, bytes),
     }
 }
 
-// The same where line ends of Unicode count, which have five last bytes.
-fn quiet_in_unicode(bytes: &[u8]) -> usize
+// The same where line ends of Unicode do not count.
+fn quiet_by_default(bytes: &[u8]) -> usize
     ensures within { result ≤ length bytes.now }
-    ensures quiet { (k : ℕ) → k < result → may_end LineEndTypes.Unicode (slice_index bytes.now k) ≡ false }
+    ensures quiet { (k : ℕ) → k < result → may_end LineEndTypes.Default (slice_index bytes.now k) ≡ false }
+{
+    match memchr2(b'\n', b'\r', bytes) {
+        Some(end) => end,
+        None => bytes.len(),
+    }
+}
+
+// The same, by a look at each byte.
+fn quiet_one_by_one(types: LineEndTypes, bytes: &[u8]) -> usize
+    ensures within { result ≤ length bytes.now }
+    ensures quiet { (k : ℕ) → k < result → may_end types (slice_index bytes.now k) ≡ false }
 {
     for (count, byte) in bytes.iter().enumerate() {
-        if matches!(*byte, b'\n' | b'\r' | 0x85 | 0xA8 | 0xA9) {
+        if may_be_last(types, *byte) {
             return count;
         }
     }
     bytes.len()
 }
 
-// The first place behind `place`, up to `to`, where a line may start: none starts between.
-fn next_place(types: LineEndTypes, before: &[u8], after: &[u8], place: usize, to: usize) -> usize
+/// The first place behind `place`, up to `to`, where a line may start: none starts between.
+pub(crate) fn next_place(
+    types: LineEndTypes,
+    before: &[u8],
+    after: &[u8],
+    place: usize,
+    to: usize,
+) -> usize
     requires { (place < to) × (to ≤ length before.now + length after.now + 1) }
     ensures within { (place < result) × (result ≤ to) }
     ensures none { (k : ℕ) → place < k → k < result → is_line_start types (before.now ++ after.now) k ≡ false }

@@ -1,6 +1,6 @@
 //! Line starts among the partitions: finding them, and taking some away and putting others in about a step.
 
-ghost use Rattle.std.specs.Prelude.{ℕ, ◌≡◌, ◌+◌, ◌-◌, ◌^◌, ◌≤◌, ◌<◌, ◌++◌, IsTrue, false, length, take, drop, slice_index};
+ghost use Rattle.std.specs.Prelude.{ℕ, ◌≡◌, ◌+◌, ◌-◌, ◌^◌, ◌≤◌, ◌<◌, ◌++◌, IsTrue, IfSome, false, min, length, take, drop, slice_index};
 ghost use Rattle.ed_model.specs.Lines.{line_of};
 ghost use Rattle.partitioning.specs.Partitions.{IsFloorLog, IsLastAtMost};
 ghost use Rattle.split_vector.specs.Split.{counted};
@@ -11,7 +11,7 @@ ghost use Rattle.ed_model.specs.NeighbourLaws.{count_before};
 
 use crate::adding::{add_at, add_marked, marks_near, place_behind};
 use crate::change::NearLines;
-use crate::halves::next_start;
+use crate::halves::{next_place, next_start};
 use ed_model::LineEndTypes;
 use partitioning::{Partitioning, Place, Probes};
 
@@ -98,6 +98,28 @@ pub(crate) fn lines_before<P: Place>(starts: &Partitioning<P>, place: usize, lin
     if place == 0 { 0 } else { line + 1 }
 }
 
+// The lines of a place and of the two behind it, of which the last is `last`, where this line holds all three.
+fn one_line<P: Place>(
+    starts: &Partitioning<P>,
+    place: usize,
+    last: usize,
+    line: usize,
+) -> Option<NearLines>
+    requires { last ≡ min (place + 2) (2 ^ 64 - 1) }
+    ensures lines { IfSome result (λ lines. lines ≡ near_lines starts.now.starts place) }
+    ensures within { IfSome result (λ lines. lines.two_behind < length starts.now.starts) }
+{
+    let _ = starts.length(); // it says that no line starts past the greatest number
+    if line < starts.count() && starts.start_of(line) <= place && reaches(starts, line, last) {
+        return Some(NearLines {
+            at: line,
+            one_behind: line,
+            two_behind: line,
+        });
+    }
+    None
+}
+
 // The lines of a place and of the two behind it, of which the first is likely this line or the next.
 pub(crate) fn lines_near<P: Place>(
     starts: &Partitioning<P>,
@@ -111,15 +133,11 @@ pub(crate) fn lines_near<P: Place>(
 {
     let _ = starts.count(); // it says that the number of lines is small
     let _ = starts.length(); // it says that no line starts past the greatest number
-    let at = line_from(starts, place, likely);
     let last = place.saturating_add(2);
-    if reaches(starts, at, last) {
-        return NearLines {
-            at,
-            one_behind: at,
-            two_behind: at,
-        };
+    if let Some(lines) = one_line(starts, place, last, likely) {
+        return lines;
     }
+    let at = line_from(starts, place, likely);
     let one_behind = line_or_next(starts, at, place.saturating_add(1));
     let two_behind = line_or_next(starts, one_behind, last);
     NearLines {
@@ -161,8 +179,9 @@ pub(crate) fn add_starts<P: Place>(
     ensures length { starts.new.length ≡ starts.old.length }
     ensures room { starts.new.room + length (starts_near types (before.now ++ after.now) base from to) ≡ starts.old.room }
 {
+    // Mostly no line starts in all of it, as one look at the bytes tells.
+    let mut place = base + next_place(types, before, after, from - base - 1, to - base);
     let mut line = first;
-    let mut place = from;
     'adding: while place < to {
         let at = place - base;
         if let Some(marks) = marks_near(types, before, after, at, to - base) {

@@ -303,10 +303,11 @@ impl UndoHistory {
         }
     }
 
-    // Appends a change. There must be room for it.
-    fn append(&mut self, later: bool, kind: ChangeKind, bytes: &[u8])
+    // Appends a change, and answers whether it begins a transaction. There must be room for it.
+    fn append(&mut self, later: bool, kind: ChangeKind, bytes: &[u8]) -> bool
         requires { HasRoom self.old 1 (length bytes.now) }
         ensures history { self.new.history ≡ appended later (change_of kind bytes.now) self.old.history }
+        ensures begins { result ≡ begins_transaction later (change_of kind bytes.now) self.old.history }
         ensures taken { self.new.taken ≡ self.old.taken }
         ensures room { self.old.history.collecting ≡ true → (self.new.step_room + 1 ≡ self.old.step_room) × (self.new.byte_room + length bytes.now ≡ self.old.byte_room) }
         ensures not_collecting { self.old.history.collecting ≡ false → self.new ≡ self.old }
@@ -314,24 +315,33 @@ impl UndoHistory {
         ensures bytes_left { self.old.byte_room ≤ self.new.byte_room + length bytes.now }
     {
         if !self.is_collecting {
-            return;
+            return false;
         }
         let joined = self.joins(later, kind, bytes);
         self.drop_future();
         self.push(joined, kind, bytes);
+        !joined
     }
 
-    /// Appends a step of the text; `later` says that it is a later step of its message. There must be room for it.
-    pub fn append_reserved(&mut self, later: bool, kind: StepKind, place: usize, bytes: &[u8])
+    /// Appends a step of the text; `later` says that it is a later step of its message. Answers whether it begins a
+    /// transaction. There must be room for it.
+    pub fn append_reserved(
+        &mut self,
+        later: bool,
+        kind: StepKind,
+        place: usize,
+        bytes: &[u8],
+    ) -> bool
         requires { HasRoom self.old 1 (length bytes.now) }
         ensures history { self.new.history ≡ appended later (TextStep (step_of kind place bytes.now)) self.old.history }
+        ensures begins { result ≡ begins_transaction later (TextStep (step_of kind place bytes.now)) self.old.history }
         ensures taken { self.new.taken ≡ self.old.taken }
         ensures room { self.old.history.collecting ≡ true → (self.new.step_room + 1 ≡ self.old.step_room) × (self.new.byte_room + length bytes.now ≡ self.old.byte_room) }
         ensures not_collecting { self.old.history.collecting ≡ false → self.new ≡ self.old }
         ensures steps_left { self.old.step_room ≤ self.new.step_room + 1 }
         ensures bytes_left { self.old.byte_room ≤ self.new.byte_room + length bytes.now }
     {
-        self.append(later, ChangeKind::Text { kind, place }, bytes);
+        self.append(later, ChangeKind::Text { kind, place }, bytes)
     }
 
     /// Whether a step would begin a transaction.

@@ -53,3 +53,12 @@ adding-preserved g c =
       low = omega (arith, inv.low, low);
       high = omega (arith, inv.low, inv.high, c.requires.near, c.next_start.ensures.within.1);
     }
+
+pub adding-init : goal.adding-init
+adding-init g c =
+    record {
+      added = added_none c.args.types (c.args.before.now ++ c.args.after.now) c.args.base c.args.from (c.args.base + c.next_place.result) c.args.first c.args.starts.now
+          (λ k l m. c.next_place.ensures.none (k - c.args.base) (omega (arith, c.requires.behind)) (omega (arith, c.requires.behind)));
+      low = omega (arith, c.requires.behind, c.next_place.ensures.within.0);
+      high = omega (arith, c.requires.near, c.requires.behind, c.next_place.ensures.within.1);
+    }

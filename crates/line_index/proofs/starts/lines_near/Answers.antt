@@ -1,15 +1,6 @@
-use Rattle.std.proofs.Common.{◌+◌, ◌-◌, ◌^◌, min, refl, arith}
-use Rattle.line_index.proofs.Finding.{holds_between, near_lines_are, none_past_next}
+use Rattle.std.proofs.Common.{arith}
+use Rattle.line_index.proofs.Finding.{near_lines_are, none_past_next}
 use Rattle.line_index.proofs.starts.lines_near.Goals as goal
-
-pub returns-then-reaches-clause-lines : goal.returns-then-reaches-clause-lines
-returns-then-reaches-clause-lines g c =
-    let starts = c.args.starts.now.starts in
-    let at = c.line_from-at in
-    let last = c.saturating_add-last in
-    let far = c.reaches.ensures.yes c.if-reaches.true in
-    near_lines_are starts c.args.starts.now.length c.args.place (min (c.args.place + 1) (2 ^ 64 - 1)) last.result at.result at.result at.result c.length.ensures.sound (omega (arith, c.length.type_inv, c.length.ensures.length)) refl last.ensures
-    at.ensures (holds_between starts c.args.place (min (c.args.place + 1) (2 ^ 64 - 1)) last.result at.result at.ensures.at_most (omega (arith, c.ranges.place.fits)) (omega (arith, last.ensures)) far) far
 
 pub line_or_next-one_behind-requires-clause-high :
     goal.line_or_next-one_behind-requires-clause-high
