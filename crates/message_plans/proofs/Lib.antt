@@ -2,6 +2,7 @@ pub mod Handles
 pub mod Lines
 pub mod Masks
 pub mod Named
+pub mod Plain
 pub mod Ranges
 pub mod Replacements
 pub mod Runs

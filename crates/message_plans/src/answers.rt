@@ -2,11 +2,12 @@
 
 ghost use Rattle.std.specs.Prelude.{◌≡◌, ◌<◌, ◌^◌, IfSome};
 ghost use Rattle.ed_model.specs.Numbers.{flag};
-ghost use Rattle.ed_model.specs.Requests.{answer, answer_number, change_document, change_session, change_view};
+ghost use Rattle.ed_model.specs.Requests.{answer, answer_number, change_document, change_session, change_view, with_argument};
 ghost use Rattle.ed_model.specs.LinePlans.{line_or_none};
 ghost use Rattle.ed_model.specs.TextPlans.{hand_out};
 
 use ed_model::{DocumentChange, Plan, Planned, SessionChange, ViewChange};
+use ed_types::Refusal;
 
 /// Answers a value, and does nothing.
 pub(crate) fn answer(value: i64) -> Planned
@@ -23,6 +24,16 @@ pub(crate) fn answer_number(number: usize) -> Planned
     answer(number as i64)
 }
 
+/// Answers a value that there is, and does nothing; none is a bad argument.
+pub(crate) fn answer_some(value: Option<i64>) -> Planned
+    ensures { result ≡ with_argument value answer }
+{
+    match value {
+        Some(value) => answer(value),
+        None => Err(Refusal::BadArgument),
+    }
+}
+
 /// Answers a line, or -1 for none, and does nothing.
 pub(crate) fn answer_line(line: Option<usize>) -> Planned
     requires { IfSome line (λ line. line < 2 ^ 63) }
@@ -34,11 +45,18 @@ pub(crate) fn answer_line(line: Option<usize>) -> Planned
     }
 }
 
+/// The value of a flag: 1 for yes and 0 for no.
+pub(crate) fn flag(on: bool) -> i64
+    ensures { result ≡ flag on }
+{
+    i64::from(on)
+}
+
 /// Answers 1 for yes and 0 for no, and does nothing.
 pub(crate) fn answer_flag(on: bool) -> Planned
     ensures { result ≡ answer (flag on) }
 {
-    answer(i64::from(on))
+    answer(flag(on))
 }
 
 /// Hands out the bytes from one place up to another.

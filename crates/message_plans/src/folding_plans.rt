@@ -2,11 +2,11 @@
 
 ghost use Rattle.std.specs.Prelude.{◌≡◌, ◌≤◌, ◌<◌, ◌^◌, IfSome};
 ghost use Rattle.ed_model.specs.PlansFit.{IsSoundRequest};
-ghost use Rattle.ed_model.specs.Requests.{line_total};
+ghost use Rattle.ed_model.specs.Requests.{answer, line_total};
 ghost use Rattle.ed_model.specs.FoldingPlans.{doc_line_from_visible, ensure_visible, fold_at, fold_by, fold_line, get_all_lines_visible, get_fold_expanded, get_fold_level, get_fold_parent, get_last_child, get_line_visible, hide_lines, line_shown_at, past_line, set_fold_expanded, set_fold_level, show_lines, toggle_fold, visible_from_doc_line};
 
 use crate::answers::{
-    answer, answer_flag, answer_line, answer_number, change_document, change_view,
+    answer, answer_flag, answer_line, answer_number, change_document, change_view, flag,
 };
 use crate::arguments::{clamped, is_on, line_among, some_or_all, within};
 use crate::request::Request;
@@ -205,24 +205,24 @@ pub(crate) fn ensure_visible(r: &Request) -> Planned
 }
 
 /// GETFOLDLEVEL: the level of line `w`.
-pub(crate) fn get_fold_level(r: &Request) -> Planned
-    ensures { result ≡ get_fold_level r.now }
+pub(crate) fn get_fold_level(r: &Request) -> i64
+    ensures { answer result ≡ get_fold_level r.now }
 {
     match line_among(r.line_total(), r.message.w) {
-        Some(line) => answer(i64::from(r.document.rows().level(line))),
-        None => answer(BASE_LEVEL),
+        Some(line) => i64::from(r.document.rows().level(line)),
+        None => BASE_LEVEL,
     }
 }
 
 /// GETLINEVISIBLE: whether line `w` is visible.
 #[tactic(auto, using(crate::proofs::Standing::flags_of_lines))]
-pub(crate) fn get_line_visible(r: &Request) -> Planned
+pub(crate) fn get_line_visible(r: &Request) -> i64
     requires { IsSoundRequest r.now }
-    ensures { result ≡ get_line_visible r.now }
+    ensures { answer result ≡ get_line_visible r.now }
 {
     match line_among(r.line_total(), r.message.w) {
-        Some(line) => answer_flag(r.view.lines().visible(line)),
-        None => answer(0),
+        Some(line) => flag(r.view.lines().visible(line)),
+        None => 0,
     }
 }
 

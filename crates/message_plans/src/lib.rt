@@ -6,6 +6,7 @@
 
 mod answers;
 mod arguments;
+mod asking;
 mod edits;
 mod folding_plans;
 mod key_plans;
@@ -20,6 +21,7 @@ mod target_plans;
 mod text_plans;
 mod undo_plans;
 
+pub use asking::{question_of, value_of};
 pub use plan::plan_of;
 pub use request::{Request, SentMessage};
 pub use state::SessionState;

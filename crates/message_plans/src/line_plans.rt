@@ -2,6 +2,7 @@
 
 ghost use Rattle.std.specs.Prelude.{◌≡◌, ◌≤◌, ◌<◌, ◌^◌, length, IfSome};
 ghost use Rattle.ed_model.specs.PlansFit.{IsSoundRequest};
+ghost use Rattle.ed_model.specs.Requests.{answer};
 ghost use Rattle.ed_model.specs.LinePlans.{convert_eols, get_eol_mode, get_line_state, has_handles, line_end_kind, line_end_number, line_of_handle, marker_add, marker_add_set, marker_delete, marker_delete_all, marker_delete_handle, marker_get, marker_line_from_handle, marker_next, marker_previous, numbers_in, set_eol_mode, set_line_state};
 
 use crate::answers::{answer, answer_line, answer_number, change_document};
@@ -151,12 +152,12 @@ pub(crate) fn marker_delete_all(r: &Request) -> Planned
 }
 
 /// MARKERGET: the mask of line `w`, with a bit for each number that a marker there has.
-pub(crate) fn marker_get(r: &Request) -> Planned
-    ensures { result ≡ marker_get r.now }
+pub(crate) fn marker_get(r: &Request) -> i64
+    ensures { answer result ≡ marker_get r.now }
 {
     match line_among(r.line_total(), r.message.w) {
-        Some(line) => answer(i64::from(r.document.rows().mask(line))),
-        None => answer(0),
+        Some(line) => i64::from(r.document.rows().mask(line)),
+        None => 0,
     }
 }
 

@@ -3,7 +3,7 @@
 ghost use Rattle.std.specs.Prelude.{◌≡◌, ◌≤◌, ◌+◌, length};
 ghost use Rattle.ed_model.specs.declared.plan.Source.TheVariants.{Clipboard};
 ghost use Rattle.ed_model.specs.Edits.{source_bytes};
-ghost use Rattle.ed_model.specs.Requests.{selection_start, size};
+ghost use Rattle.ed_model.specs.Requests.{answer, selection_start, size};
 ghost use Rattle.ed_model.specs.PlansFit.{IsSoundRequest};
 ghost use Rattle.ed_model.specs.SelectionPlans.{can_paste, clear, copy, copy_range, copy_text, cut, get_anchor, get_current_pos, get_paste_convert_endings, get_sel_text, get_selection_empty, get_selection_end, get_selection_start, go_to, go_to_line, go_to_pos, paste, replace_sel, select, select_all, selected, set_anchor, set_current_pos, set_paste_convert_endings, set_sel, set_selection_end, set_selection_start};
 
@@ -31,19 +31,19 @@ pub(crate) fn go_to(place: usize) -> Planned
 }
 
 /// GETCURRENTPOS: the caret's place.
-pub(crate) fn get_current_pos(r: &Request) -> Planned
+pub(crate) fn get_current_pos(r: &Request) -> i64
     requires { IsSoundRequest r.now }
-    ensures { result ≡ get_current_pos r.now }
+    ensures { answer result ≡ get_current_pos r.now }
 {
-    answer_number(r.caret())
+    r.caret() as i64
 }
 
 /// GETANCHOR: the anchor's place.
-pub(crate) fn get_anchor(r: &Request) -> Planned
+pub(crate) fn get_anchor(r: &Request) -> i64
     requires { IsSoundRequest r.now }
-    ensures { result ≡ get_anchor r.now }
+    ensures { answer result ≡ get_anchor r.now }
 {
-    answer_number(r.anchor())
+    r.anchor() as i64
 }
 
 /// GETSELECTIONSTART: the lesser end of the selection.

@@ -2,6 +2,7 @@
 
 ghost use Rattle.std.specs.Prelude.{◌≡◌, ◌<◌, ◌^◌};
 ghost use Rattle.ed_model.specs.PlansFit.{IsSoundRequest};
+ghost use Rattle.ed_model.specs.Requests.{answer, with_argument};
 ghost use Rattle.ed_model.specs.StylePlans.{colourise, fill_indicator, get_end_styled, get_indicator_current, get_indicator_value, get_style_at, get_styled_text, indicator_all_on_for, indicator_clear_range, indicator_end, indicator_fill_range, indicator_start, indicator_value_at, run_end_at, run_past, run_start, set_indicator_current, set_indicator_value, set_styling, set_styling_ex, start_styling, styles, unstyled, values_of};
 ghost use Rattle.ed_model.specs.TextPlans.{at_place};
 
@@ -28,10 +29,10 @@ fn style_at(r: &Request, argument: i64) -> u8
 }
 
 /// GETSTYLEAT: the style of the byte at `w`.
-pub(crate) fn get_style_at(r: &Request) -> Planned
-    ensures { result ≡ get_style_at r.now }
+pub(crate) fn get_style_at(r: &Request) -> i64
+    ensures { answer result ≡ get_style_at r.now }
 {
-    answer(i64::from(style_at(r, r.message.w)))
+    i64::from(style_at(r, r.message.w))
 }
 
 /// GETSTYLEDTEXT: the bytes from `w` up to `l`, each with its style behind it.
@@ -213,13 +214,13 @@ fn value_at(r: &Request, indicator: usize, argument: i64) -> u32
     r.document.indicators().value(indicator, argument as usize)
 }
 
-/// INDICATORVALUEAT: the value of indicator `w` at place `l`.
-pub(crate) fn indicator_value_at(r: &Request) -> Planned
-    ensures { result ≡ indicator_value_at r.now }
+/// INDICATORVALUEAT: the value of indicator `w` at place `l`; none where there is no such indicator, which is refused.
+pub(crate) fn indicator_value_at(r: &Request) -> Option<i64>
+    ensures { with_argument result answer ≡ indicator_value_at r.now }
 {
     match within(0, 31, r.message.w) {
-        Some(indicator) => answer(i64::from(value_at(r, indicator, r.message.l))),
-        None => Err(Refusal::BadArgument),
+        Some(indicator) => Some(i64::from(value_at(r, indicator, r.message.l))),
+        None => None,
     }
 }
 

@@ -3,7 +3,7 @@
 ghost use Rattle.std.specs.Prelude.{◌≡◌, ◌≤◌, ◌<◌, ◌^◌, IfSome};
 ghost use Rattle.ed_model.specs.Numbers.{within};
 ghost use Rattle.ed_model.specs.PlansFit.{IsSoundRequest};
-ghost use Rattle.ed_model.specs.Requests.{end_or_size, size, text};
+ghost use Rattle.ed_model.specs.Requests.{answer, end_or_size, size, text};
 ghost use Rattle.ed_model.specs.TextPlans.{add_text, append_text, at_place, clear_all, delete_range, get_char_at, get_cur_line, get_length, get_line, get_line_count, get_line_end_position, get_text, get_text_range, insert_text, insertion_place, line_from_position, line_length, position_after, position_before, position_from_line, set_text};
 
 use crate::answers::{answer, answer_number, hand_out};
@@ -97,10 +97,10 @@ pub(crate) fn delete_range(r: &Request) -> Planned
 }
 
 /// GETLENGTH and GETTEXTLENGTH: the length of the text.
-pub(crate) fn get_length(r: &Request) -> Planned
-    ensures { result ≡ get_length r.now }
+pub(crate) fn get_length(r: &Request) -> i64
+    ensures { answer result ≡ get_length r.now }
 {
-    answer_number(r.size())
+    r.size() as i64
 }
 
 /// The byte at a place that may be outside the text; 0 there.
@@ -115,10 +115,10 @@ fn byte_at(r: &Request, argument: i64) -> u8
 }
 
 /// GETCHARAT: the byte at `w`.
-pub(crate) fn get_char_at(r: &Request) -> Planned
-    ensures { result ≡ get_char_at r.now }
+pub(crate) fn get_char_at(r: &Request) -> i64
+    ensures { answer result ≡ get_char_at r.now }
 {
-    answer(i64::from(byte_at(r, r.message.w)))
+    i64::from(byte_at(r, r.message.w))
 }
 
 /// GETTEXT: the whole text.
@@ -156,10 +156,10 @@ pub(crate) fn get_text_range(r: &Request) -> Planned
 }
 
 /// GETLINECOUNT: how many lines there are.
-pub(crate) fn get_line_count(r: &Request) -> Planned
-    ensures { result ≡ get_line_count r.now }
+pub(crate) fn get_line_count(r: &Request) -> i64
+    ensures { answer result ≡ get_line_count r.now }
 {
-    answer_number(r.line_total())
+    r.line_total() as i64
 }
 
 /// GETLINE: the bytes of line `w`, its end with them.
@@ -188,50 +188,50 @@ pub(crate) fn get_cur_line(r: &Request) -> Planned
 }
 
 /// LINELENGTH: how many bytes line `w` has, its end with them.
-pub(crate) fn line_length(r: &Request) -> Planned
-    ensures { result ≡ line_length r.now }
+pub(crate) fn line_length(r: &Request) -> i64
+    ensures { answer result ≡ line_length r.now }
 {
     match line_among(r.line_total(), r.message.w) {
-        Some(line) => answer_number(r.line_past(line).saturating_sub(r.line_start(line))),
-        None => answer(0),
+        Some(line) => r.line_past(line).saturating_sub(r.line_start(line)) as i64,
+        None => 0,
     }
 }
 
 /// GETLINEENDPOSITION: where the end of line `w` begins; the end of the text for the last line and all behind it.
-pub(crate) fn get_line_end_position(r: &Request) -> Planned
-    ensures { result ≡ get_line_end_position r.now }
+pub(crate) fn get_line_end_position(r: &Request) -> i64
+    ensures { answer result ≡ get_line_end_position r.now }
 {
     if r.message.w < 0 {
-        return answer(-1);
+        return -1;
     }
-    answer_number(r.line_end(r.message.w as usize))
+    r.line_end(r.message.w as usize) as i64
 }
 
 /// LINEFROMPOSITION: the line that holds `w`, brought into the text.
-pub(crate) fn line_from_position(r: &Request) -> Planned
-    ensures { result ≡ line_from_position r.now }
+pub(crate) fn line_from_position(r: &Request) -> i64
+    ensures { answer result ≡ line_from_position r.now }
 {
-    answer_number(r.line_at(clamped(r.size(), r.message.w)))
+    r.line_at(clamped(r.size(), r.message.w)) as i64
 }
 
 /// POSITIONFROMLINE: the start of line `w`; of the selection's line for a negative one; the end of the text just behind the last
 /// line; -1 for what is further behind.
-pub(crate) fn position_from_line(r: &Request) -> Planned
+pub(crate) fn position_from_line(r: &Request) -> i64
     requires { IsSoundRequest r.now }
-    ensures { result ≡ position_from_line r.now }
+    ensures { answer result ≡ position_from_line r.now }
 {
     if r.message.w < 0 {
         let line = r.line_at(r.selection_start());
-        return answer_number(r.line_start(line));
+        return r.line_start(line) as i64;
     }
     let line = r.message.w as usize;
     let count = r.line_total();
     if line < count {
-        answer_number(r.line_start(line))
+        r.line_start(line) as i64
     } else if line == count {
-        answer_number(r.size())
+        r.size() as i64
     } else {
-        answer(-1)
+        -1
     }
 }
 

@@ -1,0 +1,28 @@
+-- Plain questions: messages that are answered by a number of the document or of the view. They change nothing, are not recorded, and read no text of the message.
+use Rattle.std.specs.Prelude.{ℕ, ℤ, if◌then◌else◌, Bool, List, [], ◌∷◌, Ok, Option, Some, None, is_some}
+use Rattle.ed_types.specs.declared.kind.Kind.{Kind}
+use Rattle.ed_types.specs.declared.kind.Kind.TheVariants as kinds
+use Rattle.ed_types.specs.Messages.{number_of, kind_among}
+use Rattle.ed_model.specs.declared.plan.Plan.TheVariants as plan
+use Rattle.ed_model.specs.Requests.{Request, Planned}
+use Rattle.ed_model.specs.Table.{plan_of}
+
+-- by rising numbers
+abbrev pub questions : List Kind
+questions = kinds.GetLength ∷ kinds.GetCharAt ∷ kinds.GetCurrentPos ∷ kinds.GetAnchor ∷ kinds.GetStyleAt ∷ kinds.MarkerGet ∷ kinds.GetLineEndPosition ∷ kinds.GetLineCount ∷ kinds.LineFromPosition ∷ kinds.PositionFromLine ∷ kinds.GetTextLength ∷ kinds.GetFoldLevel ∷ kinds.GetLineVisible ∷ kinds.LineLength ∷ kinds.IndicatorValueAt ∷ []
+
+-- the plain question that has the number
+abbrev pub question_of : ℕ → Option Kind
+question_of number = kind_among questions number
+
+abbrev pub is_question : Kind → Bool
+is_question kind = is_some (question_of (number_of kind))
+
+-- the value of a plan that answers one, and does nothing
+abbrev pub value_planned : Planned → Option ℤ
+value_planned (Ok (plan.Answer value)) = Some value
+value_planned other = None
+
+-- the value that the plan of a plain question answers; none for all other messages, and where the question is refused
+abbrev pub value_asked : Kind → Request → Option ℤ
+value_asked kind r = if is_question kind then value_planned (plan_of kind r) else None
