@@ -12,52 +12,52 @@ use Rattle.decorations.proofs.Values.{took_kept, took_shown, gave_shown, clear_z
 
 -- Room was made.
 
-grown_kept : (size room : ℕ) (old new : Option (Runs ℕ)) → IsKept size room old → InBoth HaveRoomOf old new → IsKept size room new
-grown_kept size room None None kept grown = tt
-grown_kept size room None (Some new) kept grown = cc
-grown_kept size room (Some old) None kept grown = absurd grown
-grown_kept size room (Some old) (Some new) kept grown = record {
+grown_kept : (count size room : ℕ) (old new : Option (Runs ℕ)) → IsKept size room old → InBoth (HaveRoomOf count) old new → IsKept size room new
+grown_kept count size room None None kept grown = tt
+grown_kept count size room None (Some new) kept grown = cc
+grown_kept count size room (Some old) None kept grown = absurd grown
+grown_kept count size room (Some old) (Some new) kept grown = record {
   sized = ap length grown.values ∙ kept.sized;
   default = grown.default ∙ kept.default;
   has_room = omega (arith, kept.has_room, grown.room);
   used = λ clear. kept.used (let Q : List ℕ → Type 0 = IsClear in subst Q grown.values clear);
 }
 
-grown_one : (size : ℕ) (old new : Option (Runs ℕ)) → InBoth HaveRoomOf old new → shown size new ≡ shown size old
-grown_one size None None grown = refl
-grown_one size None (Some new) grown = cc
-grown_one size (Some old) None grown = absurd grown
-grown_one size (Some old) (Some new) grown = grown.values
+grown_one : (count size : ℕ) (old new : Option (Runs ℕ)) → InBoth (HaveRoomOf count) old new → shown size new ≡ shown size old
+grown_one count size None None grown = refl
+grown_one count size None (Some new) grown = cc
+grown_one count size (Some old) None grown = absurd grown
+grown_one count size (Some old) (Some new) grown = grown.values
 
-pub grown_shown : (size : ℕ) (old new : List (Option (Runs ℕ))) → InEach (InBoth HaveRoomOf) old new → all_shown size new ≡ all_shown size old
-grown_shown size old new grown = numbered_same (λ k. shown size (slot_at new k)) (λ k. shown size (slot_at old k)) (λ k. grown_one size (slot_at old k) (slot_at new k) (grown k))
+pub grown_shown : (count size : ℕ) (old new : List (Option (Runs ℕ))) → InEach (InBoth (HaveRoomOf count)) old new → all_shown size new ≡ all_shown size old
+grown_shown count size old new grown = numbered_same (λ k. shown size (slot_at new k)) (λ k. shown size (slot_at old k)) (λ k. grown_one count size (slot_at old k) (slot_at new k) (grown k))
 
-none_stays : (old new : Option (Runs ℕ)) → InBoth HaveRoomOf old new → (A : Type 0) → IfNone old A → IfNone new A
-none_stays None None grown A a = a
-none_stays None (Some new) grown A a = tt
-none_stays (Some old) None grown A a = absurd grown
-none_stays (Some old) (Some new) grown A a = tt
+none_stays : (count : ℕ) (old new : Option (Runs ℕ)) → InBoth (HaveRoomOf count) old new → (A : Type 0) → IfNone old A → IfNone new A
+none_stays count None None grown A a = a
+none_stays count None (Some new) grown A a = tt
+none_stays count (Some old) None grown A a = absurd grown
+none_stays count (Some old) (Some new) grown A a = tt
 
 none_map : (slot : Option (Runs ℕ)) (A B : Type 0) → (A → B) → IfNone slot A → IfNone slot B
 none_map None A B f a = f a
 none_map (Some runs) A B f a = tt
 
-grown_can : (room : ℕ) (ready : Option ℕ) (old new : List (Option (Runs ℕ))) (spare spare' : Option (Runs ℕ)) → IfSome ready (CanFill room old spare) → InEach (InBoth HaveRoomOf) old new → length old ≤ length new →
+grown_can : (count room : ℕ) (ready : Option ℕ) (old new : List (Option (Runs ℕ))) (spare spare' : Option (Runs ℕ)) → IfSome ready (CanFill room old spare) → InEach (InBoth (HaveRoomOf count)) old new → length old ≤ length new →
     ((less : ℕ) → HasSpare less spare → HasSpare less spare') → IfSome ready (CanFill room new spare')
-grown_can room None old new spare spare' can grown more stays = tt
-grown_can room (Some k) old new spare spare' can grown more stays = record {
+grown_can count room None old new spare spare' can grown more stays = tt
+grown_can count room (Some k) old new spare spare' can grown more stays = record {
   slot = omega (arith, can.slot);
-  runs = none_stays (slot_at old k) (slot_at new k) (grown k) (HasSpare (room + 3) spare') (none_map (slot_at old k) (HasSpare (room + 3) spare) (HasSpare (room + 3) spare') (stays (room + 3)) can.runs);
+  runs = none_stays count (slot_at old k) (slot_at new k) (grown k) (HasSpare (room + 3) spare') (none_map (slot_at old k) (HasSpare (room + 3) spare) (HasSpare (room + 3) spare') (stays (room + 3)) can.runs);
 }
 
-pub grown_slots : (greatest size room : ℕ) (ready : Option ℕ) (old new : List (Option (Runs ℕ))) (spare spare' : Option (Runs ℕ)) → AreSlots greatest size room ready old spare → InEach (InBoth HaveRoomOf) old new →
+pub grown_slots : (count greatest size room : ℕ) (ready : Option ℕ) (old new : List (Option (Runs ℕ))) (spare spare' : Option (Runs ℕ)) → AreSlots greatest size room ready old spare → InEach (InBoth (HaveRoomOf count)) old new →
     length old ≤ length new → length new ≤ 32 → IfSome spare' (AreSpare 0) → ((less : ℕ) → HasSpare less spare → HasSpare less spare') → AreSlots greatest size room ready new spare'
-grown_slots greatest size room ready old new spare spare' slots grown more few unused stays = record {
+grown_slots count greatest size room ready old new spare spare' slots grown more few unused stays = record {
   fits = slots.fits;
   few = few;
-  kept = λ k. grown_kept size (room + for_fill ready k) (slot_at old k) (slot_at new k) (slots.kept k) (grown k);
+  kept = λ k. grown_kept count size (room + for_fill ready k) (slot_at old k) (slot_at new k) (slots.kept k) (grown k);
   unused = unused;
-  can_fill = grown_can room ready old new spare spare' slots.can_fill grown more stays;
+  can_fill = grown_can count room ready old new spare spare' slots.can_fill grown more stays;
 }
 
 for_fill_two : (ready : Option ℕ) (k : ℕ) → for_fill ready k ≤ 2
@@ -79,6 +79,36 @@ match_none (Some runs) A P h = tt
 match_some : (slot : Option (Runs ℕ)) (A : Type 0) (P : Runs ℕ → Type 0) → MatchOption slot A P → IfSome slot P
 match_some None A P h = tt
 match_some (Some runs) A P h = h
+
+spare_there : (count less : ℕ) (spare : Option (Runs ℕ)) → IfSome spare (AreSpare count) → HasSpare less spare → HasSpare count spare
+spare_there count less None are has = absurd has
+spare_there count less (Some runs) are has = are
+
+roomy_can : (count room insertions : ℕ) (ready : Option ℕ) (old new : List (Option (Runs ℕ))) (spare spare' : Option (Runs ℕ)) → count ≡ insertions + 3 → IfSome ready (CanFill room old spare) → InEach (InBoth (HaveRoomOf count)) old new →
+    length new ≡ length old → IfSome spare' (AreSpare count) → ((less : ℕ) → HasSpare less spare → HasSpare less spare') → IfSome ready (CanFill insertions new spare')
+roomy_can count room insertions None old new spare spare' e can grown same are stays = tt
+roomy_can count room insertions (Some k) old new spare spare' e can grown same are stays = record {
+  slot = omega (arith, can.slot);
+  runs = none_stays count (slot_at old k) (slot_at new k) (grown k) (HasSpare (insertions + 3) spare')
+      (none_map (slot_at old k) (HasSpare (room + 3) spare) (HasSpare (insertions + 3) spare')
+      (λ has. let Q : ℕ → Type 0 = λ n. HasSpare n spare' in subst Q e (spare_there count (room + 3) spare' are (stays (room + 3) has)))
+      can.runs);
+}
+
+-- for so many insertions, and for a fill besides
+pub roomy_slots : (count greatest size room insertions : ℕ) (ready : Option ℕ) (old new : List (Option (Runs ℕ))) (spare spare' : Option (Runs ℕ)) → count ≡ insertions + 3 → AreSlots greatest size room ready old spare →
+    InEach (InBoth (HaveRoomOf count)) old new → length new ≡ length old → ((k : ℕ) → IfSome (slot_at new k) (λ (runs : Runs ℕ). count ≤ runs.room)) → IfSome spare' (AreSpare count) → IfSome spare' (AreSpare 0) →
+    ((less : ℕ) → HasSpare less spare → HasSpare less spare') → AreSlots greatest size insertions ready new spare'
+roomy_slots count greatest size room insertions ready old new spare spare' e slots grown same roomy are unused stays = record {
+  fits = slots.fits;
+  few = omega (arith, slots.few);
+  kept = λ k.
+      let two = for_fill_two ready k in
+      let kept = grown_kept count size (room + for_fill ready k) (slot_at old k) (slot_at new k) (slots.kept k) (grown k) in
+      less_kept size count (insertions + for_fill ready k) (slot_at new k) (omega arith) (roomy_kept size (room + for_fill ready k) count (slot_at new k) kept (roomy k));
+  unused = unused;
+  can_fill = roomy_can count room insertions ready old new spare spare' e slots.can_fill grown same are stays;
+}
 
 -- for a fill of another indicator
 pub ready_slots : (greatest size room need indicator : ℕ) (ready : Option ℕ) (slots : List (Option (Runs ℕ))) (spare : Option (Runs ℕ)) → need ≡ room + 3 → AreSlots greatest size room ready slots spare →

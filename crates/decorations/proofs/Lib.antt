@@ -1,6 +1,7 @@
 pub mod Changed
 pub mod Kept
 pub mod Masks
+pub mod Memory
 pub mod Numbered
 pub mod RunEnds
 pub mod Shown

@@ -4,13 +4,13 @@ use Rattle.std.specs.Prelude.{pos}
 use Rattle.std.proofs.lemmas.Option.{slice_get_past, unwrap_or-slice_get}
 use Rattle.ed_model.specs.TextPlans.{at_place}
 use Rattle.run_styles.specs.Runs.{Runs}
-use Rattle.decorations.specs.Decorated.{decorated, Decorated, values_of}
+use Rattle.decorations.specs.Decorated.{decorated, Decorated, Held, values_of}
 use Rattle.decorations.specs.Slots.{slot_at, shown, all_shown}
 use Rattle.decorations.proofs.Numbered.{numbered_at}
 use Rattle.decorations.proofs.Values.{zeros_at}
 
 -- the values of an indicator
-pub values_are : (d : Decorated) (size room : ℕ) (ready : Option ℕ) (slots : List (Option (Runs ℕ))) (k : ℕ) (slot : Option (Runs ℕ)) → k < 32 → decorated size (all_shown size slots) room ready ≡ d → slot ≡ slot_at slots k →
+pub values_are : {memory : Held} (d : Decorated) (size room : ℕ) (ready : Option ℕ) (slots : List (Option (Runs ℕ))) (k : ℕ) (slot : Option (Runs ℕ)) → k < 32 → decorated size (all_shown size slots) room ready memory ≡ d → slot ≡ slot_at slots k →
     values_of d.values k ≡ shown size slot
 values_are d size room ready slots k slot h e f =
     ap (λ v. values_of v.values k) (sym e) ∙ numbered_at (λ j. shown size (slot_at slots j)) k _ h ∙ ap (shown size) (sym f)

@@ -1,19 +1,32 @@
 -- What a contract sees of `Decorations`.
-use Rattle.std.specs.Prelude.{ℕ, ◌≡◌, ◌^◌, ◌==◌, not, List, [], map, filter, sum, pos, slice_index_or, All, Option}
+use Rattle.std.specs.Prelude.{ℕ, ◌≡◌, ◌*◌, ◌<◌, ◌≤◌, ◌^◌, ◌==◌, max, nat_eq, not, List, [], map, filter, replicate, sum, pos, slice_index_or, All, Option}
 use Rattle.std.specs.List.{range_with_len}
 use Rattle.ed_model.specs.TextPlans.{at_place}
 use Rattle.ed_model.specs.StylePlans.{run_start, run_past}
+use Rattle.run_styles.specs.Runs.{Spare, spare, IsSpareFor, run_count}
+
+-- The memory that is there. For how many more runs of each indicator, none where it has no runs, and for how many of the next one that
+-- gets runs; how many indicators have a slot, and how many may have one.
+pub record Held : Type 0 where
+  pub runs : List Spare
+  pub unused : Spare
+  pub slots : ℕ
+  pub capacity : ℕ
+
+abbrev pub nothing_held : Held
+nothing_held = record { runs = replicate 32 (spare 0 0); unused = spare 0 0; slots = 0; capacity = 0 }
 
 -- The length of the text, and for each of the 32 indicators its value at each place. For how many insertions there is room, and for
--- a fill of which indicator.
+-- a fill of which indicator. The memory that is there.
 pub record Decorated : Type 0 where
   pub length : ℕ
   pub values : List (List ℕ)
   pub room : ℕ
   pub ready : Option ℕ
+  pub held : Held
 
-abbrev pub decorated : ℕ → List (List ℕ) → ℕ → Option ℕ → Decorated
-decorated size values room ready = record { length = size; values = values; room = room; ready = ready }
+abbrev pub decorated : ℕ → List (List ℕ) → ℕ → Option ℕ → Held → Decorated
+decorated size values room ready held = record { length = size; values = values; room = room; ready = ready; held = held }
 
 -- the numbers of the indicators
 unfoldable pub indicators : List ℕ
@@ -22,6 +35,25 @@ indicators = range_with_len 0 32
 -- the values of an indicator
 abbrev pub values_of : List (List ℕ) → ℕ → List ℕ
 values_of values indicator = slice_index_or values indicator []
+
+-- for how many more runs of an indicator there is memory
+abbrev pub spare_of : Held → ℕ → Spare
+spare_of held indicator = slice_index_or held.runs indicator (spare 0 0)
+
+-- of each indicator there is memory for no more runs than were asked for, `count` more, or than in blocks of twice the size
+pub record AreRunsFor (count : ℕ) (values : List (List ℕ)) (old new : Held) : Type 0 where
+  pub each : (k : ℕ) → k < 32 → IsSpareFor (run_count nat_eq (values_of values k)) count (spare_of old k) (spare_of new k)
+  pub unused : IsSpareFor 1 count old.unused new.unused
+
+-- so many indicators have a slot, or as many as before if these are more, and no more than that, or than twice as many as before, may have one
+pub record AreSlotsFor (count : ℕ) (old new : Held) : Type 0 where
+  pub slots : new.slots ≤ max old.slots count
+  pub capacity : new.capacity ≤ max old.capacity (max count (2 * old.slots))
+
+-- they are as many
+pub record HaveSlotsOf (old new : Held) : Type 0 where
+  pub slots : new.slots ≡ old.slots
+  pub capacity : new.capacity ≡ old.capacity
 
 -- 0 everywhere
 abbrev pub IsClear : List ℕ → Type 0

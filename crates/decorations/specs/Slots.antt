@@ -1,7 +1,7 @@
 -- How the lists are kept: a slot for each indicator, up to the last that ever had a value, and in it the runs while there are any.
 use Rattle.std.specs.Prelude.{ℕ, ◌≡◌, ◌+◌, ◌<◌, ◌≤◌, ◌==◌, if◌then◌else◌, nat_eq, List, length, map, replicate, slice_index_or, Option, Some, None, IfSome, IfNone, MatchOption}
-use Rattle.run_styles.specs.Runs.{Runs, inserted, deleted, inserted_value}
-use Rattle.decorations.specs.Decorated.{indicators, IsClear}
+use Rattle.run_styles.specs.Runs.{Runs, Spare, spare, IsSpareFor, run_count, inserted, deleted, inserted_value}
+use Rattle.decorations.specs.Decorated.{Held, indicators, IsClear}
 
 abbrev pub slot_at : List (Option (Runs ℕ)) → ℕ → Option (Runs ℕ)
 slot_at slots k = slice_index_or slots k None
@@ -13,6 +13,16 @@ shown size (Some runs) = runs.values
 
 abbrev pub all_shown : ℕ → List (Option (Runs ℕ)) → List (List ℕ)
 all_shown size slots = map (λ k. shown size (slot_at slots k)) indicators
+
+-- for how many more runs there is memory in a slot
+abbrev pub slot_spare : Option (Runs ℕ) → Spare
+slot_spare None = spare 0 0
+slot_spare (Some runs) = runs.spare
+
+-- the memory of slots, of which so many fit in, and of spare runs
+abbrev pub held_by : List (Option (Runs ℕ)) → ℕ → Option (Runs ℕ) → Held
+held_by slots capacity unused =
+    record { runs = map (λ k. slot_spare (slot_at slots k)) indicators; unused = slot_spare unused; slots = length slots; capacity = capacity }
 
 -- Runs that are kept have a value other than 0 somewhere, and room for so many more.
 pub record AreKept (size room : ℕ) (runs : Runs ℕ) : Type 0 where
@@ -62,11 +72,12 @@ InBoth R (Some old) new = MatchOption new ⊥ (R old)
 abbrev pub InEach : (Option (Runs ℕ) → Option (Runs ℕ) → Type 0) → List (Option (Runs ℕ)) → List (Option (Runs ℕ)) → Type 0
 InEach R old new = (k : ℕ) → R (slot_at old k) (slot_at new k)
 
--- they have no less room
-pub record HaveRoomOf (old new : Runs ℕ) : Type 0 where
+-- they have no less room, and memory for no more runs than `count` more asked for
+pub record HaveRoomOf (count : ℕ) (old new : Runs ℕ) : Type 0 where
   pub values : new.values ≡ old.values
   pub default : new.default ≡ old.default
   pub room : old.room ≤ new.room
+  pub spare : IsSpareFor (run_count nat_eq old.values) count old.spare new.spare
 
 -- places can be put in
 pub record CanTakeIn (greatest place count : ℕ) (runs : Runs ℕ) : Type 0 where

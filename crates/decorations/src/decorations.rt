@@ -1,10 +1,10 @@
 //! `Decorations` and its calls.
-ghost use Rattle.std.specs.Prelude.{◌≡◌, ◌≤◌, ◌<◌, ◌+◌, ◌↔◌, ℕ, List, [], length, max, replicate, pos, slice_set, Option, Some, None, IsTrue, OnOk, OnErr, IsOk};
+ghost use Rattle.std.specs.Prelude.{◌≡◌, ◌≤◌, ◌<◌, ◌+◌, ◌≢◌, ◌↔◌, ℕ, List, [], length, max, replicate, pos, slice_set, Option, Some, None, IsTrue, OnOk, OnErr, IsOk};
 ghost use Rattle.std.specs.List.{AllByRecursion};
 ghost use Rattle.ed_model.specs.Indicators.{indicators_after, filled, changed_range};
 ghost use Rattle.ed_model.specs.Steps.{Insert, Delete};
 ghost use Rattle.ed_model.specs.TextPlans.{at_place};
-ghost use Rattle.decorations.specs.Decorated.{decorated, values_of, IsClear, run_about, mask_of};
+ghost use Rattle.decorations.specs.Decorated.{decorated, nothing_held, values_of, spare_of, AreRunsFor, AreSlotsFor, HaveSlotsOf, IsClear, run_about, mask_of};
 
 use crate::slots::{
     Slot, delete_from_all, fill_slot, insert_into_all, reserve_all, reserve_one, runs_in,
@@ -35,11 +35,12 @@ pub struct Decorations<P: Place> {
 
 impl<P: Place> Model for Decorations<P> {
     ghost use Rattle.decorations.specs.Decorated.{Decorated, decorated};
-    ghost use Rattle.decorations.specs.Slots.{all_shown, AreSlots};
+    ghost use Rattle.decorations.specs.Slots.{all_shown, held_by, AreSlots};
+    ghost use Rattle.std.specs.Prelude.{vec_capacity};
 
     ghost Value = { Decorated };
 
-    ghost view = { λ d. decorated d.size (all_shown d.size d.slots.items) d.room d.ready };
+    ghost view = { λ d. decorated d.size (all_shown d.size d.slots.items) d.room d.ready (held_by d.slots.items (vec_capacity d.slots) d.spare) };
 
     ghost invariant = { λ d. AreSlots P.GREATEST d.size d.room d.ready d.slots.items d.spare };
 }
@@ -47,7 +48,7 @@ impl<P: Place> Model for Decorations<P> {
 impl<P: Place> Decorations<P> {
     /// Returns the values of an empty text. Takes no memory.
     pub fn new(alloc: Global) -> Self
-        ensures { result ≡ decorated 0 (replicate 32 []) 0 None }
+        ensures { result ≡ decorated 0 (replicate 32 []) 0 None nothing_held }
     {
         Decorations {
             slots: Vec::new(alloc),
@@ -117,11 +118,13 @@ impl<P: Place> Decorations<P> {
     ///
     /// # Errors
     ///
-    /// `AllocError` where memory is refused. All is then as it was.
+    /// `AllocError` where memory is refused. All is then as it was, but that there may be memory for more runs.
     pub fn reserve(&mut self, insertions: usize) -> Result<(), AllocError>
-        ensures ok { OnOk result (self.new ≡ record self.old { room = max self.old.room insertions }) }
+        ensures ok { OnOk result (self.new ≡ record self.old { room = max self.old.room insertions; held = self.new.held }) }
         ensures room_is_there { insertions ≤ self.old.room → IsOk result × (self.new ≡ self.old) }
-        ensures err { OnErr result (self.new ≡ self.old) }
+        ensures runs_at_most { AreRunsFor (insertions + 3) self.old.values self.old.held self.new.held }
+        ensures slots { HaveSlotsOf self.old.held self.new.held }
+        ensures err { OnErr result (self.new ≡ record self.old { held = self.new.held }) }
     {
         if insertions <= self.room {
             return Ok(());
@@ -142,12 +145,15 @@ impl<P: Place> Decorations<P> {
     ///
     /// # Errors
     ///
-    /// `AllocError` where memory is refused. All is then as it was.
+    /// `AllocError` where memory is refused. All is then as it was, but that there may be memory for more slots and runs.
     pub fn reserve_fill(&mut self, indicator: usize) -> Result<(), AllocError>
         requires { indicator < 32 }
-        ensures ok { OnOk result (self.new ≡ record self.old { ready = Some indicator }) }
+        ensures ok { OnOk result (self.new ≡ record self.old { ready = Some indicator; held = self.new.held }) }
         ensures room_is_there { self.old.ready ≡ Some indicator → IsOk result × (self.new ≡ self.old) }
-        ensures err { OnErr result (self.new ≡ self.old) }
+        ensures runs_at_most { AreRunsFor (self.old.room + 3) self.old.values self.old.held self.new.held }
+        ensures others { (k : ℕ) → k < 32 → k ≢ indicator → spare_of self.new.held k ≡ spare_of self.old.held k }
+        ensures slots_at_most { AreSlotsFor (indicator + 1) self.old.held self.new.held }
+        ensures err { OnErr result (self.new ≡ record self.old { held = self.new.held }) }
     {
         if self.ready == Some(indicator) {
             return Ok(());
@@ -180,7 +186,8 @@ impl<P: Place> Decorations<P> {
         requires indicator { indicator < 32 }
         requires within { start + count ≤ self.old.length }
         requires room { self.old.ready ≡ Some indicator }
-        ensures values { self.new ≡ record self.old { values = slice_set self.old.values indicator (filled start count value (values_of self.old.values indicator)); ready = None } }
+        ensures values { self.new ≡ record self.old { values = slice_set self.old.values indicator (filled start count value (values_of self.old.values indicator)); ready = None; held = self.new.held } }
+        ensures slots { HaveSlotsOf self.old.held self.new.held }
         ensures changed { result ≡ changed_range (values_of self.old.values indicator) (filled start count value (values_of self.old.values indicator)) }
     {
         let slot = &mut self.slots[indicator];
@@ -199,6 +206,7 @@ impl<P: Place> Decorations<P> {
         ensures values { (bytes : List ℕ) → length bytes ≡ count → self.new.values ≡ indicators_after (Insert place bytes) self.old.values }
         ensures room { self.new.room + 1 ≡ self.old.room }
         ensures ready { self.new.ready ≡ None }
+        ensures slots { HaveSlotsOf self.old.held self.new.held }
     {
         insert_into_all(&mut self.slots, place, count);
         self.size += count;
@@ -213,6 +221,7 @@ impl<P: Place> Decorations<P> {
         ensures values { (bytes : List ℕ) → length bytes ≡ count → self.new.values ≡ indicators_after (Delete place bytes) self.old.values }
         ensures room { self.new.room ≡ self.old.room }
         ensures ready { self.new.ready ≡ None }
+        ensures slots { HaveSlotsOf self.old.held self.new.held }
     {
         delete_from_all(&mut self.slots, place, count);
         self.size -= count;

@@ -1,9 +1,10 @@
 //! What a step does to the runs of all indicators in use. A slot without runs stands for an indicator that is 0
 //! everywhere.
-ghost use Rattle.std.specs.Prelude.{◌≡◌, ◌≤◌, ◌<◌, ◌+◌, ℕ, length, Some, None, IfSome, IfNone, MatchOption, OnOk};
+ghost use Rattle.std.specs.Prelude.{◌≡◌, ◌≤◌, ◌<◌, ◌+◌, ◌≢◌, ◌*◌, ℕ, length, max, Some, None, IfSome, IfNone, MatchOption, OnOk, vec_len, vec_capacity};
 ghost use Rattle.ed_model.specs.Indicators.{filled, changed_range};
 ghost use Rattle.std.specs.Option.{is_some, option_copied};
-ghost use Rattle.decorations.specs.Slots.{slot_at, AreSpare, HasSpare, InBoth, InEach, HaveRoomOf, AreKept, CanTakeIn, TookIn, GaveAway, WasFilled, shown};
+ghost use Rattle.run_styles.specs.Runs.{IsSpareFor};
+ghost use Rattle.decorations.specs.Slots.{slot_at, slot_spare, AreSpare, HasSpare, InBoth, InEach, HaveRoomOf, AreKept, CanTakeIn, TookIn, GaveAway, WasFilled, shown};
 
 use partitioning::Place;
 use run_styles::RunStyles;
@@ -29,23 +30,35 @@ fn reserve_slots<P: Place>(slots: &mut Vec<Slot<P>>, count: usize) -> Result<(),
     ensures more { length slots.old.items ≤ length slots.new.items }
     ensures ok { OnOk result (count ≤ length slots.new.items) }
     ensures few { (most : ℕ) → length slots.old.items ≤ most → count ≤ most → length slots.new.items ≤ most }
+    ensures capacity { vec_capacity slots.new ≤ max (vec_capacity slots.old) (max count (2 * length slots.old.items)) }
 {
+    vec_room::reserve(slots, count.saturating_sub(slots.len()))?;
     while slots.len() < count {
-        slots.push(None)?;
+        slots.push_reserved(None);
+    }
+    Ok(())
+}
+
+/// Makes room for `room` more runs in a slot that has any.
+fn reserve_in<P: Place>(slot: &mut Slot<P>, room: usize) -> Result<(), AllocError>
+    ensures same { InBoth (HaveRoomOf room) slot.old slot.new }
+    ensures ok { OnOk result (IfSome slot.new (λ runs. room ≤ runs.room)) }
+{
+    if let Some(runs) = slot {
+        return runs.reserve(room);
     }
     Ok(())
 }
 
 /// Makes room for `room` more runs in each slot that has any.
 fn reserve_runs<P: Place>(slots: &mut Vec<Slot<P>>, room: usize) -> Result<(), AllocError>
-    ensures same { InEach (InBoth HaveRoomOf) slots.old.items slots.new.items }
+    ensures same { InEach (InBoth (HaveRoomOf room)) slots.old.items slots.new.items }
     ensures length { length slots.new.items ≡ length slots.old.items }
+    ensures capacity { vec_capacity slots.new ≡ vec_capacity slots.old }
     ensures ok { OnOk result ((k : ℕ) → IfSome (slot_at slots.new.items k) (λ runs. room ≤ runs.room)) }
 {
     for slot in slots.iter_mut() {
-        if let Some(runs) = slot {
-            runs.reserve(room)?;
-        }
+        reserve_in(slot, room)?;
     }
     Ok(())
 }
@@ -60,6 +73,7 @@ fn reserve_spare<P: Place>(
     ensures ok { OnOk result (HasSpare room spare.new) }
     ensures unused { IfSome spare.new (AreSpare 0) }
     ensures stays { (less : ℕ) → HasSpare less spare.old → HasSpare less spare.new }
+    ensures spare_at_most { IsSpareFor 1 room (slot_spare spare.old) (slot_spare spare.new) }
 {
     if let Some(runs) = spare {
         return runs.reserve(room);
@@ -84,6 +98,7 @@ pub(crate) fn insert_into_all<P: Place>(slots: &mut Vec<Slot<P>>, place: usize, 
     requires { (k : ℕ) → IfSome (slot_at slots.old.items k) (CanTakeIn P.GREATEST place count) }
     ensures runs { InEach (InBoth (TookIn place count)) slots.old.items slots.new.items }
     ensures length { length slots.new.items ≡ length slots.old.items }
+    ensures capacity { vec_capacity slots.new ≡ vec_capacity slots.old }
 {
     for slot in slots.iter_mut() {
         insert_into(slot, place, count);
@@ -108,6 +123,7 @@ pub(crate) fn delete_from_all<P: Place>(slots: &mut Vec<Slot<P>>, place: usize, 
     requires { (k : ℕ) → IfSome (slot_at slots.old.items k) (λ runs. place + count ≤ length runs.values) }
     ensures runs { InEach (GaveAway place count) slots.old.items slots.new.items }
     ensures length { length slots.new.items ≡ length slots.old.items }
+    ensures capacity { vec_capacity slots.new ≡ vec_capacity slots.old }
 {
     for slot in slots.iter_mut() {
         delete_from(slot, place, count);
@@ -122,10 +138,11 @@ fn reserve_slot<P: Place>(
     room: usize,
 ) -> Result<(), AllocError>
     requires { IfSome spare.old (AreSpare 0) }
-    ensures same { InBoth HaveRoomOf slot.old slot.new }
+    ensures same { InBoth (HaveRoomOf room) slot.old slot.new }
     ensures ok { OnOk result (MatchOption slot.new (HasSpare room spare.new) (λ runs. room ≤ runs.room)) }
     ensures unused { IfSome spare.new (AreSpare 0) }
     ensures stays { (less : ℕ) → HasSpare less spare.old → HasSpare less spare.new }
+    ensures spare_at_most { IsSpareFor 1 room (slot_spare spare.old) (slot_spare spare.new) }
 {
     if let Some(runs) = slot {
         return runs.reserve(room);
@@ -160,11 +177,13 @@ pub(crate) fn reserve_all<P: Place>(
     room: usize,
 ) -> Result<(), AllocError>
     requires { IfSome spare.old (AreSpare 0) }
-    ensures same { InEach (InBoth HaveRoomOf) slots.old.items slots.new.items }
+    ensures same { InEach (InBoth (HaveRoomOf room)) slots.old.items slots.new.items }
     ensures length { length slots.new.items ≡ length slots.old.items }
+    ensures capacity { vec_capacity slots.new ≡ vec_capacity slots.old }
     ensures ok { OnOk result (((k : ℕ) → IfSome (slot_at slots.new.items k) (λ runs. room ≤ runs.room)) × IfSome spare.new (AreSpare room)) }
     ensures unused { IfSome spare.new (AreSpare 0) }
     ensures stays { (less : ℕ) → HasSpare less spare.old → HasSpare less spare.new }
+    ensures spare_at_most { IsSpareFor 1 room (slot_spare spare.old) (slot_spare spare.new) }
 {
     reserve_runs(slots, room)?;
     if let Some(runs) = spare {
@@ -184,11 +203,14 @@ pub(crate) fn reserve_one<P: Place>(
     requires indicator { indicator < 32 }
     requires few { length slots.old.items ≤ 32 }
     requires unused { IfSome spare.old (AreSpare 0) }
-    ensures same { InEach (InBoth HaveRoomOf) slots.old.items slots.new.items }
+    ensures same { InEach (InBoth (HaveRoomOf room)) slots.old.items slots.new.items }
     ensures length { (length slots.old.items ≤ length slots.new.items) × (length slots.new.items ≤ 32) }
+    ensures slots { (length slots.new.items ≤ max (length slots.old.items) (indicator + 1)) × (vec_capacity slots.new ≤ max (vec_capacity slots.old) (max (indicator + 1) (2 * length slots.old.items))) }
+    ensures others { (k : ℕ) → k ≢ indicator → slot_at slots.new.items k ≡ slot_at slots.old.items k }
     ensures ok { OnOk result ((indicator < length slots.new.items) × MatchOption (slot_at slots.new.items indicator) (HasSpare room spare.new) (λ runs. room ≤ runs.room)) }
     ensures unused { IfSome spare.new (AreSpare 0) }
     ensures stays { (less : ℕ) → HasSpare less spare.old → HasSpare less spare.new }
+    ensures spare_at_most { IsSpareFor 1 room (slot_spare spare.old) (slot_spare spare.new) }
 {
     reserve_slots(slots, indicator + 1)?;
     reserve_slot(&mut slots[indicator], spare, alloc, room)

@@ -1,4 +1,4 @@
-use Rattle.std.proofs.Common.{◌≡◌, ◌≤◌, ◌-◌, ℕ, length}
+use Rattle.std.proofs.Common.{◌≡◌, ◌+◌, ◌≤◌, ◌-◌, ℕ, length, vec_capacity}
 use Rattle.decorations.specs.Slots.{slot_at}
 use Rattle.decorations.proofs.slots.reserve_slots.Given as goal
 
@@ -7,6 +7,8 @@ invariant-loop-slots g l = record {
   same : (k : ℕ) → slot_at l.slots.items k ≡ slot_at l.initial.slots.items k;
   more : length l.initial.slots.items ≤ length l.slots.items;
   few : (most : ℕ) → length l.initial.slots.items ≤ most → l.count ≤ most → length l.slots.items ≤ most;
+  fits : length l.slots.items + (l.count - length l.slots.items) ≤ vec_capacity l.slots;
+  capacity : vec_capacity l.slots ≡ vec_capacity l.initial.slots;
 }
 
 abbrev pub decreases-loop-slots : goal.decreases-loop-slots

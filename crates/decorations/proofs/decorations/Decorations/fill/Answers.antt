@@ -1,8 +1,8 @@
-use Rattle.std.proofs.Common.{◌≡◌, ◌+◌, ◌≤◌, ℕ, length, Option, Some, None, MatchOption, set, ap, sym, ◌∙◌, subst, arith}
+use Rattle.std.proofs.Common.{◌≡◌, ◌+◌, ◌≤◌, ℕ, length, Option, Some, None, MatchOption, set, vec_capacity, ap, sym, ◌∙◌, subst, arith}
 use Rattle.ed_model.specs.Indicators.{filled, changed_range}
 use Rattle.run_styles.specs.Runs.{Runs}
 use Rattle.decorations.specs.Decorated.{Decorated, decorated, values_of}
-use Rattle.decorations.specs.Slots.{slot_at, shown, all_shown, AreSlots, HasSpare}
+use Rattle.decorations.specs.Slots.{slot_at, shown, all_shown, held_by, AreSlots, HasSpare}
 use Rattle.decorations.proofs.Kept.{filled_slots, filled_all, fill_runs, fill_room}
 use Rattle.decorations.proofs.Values.{filled_length, shown_full}
 use Rattle.decorations.proofs.SlotLists.{slot_read}
@@ -41,10 +41,11 @@ returns-clause-values g c =
     let full : length (shown d.size slot) ≡ d.size = ap (λ s. length (shown d.size s)) (sym here) ∙ shown_full d.size (slot_at slots i) (fill_runs g.P.Place.GREATEST d.size d.room i slots d.spare are) in
     let long = filled_length (shown d.size slot) c.args.start c.args.count c.args.value (omega arith) in
     let values = values_are c.args.self.now d.size d.room d.ready slots i slot c.requires.indicator c.self.view_is (sym here) in
-    ap (λ vs. decorated d.size vs d.room None)
+    let now = held_by (set slots i c.fill_slot-changed.new.slot) (vec_capacity d.slots) c.fill_slot-changed.new.spare in
+    ap (λ vs. decorated d.size vs d.room None now)
     (filled_all d.size i (filled c.args.start c.args.count c.args.value (shown d.size slot)) slots c.fill_slot-changed.new.slot c.requires.indicator are.can_fill.slot (long ∙ full) c.fill_slot-changed.ensures.filled)
-    ∙ ap (λ vs. decorated d.size (set (all_shown d.size slots) i (filled c.args.start c.args.count c.args.value vs)) d.room None) (sym values)
-    ∙ ap (λ (v : Decorated). decorated v.length (set v.values i (filled c.args.start c.args.count c.args.value (values_of c.args.self.now.values i))) v.room None) c.self.view_is
+    ∙ ap (λ vs. decorated d.size (set (all_shown d.size slots) i (filled c.args.start c.args.count c.args.value vs)) d.room None now) (sym values)
+    ∙ ap (λ (v : Decorated). decorated v.length (set v.values i (filled c.args.start c.args.count c.args.value (values_of c.args.self.now.values i))) v.room None now) c.self.view_is
 
 pub returns-clause-changed : goal.returns-clause-changed
 returns-clause-changed g c =

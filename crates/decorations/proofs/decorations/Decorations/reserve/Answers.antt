@@ -1,0 +1,48 @@
+use Rattle.std.proofs.Common.{◌≡◌, ℕ, max, ap, ◌∙◌, subst, vec_capacity, arith}
+use Rattle.decorations.specs.Decorated.{Decorated, decorated, AreRunsFor}
+use Rattle.decorations.specs.Slots.{all_shown, held_by}
+use Rattle.decorations.proofs.Kept.{roomy_slots, grown_shown}
+use Rattle.decorations.proofs.Memory.{grown_runs}
+use Rattle.decorations.proofs.decorations.Decorations.reserve.Goals as goal
+
+pub returns-in_default-reserve_all-clause-runs_at_most : goal.returns-in_default-reserve_all-clause-runs_at_most
+returns-in_default-reserve_all-clause-runs_at_most g c =
+    let d = c.self.inside in
+    let after = c.reserve_all.new in
+    let Q : ℕ → Type 0 = λ n. AreRunsFor n (all_shown d.size d.slots.items) (held_by d.slots.items (vec_capacity d.slots) d.spare) (held_by after.slots.items (vec_capacity after.slots) after.spare) in
+    rw (← c.self.view_is)
+    (subst Q c.in-Some.ensures.1 (grown_runs d.size c.in-Some.runs (vec_capacity d.slots) (vec_capacity after.slots) d.slots.items after.slots.items d.spare after.spare c.in_default-reserve_all.ensures.same c.in_default-reserve_all.ensures.spare_at_most))
+
+pub returns-in_default-reserve_all-clause-err : goal.returns-in_default-reserve_all-clause-err
+returns-in_default-reserve_all-clause-err g c =
+    let d = c.self.inside in
+    let after = c.reserve_all.new in
+    let now = held_by after.slots.items (vec_capacity after.slots) after.spare in
+    ap (λ values. decorated d.size values d.room d.ready now) (grown_shown c.in-Some.runs d.size d.slots.items after.slots.items c.in_default-reserve_all.ensures.same)
+    ∙ ap (λ (v : Decorated). decorated v.length v.values v.room v.ready now) c.self.view_is
+
+pub invariant_of-self-2 : goal.invariant_of-self-2
+invariant_of-self-2 g c =
+    let d = c.self.inside in
+    let after = c.reserve_all.new in
+    let made = c.in-Ok.ensures.ok in
+    roomy_slots c.in-Some.runs g.P.Place.GREATEST d.size d.room c.args.insertions d.ready d.slots.items after.slots.items d.spare after.spare c.in-Some.ensures.1 c.self.invariant c.in-Ok.ensures.same c.in-Ok.ensures.length made.0 made.1
+    c.in-Ok.ensures.unused c.in-Ok.ensures.stays
+
+pub returns-clause-ok : goal.returns-clause-ok
+returns-clause-ok g c =
+    let d = c.self.inside in
+    let after = c.reserve_all.new in
+    let now = held_by after.slots.items (vec_capacity after.slots) after.spare in
+    let most : c.args.insertions ≡ max d.room c.args.insertions = omega (arith, c.if-insertions-self.false) in
+    ap (λ values. decorated d.size values c.args.insertions d.ready now) (grown_shown c.in-Some.runs d.size d.slots.items after.slots.items c.in-Ok.ensures.same)
+    ∙ ap (λ room. decorated d.size (all_shown d.size d.slots.items) room d.ready now) most
+    ∙ ap (λ (v : Decorated). decorated v.length v.values (max v.room c.args.insertions) v.ready now) c.self.view_is
+
+pub returns-clause-runs_at_most : goal.returns-clause-runs_at_most
+returns-clause-runs_at_most g c =
+    let d = c.self.inside in
+    let after = c.reserve_all.new in
+    let Q : ℕ → Type 0 = λ n. AreRunsFor n (all_shown d.size d.slots.items) (held_by d.slots.items (vec_capacity d.slots) d.spare) (held_by after.slots.items (vec_capacity after.slots) after.spare) in
+    rw (← c.self.view_is)
+    (subst Q c.in-Some.ensures.1 (grown_runs d.size c.in-Some.runs (vec_capacity d.slots) (vec_capacity after.slots) d.slots.items after.slots.items d.spare after.spare c.in-Ok.ensures.same c.in-Ok.ensures.spare_at_most))
