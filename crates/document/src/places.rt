@@ -11,7 +11,7 @@ ghost use Rattle.line_index.specs.Change.{change_about, change_since, lines_abou
 ghost use Rattle.line_index.specs.Settings.{edits_of_setting};
 ghost use Rattle.line_index.specs.StepEdits.{SmallLines};
 ghost use Rattle.document.specs.Kept.{bound_of};
-ghost use Rattle.decorations.specs.Decorated.{decorated, values_of, IsClear, run_about, mask_of};
+ghost use Rattle.decorations.specs.Decorated.{decorated, nothing_held, AreRunsFor, AreSlotsFor, HaveSlotsOf, values_of, IsClear, run_about, mask_of};
 
 use decorations::Decorations;
 use ed_model::LineEndTypes;
@@ -274,7 +274,7 @@ impl Model for Indicators {
 impl Indicators {
     /// Those of the empty text, as a large text keeps them or not. Takes no memory.
     pub(crate) fn new(alloc: Global, is_large: bool) -> Self
-        ensures { result ≡ record { decorated = decorated 0 (replicate 32 []) 0 None; is_large = is_large } }
+        ensures { result ≡ record { decorated = decorated 0 (replicate 32 []) 0 None nothing_held; is_large = is_large } }
     {
         let kept = if is_large {
             IndicatorsByWidth::Large(Decorations::new(alloc))
@@ -344,11 +344,13 @@ impl Indicators {
     ///
     /// # Errors
     ///
-    /// `AllocError` where memory is refused. All is then as it was.
+    /// `AllocError` where memory is refused. All is then as it was, but that there may be memory for more runs.
     pub(crate) fn reserve(&mut self, insertions: usize) -> Result<(), AllocError>
-        ensures ok { OnOk result (self.new ≡ record self.old { decorated = record self.old.decorated { room = max self.old.decorated.room insertions } }) }
+        ensures ok { OnOk result (self.new ≡ record self.old { decorated = record self.old.decorated { room = max self.old.decorated.room insertions; held = self.new.decorated.held } }) }
         ensures room_is_there { insertions ≤ self.old.decorated.room → IsOk result × (self.new ≡ self.old) }
-        ensures err { OnErr result (self.new ≡ self.old) }
+        ensures runs_at_most { AreRunsFor (insertions + 3) self.old.decorated.values self.old.decorated.held self.new.decorated.held }
+        ensures slots { HaveSlotsOf self.old.decorated.held self.new.decorated.held }
+        ensures err { OnErr result (self.new ≡ record self.old { decorated = record self.old.decorated { held = self.new.decorated.held } }) }
     {
         match &mut self.kept {
             IndicatorsByWidth::Small(indicators) => indicators.reserve(insertions),
@@ -390,12 +392,14 @@ impl Indicators {
     ///
     /// # Errors
     ///
-    /// `AllocError` where memory is refused. All is then as it was.
+    /// `AllocError` where memory is refused. All is then as it was, but that there may be memory for more slots and runs.
     pub(crate) fn reserve_fill(&mut self, indicator: usize) -> Result<(), AllocError>
         requires { indicator < 32 }
-        ensures ok { OnOk result (self.new ≡ record self.old { decorated = record self.old.decorated { ready = Some indicator } }) }
+        ensures ok { OnOk result (self.new ≡ record self.old { decorated = record self.old.decorated { ready = Some indicator; held = self.new.decorated.held } }) }
         ensures room_is_there { self.old.decorated.ready ≡ Some indicator → IsOk result × (self.new ≡ self.old) }
-        ensures err { OnErr result (self.new ≡ self.old) }
+        ensures runs_at_most { AreRunsFor (self.old.decorated.room + 3) self.old.decorated.values self.old.decorated.held self.new.decorated.held }
+        ensures slots_at_most { AreSlotsFor (indicator + 1) self.old.decorated.held self.new.decorated.held }
+        ensures err { OnErr result (self.new ≡ record self.old { decorated = record self.old.decorated { held = self.new.decorated.held } }) }
     {
         match &mut self.kept {
             IndicatorsByWidth::Small(indicators) => indicators.reserve_fill(indicator),
@@ -414,7 +418,7 @@ impl Indicators {
         requires indicator { indicator < 32 }
         requires within { start + count ≤ self.old.decorated.length }
         requires room { self.old.decorated.ready ≡ Some indicator }
-        ensures values { self.new ≡ record self.old { decorated = record self.old.decorated { values = slice_set self.old.decorated.values indicator (filled start count value (values_of self.old.decorated.values indicator)); ready = None } } }
+        ensures values { self.new ≡ record self.old { decorated = record self.old.decorated { values = slice_set self.old.decorated.values indicator (filled start count value (values_of self.old.decorated.values indicator)); ready = None; held = self.new.decorated.held } } }
         ensures changed { result ≡ changed_range (values_of self.old.decorated.values indicator) (filled start count value (values_of self.old.decorated.values indicator)) }
     {
         match &mut self.kept {
