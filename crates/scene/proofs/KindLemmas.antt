@@ -1,9 +1,9 @@
 -- Kinds of notes, and who hears them.
 use Rattle.std.proofs.Common.{◌≡◌, ℕ, ◌<◌, ◌≤◌, Bool, true, false, cond, List, [], ◌∷◌, length, refl, ap, sym, ◌∙◌, subst, arith}
-use Rattle.std.specs.Prelude.{◌==◌, not, filter, bit_and, bit_or, ℤ}
+use Rattle.std.specs.Prelude.{◌==◌, not, filter, bit_and, bit_or, nat_lt, zero, suc, ℤ}
 use Rattle.std.specs.Int.Bits.{and_zero_l}
 use Rattle.std.proofs.lemmas.Nat.{and_assoc, and_comm, and_or_self, and_or_apart, or_comm}
-use Rattle.std.proofs.lemmas.Bool.{eqb-true, eq-eqb}
+use Rattle.std.proofs.lemmas.Bool.{eqb-true, eq-eqb, lt-ltb}
 use Rattle.ed_types.specs.Notices.{Notice}
 use Rattle.ed_types.specs.declared.reply.Note.{Note}
 use Rattle.ed_model.specs.Numbers.{meets}
@@ -12,13 +12,14 @@ use Rattle.ed_model.specs.Steps.{Step, Insert, Delete, step_bytes}
 use Rattle.ed_model.specs.Notes.{told, heard, before_note, after_note, insert_text, delete_text}
 use Rattle.document.specs.declared.text_step.TextStep.{TextStep}
 use Rattle.document.specs.declared.text_step.TextStep.TheVariants.{Insert as put_in, Delete as take_out}
-use Rattle.document.specs.TextSteps.{step_in}
+use Rattle.document.specs.TextSteps.{step_in, IsStepOn}
+use Rattle.notify.specs.Gathered.{Gathered}
 use Rattle.ed_model.specs.Session.{View}
 use Rattle.scene.specs.declared.telling.Audience.TheVariants.{Hearers}
 use Rattle.scene.specs.declared.telling.NoteText.{NoteText}
 use Rattle.scene.specs.declared.telling.NoteText.TheVariants.{Shared}
 use Rattle.scene.specs.Hearing.{audience_of, with_note_text, hearers, before_kind, after_kind, step_kinds}
-use Rattle.scene.specs.StepNotes.{text_before, note_text_before}
+use Rattle.scene.specs.StepNotes.{CanTellMade, text_before, note_text_before}
 
 -- what meets a mask meets it with more bits too
 and_none : (m a b : ℕ) → bit_and m (bit_or b a) ≡ 0 → bit_and m a ≡ 0
@@ -89,46 +90,43 @@ pub after_kind_is : (bits : ℕ) (lines : ℤ) (s : Step) → (after_note bits l
 after_kind_is bits lines (Insert p bytes) = refl
 after_kind_is bits lines (Delete p bytes) = refl
 
-with_right_text : (step : TextStep) (text : List ℕ) (note : Note) (shared : List ℕ) (n : Notice) → with_text note (text_before (step_in step text)) ≡ n
-    → shared ≡ step_bytes (step_in step text) → with_note_text (note_text_before step) note shared ≡ n
-with_right_text (put_in p bytes) text note shared n e same = ap (with_text note) same ∙ e
-with_right_text (take_out p count) text note shared n e same = e
-
 -- more bits make more of its kind
 pub after_more : (bits all : ℕ) (s : Step) (m : ℕ) → (meets m bits ≡ true → meets m all ≡ true) → meets m (after_kind bits s) ≡ true → meets m (after_kind all s) ≡ true
 after_more bits all (Insert p bytes) m more h = meets_more m insert_text bits all more h
 after_more bits all (Delete p bytes) m more h = meets_more m delete_text bits all more h
 
-pub told_before : (views : List View) (step : TextStep) (text : List ℕ) (note : Note) (shared : List ℕ) (before after : ℕ)
-    → with_text note (text_before (step_in step text)) ≡ before_note before (step_in step text)
-    → (0 < hearers (step_kinds before after (step_in step text)) views → shared ≡ step_bytes (step_in step text))
-    → told (audience_of Hearers note.kind views) (with_note_text (note_text_before step) note shared) ≡ heard views (before_note before (step_in step text))
-told_before views step text note shared before after is some =
-    let s = step_in step text in
-    let n = before_note before s in
-    let more : hearers n.kind views ≤ hearers (step_kinds before after s) views =
-    hearers_more n.kind (step_kinds before after s) views (λ m h. meets_left m (before_kind before s) (after_kind after s) (rw (before_kind_is before s) at h)) in
-    told_as_heard views note (note_text_before step) shared n (ap (λ (x : Notice). x.kind) is) (λ some_hear. with_right_text step text note shared n is (some (omega arith)))
+-- Where no view hears one of the kinds, none hears a note that is of these.
+unheard : (views : List View) (n : Notice) (kinds : ℕ) → ((m : ℕ) → meets m n.kind ≡ true → meets m kinds ≡ true) → hearers kinds views ≡ 0 → heard views n ≡ []
+unheard views n kinds more none =
+    empty_or_some (filter (λ (v : View). meets v.mask n.kind) views) (λ vs. told vs n ≡ []) refl (λ some. absurd (omega (arith, hearers_more n.kind kinds views more)))
 
-pub told_after : (views : List View) (s : Step) (note : Note) (shared : List ℕ) (before after : ℕ) (lines : ℤ)
-    → with_text note (step_bytes s) ≡ after_note after lines s
-    → (0 < hearers (step_kinds before after s) views → shared ≡ step_bytes s)
-    → told (audience_of Hearers note.kind views) (with_note_text Shared note shared) ≡ heard views (after_note after lines s)
-told_after views s note shared before after lines is some =
-    let n = after_note after lines s in
-    let more : hearers n.kind views ≤ hearers (step_kinds before after s) views =
-    hearers_more n.kind (step_kinds before after s) views (λ m h. meets_right m (after_kind after s) (before_kind before s) (rw (after_kind_is after lines s) at h)) in
-    told_as_heard views note Shared shared n (ap (λ (x : Notice). x.kind) is) (λ some_hear. ap (with_text note) (some (omega arith)) ∙ is)
+pub unheard_before : (views : List View) (s : Step) (before after : ℕ) → hearers (step_kinds before after s) views ≡ 0 → heard views (before_note before s) ≡ []
+unheard_before views s before after none =
+    unheard views (before_note before s) (step_kinds before after s) (λ m h. meets_left m (before_kind before s) (after_kind after s) (rw (before_kind_is before s) at h)) none
 
--- the same where the bits of the note are among those that were asked for
-pub told_after_more : (views : List View) (s : Step) (note : Note) (shared : List ℕ) (before all after : ℕ) (lines : ℤ)
-    → ((m : ℕ) → meets m after ≡ true → meets m all ≡ true)
-    → with_text note (step_bytes s) ≡ after_note after lines s
-    → (0 < hearers (step_kinds before all s) views → shared ≡ step_bytes s)
-    → told (audience_of Hearers note.kind views) (with_note_text Shared note shared) ≡ heard views (after_note after lines s)
-told_after_more views s note shared before all after lines more is some =
-    let n = after_note after lines s in
-    let le : hearers n.kind views ≤ hearers (step_kinds before all s) views =
-    hearers_more n.kind (step_kinds before all s) views
-    (λ m h. meets_right m (after_kind all s) (before_kind before s) (after_more after all s m (more m) (rw (after_kind_is after lines s) at h))) in
-    told_as_heard views note Shared shared n (ap (λ (x : Notice). x.kind) is) (λ some_hear. ap (with_text note) (some (omega arith)) ∙ is)
+pub unheard_after : (views : List View) (s : Step) (before all after : ℕ) (lines : ℤ) → ((m : ℕ) → meets m after ≡ true → meets m all ≡ true)
+    → hearers (step_kinds before all s) views ≡ 0 → heard views (after_note after lines s) ≡ []
+unheard_after views s before all after lines more none =
+    unheard views (after_note after lines s) (step_kinds before all s)
+    (λ m h. meets_right m (after_kind all s) (before_kind before s) (after_more after all s m (more m) (rw (after_kind_is after lines s) at h))) none
+
+-- Where it was counted how many hear.
+
+zero_of : (n : ℕ) → nat_lt 0 n ≡ false → n ≡ 0
+zero_of zero h = refl
+zero_of (suc n) h = absurd (let some : nat_lt 0 (suc n) ≡ true = lt-ltb 0 (suc n) (omega arith) in cc)
+
+-- none hears where it was answered that not one hears
+pub none_hears : (counted hears : ℕ) → counted ≡ hears → nat_lt 0 counted ≡ false → hears ≡ 0
+none_hears counted hears e none = sym e ∙ zero_of counted none
+
+pub can_tell : (hears : Bool) (before all after : ℕ) (lines : ℤ) (step : TextStep) (text : List ℕ) (views : List View) (g : Gathered)
+    → ((m : ℕ) → meets m after ≡ true → meets m all ≡ true) → IsStepOn step (length text)
+    → (hears ≡ false → hearers (step_kinds before all (step_in step text)) views ≡ 0) → (hears ≡ true → g.shared ≡ step_bytes (step_in step text))
+    → length (heard views (after_note after lines (step_in step text))) ≤ g.note_room → CanTellMade hears after lines step text views g
+can_tell hears before all after lines step text views g more on none shared room = record {
+  on = on;
+  unheard = λ no. unheard_after views (step_in step text) before all after lines more (none no);
+  shared = shared;
+  room = room;
+}

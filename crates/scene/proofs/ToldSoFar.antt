@@ -82,19 +82,6 @@ pub record AreToldInOrder (first second : List Notice) (old shared now : Gathere
   pub text_room : now.text_room ≡ shared.text_room
   pub text : now.shared ≡ shared.shared
 
-pub told_in_order : (views : List View) (x : Notice) (first second : List Notice) (old shared next now : Gathered) → shared.notes ≡ old.notes → shared.note_room ≡ old.note_room
-    → next ≡ record shared { notes = shared.notes ++ told views x; note_room = shared.note_room - length views }
-    → now ≡ record next { notes = next.notes ++ second; note_room = next.note_room - length second }
-    → told views x ≡ first → length first + length second ≤ old.note_room → AreToldInOrder first second old shared now
-told_in_order views x first second old shared next now notes room one two is fits =
-    let l : length views ≡ length first = sym (length_told views x) ∙ ap length is in
-    rw two (rw one (record {
-      notes = ap (λ n. (n ++ told views x) ++ second) notes ∙ ap (λ n. (old.notes ++ n) ++ second) is;
-      note_room = omega arith;
-      text_room = refl;
-      text = refl;
-    }))
-
 -- the last note, for some views
 pub record AreAllTold (first second third : List Notice) (old before now : Gathered) : Type 0 where
   pub notes : now.notes ≡ old.notes ++ first ++ second ++ third
@@ -104,24 +91,37 @@ pub record AreAllTold (first second third : List Notice) (old before now : Gathe
 pub length_parts : (a b c d : List Notice) → length (a ++ b ++ c ++ d) ≡ length a + (length b + (length c + length d))
 length_parts a b c d = simp length-append (omega arith)
 
-pub told_last : (views : List View) (x : Notice) (first second third : List Notice) (old before now : Gathered) → before.notes ≡ old.notes ++ first ++ second
-    → before.note_room + (length first + length second) ≡ old.note_room
-    → now ≡ record before { notes = before.notes ++ told views x; note_room = before.note_room - length views }
-    → told views x ≡ third → length (old.notes ++ first ++ second ++ third) ≤ length old.notes + old.note_room → AreAllTold first second third old before now
-told_last views x first second third old before now notes room put is fits =
-    let l : length views ≡ length third = sym (length_told views x) ∙ ap length is in
-    let all : before.notes ++ told views x ≡ old.notes ++ first ++ second ++ third = ap (λ n. n ++ told views x) notes ∙ ap (λ n. (old.notes ++ first ++ second) ++ n) is in
-    let p = length_parts old.notes first second third in
-    let q : length (before.notes ++ told views x) ≡ length (old.notes ++ first ++ second ++ third) = ap length all in
-    rw put (record {
-      notes = all;
-      note_room = omega arith;
-      text_room = refl;
-    })
-
 pub told_left : (views : List View) (note : Note) (n : Notice) (old new : Gathered) → with_text note [] ≡ n
     → new ≡ record old { notes = old.notes ++ told views (with_text note []); note_room = old.note_room - length views }
     → new ≡ record old { notes = old.notes ++ told views n; note_room = old.note_room - length (told views n) }
 told_left views note n old new e put =
     let l : length (told views n) ≡ length views = length_told views n in
     rw l (told_as views note n (old.note_room - length views) old new e put)
+
+-- Notes that are heard, one list behind the other.
+
+pub heard_in_order : (first second : List Notice) (old shared next now : Gathered) → shared.notes ≡ old.notes → shared.note_room ≡ old.note_room
+    → next ≡ record shared { notes = shared.notes ++ first; note_room = shared.note_room - length first }
+    → now ≡ record next { notes = next.notes ++ second; note_room = next.note_room - length second }
+    → length first + length second ≤ old.note_room → AreToldInOrder first second old shared now
+heard_in_order first second old shared next now notes room one two fits =
+    rw two (rw one (record {
+      notes = ap (λ n. (n ++ first) ++ second) notes;
+      note_room = omega arith;
+      text_room = refl;
+      text = refl;
+    }))
+
+pub heard_last : (first second third : List Notice) (old before now : Gathered) → before.notes ≡ old.notes ++ first ++ second
+    → before.note_room + (length first + length second) ≡ old.note_room
+    → now ≡ record before { notes = before.notes ++ third; note_room = before.note_room - length third }
+    → length (old.notes ++ first ++ second ++ third) ≤ length old.notes + old.note_room → AreAllTold first second third old before now
+heard_last first second third old before now notes room put fits =
+    let all : before.notes ++ third ≡ old.notes ++ first ++ second ++ third = ap (λ n. n ++ third) notes in
+    let p = length_parts old.notes first second third in
+    let q : length (before.notes ++ third) ≡ length (old.notes ++ first ++ second ++ third) = ap length all in
+    rw put (record {
+      notes = all;
+      note_room = omega arith;
+      text_room = refl;
+    })

@@ -1,8 +1,13 @@
 -- Steps by where their bytes stand, as notes tell of them.
-use Rattle.std.specs.Prelude.{ℕ, ◌<◌, ◌^◌, List, [], length}
+use Rattle.std.specs.Prelude.{◌≡◌, ℕ, ◌<◌, ◌≤◌, ◌^◌, Bool, true, false, ℤ, List, [], length}
 use Rattle.ed_model.specs.Steps as model
+use Rattle.ed_model.specs.Steps.{step_bytes}
+use Rattle.ed_model.specs.Notes.{heard, after_note}
+use Rattle.ed_model.specs.Session.{View}
 use Rattle.document.specs.declared.text_step.TextStep.{TextStep}
 use Rattle.document.specs.declared.text_step.TextStep.TheVariants.{Insert, Delete}
+use Rattle.document.specs.TextSteps.{step_in, IsStepOn}
+use Rattle.notify.specs.Gathered.{Gathered}
 use Rattle.scene.specs.declared.telling.NoteText.{NoteText}
 use Rattle.scene.specs.declared.telling.NoteText.TheVariants.{Empty, Shared}
 
@@ -26,3 +31,11 @@ text_before (model.Delete place bytes) = []
 abbrev pub note_text_before : TextStep → NoteText
 note_text_before (Insert place bytes) = Shared
 note_text_before (Delete place count) = Empty
+
+-- The step was made on this text: if no view hears of it there is no note after it, and if one does its bytes are shared; and
+-- there is room for its notes.
+pub record CanTellMade (hears : Bool) (bits : ℕ) (lines : ℤ) (step : TextStep) (text : List ℕ) (views : List View) (g : Gathered) : Type 0 where
+  pub on : IsStepOn step (length text)
+  pub unheard : hears ≡ false → heard views (after_note bits lines (step_in step text)) ≡ []
+  pub shared : hears ≡ true → g.shared ≡ step_bytes (step_in step text)
+  pub room : length (heard views (after_note bits lines (step_in step text))) ≤ g.note_room

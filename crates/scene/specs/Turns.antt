@@ -1,5 +1,5 @@
 -- One change of those that undo or redo performs.
-use Rattle.std.specs.Prelude.{◌≡◌, ℕ, ◌+◌, ◌<◌, ◌≤◌, ◌++◌, ◌==◌, nat_lt, Bool, true, if◌then◌else◌, List, length, map, slice_get, bit_or, Option, Some}
+use Rattle.std.specs.Prelude.{◌≡◌, ℕ, ◌+◌, ◌<◌, ◌≤◌, ◌++◌, ◌==◌, nat_lt, Bool, true, false, if◌then◌else◌, List, length, map, slice_get, bit_or, Option, Some}
 use Rattle.ed_model.specs.Steps.{Step, step_bytes}
 use Rattle.ed_model.specs.History.{History, Change, TextStep, ContainerStep}
 use Rattle.ed_model.specs.InverseLaws.{Fits}
@@ -61,9 +61,10 @@ pub record IsPerformed (turn : Turn) (lines_changed changed : Bool) (k : Kept) (
   pub next : views'.next ≡ views.next
   pub view_room : views'.room ≡ views.room
 
--- the views that hear it are told of the step before it is made, and its bytes are shared if any hears of it
-pub record IsToldBefore (who : ℕ) (views : List View) (old new : Gathered) (step : Step) : Type 0 where
+-- the views that hear it are told of the step before it is made, and its bytes are shared if any hears of it, as is answered
+pub record IsToldBefore (who : ℕ) (views : List View) (hears : Bool) (old new : Gathered) (step : Step) : Type 0 where
   pub notes : new.notes ≡ old.notes ++ heard views (before_note who step)
   pub note_room : new.note_room + length (heard views (before_note who step)) ≡ old.note_room
   pub text_room : new.text_room + bytes_of_change views who (TextStep step) ≡ old.text_room
-  pub shared : 0 < hearers (performed_kinds who step) views → new.shared ≡ step_bytes step
+  pub unheard : hears ≡ false → hearers (performed_kinds who step) views ≡ 0
+  pub shared : hears ≡ true → new.shared ≡ step_bytes step

@@ -14,9 +14,7 @@ ghost use Rattle.scene.specs.Undoing.{bits_of, all_bits as every_bit, container_
 ghost use Rattle.scene.specs.Turns.{change_at, bits_behind, CanPerform, IsToldBefore, IsPerformed};
 
 use crate::moving::follow;
-use crate::step_notes::{
-    MODIFIED, after_note, before_note, kind_after, kind_before, movement_of, text_of_before,
-};
+use crate::step_notes::{MODIFIED, kind_after, kind_before, movement_of, tell_coming, tell_made};
 use crate::telling::{Audience, NoteText, count_hearers, tell};
 use document::{ChangeOutline, Direction, Document, TextStep};
 use ed_model::steps_keep_views_standing;
@@ -105,11 +103,16 @@ fn share_if(notes: &mut NoteList, bytes: &[u8], is_heard: bool)
     }
 }
 
-// Tells of the change, which is one of the text, before it is made. Its bytes are shared for the note after it, if a view that
-// watches hears of it.
-fn tell_before_change(document: &Document, views: &IdTable<View>, notes: &mut NoteList, turn: Turn)
+// Tells of the change, which is one of the text, before it is made. Answers whether a view that watches hears of it; its bytes
+// are then shared for the note after it.
+fn tell_before_change(
+    document: &Document,
+    views: &IdTable<View>,
+    notes: &mut NoteList,
+    turn: Turn,
+) -> bool
     requires { (step : Step) × CanPerform turn document.now views.now notes.old (Text step) }
-    ensures { (step : Step) → change_at turn document.now.document.history ≡ Some (Text step) → IsToldBefore (bits_of turn.direction) (watchers document.now.document views.now) notes.old notes.new step }
+    ensures { (step : Step) → change_at turn document.now.document.history ≡ Some (Text step) → IsToldBefore (bits_of turn.direction) (watchers document.now.document views.now) result notes.old notes.new step }
 {
     let who = bit_of(turn.direction);
     let step = step_at(document, turn);
@@ -118,15 +121,8 @@ fn tell_before_change(document: &Document, views: &IdTable<View>, notes: &mut No
     let is_heard = count_hearers(document, views, kinds) > 0;
     let bytes = document.change_bytes(turn.direction, turn.index);
     share_if(notes, bytes, is_heard);
-    let note = before_note(who, step);
-    tell(
-        document,
-        views,
-        notes,
-        &note,
-        Audience::Hearers,
-        text_of_before(step),
-    );
+    tell_coming(document, views, notes, is_heard, who, step);
+    is_heard
 }
 
 // Whether by now the number of lines is changed.
@@ -152,21 +148,14 @@ fn perform_step(
     moves_are_those_of_steps();
     steps_keep_views_standing();
     let _ = document.len(); // it says that no position runs out of numbers
-    tell_before_change(document, views, notes, turn);
+    let hears = tell_before_change(document, views, notes, turn);
     let old_lines = document.line_count();
     let change = document.make_change(turn.direction, turn.index);
     let lines = document.line_count();
     let changed = is_changed(lines_changed, old_lines, lines);
     let step = step_at(document, turn);
-    let note = after_note(bits_after(turn, changed), old_lines, lines, step);
-    tell(
-        document,
-        views,
-        notes,
-        &note,
-        Audience::Hearers,
-        NoteText::Shared,
-    );
+    let bits = bits_after(turn, changed);
+    tell_made(document, views, notes, hears, bits, old_lines, lines, step);
     let edits = change.edits();
     follow(document.views(), views, movement_of(step), edits.as_slice());
     changed

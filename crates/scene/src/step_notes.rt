@@ -1,19 +1,22 @@
 //! The notes of a step.
 
-ghost use Rattle.std.specs.Prelude.{◌≡◌, ◌≤◌, ◌<◌, ◌-◌, ◌^◌, List, ℕ, length};
+ghost use Rattle.std.specs.Prelude.{◌≡◌, ◌≤◌, ◌<◌, ◌-◌, ◌^◌, ◌++◌, true, false, [], List, ℕ, length};
 ghost use Rattle.ed_types.specs.Heard.{with_text};
 ghost use Rattle.ed_model.specs.Steps.{step_bytes};
-ghost use Rattle.ed_model.specs.Notes.{range_note as note_of_range, before_note as note_before, after_note as note_after};
+ghost use Rattle.ed_model.specs.Notes.{heard, range_note as note_of_range, before_note as note_before, after_note as note_after};
 ghost use Rattle.ed_model.specs.Numbers.{growth};
 ghost use Rattle.ed_model.specs.Session.{text_of};
 ghost use Rattle.selection.specs.Positions.{movement_of as movement};
 ghost use Rattle.document.specs.TextSteps.{step_in, IsStepOn};
+ghost use Rattle.scene.specs.Scenes.{watchers, AreNamed};
 ghost use Rattle.scene.specs.Hearing.{before_kind, after_kind};
-ghost use Rattle.scene.specs.StepNotes.{place_in, count_in, IsSmallStep, text_before, note_text_before};
+ghost use Rattle.scene.specs.StepNotes.{place_in, count_in, IsSmallStep, CanTellMade, text_before, note_text_before};
 
-use crate::telling::NoteText;
+use crate::telling::{Audience, NoteText, tell};
 use document::{Document, TextStep};
 use ed_types::Note;
+use ed_view::View;
+use id_table::IdTable;
 use notify::{NoteList, blank};
 use selection::Movement;
 
@@ -98,16 +101,16 @@ fn range_note(kind: u32, place: usize, count: usize) -> Note
     note
 }
 
-/// The note before it.
-pub(crate) fn before_note(bits: u32, step: TextStep) -> Note
+// The note before it.
+fn before_note(bits: u32, step: TextStep) -> Note
     requires { IsSmallStep step }
     ensures { (text : List ℕ) → IsStepOn step.entry (length text) → with_text result (text_before (step_in step.entry text)) ≡ note_before bits (step_in step.entry text) }
 {
     range_note(kind_before(bits, step), place_of(step), count_of(step))
 }
 
-/// Which text that note has: a deletion's has none.
-pub(crate) fn text_of_before(step: TextStep) -> NoteText
+// Which text that note has: a deletion's has none.
+fn text_of_before(step: TextStep) -> NoteText
     ensures { result ≡ note_text_before step.entry }
 {
     match step {
@@ -116,8 +119,8 @@ pub(crate) fn text_of_before(step: TextStep) -> NoteText
     }
 }
 
-/// The note after it, where the text had so many lines and has so many now.
-pub(crate) fn after_note(bits: u32, old_lines: usize, lines: usize, step: TextStep) -> Note
+// The note after it, where the text had so many lines and has so many now.
+fn after_note(bits: u32, old_lines: usize, lines: usize, step: TextStep) -> Note
     requires small { IsSmallStep step }
     requires lines { (old_lines < 2 ^ 63) × (lines < 2 ^ 63) }
     ensures { (text : List ℕ) → IsStepOn step.entry (length text) → with_text result (step_bytes (step_in step.entry text)) ≡ note_after bits (growth old_lines lines) (step_in step.entry text) }
@@ -137,5 +140,60 @@ pub(crate) fn share_bytes(document: &mut Document, notes: &mut NoteList, step: T
     match step {
         TextStep::Insert { bytes, .. } => notes.share(bytes, &[]),
         TextStep::Delete { place, count } => notes.share(document.lend(place, count), &[]),
+    }
+}
+
+/// Tells of a step before it is made, if some view that watches `hears` of it: no note is set up for none. Its bytes are shared.
+pub(crate) fn tell_coming(
+    document: &Document,
+    views: &IdTable<View>,
+    notes: &mut NoteList,
+    hears: bool,
+    bits: u32,
+    step: TextStep,
+)
+    requires fits { IsStepOn step (length document.now.document.cells) }
+    requires small { IsSmallStep step }
+    requires named { AreNamed views.now.entries }
+    requires unheard { hears ≡ false → heard (watchers document.now.document views.now) (note_before bits (step_in step (text_of document.now.document))) ≡ [] }
+    requires shared { hears ≡ true → notes.old.shared ≡ step_bytes (step_in step (text_of document.now.document)) }
+    requires room { length (heard (watchers document.now.document views.now) (note_before bits (step_in step (text_of document.now.document)))) ≤ notes.old.note_room }
+    ensures { notes.new ≡ record notes.old { notes = notes.old.notes ++ heard (watchers document.now.document views.now) (note_before bits (step_in step.entry (text_of document.now.document))); note_room = notes.old.note_room - length (heard (watchers document.now.document views.now) (note_before bits (step_in step.entry (text_of document.now.document)))) } }
+{
+    if hears {
+        let note = before_note(bits, step);
+        let text = text_of_before(step);
+        tell(document, views, notes, &note, Audience::Hearers, text);
+    }
+}
+
+/// Tells of a step after it was made, if some view that watches `hears` of it, where the text had so many lines and has so
+/// many now. Its bytes are shared.
+pub(crate) fn tell_made(
+    document: &Document,
+    views: &IdTable<View>,
+    notes: &mut NoteList,
+    hears: bool,
+    bits: u32,
+    old_lines: usize,
+    lines: usize,
+    step: TextStep,
+)
+    requires small { IsSmallStep step }
+    requires lines { (old_lines < 2 ^ 63) × (lines < 2 ^ 63) }
+    requires named { AreNamed views.now.entries }
+    requires can { (text : List ℕ) × CanTellMade hears bits (growth old_lines lines) step text (watchers document.now.document views.now) notes.old }
+    ensures { (text : List ℕ) → CanTellMade hears bits (growth old_lines lines) step.entry text (watchers document.now.document views.now) notes.old → notes.new ≡ record notes.old { notes = notes.old.notes ++ heard (watchers document.now.document views.now) (note_after bits (growth old_lines lines) (step_in step.entry text)); note_room = notes.old.note_room - length (heard (watchers document.now.document views.now) (note_after bits (growth old_lines lines) (step_in step.entry text))) } }
+{
+    if hears {
+        let note = after_note(bits, old_lines, lines, step);
+        tell(
+            document,
+            views,
+            notes,
+            &note,
+            Audience::Hearers,
+            NoteText::Shared,
+        );
     }
 }

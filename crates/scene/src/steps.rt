@@ -1,6 +1,6 @@
 //! Steps: a step of a document's text, told of and followed.
 
-ghost use Rattle.std.specs.Prelude.{◌≡◌, ◌≤◌, ◌<◌, ◌+◌, ◌++◌, ◌-◌, ◌^◌, ◌&&◌, map, length};
+ghost use Rattle.std.specs.Prelude.{◌≡◌, ◌≤◌, ◌<◌, ◌+◌, ◌++◌, ◌-◌, ◌^◌, ◌&&◌, true, false, map, length};
 ghost use Rattle.ed_model.specs.Steps.{step_bytes};
 ghost use Rattle.ed_model.specs.History.{at_save_point};
 ghost use Rattle.ed_model.specs.Notes.{heard, before_note as note_before, performed_user};
@@ -15,8 +15,8 @@ ghost use Rattle.scene.specs.StepNotes.{IsSmallStep};
 
 use crate::moving::follow;
 use crate::step_notes::{
-    PERFORMED_USER, START_ACTION, after_note, before_note, kind_after, kind_before, movement_of,
-    share_bytes, text_of_before,
+    PERFORMED_USER, START_ACTION, kind_after, kind_before, movement_of, share_bytes, tell_coming,
+    tell_made,
 };
 use crate::telling::{Audience, NoteText, count_hearers, tell};
 use document::{Document, TextStep};
@@ -38,14 +38,14 @@ pub struct StepBits {
     pub after: u32,
 }
 
-// Shares the step's bytes, if a view that watches hears of it.
+// Shares the step's bytes, if a view that watches hears of it, and answers whether one does.
 fn share_if_heard(
     document: &mut Document,
     views: &IdTable<View>,
     notes: &mut NoteList,
     bits: StepBits,
     step: TextStep,
-)
+) -> bool
     requires fits { IsStepOn step (length document.old.document.cells) }
     requires named { AreNamed views.now.entries }
     requires texts { bytes_shared (step_kinds bits.before bits.after (step_in step (text_of document.old.document))) (watchers document.old.document views.now) (length (step_bytes (step_in step (text_of document.old.document)))) ≤ notes.old.text_room }
@@ -53,12 +53,15 @@ fn share_if_heard(
     ensures notes { notes.new.notes ≡ notes.old.notes }
     ensures note_room { notes.new.note_room ≡ notes.old.note_room }
     ensures text_room { notes.new.text_room + bytes_shared (step_kinds bits.before bits.after (step_in step.entry (text_of document.old.document))) (watchers document.old.document views.now) (length (step_bytes (step_in step.entry (text_of document.old.document)))) ≡ notes.old.text_room }
-    ensures shared { 0 < hearers (step_kinds bits.before bits.after (step_in step.entry (text_of document.old.document))) (watchers document.old.document views.now) → notes.new.shared ≡ step_bytes (step_in step.entry (text_of document.old.document)) }
+    ensures unheard { result ≡ false → hearers (step_kinds bits.before bits.after (step_in step.entry (text_of document.old.document))) (watchers document.old.document views.now) ≡ 0 }
+    ensures shared { result ≡ true → notes.new.shared ≡ step_bytes (step_in step.entry (text_of document.old.document)) }
 {
     let kinds = kind_before(bits.before, step) | kind_after(bits.after, step);
-    if count_hearers(document, views, kinds) > 0 {
+    let hears = count_hearers(document, views, kinds) > 0;
+    if hears {
         share_bytes(document, notes, step);
     }
+    hears
 }
 
 // Tells each view that watches that the save point is left, if so.
@@ -80,7 +83,8 @@ fn tell_left(document: &Document, views: &IdTable<View>, notes: &mut NoteList, i
     }
 }
 
-// Tells of a step before it is made, and of the save point. The bytes are shared for the note after it.
+// Tells of a step before it is made, and of the save point. Answers whether a view that watches hears of the step; its bytes
+// are then shared for the note after it.
 fn tell_before(
     document: &mut Document,
     views: &IdTable<View>,
@@ -88,7 +92,7 @@ fn tell_before(
     bits: StepBits,
     is_left: bool,
     step: TextStep,
-)
+) -> bool
     requires fits { IsStepOn step (length document.old.document.cells) }
     requires small { IsSmallStep step }
     requires named { AreNamed views.now.entries }
@@ -98,19 +102,13 @@ fn tell_before(
     ensures notes { notes.new.notes ≡ notes.old.notes ++ heard (watchers document.old.document views.now) (note_before bits.before (step_in step.entry (text_of document.old.document))) ++ left_note is_left (watchers document.old.document views.now) }
     ensures note_room { notes.new.note_room + (length (heard (watchers document.old.document views.now) (note_before bits.before (step_in step.entry (text_of document.old.document)))) + length (left_note is_left (watchers document.old.document views.now))) ≡ notes.old.note_room }
     ensures text_room { notes.new.text_room + bytes_shared (step_kinds bits.before bits.after (step_in step.entry (text_of document.old.document))) (watchers document.old.document views.now) (length (step_bytes (step_in step.entry (text_of document.old.document)))) ≡ notes.old.text_room }
-    ensures shared { 0 < hearers (step_kinds bits.before bits.after (step_in step.entry (text_of document.old.document))) (watchers document.old.document views.now) → notes.new.shared ≡ step_bytes (step_in step.entry (text_of document.old.document)) }
+    ensures unheard { result ≡ false → hearers (step_kinds bits.before bits.after (step_in step.entry (text_of document.old.document))) (watchers document.old.document views.now) ≡ 0 }
+    ensures shared { result ≡ true → notes.new.shared ≡ step_bytes (step_in step.entry (text_of document.old.document)) }
 {
-    share_if_heard(document, views, notes, bits, step);
-    let note = before_note(bits.before, step);
-    tell(
-        document,
-        views,
-        notes,
-        &note,
-        Audience::Hearers,
-        text_of_before(step),
-    );
+    let hears = share_if_heard(document, views, notes, bits, step);
+    tell_coming(document, views, notes, hears, bits.before, step);
     tell_left(document, views, notes, is_left);
+    hears
 }
 
 /// Makes a step of the document's text: those views that watch and hear it are told before and after it, with these bits,
@@ -142,18 +140,12 @@ pub fn step_heard(
     moves_are_those_of_steps();
     steps_keep_views_standing();
     let _ = document.len(); // it says that no position runs out of numbers
-    tell_before(document, views, notes, bits, is_left, step);
+    let hears = tell_before(document, views, notes, bits, is_left, step);
     let old_lines = document.line_count();
     let change = document.step(step);
     let lines = document.line_count();
-    let note = after_note(bits.after, old_lines, lines, step);
-    tell(
-        document,
-        views,
-        notes,
-        &note,
-        Audience::Hearers,
-        NoteText::Shared,
+    tell_made(
+        document, views, notes, hears, bits.after, old_lines, lines, step,
     );
     let edits = change.edits();
     follow(document.views(), views, movement_of(step), edits.as_slice());

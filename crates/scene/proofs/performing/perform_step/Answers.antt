@@ -10,14 +10,11 @@ use Rattle.ed_model.specs.Session.{Document, text_of, lines_in}
 use Rattle.ed_model.specs.Notes.{heard, before_note, after_note}
 use Rattle.ed_model.specs.Performing.{document_after}
 use Rattle.ed_view.specs.Moving.{step_edits}
-use Rattle.scene.specs.declared.telling.Audience.TheVariants.{Hearers}
-use Rattle.scene.specs.declared.telling.NoteText.TheVariants.{Shared}
 use Rattle.scene.specs.Scenes.{watchers, scene_in, IsWatched}
-use Rattle.scene.specs.Hearing.{audience_of, with_note_text}
 use Rattle.scene.specs.Undoing.{bits_of, all_bits}
 use Rattle.scene.specs.Turns.{change_at, bits_behind, IsPerformed}
-use Rattle.scene.proofs.ToldSoFar.{told_last, length_told, length_parts}
-use Rattle.scene.proofs.KindLemmas.{told_after_more}
+use Rattle.scene.proofs.ToldSoFar.{heard_last, length_parts}
+use Rattle.scene.proofs.KindLemmas.{can_tell}
 use Rattle.scene.proofs.StepScenes.{length_text, end_within, same_scene, watched_can, stands_can, watched_after, watched_again}
 use Rattle.scene.proofs.ChangeNotes.{bits_more, performed_few}
 use Rattle.scene.proofs.ChangeSteps.{step_same, small_change, small_count, lines_of_room}
@@ -31,15 +28,15 @@ step_at-step-requires c =
     let after = c.make_change-change.ensures.document s can.at in
     (s, subst (λ (h : History). change_at c.args.turn h ≡ Some (TextStep s)) (sym (ap (λ (x : Document). x.history) after)) can.at)
 
-pub after_note-note-requires-clause-small : goal.after_note-note-requires-clause-small
-after_note-note-requires-clause-small c =
+pub tell_made-requires-clause-small : goal.tell_made-requires-clause-small
+tell_made-requires-clause-small c =
     let s = c.requires.0 in
     let can = c.requires.1 in
     let d = c.args.document.now.document in
     let turn = c.args.turn in
     let W = watchers d c.args.views.now in
     let who = bits_of turn.direction in
-    let tb = c.tell_before_change.ensures s can.at in
+    let tb = c.tell_before_change-hears.ensures s can.at in
     let after = c.make_change-change.ensures.document s can.at in
     let there = subst (λ (h : History). change_at turn h ≡ Some (TextStep s)) (sym (ap (λ (x : Document). x.history) after)) can.at in
     let at = c.step_at-step.ensures s (text_of d) there can.fits in
@@ -47,15 +44,15 @@ after_note-note-requires-clause-small c =
     let small = c.len.ensures.small in
     small_change d.line_end_types c.step_at-step.result s (text_of d) c.args.document.now.room.text at.0 at.1 can.room.0 (omega arith)
 
-pub tell-requires-clause-room : goal.tell-requires-clause-room
-tell-requires-clause-room c =
+pub tell_made-requires-clause-can : goal.tell_made-requires-clause-can
+tell_made-requires-clause-can c =
     let s = c.requires.0 in
     let can = c.requires.1 in
     let d = c.args.document.now.document in
     let turn = c.args.turn in
     let W = watchers d c.args.views.now in
     let who = bits_of turn.direction in
-    let tb = c.tell_before_change.ensures s can.at in
+    let tb = c.tell_before_change-hears.ensures s can.at in
     let after = c.make_change-change.ensures.document s can.at in
     let there = subst (λ (h : History). change_at turn h ≡ Some (TextStep s)) (sym (ap (λ (x : Document). x.history) after)) can.at in
     let at = c.step_at-step.ensures s (text_of d) there can.fits in
@@ -64,16 +61,13 @@ tell-requires-clause-room c =
     let changed = c.is_changed-changed.result in
     let bits = bits_behind turn changed in
     let grown = growth (lines_in d) (lines_in (document_after s d)) in
-    let is = rw (old_lines, lines, c.bits_after.ensures, at.0) at (c.after_note-note.ensures (text_of d) at.1) in
-    let note = c.after_note-note.result in
-    let shared = c.tell_before_change.new.notes.shared in
-    let t = told_after_more W s note shared who (all_bits who) bits grown (bits_more turn.direction turn.several turn.last changed) is tb.shared in
-    let l = sym (length_told (audience_of Hearers note.kind W) (with_note_text Shared note shared)) ∙ ap length t in
     let few = performed_few turn.direction turn.several turn.last changed (TextStep s) (scene_in d c.args.views.now.entries c.args.notes.now.notes) in
     let n = can.notes in
     let p = length_parts c.args.notes.now.notes (heard W (before_note who s)) [] (heard W (after_note bits grown s)) in
     let r = tb.note_room in
-    rw after (omega arith)
+    let able = can_tell c.tell_before_change-hears.result who (all_bits who) bits grown c.step_at-step.result (text_of d) W c.tell_before_change-hears.new.notes
+    (bits_more turn.direction turn.several turn.last changed) at.1 (rw at.0 tb.unheard) (rw at.0 tb.shared) (rw at.0 (omega arith)) in
+    rw (after, old_lines, lines, c.bits_after-bits.ensures) (text_of d, able)
 
 pub follow-requires-clause-can : goal.follow-requires-clause-can
 follow-requires-clause-can c =
@@ -83,7 +77,7 @@ follow-requires-clause-can c =
     let turn = c.args.turn in
     let W = watchers d c.args.views.now in
     let who = bits_of turn.direction in
-    let tb = c.tell_before_change.ensures s can.at in
+    let tb = c.tell_before_change-hears.ensures s can.at in
     let after = c.make_change-change.ensures.document s can.at in
     let there = subst (λ (h : History). change_at turn h ≡ Some (TextStep s)) (sym (ap (λ (x : Document). x.history) after)) can.at in
     let at = c.step_at-step.ensures s (text_of d) there can.fits in
@@ -110,7 +104,7 @@ returns c =
     let turn = c.args.turn in
     let W = watchers d c.args.views.now in
     let who = bits_of turn.direction in
-    let tb = c.tell_before_change.ensures s can.at in
+    let tb = c.tell_before_change-hears.ensures s can.at in
     let after = c.make_change-change.ensures.document s can.at in
     let there = subst (λ (h : History). change_at turn h ≡ Some (TextStep s)) (sym (ap (λ (x : Document). x.history) after)) can.at in
     let at = c.step_at-step.ensures s (text_of d) there can.fits in
@@ -119,24 +113,23 @@ returns c =
     let changed = c.is_changed-changed.result in
     let bits = bits_behind turn changed in
     let grown = growth (lines_in d) (lines_in (document_after s d)) in
-    let is = rw (old_lines, lines, c.bits_after.ensures, at.0) at (c.after_note-note.ensures (text_of d) at.1) in
-    let note = c.after_note-note.result in
-    let shared = c.tell_before_change.new.notes.shared in
-    let t = told_after_more W s note shared who (all_bits who) bits grown (bits_more turn.direction turn.several turn.last changed) is tb.shared in
-    let l = sym (length_told (audience_of Hearers note.kind W) (with_note_text Shared note shared)) ∙ ap length t in
     let few = performed_few turn.direction turn.several turn.last changed (TextStep s) (scene_in d c.args.views.now.entries c.args.notes.now.notes) in
     let n = can.notes in
     let p = length_parts c.args.notes.now.notes (heard W (before_note who s)) [] (heard W (after_note bits grown s)) in
+    let r = tb.note_room in
+    let able = can_tell c.tell_before_change-hears.result who (all_bits who) bits grown c.step_at-step.result (text_of d) W c.tell_before_change-hears.new.notes
+    (bits_more turn.direction turn.several turn.last changed) at.1 (rw at.0 tb.unheard) (rw at.0 tb.shared) (rw at.0 (omega arith)) in
     let M = (c.movement_of.ensures (text_of d) at.1) ∙ ap movement_of at.0 in
     let change = c.make_change-change.ensures.lines s can.at in
     let E : c.as_slice.result.now ≡ step_edits s d = c.as_slice.ensures ∙ c.edits-edits.ensures ∙ ap edits_of change in
     let V : c.views.result.now ≡ d.views = c.views.ensures ∙ ap (λ (x : Document). x.views) after in
     let within = subst (λ x. end_of x ≤ length (text_of d)) at.0 (end_within c.step_at-step.result (text_of d) at.1) in
-    let told = told_last (audience_of Hearers note.kind W) (with_note_text Shared note shared) (heard W (before_note who s)) [] (heard W (after_note bits grown s))
-    c.args.notes.now c.tell_before_change.new.notes c.tell.new.notes (tb.notes ∙ sym (append-nil (c.args.notes.now.notes ++ heard W (before_note who s)))) (let r = tb.note_room in omega arith)
-    (rw after at c.tell.ensures) t (omega arith) in
+    let put = rw at.0 at ((rw (after, old_lines, lines, c.bits_after-bits.ensures) at c.tell_made.ensures) (text_of d) able) in
+    let told = heard_last (heard W (before_note who s)) [] (heard W (after_note bits grown s))
+    c.args.notes.now c.tell_before_change-hears.new.notes c.tell_made.new.notes (tb.notes ∙ sym (append-nil (c.args.notes.now.notes ++ heard W (before_note who s)))) (omega arith)
+    put (omega arith) in
     let views = (rw (M, E, V) at c.follow.ensures.views) ∙ watched_after s d c.args.views.now can.watched c.moves_are_those_of_steps.ensures.view within in
-    λ step e. subst (λ x. IsPerformed turn c.args.lines_changed changed c.args.document.now c.args.views.now c.args.notes.now c.make_change-change.new.self c.follow.new.views c.tell.new.notes (TextStep x)) (step_same _ s step can.at e) (record {
+    λ step e. subst (λ x. IsPerformed turn c.args.lines_changed changed c.args.document.now c.args.views.now c.args.notes.now c.make_change-change.new.self c.follow.new.views c.tell_made.new.notes (TextStep x)) (step_same _ s step can.at e) (record {
       lines = rw (old_lines, lines) at c.is_changed-changed.ensures;
       scene = same_scene _ _ _ _ _ _ after views told.notes;
       watched = subst (λ x. IsWatched x c.follow.new.views) (sym after)

@@ -7,17 +7,15 @@ use Rattle.ed_model.specs.Notes.{heard, before_note, after_note}
 use Rattle.ed_model.specs.Performing.{document_after}
 use Rattle.document.specs.TextSteps.{step_in}
 use Rattle.ed_view.specs.Moving.{step_edits}
-use Rattle.scene.specs.declared.telling.Audience.TheVariants.{Hearers}
-use Rattle.scene.specs.declared.telling.NoteText.TheVariants.{Shared}
 use Rattle.scene.specs.Scenes.{watchers, views_of, IsWatched}
-use Rattle.scene.specs.Hearing.{left_note, audience_of, with_note_text}
-use Rattle.scene.proofs.ToldSoFar.{told_last, length_told, length_parts}
-use Rattle.scene.proofs.KindLemmas.{told_after}
+use Rattle.scene.specs.Hearing.{left_note}
+use Rattle.scene.proofs.ToldSoFar.{heard_last, length_parts}
+use Rattle.scene.proofs.KindLemmas.{can_tell}
 use Rattle.scene.proofs.StepScenes.{length_text, on_text, end_within, small_step, count_is, lines_of_need, same_scene, watched_can, stands_can, watched_after, watched_again}
 use Rattle.scene.proofs.steps.step_heard.Goals as goal
 
-pub tell_before-requires : goal.tell_before-requires
-tell_before-requires c =
+pub tell_before-hears-requires : goal.tell_before-hears-requires
+tell_before-hears-requires c =
     let d = c.args.document.now.document in
     let s = step_in c.args.step (text_of d) in
     let W = watchers d c.args.views.now in
@@ -32,33 +30,30 @@ tell_before-requires c =
       texts = c.requires.texts;
     }
 
-pub tell-requires : goal.tell-requires
-tell-requires c =
+pub tell_made-requires-clause-can : goal.tell_made-requires-clause-can
+tell_made-requires-clause-can c =
     let d = c.args.document.now.document in
     let s = step_in c.args.step (text_of d) in
     let on = on_text c.args.step d c.requires.fits in
-    let same = c.tell_before.ensures.document in
+    let same = c.tell_before-hears.ensures.document in
     let after = rw same at c.step-change.ensures.document in
     let W = watchers d c.args.views.now in
     let old_lines = rw same at c.line_count-old_lines.ensures.count in
     let lines = rw after at c.line_count-lines.ensures.count in
-    let is = rw (old_lines, lines) at (c.after_note-note.ensures (text_of d) on) in
-    let note = c.after_note-note.result in
-    let shared = c.tell_before.new.notes.shared in
-    let t = told_after W s note shared c.args.bits.before c.args.bits.after (growth (lines_in d) (lines_in (document_after s d))) is c.tell_before.ensures.shared in
-    let l = sym (length_told (audience_of Hearers note.kind W) (with_note_text Shared note shared)) ∙ ap length t in
-    let p = length_parts c.args.notes.now.notes (heard W (before_note c.args.bits.before s)) (left_note c.args.is_left W)
-    (heard W (after_note c.args.bits.after (growth (lines_in d) (lines_in (document_after s d))) s)) in
+    let grown = growth (lines_in d) (lines_in (document_after s d)) in
+    let p = length_parts c.args.notes.now.notes (heard W (before_note c.args.bits.before s)) (left_note c.args.is_left W) (heard W (after_note c.args.bits.after grown s)) in
     let r = c.requires.notes in
-    let n = c.tell_before.ensures.note_room in
-    record { named = c.requires.watched.named; room = rw after (omega arith) }
+    let n = c.tell_before-hears.ensures.note_room in
+    let can = can_tell c.tell_before-hears.result c.args.bits.before c.args.bits.after c.args.bits.after grown c.args.step (text_of d) W c.tell_before-hears.new.notes
+    (λ m h. h) on c.tell_before-hears.ensures.unheard c.tell_before-hears.ensures.shared (omega arith) in
+    rw (after, old_lines, lines) (text_of d, can)
 
 pub follow-requires : goal.follow-requires
 follow-requires c =
     let d = c.args.document.now.document in
     let s = step_in c.args.step (text_of d) in
     let on = on_text c.args.step d c.requires.fits in
-    let same = c.tell_before.ensures.document in
+    let same = c.tell_before-hears.ensures.document in
     let after = rw same at c.step-change.ensures.document in
     let change = rw same at c.step-change.ensures.lines in
     let M = c.movement_of.ensures (text_of d) on in
@@ -82,18 +77,20 @@ returns-clause-scene c =
     let d = c.args.document.now.document in
     let s = step_in c.args.step (text_of d) in
     let on = on_text c.args.step d c.requires.fits in
-    let same = c.tell_before.ensures.document in
+    let same = c.tell_before-hears.ensures.document in
     let after = rw same at c.step-change.ensures.document in
     let W = watchers d c.args.views.now in
     let old_lines = rw same at c.line_count-old_lines.ensures.count in
     let lines = rw after at c.line_count-lines.ensures.count in
-    let is = rw (old_lines, lines) at (c.after_note-note.ensures (text_of d) on) in
-    let note = c.after_note-note.result in
-    let shared = c.tell_before.new.notes.shared in
-    let t = told_after W s note shared c.args.bits.before c.args.bits.after (growth (lines_in d) (lines_in (document_after s d))) is c.tell_before.ensures.shared in
-    let told = told_last (audience_of Hearers note.kind W) (with_note_text Shared note shared) (heard W (before_note c.args.bits.before s)) (left_note c.args.is_left W)
-    (heard W (after_note c.args.bits.after (growth (lines_in d) (lines_in (document_after s d))) s))
-    c.args.notes.now c.tell_before.new.notes c.tell.new.notes c.tell_before.ensures.notes c.tell_before.ensures.note_room (rw after at c.tell.ensures) t c.requires.notes in
+    let grown = growth (lines_in d) (lines_in (document_after s d)) in
+    let p = length_parts c.args.notes.now.notes (heard W (before_note c.args.bits.before s)) (left_note c.args.is_left W) (heard W (after_note c.args.bits.after grown s)) in
+    let r = c.requires.notes in
+    let n = c.tell_before-hears.ensures.note_room in
+    let can = can_tell c.tell_before-hears.result c.args.bits.before c.args.bits.after c.args.bits.after grown c.args.step (text_of d) W c.tell_before-hears.new.notes
+    (λ m h. h) on c.tell_before-hears.ensures.unheard c.tell_before-hears.ensures.shared (omega arith) in
+    let told = heard_last (heard W (before_note c.args.bits.before s)) (left_note c.args.is_left W) (heard W (after_note c.args.bits.after grown s))
+    c.args.notes.now c.tell_before-hears.new.notes c.tell_made.new.notes c.tell_before-hears.ensures.notes c.tell_before-hears.ensures.note_room
+    ((rw (after, old_lines, lines) at c.tell_made.ensures) (text_of d) can) c.requires.notes in
     let M = c.movement_of.ensures (text_of d) on in
     let change = rw same at c.step-change.ensures.lines in
     let E : c.as_slice.result.now ≡ step_edits s d = c.as_slice.ensures ∙ c.edits-edits.ensures ∙ ap edits_of change in
@@ -107,7 +104,7 @@ returns-clause-watched c =
     let d = c.args.document.now.document in
     let s = step_in c.args.step (text_of d) in
     let on = on_text c.args.step d c.requires.fits in
-    let same = c.tell_before.ensures.document in
+    let same = c.tell_before-hears.ensures.document in
     let after = rw same at c.step-change.ensures.document in
     let M = c.movement_of.ensures (text_of d) on in
     let change = rw same at c.step-change.ensures.lines in
@@ -123,18 +120,20 @@ returns-clause-note_room_left c =
     let d = c.args.document.now.document in
     let s = step_in c.args.step (text_of d) in
     let on = on_text c.args.step d c.requires.fits in
-    let same = c.tell_before.ensures.document in
+    let same = c.tell_before-hears.ensures.document in
     let after = rw same at c.step-change.ensures.document in
     let W = watchers d c.args.views.now in
     let old_lines = rw same at c.line_count-old_lines.ensures.count in
     let lines = rw after at c.line_count-lines.ensures.count in
-    let is = rw (old_lines, lines) at (c.after_note-note.ensures (text_of d) on) in
-    let note = c.after_note-note.result in
-    let shared = c.tell_before.new.notes.shared in
-    let t = told_after W s note shared c.args.bits.before c.args.bits.after (growth (lines_in d) (lines_in (document_after s d))) is c.tell_before.ensures.shared in
-    let told = told_last (audience_of Hearers note.kind W) (with_note_text Shared note shared) (heard W (before_note c.args.bits.before s)) (left_note c.args.is_left W)
-    (heard W (after_note c.args.bits.after (growth (lines_in d) (lines_in (document_after s d))) s))
-    c.args.notes.now c.tell_before.new.notes c.tell.new.notes c.tell_before.ensures.notes c.tell_before.ensures.note_room (rw after at c.tell.ensures) t c.requires.notes in
+    let grown = growth (lines_in d) (lines_in (document_after s d)) in
+    let p = length_parts c.args.notes.now.notes (heard W (before_note c.args.bits.before s)) (left_note c.args.is_left W) (heard W (after_note c.args.bits.after grown s)) in
+    let r = c.requires.notes in
+    let n = c.tell_before-hears.ensures.note_room in
+    let can = can_tell c.tell_before-hears.result c.args.bits.before c.args.bits.after c.args.bits.after grown c.args.step (text_of d) W c.tell_before-hears.new.notes
+    (λ m h. h) on c.tell_before-hears.ensures.unheard c.tell_before-hears.ensures.shared (omega arith) in
+    let told = heard_last (heard W (before_note c.args.bits.before s)) (left_note c.args.is_left W) (heard W (after_note c.args.bits.after grown s))
+    c.args.notes.now c.tell_before-hears.new.notes c.tell_made.new.notes c.tell_before-hears.ensures.notes c.tell_before-hears.ensures.note_room
+    ((rw (after, old_lines, lines) at c.tell_made.ensures) (text_of d) can) c.requires.notes in
     told.note_room
 
 pub returns-clause-text_room_left : goal.returns-clause-text_room_left
@@ -142,16 +141,18 @@ returns-clause-text_room_left c =
     let d = c.args.document.now.document in
     let s = step_in c.args.step (text_of d) in
     let on = on_text c.args.step d c.requires.fits in
-    let same = c.tell_before.ensures.document in
+    let same = c.tell_before-hears.ensures.document in
     let after = rw same at c.step-change.ensures.document in
     let W = watchers d c.args.views.now in
     let old_lines = rw same at c.line_count-old_lines.ensures.count in
     let lines = rw after at c.line_count-lines.ensures.count in
-    let is = rw (old_lines, lines) at (c.after_note-note.ensures (text_of d) on) in
-    let note = c.after_note-note.result in
-    let shared = c.tell_before.new.notes.shared in
-    let t = told_after W s note shared c.args.bits.before c.args.bits.after (growth (lines_in d) (lines_in (document_after s d))) is c.tell_before.ensures.shared in
-    let told = told_last (audience_of Hearers note.kind W) (with_note_text Shared note shared) (heard W (before_note c.args.bits.before s)) (left_note c.args.is_left W)
-    (heard W (after_note c.args.bits.after (growth (lines_in d) (lines_in (document_after s d))) s))
-    c.args.notes.now c.tell_before.new.notes c.tell.new.notes c.tell_before.ensures.notes c.tell_before.ensures.note_room (rw after at c.tell.ensures) t c.requires.notes in
-    rw told.text_room c.tell_before.ensures.text_room
+    let grown = growth (lines_in d) (lines_in (document_after s d)) in
+    let p = length_parts c.args.notes.now.notes (heard W (before_note c.args.bits.before s)) (left_note c.args.is_left W) (heard W (after_note c.args.bits.after grown s)) in
+    let r = c.requires.notes in
+    let n = c.tell_before-hears.ensures.note_room in
+    let can = can_tell c.tell_before-hears.result c.args.bits.before c.args.bits.after c.args.bits.after grown c.args.step (text_of d) W c.tell_before-hears.new.notes
+    (λ m h. h) on c.tell_before-hears.ensures.unheard c.tell_before-hears.ensures.shared (omega arith) in
+    let told = heard_last (heard W (before_note c.args.bits.before s)) (left_note c.args.is_left W) (heard W (after_note c.args.bits.after grown s))
+    c.args.notes.now c.tell_before-hears.new.notes c.tell_made.new.notes c.tell_before-hears.ensures.notes c.tell_before-hears.ensures.note_room
+    ((rw (after, old_lines, lines) at c.tell_made.ensures) (text_of d) can) c.requires.notes in
+    rw told.text_room c.tell_before-hears.ensures.text_room
