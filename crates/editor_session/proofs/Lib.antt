@@ -1,4 +1,5 @@
 pub mod Finding
+pub mod Questions
 pub mod Styled
 pub mod TableWay
 pub mod Stepping

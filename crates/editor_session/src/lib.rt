@@ -5,6 +5,7 @@
 //! cannot fail.
 #![tactic(auto)]
 
+mod asking;
 mod changes;
 mod edits;
 mod find;

@@ -12,6 +12,7 @@ ghost use Rattle.editor_session.specs.Answers.{AnswersBy, message_with};
 ghost use Rattle.editor_session.specs.Plans.{is_free};
 ghost use Rattle.editor_session.specs.Tasks.{IsTask};
 
+use crate::asking::ask;
 use crate::find::{Task, find};
 use crate::perform::perform;
 use crate::prepare::prepare;
@@ -85,12 +86,13 @@ fn is_recorded(kind: Kind, request: &Request) -> bool
     request.view.records() && kind.columns().r
 }
 
-/// Answers a message to the view of an id.
+/// Answers a message to the view of an id by its plan. It stands apart, so that a plain question sets up nothing of it.
 ///
 /// # Errors
 ///
 /// The refusal of the message table; `OutOfMemory` where memory is refused. The session is then as it was.
-pub(crate) fn answer_message(
+#[inline(never)]
+fn answer_by_plan(
     alloc: Global,
     state: &mut SessionState,
     view: u32,
@@ -136,5 +138,31 @@ pub(crate) fn answer_message(
     match carry_out(alloc, state, &task, number, w, l, text) {
         Ok(reply) => Ok(reply),
         Err(_) => Err(Refusal::OutOfMemory),
+    }
+}
+
+/// Answers a message to the view of an id.
+///
+/// # Errors
+///
+/// The refusal of the message table; `OutOfMemory` where memory is refused. The session is then as it was.
+pub(crate) fn answer_message(
+    alloc: Global,
+    state: &mut SessionState,
+    view: u32,
+    number: u32,
+    w: i64,
+    l: i64,
+    text: &[u8],
+) -> Result<Reply, Refusal>
+    requires kept { IsKept state.old }
+    ensures answer { AnswersBy (table (session_in state.old) view (message_with number w l text.now)) (session_in state.old) (session_in state.new) result }
+    ensures refused { IfErr (table (session_in state.old) view (message_with number w l text.now)) (λ refusal. result ≡ Err refusal) }
+    ensures kept { IsKept state.new }
+    ensures free { is_free (session_in state.old) view (message_with number w l text.now) ≡ true → IfErr result (λ refusal. refusal ≢ OutOfMemory) }
+{
+    match ask(state, view, number, w, l) {
+        Some(value) => Ok(Reply::quiet(alloc, value, Bytes::empty(alloc))),
+        None => answer_by_plan(alloc, state, view, number, w, l, text),
     }
 }

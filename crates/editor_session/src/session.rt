@@ -1,13 +1,16 @@
 //! `Session` and its calls.
 
-ghost use Rattle.std.specs.Prelude.{◌≡◌, ◌≢◌, ◌⊎◌, true, OnOk, OnErr, IfOk, IfErr, Ok, Err, is_some};
+ghost use Rattle.std.specs.Prelude.{◌≡◌, ◌≢◌, ◌⊎◌, ℕ, List, [], true, OnOk, OnErr, IfOk, IfErr, IfSome, Ok, Err, is_some};
 ghost use Rattle.ed_types.specs.declared.refusal.Refusal.TheVariants.{BadArgument, NoSuchView, OutOfMemory};
 ghost use Rattle.ed_model.specs.Session.{new_session, greatest_limits, is_between_one_and, is_allowed, view_at};
+ghost use Rattle.ed_model.specs.Performing.{quiet};
 ghost use Rattle.ed_model.specs.Table.{table, limited, opened, closed};
 ghost use Rattle.editor_session.specs.Answers.{AnswersBy, message_with};
+ghost use Rattle.editor_session.specs.Asked.{value_to};
 ghost use Rattle.editor_session.specs.Plans.{is_free};
 ghost use Rattle.editor_session.specs.Lent.{lent_range};
 
+use crate::asking::ask;
 use crate::lending::{document_with, lend};
 use crate::opening::{close, open};
 use crate::sending::answer_message;
@@ -180,6 +183,16 @@ impl Session {
         ensures free { is_free self.old view (message_with number w l text.now) ≡ true → IfErr result (λ refusal. refusal ≢ OutOfMemory) }
     {
         answer_message(self.alloc, &mut self.state, view, number, w, l, text)
+    }
+
+    /// Asks a view a plain question, as GETLENGTH or GETCHARAT: a message that is answered by a number of the document or of the view
+    /// (`questions` of the definitions). Sent with whatever text, the message is answered by a reply of this value alone, and leaves
+    /// the session as it is. `None` for all other messages, and for what is refused: `send` says why. Takes no memory.
+    pub fn ask(&self, view: u32, number: u32, w: i64, l: i64) -> Option<i64>
+        ensures value { result ≡ value_to self.now view (message_with number w l []) }
+        ensures answer { IfSome result (λ value. (text : List ℕ) → table self.now view (message_with number w l text) ≡ Ok (self.now, quiet value)) }
+    {
+        ask(&self.state, view, number, w, l)
     }
 
     /// Lends the `count` bytes of the view's document from `start` on as one slice, which is not copied. The session stays as

@@ -7,10 +7,11 @@ use Rattle.editor_session.specs.Plans.{is_free}
 use Rattle.editor_session.specs.Lent.{lent_range}
 use Rattle.hongpilas_c.specs.declared.held.Held.{Held}
 use Rattle.hongpilas_c.specs.Answers.{answered, refused_with}
+use Rattle.hongpilas_c.specs.Replies.{reply_in}
 
 -- the message was done: session and reply are those of the table, and the value is the reply's
 abbrev pub IsSent : ℕ → Message → ℤ → Option Held → Option Held → Type 0
-IsSent view m value (Some old) (Some new) = (table old.session view m ≡ Ok (new.session, new.reply)) × (value ≡ new.reply.value)
+IsSent view m value (Some old) (Some new) = (table old.session view m ≡ Ok (new.session, reply_in new)) × (value ≡ new.value)
 IsSent view m value _ _ = ⊥
 
 -- the message was refused with this number
@@ -25,7 +26,7 @@ IsFree view m None = ⊥
 
 -- this view was opened, and the reply stayed
 abbrev pub IsViewOpened : ℕ → Option Held → Option Held → Type 0
-IsViewOpened view (Some old) (Some new) = (opened old.session ≡ Ok (new.session, view)) × (new.reply ≡ old.reply)
+IsViewOpened view (Some old) (Some new) = (opened old.session ≡ Ok (new.session, view)) × (reply_in new ≡ reply_in old)
 IsViewOpened view _ _ = ⊥
 
 abbrev pub IsViewRefused : ℕ → Option Held → Type 0
@@ -34,7 +35,7 @@ IsViewRefused number None = ⊥
 
 -- this view was closed, and the reply stayed
 abbrev pub IsViewClosed : ℕ → Option Held → Option Held → Type 0
-IsViewClosed view (Some old) (Some new) = (closed old.session view ≡ Ok new.session) × (new.reply ≡ old.reply)
+IsViewClosed view (Some old) (Some new) = (closed old.session view ≡ Ok new.session) × (reply_in new ≡ reply_in old)
 IsViewClosed view _ _ = ⊥
 
 abbrev pub IsCloseAnswer : ℕ → ℕ → Option Held → Type 0
@@ -52,5 +53,5 @@ IsLent view start count bytes None = ⊥
 
 -- the last reply; of a handle that is not open it says nothing
 abbrev pub reply_of : Option Held → Response
-reply_of (Some held) = held.reply
+reply_of (Some held) = reply_in held
 reply_of None = record { value = pos 0; text = []; notes = [] }

@@ -2,12 +2,14 @@
 
 ghost use Rattle.std.specs.Prelude.{◌≡◌, ◌≢◌, true, length, Ok};
 ghost use Rattle.ed_types.specs.declared.refusal.Refusal.TheVariants.{OutOfMemory};
+ghost use Rattle.ed_model.specs.Performing.{quiet};
 ghost use Rattle.ed_model.specs.Table.{table, opened, closed};
 ghost use Rattle.ed_model.specs.Printed.{refusal_number};
 ghost use Rattle.editor_session.specs.Answers.{message_with};
 ghost use Rattle.editor_session.specs.Plans.{is_free};
 ghost use Rattle.editor_session.specs.Lent.{lent_range};
 ghost use Rattle.hongpilas_c.specs.Answers.{answered, refused_with};
+ghost use Rattle.hongpilas_c.specs.Replies.{reply_in};
 
 use crate::answers::{DONE, number_of};
 use crate::starts::start_of;
@@ -18,11 +20,21 @@ use editor_session::Session;
 #[derive(Drop)]
 pub struct Held {
     pub session: Session,
+    /// The value of the last reply. It stands beside the rest, so that a plain question writes nothing else.
+    pub value: i64,
+    /// The last reply's text and notes.
     pub reply: Reply,
 }
 
 impl Held {
-    /// Sends a message, and keeps its reply.
+    /// Whether the last reply is a value alone, without text and notes.
+    fn is_value_alone(&self) -> bool
+        ensures { result ≡ true → reply_in self.now ≡ quiet self.now.value }
+    {
+        self.reply.text().is_empty() && self.reply.note_count() == 0
+    }
+
+    /// Sends a message, and keeps its reply. A plain question is asked, where the reply before it leaves nothing to be given back.
     pub(crate) fn send(
         &mut self,
         view: u32,
@@ -32,16 +44,24 @@ impl Held {
         text: &[u8],
         value: &mut i64,
     ) -> u32
-        ensures done { result ≡ 0 → table self.old.session view (message_with number w l text.now) ≡ Ok (self.new.session, self.new.reply) }
-        ensures value { result ≡ 0 → value.new ≡ self.new.reply.value }
+        ensures done { result ≡ 0 → table self.old.session view (message_with number w l text.now) ≡ Ok (self.new.session, reply_in self.new) }
+        ensures value { result ≡ 0 → value.new ≡ self.new.value }
         ensures refused { result ≢ 0 → result ≡ refused_with (table self.old.session view (message_with number w l text.now)) }
         ensures kept { result ≢ 0 → self.new ≡ self.old }
         ensures value_kept { result ≢ 0 → value.new ≡ value.old }
         ensures free { is_free self.old.session view (message_with number w l text.now) ≡ true → result ≢ refusal_number OutOfMemory }
     {
+        if self.is_value_alone() {
+            if let Some(answer) = self.session.ask(view, number, w, l) {
+                *value = answer;
+                self.value = answer;
+                return DONE;
+            }
+        }
         match self.session.send_lent(view, number, w, l, text) {
             Ok(reply) => {
                 *value = reply.value();
+                self.value = reply.value();
                 self.reply = reply;
                 DONE
             }
@@ -55,6 +75,7 @@ impl Held {
         ensures refused { result ≢ 0 → result ≡ refused_with (opened self.old.session) }
         ensures kept { result ≢ 0 → self.new.session ≡ self.old.session }
         ensures view_kept { result ≢ 0 → view.new ≡ view.old }
+        ensures value { self.new.value ≡ self.old.value }
         ensures reply { self.new.reply ≡ self.old.reply }
     {
         match self.session.new_view() {
@@ -71,6 +92,7 @@ impl Held {
         ensures answer { result ≡ answered (closed self.old.session view) }
         ensures done { result ≡ 0 → closed self.old.session view ≡ Ok self.new.session }
         ensures kept { result ≢ 0 → self.new.session ≡ self.old.session }
+        ensures value { self.new.value ≡ self.old.value }
         ensures reply { self.new.reply ≡ self.old.reply }
     {
         match self.session.close_view(view) {

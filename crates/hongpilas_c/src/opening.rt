@@ -35,7 +35,12 @@ fn hold(alloc: Global, session: Session, handle: &mut Handle) -> u32
     ensures kept { result ≢ 0 → handle.new.held ≡ handle.old.held }
 {
     let reply = Reply::quiet(alloc, 0, Bytes::empty(alloc));
-    match Handle::new(alloc, Held { session, reply }) {
+    let held = Held {
+        session,
+        value: 0,
+        reply,
+    };
+    match Handle::new(alloc, held) {
         Ok(opened) => {
             *handle = opened;
             DONE

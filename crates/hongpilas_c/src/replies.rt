@@ -16,7 +16,7 @@ pub extern "C" fn hongpilas_value(handle: &mut Handle) -> i64
     ensures same { handle.new.held ≡ handle.old.held }
 {
     let held = handle.held();
-    held.reply.value()
+    held.value
 }
 
 /// Lends the text of the last reply: `text` is set to where it begins, and its length is answered.

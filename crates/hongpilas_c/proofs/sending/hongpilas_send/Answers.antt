@@ -7,6 +7,7 @@ use Rattle.editor_session.specs.Answers.{message_with}
 use Rattle.editor_session.specs.Plans.{is_free}
 use Rattle.hongpilas_c.specs.Answers.{refused_with}
 use Rattle.hongpilas_c.specs.Calls.{IsSent, IsRefused, IsFree}
+use Rattle.hongpilas_c.specs.Replies.{reply_in}
 use Rattle.hongpilas_c.proofs.sending.hongpilas_send.Goals as goal
 
 pub returns-clause-done : goal.returns-clause-done
@@ -14,7 +15,7 @@ returns-clause-done c done =
     let m : Message = message_with c.args.number c.args.w c.args.l c.args.text.now in
     let same : message_with c.args.number (to_z w64 (of_z w64 c.args.w)) (to_z w64 (of_z w64 c.args.l)) c.args.text.now ≡ m = search rules in
     subst (λ h. IsSent c.args.view m c.send.new.value h (Some c.send.new.self)) (sym c.held-held.ensures.value)
-    (subst (λ x. table c.held-held.result.now.session c.args.view x ≡ Ok (c.send.new.self.session, c.send.new.self.reply)) same (c.send.ensures.done done), c.send.ensures.value done)
+    (subst (λ x. table c.held-held.result.now.session c.args.view x ≡ Ok (c.send.new.self.session, reply_in c.send.new.self)) same (c.send.ensures.done done), c.send.ensures.value done)
 
 pub returns-clause-refused : goal.returns-clause-refused
 returns-clause-refused c other =

@@ -1,4 +1,4 @@
-use Rattle.std.proofs.Common.{rules, ◌≡◌, ◌≢◌, true, subst, sym, ◌∙◌, to_z, of_z, w64, Ok}
+use Rattle.std.proofs.Common.{rules, ◌≡◌, ◌≢◌, true, subst, sym, ap, ◌∙◌, to_z, of_z, w64, Ok}
 use Rattle.ed_types.specs.declared.refusal.Refusal.TheVariants.{OutOfMemory}
 use Rattle.ed_types.specs.Notices.{Response}
 use Rattle.ed_model.specs.Table.{table}
@@ -11,7 +11,10 @@ use Rattle.hongpilas_c.proofs.held.Held.send.Goals as goal
 pub returns-in-Ok-clause-done : goal.returns-in-Ok-clause-done
 returns-in-Ok-clause-done c done =
     let same : message_with c.args.number (to_z w64 (of_z w64 c.args.w)) (to_z w64 (of_z w64 c.args.l)) c.args.text.now ≡ message_with c.args.number c.args.w c.args.l c.args.text.now = search rules in
+    let reply : Response = c.in-Ok.reply in
+    let value : to_z w64 (of_z w64 c.value-self.result) ≡ reply.value = search rules in
     subst (λ m. table c.args.self.now.session c.args.view m ≡ Ok (c.send_lent.new.self, c.in-Ok.reply)) same c.in-Ok.ensures.answer
+    ∙ ap (λ v. Ok (c.send_lent.new.self, record reply { value = v })) (sym value)
 
 pub returns-in-Err-clause-refused : goal.returns-in-Err-clause-refused
 returns-in-Err-clause-refused c other =

@@ -1,0 +1,155 @@
+-- Plain questions, and what the table answers to them.
+use Rattle.std.proofs.Common.{◌≡◌, ℕ, ℤ, pos, negsuc, ◌==◌, ◌&&◌, Bool, true, false, cond, List, [], ◌∷◌, refl, ap, subst, ◌∙◌, Option, Some, None, Ok, Err}
+use Rattle.std.specs.Prelude.{IfSome}
+use Rattle.std.specs.List.{AllByRecursion}
+use Rattle.std.proofs.lemmas.Bool.{eqb-true}
+use Rattle.ed_types.specs.declared.kind.Kind.{Kind}
+use Rattle.ed_types.specs.declared.message.Message.{Message}
+use Rattle.ed_types.specs.Messages.{number_of, kind_of, kind_among, marks_of}
+use Rattle.ed_types.specs.MessagesLaws.{EachKindIsFound}
+use Rattle.ed_model.specs.declared.plan.Plan.TheVariants as plan
+use Rattle.ed_model.specs.Requests.{Request, Planned, answer}
+use Rattle.ed_model.specs.TextPlans.{end_of_line_at, start_of_line_at}
+use Rattle.ed_model.specs.Session.{Session, View, Document, view_at, document_at}
+use Rattle.ed_model.specs.Performing.{quiet}
+use Rattle.ed_model.specs.SoundLaws.{IsSound}
+use Rattle.ed_model.specs.PlansFit.{IsSoundRequest}
+use Rattle.ed_model.specs.Table.{table, record_note, table_from_view, table_from_kind, table_from_document, answered, request, plan_of}
+use Rattle.message_plans.specs.Asking.{questions, question_of, is_question, value_planned, value_asked}
+use Rattle.editor_session.proofs.Finding.{id_of_view_at}
+use Rattle.editor_session.specs.Answers.{message_with}
+use Rattle.editor_session.specs.Asked.{value_from_document, value_from_view, value_from_kind, value_to}
+
+-- A plain question is not recorded, and its plan is that of the same message with another text.
+record IsPlain (kind : Kind) : Type 0 where
+  pub unrecorded : (marks_of kind).r ≡ false
+  pub any_text : (r : Request) (text : List ℕ) → plan_of kind (record r { message = record r.message { text = text } }) ≡ plan_of kind r
+
+end_of_any_text : (r : Request) (text : List ℕ) (w : ℤ) → end_of_line_at (record r { message = record r.message { text = text } }) w ≡ end_of_line_at r w
+end_of_any_text r text (pos n) = refl
+end_of_any_text r text (negsuc n) = refl
+
+start_of_any_text : (r : Request) (text : List ℕ) (w : ℤ) → start_of_line_at (record r { message = record r.message { text = text } }) w ≡ start_of_line_at r w
+start_of_any_text r text (pos n) = refl
+start_of_any_text r text (negsuc n) = refl
+
+plain : {kind : Kind} → (marks_of kind).r ≡ false → ((r : Request) (text : List ℕ) → plan_of kind (record r { message = record r.message { text = text } }) ≡ plan_of kind r) → IsPlain kind
+plain u t = record { unrecorded = u; any_text = t }
+
+all_plain : AllByRecursion IsPlain questions
+all_plain = (
+  plain refl (λ r text. refl),
+  (
+    plain refl (λ r text. refl),
+    (
+      plain refl (λ r text. refl),
+      (
+        plain refl (λ r text. refl),
+        (
+          plain refl (λ r text. refl),
+          (
+            plain refl (λ r text. refl),
+            (
+              plain refl (λ r text. ap answer (end_of_any_text r text r.message.w)),
+              (
+                plain refl (λ r text. refl),
+                (
+                  plain refl (λ r text. refl),
+                  (
+                    plain refl (λ r text. ap answer (start_of_any_text r text r.message.w)),
+                    (
+                      plain refl (λ r text. refl),
+                      (
+                        plain refl (λ r text. refl),
+                        (
+                          plain refl (λ r text. refl),
+                          (
+                            plain refl (λ r text. refl),
+                            (
+                              plain refl (λ r text. refl),
+                              tt,
+                            ),
+                          ),
+                        ),
+                      ),
+                    ),
+                  ),
+                ),
+              ),
+            ),
+          ),
+        ),
+      ),
+    ),
+  ),
+)
+
+found_plain : (number : ℕ) (kinds : List Kind) (kind : Kind) → AllByRecursion IsPlain kinds → kind_among kinds number ≡ Some kind → IsPlain kind × ((number_of kind == number) ≡ true)
+found_plain number [] kind all e = absurd (cc)
+found_plain number (k ∷ ks) kind all e = go (number_of k == number) refl e (λ e. found_plain number ks kind all.1 e)
+  where
+    go : (b : Bool) → (number_of k == number) ≡ b → cond b (Some k) (kind_among ks number) ≡ Some kind → (kind_among ks number ≡ Some kind → IsPlain kind × ((number_of kind == number) ≡ true)) → IsPlain kind × ((number_of kind == number) ≡ true)
+    go true t e rest = let same : k ≡ kind = cc in (subst IsPlain same all.0, subst (λ x. (number_of x == number) ≡ true) same t)
+    go false t e rest = rest e
+
+-- its number finds it
+decoded : EachKindIsFound → (number : ℕ) (kind : Kind) → question_of number ≡ Some kind → kind_of number ≡ Some kind
+decoded law number kind e =
+    subst (λ n. kind_of n ≡ Some kind) (eqb-true (number_of kind) number (found_plain number questions kind all_plain e).1) (law kind)
+
+planned : (b : Bool) (p : Planned) (value : ℤ) → cond b (value_planned p) None ≡ Some value → p ≡ answer value
+planned false p value e = absurd (cc)
+planned true (Err refusal) value e = absurd (cc)
+planned true (Ok (plan.Answer other)) value e = let same : other ≡ value = cc in ap answer same
+planned true (Ok other) value e = absurd (cc)
+
+unheard : (records recorded : Bool) → recorded ≡ false → (records && recorded) ≡ false
+unheard true recorded e = e
+unheard false recorded e = refl
+
+-- the table's answer to a plain question, with whatever text
+plain_reply : EachKindIsFound → (s : Session) (view : ℕ) (m : Message) (value : ℤ) → value_to s view m ≡ Some value → (text : List ℕ) → table s view (record m { text = text }) ≡ Ok (s, quiet value)
+plain_reply law s view m value is text = from_kind (question_of m.number) refl is
+  where
+    from_document : (v : View) (kind : Kind) (o : Option Document) → question_of m.number ≡ Some kind → value_from_document s v kind m o ≡ Some value → table_from_document s v kind (record m { text = text }) o ≡ Ok (s, quiet value)
+    from_document v kind None asked e = absurd (cc)
+    from_document v kind (Some d) asked e =
+        let r = request s v d m in
+        let with = request s v d (record m { text = text }) in
+        let p = (found_plain m.number questions kind all_plain asked).0 in
+        ap (answered kind with) (p.any_text r text ∙ planned (is_question kind) (plan_of kind r) value e)
+        ∙ ap (λ b. Ok (s, cond b (record (quiet value) { notes = record_note with ∷ [] }) (quiet value))) (unheard v.records (marks_of kind).r p.unrecorded)
+
+    from_view : (kind : Kind) (o : Option View) → question_of m.number ≡ Some kind → value_from_view s kind m o ≡ Some value → table_from_view s (record m { text = text }) o ≡ Ok (s, quiet value)
+    from_view kind None asked e = absurd (cc)
+    from_view kind (Some v) asked e =
+        ap (table_from_kind s v (record m { text = text })) (decoded law m.number kind asked) ∙ from_document v kind (document_at s.documents v.document) asked e
+
+    from_kind : (o : Option Kind) → question_of m.number ≡ o → value_from_kind s view m o ≡ Some value → table s view (record m { text = text }) ≡ Ok (s, quiet value)
+    from_kind None asked e = absurd (cc)
+    from_kind (Some kind) asked e = from_view kind (view_at s.views view) asked e
+
+-- what is answered as a plain question is the table's answer
+pub answers_as_the_table : EachKindIsFound → (s : Session) (view number : ℕ) (w l : ℤ) (o : Option ℤ) → o ≡ value_to s view (message_with number w l [])
+    → IfSome o (λ value. (text : List ℕ) → table s view (message_with number w l text) ≡ Ok (s, quiet value))
+answers_as_the_table law s view number w l None e = tt
+answers_as_the_table law s view number w l (Some value) e = λ text. plain_reply law s view (message_with number w l []) value (let t : value_to s view (message_with number w l []) ≡ Some value = cc in t) text
+
+-- What a plain question comes to, by what is found of it.
+
+pub no_question : (s : Session) (id : ℕ) (m : Message) → question_of m.number ≡ None → value_to s id m ≡ None
+no_question s id m none = ap (value_from_kind s id m) none
+
+pub asked_of_no_view : (s : Session) (id : ℕ) (m : Message) (kind : Kind) → question_of m.number ≡ Some kind → view_at s.views id ≡ None → value_to s id m ≡ None
+asked_of_no_view s id m kind is none = ap (value_from_kind s id m) is ∙ ap (value_from_view s kind m) none
+
+pub asked_of_no_document : (s : Session) (id : ℕ) (m : Message) (kind : Kind) (v : View) → question_of m.number ≡ Some kind → view_at s.views id ≡ Some v → document_at s.documents v.document ≡ None
+    → value_to s id m ≡ None
+asked_of_no_document s id m kind v is found none = ap (value_from_kind s id m) is ∙ ap (value_from_view s kind m) found ∙ ap (value_from_document s v kind m) none
+
+pub asked_of : (s : Session) (id : ℕ) (m : Message) (kind : Kind) (v : View) (d : Document) → question_of m.number ≡ Some kind → view_at s.views id ≡ Some v → document_at s.documents v.document ≡ Some d
+    → value_to s id m ≡ value_asked kind (request s v d m)
+asked_of s id m kind v d is found there = ap (value_from_kind s id m) is ∙ ap (value_from_view s kind m) found ∙ ap (value_from_document s v kind m) there
+
+pub sound_request : (s : Session) (id : ℕ) (m : Message) (v : View) (d : Document) → IsSound s → view_at s.views id ≡ Some v → document_at s.documents v.document ≡ Some d → IsSoundRequest (request s v d m)
+sound_request s id m v d sound found there = record { sound = sound; view = ap (view_at s.views) (id_of_view_at s.views id v found) ∙ found; document = there }

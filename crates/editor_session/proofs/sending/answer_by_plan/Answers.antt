@@ -1,0 +1,108 @@
+use Rattle.std.proofs.Common.{rules, ◌≡◌, false, true, Ok, Err, refl, sym, ap, subst, ◌∙◌, to_z, of_z, w64}
+use Rattle.std.specs.Prelude.{◌&&◌, ◌+◌, ◌==◌, [], IfOk, IfErr, slice_range}
+use Rattle.ed_types.specs.Messages.{marks_of}
+use Rattle.ed_model.specs.declared.plan.Plan.TheVariants.{Answer, HandOut}
+use Rattle.ed_model.specs.Performing.{response}
+use Rattle.ed_model.specs.PlansFit.{IsFitPlanned}
+use Rattle.ed_model.specs.Session.{text_of}
+use Rattle.ed_model.specs.Table.{table, plan_of}
+use Rattle.message_plans.specs.Requested.{session_in}
+use Rattle.editor_session.specs.Answers.{message_with}
+use Rattle.editor_session.specs.Plans.{is_free, planned_without_memory}
+use Rattle.editor_session.proofs.TableWay.{plain_answer, text_handed_out, handed_so, never_refused, free_found, fit_of}
+use Rattle.editor_session.proofs.sending.answer_by_plan.Goals as goal
+
+pub returns-in-Ok-Answer-clause-answer : goal.returns-in-Ok-Answer-clause-answer
+returns-in-Ok-Answer-clause-answer c =
+    let a = c.args in
+    let kind = c.in-Ok.found.0 in
+    let r = c.in-Ok.found.1 in
+    let planned : plan_of kind r ≡ Ok (Answer c.in-Ok-Answer.value) = search rules in
+    let unheard : (r.view.records && (marks_of kind).r) ≡ false = search rules in
+    let same : message_with a.number (to_z w64 (of_z w64 a.w)) (to_z w64 (of_z w64 a.l)) a.text.now ≡ message_with a.number a.w a.l a.text.now = search rules in
+    ap (table (session_in a.state.now) a.view) (sym same)
+    ∙ plain_answer (session_in a.state.now) a.view (message_with a.number (to_z w64 (of_z w64 a.w)) (to_z w64 (of_z w64 a.l)) a.text.now) kind r c.in-Ok-Answer.value c.in-Ok.ensures.found planned unheard
+    ∙ ap (λ x. Ok (session_in a.state.now, x)) (search rules)
+
+pub returns-in-Ok-Answer-clause-refused : goal.returns-in-Ok-Answer-clause-refused
+returns-in-Ok-Answer-clause-refused c =
+    let a = c.args in
+    let answer = returns-in-Ok-Answer-clause-answer c in
+    rw answer (search rules)
+
+pub returns-in-Err-plan_of-clause-free : goal.returns-in-Err-plan_of-clause-free
+returns-in-Err-plan_of-clause-free c free =
+    let kind = c.in-Ok.found.0 in
+    let r = c.in-Ok.found.1 in
+    let planned : plan_of kind r ≡ Err c.in-Err-plan_of.refusal = search rules in
+    subst (IsFitPlanned r) planned (c.plans_are_fit.ensures.in_range kind r c.in-Ok.ensures.found.sound)
+
+pub carry_out-requires-clause-task : goal.carry_out-requires-clause-task
+carry_out-requires-clause-task c =
+    let kind = c.in-Ok.found.0 in
+    let r = c.in-Ok.found.1 in
+    record {
+      kind = kind;
+      request = r;
+      found = c.in-Ok.ensures.found;
+      planned = search rules;
+      view_id = refl;
+      document_id = search rules;
+      recorded = search rules;
+      fit = fit_of kind r (search rules) (c.plans_are_fit.ensures.in_range kind r c.in-Ok.ensures.found.sound);
+    }
+
+pub returns-in-Ok-carry_out-clause-answer : goal.returns-in-Ok-carry_out-clause-answer
+returns-in-Ok-carry_out-clause-answer c =
+    let a = c.args in
+    let s = session_in a.state.now in
+    let same : message_with a.number (to_z w64 (of_z w64 a.w)) (to_z w64 (of_z w64 a.l)) a.text.now ≡ message_with a.number a.w a.l a.text.now = search rules in
+    subst (λ x. table s a.view x ≡ Ok (session_in c.carry_out.new.state, c.in-Ok-carry_out.reply)) same c.in-Ok-carry_out.ensures.answer
+
+pub returns-in-Err-carry_out-clause-free : goal.returns-in-Err-carry_out-clause-free
+returns-in-Err-carry_out-clause-free c free =
+    let a = c.args in
+    let s = session_in a.state.now in
+    let same : message_with a.number (to_z w64 (of_z w64 a.w)) (to_z w64 (of_z w64 a.l)) a.text.now ≡ message_with a.number a.w a.l a.text.now = search rules in
+    let bad : false ≡ true = c.in-Err-carry_out.ensures.free (subst (λ x. is_free s a.view x ≡ true) (sym same) free) in
+    absurd (cc)
+
+pub returns-in-Ok-HandOut-clause-answer : goal.returns-in-Ok-HandOut-clause-answer
+returns-in-Ok-HandOut-clause-answer c =
+    let a = c.args in
+    let kind = c.in-Ok.found.0 in
+    let r = c.in-Ok.found.1 in
+    let h = c.in-Ok-HandOut in
+    let planned : plan_of kind r ≡ Ok (HandOut h.value h.start h.count) = search rules in
+    let unheard : (r.view.records && (marks_of kind).r) ≡ false = search rules in
+    let same : message_with a.number (to_z w64 (of_z w64 a.w)) (to_z w64 (of_z w64 a.l)) a.text.now ≡ message_with a.number a.w a.l a.text.now = search rules in
+    let is = ap (table (session_in a.state.now) a.view) (sym same)
+    ∙ text_handed_out (session_in a.state.now) a.view (message_with a.number (to_z w64 (of_z w64 a.w)) (to_z w64 (of_z w64 a.l)) a.text.now) kind r h.value h.start h.count c.in-Ok.ensures.found planned unheard in
+    let reply : IfOk c.hand_out.result (λ x. x ≡ response h.value (slice_range (text_of r.document) h.start (h.start + h.count)) []) = search rules in
+    handed_so (table (session_in a.state.now) a.view (message_with a.number a.w a.l a.text.now)) (session_in a.state.now) (response h.value (slice_range (text_of r.document) h.start (h.start + h.count)) []) c.hand_out.result is reply c.hand_out.ensures.refused
+
+pub returns-in-Ok-HandOut-clause-refused : goal.returns-in-Ok-HandOut-clause-refused
+returns-in-Ok-HandOut-clause-refused c =
+    let a = c.args in
+    let kind = c.in-Ok.found.0 in
+    let r = c.in-Ok.found.1 in
+    let h = c.in-Ok-HandOut in
+    let planned : plan_of kind r ≡ Ok (HandOut h.value h.start h.count) = search rules in
+    let unheard : (r.view.records && (marks_of kind).r) ≡ false = search rules in
+    let same : message_with a.number (to_z w64 (of_z w64 a.w)) (to_z w64 (of_z w64 a.l)) a.text.now ≡ message_with a.number a.w a.l a.text.now = search rules in
+    let is = ap (table (session_in a.state.now) a.view) (sym same)
+    ∙ text_handed_out (session_in a.state.now) a.view (message_with a.number (to_z w64 (of_z w64 a.w)) (to_z w64 (of_z w64 a.l)) a.text.now) kind r h.value h.start h.count c.in-Ok.ensures.found planned unheard in
+    subst (λ t. IfErr t (λ refusal. c.hand_out.result ≡ Err refusal)) (sym is) tt
+
+pub returns-in-Ok-HandOut-clause-free : goal.returns-in-Ok-HandOut-clause-free
+returns-in-Ok-HandOut-clause-free c free =
+    let a = c.args in
+    let kind = c.in-Ok.found.0 in
+    let r = c.in-Ok.found.1 in
+    let h = c.in-Ok-HandOut in
+    let planned : plan_of kind r ≡ Ok (HandOut h.value h.start h.count) = search rules in
+    let same : message_with a.number (to_z w64 (of_z w64 a.w)) (to_z w64 (of_z w64 a.l)) a.text.now ≡ message_with a.number a.w a.l a.text.now = search rules in
+    let parts = free_found (session_in a.state.now) a.view (message_with a.number (to_z w64 (of_z w64 a.w)) (to_z w64 (of_z w64 a.l)) a.text.now) kind r c.in-Ok.ensures.found (subst (λ x. is_free (session_in a.state.now) a.view x ≡ true) (sym same) free) in
+    let none : (h.count == 0) ≡ true = subst (λ p. planned_without_memory r p ≡ true) planned parts.0 in
+    let zero : h.count ≡ 0 = search rules in
+    never_refused c.hand_out.result (c.hand_out.ensures.free zero)

@@ -1,0 +1,46 @@
+//! Plain questions to a session, which are answered before any plan is made.
+
+ghost use Rattle.std.specs.Prelude.{◌≡◌, ℕ, List, [], Ok, IfSome};
+ghost use Rattle.ed_model.specs.Performing.{quiet};
+ghost use Rattle.ed_model.specs.Table.{table};
+ghost use Rattle.message_plans.specs.Requested.{session_in};
+ghost use Rattle.session_changes.specs.Kept.{IsKept};
+ghost use Rattle.editor_session.specs.Answers.{message_with};
+ghost use Rattle.editor_session.specs.Asked.{value_to};
+
+use ed_types::kinds_and_numbers;
+use message_plans::{Request, SentMessage, SessionState, question_of, value_of};
+
+/// The value of a plain question to the view of an id. `None` for all other messages, and for what the table refuses: the message
+/// is then to be sent. Nothing changes, and no memory is taken.
+pub(crate) fn ask(state: &SessionState, view: u32, number: u32, w: i64, l: i64) -> Option<i64>
+    requires kept { IsKept state.now }
+    ensures value { result ≡ value_to (session_in state.now) view (message_with number w l []) }
+    ensures answer { IfSome result (λ value. (text : List ℕ) → table (session_in state.now) view (message_with number w l text) ≡ Ok (session_in state.now, quiet value)) }
+{
+    // The law that each kind is found by its number.
+    kinds_and_numbers();
+    let Some(kind) = question_of(number) else {
+        return None;
+    };
+    let Some(view) = state.views.get(view) else {
+        return None;
+    };
+    let Some(document) = state.documents.get(view.document()) else {
+        return None;
+    };
+    // No plain question reads a text.
+    let message = SentMessage {
+        number,
+        w,
+        l,
+        text: &[],
+    };
+    let request = Request {
+        session: state,
+        view,
+        document,
+        message,
+    };
+    value_of(kind, &request)
+}
