@@ -13,6 +13,7 @@ use message_plans::{Request, SentMessage, SessionState, question_of, value_of};
 
 /// The value of a plain question to the view of an id. `None` for all other messages, and for what the table refuses: the message
 /// is then to be sent. Nothing changes, and no memory is taken.
+#[inline(always)]
 pub(crate) fn ask(state: &SessionState, view: u32, number: u32, w: i64, l: i64) -> Option<i64>
     requires kept { IsKept state.now }
     ensures value { result ≡ value_to (session_in state.now) view (message_with number w l []) }

@@ -188,6 +188,7 @@ impl Session {
     /// Asks a view a plain question, as GETLENGTH or GETCHARAT: a message that is answered by a number of the document or of the view
     /// (`questions` of the definitions). Sent with whatever text, the message is answered by a reply of this value alone, and leaves
     /// the session as it is. `None` for all other messages, and for what is refused: `send` says why. Takes no memory.
+    #[inline(always)]
     pub fn ask(&self, view: u32, number: u32, w: i64, l: i64) -> Option<i64>
         ensures value { result ≡ value_to self.now view (message_with number w l []) }
         ensures answer { IfSome result (λ value. (text : List ℕ) → table self.now view (message_with number w l text) ≡ Ok (self.now, quiet value)) }
