@@ -1,29 +1,35 @@
 //! Plain questions to a session, which are answered before any plan is made.
 
-ghost use Rattle.std.specs.Prelude.{◌≡◌, ℕ, List, [], Ok, IfSome};
+ghost use Rattle.std.specs.Prelude.{◌≡◌, ℕ, List, [], Ok, Some, IfSome};
 ghost use Rattle.ed_model.specs.Performing.{quiet};
 ghost use Rattle.ed_model.specs.Table.{table};
+ghost use Rattle.message_plans.specs.Asking.{question_of};
 ghost use Rattle.message_plans.specs.Requested.{session_in};
 ghost use Rattle.session_changes.specs.Kept.{IsKept};
 ghost use Rattle.editor_session.specs.Answers.{message_with};
 ghost use Rattle.editor_session.specs.Asked.{value_to};
 
-use ed_types::kinds_and_numbers;
+use ed_types::{Kind, kinds_and_numbers};
 use message_plans::{Request, SentMessage, SessionState, question_of, value_of};
 
+<<<<<<< HEAD
 /// The value of a plain question to the view of an id. `None` for all other messages, and for what the table refuses: the message
 /// is then to be sent. Nothing changes, and no memory is taken.
 #[inline(always)]
 pub(crate) fn ask(state: &SessionState, view: u32, number: u32, w: i64, l: i64) -> Option<i64>
+=======
+/// The value of this plain question to the view of an id; `None` where the table refuses it. It stands apart, so that all other
+/// messages pay for the look at their number alone.
+#[inline(never)]
+fn ask_as(state: &SessionState, view: u32, kind: Kind, number: u32, w: i64, l: i64) -> Option<i64>
+>>>>>>> refs/lanes/way
     requires kept { IsKept state.now }
+    requires question { question_of number ≡ Some kind }
     ensures value { result ≡ value_to (session_in state.now) view (message_with number w l []) }
     ensures answer { IfSome result (λ value. (text : List ℕ) → table (session_in state.now) view (message_with number w l text) ≡ Ok (session_in state.now, quiet value)) }
 {
     // The law that each kind is found by its number.
     kinds_and_numbers();
-    let Some(kind) = question_of(number) else {
-        return None;
-    };
     let Some(view) = state.views.get(view) else {
         return None;
     };
@@ -44,4 +50,17 @@ pub(crate) fn ask(state: &SessionState, view: u32, number: u32, w: i64, l: i64) 
         message,
     };
     value_of(kind, &request)
+}
+
+/// The value of a plain question to the view of an id. `None` for all other messages, and for what the table refuses: the message
+/// is then to be sent. Nothing changes, and no memory is taken.
+pub(crate) fn ask(state: &SessionState, view: u32, number: u32, w: i64, l: i64) -> Option<i64>
+    requires kept { IsKept state.now }
+    ensures value { result ≡ value_to (session_in state.now) view (message_with number w l []) }
+    ensures answer { IfSome result (λ value. (text : List ℕ) → table (session_in state.now) view (message_with number w l text) ≡ Ok (session_in state.now, quiet value)) }
+{
+    match question_of(number) {
+        Some(kind) => ask_as(state, view, kind, number, w, l),
+        None => None,
+    }
 }

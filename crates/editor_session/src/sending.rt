@@ -92,7 +92,7 @@ fn is_recorded(kind: Kind, request: &Request) -> bool
 ///
 /// The refusal of the message table; `OutOfMemory` where memory is refused. The session is then as it was.
 #[inline(never)]
-fn answer_by_plan(
+pub(crate) fn answer_by_plan(
     alloc: Global,
     state: &mut SessionState,
     view: u32,

@@ -13,7 +13,7 @@ ghost use Rattle.editor_session.specs.Lent.{lent_range};
 use crate::asking::ask;
 use crate::lending::{document_with, lend};
 use crate::opening::{close, open};
-use crate::sending::answer_message;
+use crate::sending::{answer_by_plan, answer_message};
 use document_table::DocumentTable;
 use ed_model::soundness_is_kept;
 use ed_types::{Limits, Message, Refusal, Reply};
@@ -183,6 +183,26 @@ impl Session {
         ensures free { is_free self.old view (message_with number w l text.now) ≡ true → IfErr result (λ refusal. refusal ≢ OutOfMemory) }
     {
         answer_message(self.alloc, &mut self.state, view, number, w, l, text)
+    }
+
+    /// Sends a message that is no plain question, or was asked in vain: it goes the longer way at once, which serves for all messages.
+    ///
+    /// # Errors
+    ///
+    /// As of `send`.
+    pub fn send_by_plan(
+        &mut self,
+        view: u32,
+        number: u32,
+        w: i64,
+        l: i64,
+        text: &[u8],
+    ) -> Result<Reply, Refusal>
+        ensures answer { AnswersBy (table self.old view (message_with number w l text.now)) self.old self.new result }
+        ensures refused { IfErr (table self.old view (message_with number w l text.now)) (λ refusal. result ≡ Err refusal) }
+        ensures free { is_free self.old view (message_with number w l text.now) ≡ true → IfErr result (λ refusal. refusal ≢ OutOfMemory) }
+    {
+        answer_by_plan(self.alloc, &mut self.state, view, number, w, l, text)
     }
 
     /// Asks a view a plain question, as GETLENGTH or GETCHARAT: a message that is answered by a number of the document or of the view

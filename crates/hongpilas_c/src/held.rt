@@ -58,7 +58,7 @@ impl Held {
                 return DONE;
             }
         }
-        match self.session.send_lent(view, number, w, l, text) {
+        match self.session.send_by_plan(view, number, w, l, text) {
             Ok(reply) => {
                 *value = reply.value();
                 self.value = reply.value();

@@ -13,8 +13,8 @@ returns-in-Ok-clause-done c done =
     let same : message_with c.args.number (to_z w64 (of_z w64 c.args.w)) (to_z w64 (of_z w64 c.args.l)) c.args.text.now ≡ message_with c.args.number c.args.w c.args.l c.args.text.now = search rules in
     let reply : Response = c.in-Ok.reply in
     let value : to_z w64 (of_z w64 c.value-self.result) ≡ reply.value = search rules in
-    subst (λ m. table c.args.self.now.session c.args.view m ≡ Ok (c.send_lent.new.self, c.in-Ok.reply)) same c.in-Ok.ensures.answer
-    ∙ ap (λ v. Ok (c.send_lent.new.self, record reply { value = v })) (sym value)
+    subst (λ m. table c.args.self.now.session c.args.view m ≡ Ok (c.send_by_plan.new.self, c.in-Ok.reply)) same c.in-Ok.ensures.answer
+    ∙ ap (λ v. Ok (c.send_by_plan.new.self, record reply { value = v })) (sym value)
 
 pub returns-in-Err-clause-refused : goal.returns-in-Err-clause-refused
 returns-in-Err-clause-refused c other =
