@@ -12,17 +12,10 @@ ghost use Rattle.editor_session.specs.Asked.{value_to};
 use ed_types::{Kind, kinds_and_numbers};
 use message_plans::{Request, SentMessage, SessionState, question_of, value_of};
 
-<<<<<<< HEAD
-/// The value of a plain question to the view of an id. `None` for all other messages, and for what the table refuses: the message
-/// is then to be sent. Nothing changes, and no memory is taken.
-#[inline(always)]
-pub(crate) fn ask(state: &SessionState, view: u32, number: u32, w: i64, l: i64) -> Option<i64>
-=======
 /// The value of this plain question to the view of an id; `None` where the table refuses it. It stands apart, so that all other
 /// messages pay for the look at their number alone.
 #[inline(never)]
 fn ask_as(state: &SessionState, view: u32, kind: Kind, number: u32, w: i64, l: i64) -> Option<i64>
->>>>>>> refs/lanes/way
     requires kept { IsKept state.now }
     requires question { question_of number ≡ Some kind }
     ensures value { result ≡ value_to (session_in state.now) view (message_with number w l []) }
@@ -54,6 +47,7 @@ fn ask_as(state: &SessionState, view: u32, kind: Kind, number: u32, w: i64, l: i
 
 /// The value of a plain question to the view of an id. `None` for all other messages, and for what the table refuses: the message
 /// is then to be sent. Nothing changes, and no memory is taken.
+#[inline(always)]
 pub(crate) fn ask(state: &SessionState, view: u32, number: u32, w: i64, l: i64) -> Option<i64>
     requires kept { IsKept state.now }
     ensures value { result ≡ value_to (session_in state.now) view (message_with number w l []) }
