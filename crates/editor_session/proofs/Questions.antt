@@ -8,7 +8,8 @@ use Rattle.ed_types.specs.declared.message.Message.{Message}
 use Rattle.ed_types.specs.Messages.{number_of, kind_of, kind_among, marks_of}
 use Rattle.ed_types.specs.MessagesLaws.{EachKindIsFound}
 use Rattle.ed_model.specs.declared.plan.Plan.TheVariants as plan
-use Rattle.ed_model.specs.Requests.{Request, Planned, answer}
+use Rattle.ed_model.specs.FoldingPlans.{line_shown_at}
+use Rattle.ed_model.specs.Requests.{Request, Planned, answer, answer_number}
 use Rattle.ed_model.specs.TextPlans.{end_of_line_at, start_of_line_at}
 use Rattle.ed_model.specs.Session.{Session, View, Document, view_at, document_at}
 use Rattle.ed_model.specs.Performing.{quiet}
@@ -33,56 +34,15 @@ start_of_any_text : (r : Request) (text : List ℕ) (w : ℤ) → start_of_line_
 start_of_any_text r text (pos n) = refl
 start_of_any_text r text (negsuc n) = refl
 
+shown_of_any_text : (r : Request) (text : List ℕ) (w : ℤ) → line_shown_at (record r { message = record r.message { text = text } }) w ≡ line_shown_at r w
+shown_of_any_text r text (pos n) = refl
+shown_of_any_text r text (negsuc n) = refl
+
 plain : {kind : Kind} → (marks_of kind).r ≡ false → ((r : Request) (text : List ℕ) → plan_of kind (record r { message = record r.message { text = text } }) ≡ plan_of kind r) → IsPlain kind
 plain u t = record { unrecorded = u; any_text = t }
 
 all_plain : AllByRecursion IsPlain questions
-all_plain = (
-  plain refl (λ r text. refl),
-  (
-    plain refl (λ r text. refl),
-    (
-      plain refl (λ r text. refl),
-      (
-        plain refl (λ r text. refl),
-        (
-          plain refl (λ r text. refl),
-          (
-            plain refl (λ r text. refl),
-            (
-              plain refl (λ r text. ap answer (end_of_any_text r text r.message.w)),
-              (
-                plain refl (λ r text. refl),
-                (
-                  plain refl (λ r text. refl),
-                  (
-                    plain refl (λ r text. ap answer (start_of_any_text r text r.message.w)),
-                    (
-                      plain refl (λ r text. refl),
-                      (
-                        plain refl (λ r text. refl),
-                        (
-                          plain refl (λ r text. refl),
-                          (
-                            plain refl (λ r text. refl),
-                            (
-                              plain refl (λ r text. refl),
-                              tt,
-                            ),
-                          ),
-                        ),
-                      ),
-                    ),
-                  ),
-                ),
-              ),
-            ),
-          ),
-        ),
-      ),
-    ),
-  ),
-)
+all_plain = (plain refl (λ r text. refl), (plain refl (λ r text. refl), (plain refl (λ r text. refl), (plain refl (λ r text. refl), (plain refl (λ r text. refl), (plain refl (λ r text. refl), (plain refl (λ r text. refl), (plain refl (λ r text. refl), (plain refl (λ r text. refl), (plain refl (λ r text. refl), (plain refl (λ r text. refl), (plain refl (λ r text. ap answer (end_of_any_text r text r.message.w)), (plain refl (λ r text. refl), (plain refl (λ r text. refl), (plain refl (λ r text. refl), (plain refl (λ r text. refl), (plain refl (λ r text. refl), (plain refl (λ r text. refl), (plain refl (λ r text. ap answer (start_of_any_text r text r.message.w)), (plain refl (λ r text. refl), (plain refl (λ r text. refl), (plain refl (λ r text. refl), (plain refl (λ r text. refl), (plain refl (λ r text. refl), (plain refl (λ r text. ap answer_number (shown_of_any_text r text r.message.w)), (plain refl (λ r text. refl), (plain refl (λ r text. refl), (plain refl (λ r text. refl), (plain refl (λ r text. refl), (plain refl (λ r text. refl), (plain refl (λ r text. refl), (plain refl (λ r text. refl), (plain refl (λ r text. refl), (plain refl (λ r text. refl), (plain refl (λ r text. refl), (plain refl (λ r text. refl), tt))))))))))))))))))))))))))))))))))))
 
 found_plain : (number : ℕ) (kinds : List Kind) (kind : Kind) → AllByRecursion IsPlain kinds → kind_among kinds number ≡ Some kind → IsPlain kind × ((number_of kind == number) ≡ true)
 found_plain number [] kind all e = absurd (cc)

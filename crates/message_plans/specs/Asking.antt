@@ -9,7 +9,7 @@ use Rattle.ed_model.specs.Table.{plan_of}
 
 -- by rising numbers
 abbrev pub questions : List Kind
-questions = kinds.GetLength ∷ kinds.GetCharAt ∷ kinds.GetCurrentPos ∷ kinds.GetAnchor ∷ kinds.GetStyleAt ∷ kinds.MarkerGet ∷ kinds.GetLineEndPosition ∷ kinds.GetLineCount ∷ kinds.LineFromPosition ∷ kinds.PositionFromLine ∷ kinds.GetTextLength ∷ kinds.GetFoldLevel ∷ kinds.GetLineVisible ∷ kinds.LineLength ∷ kinds.IndicatorValueAt ∷ []
+questions = kinds.GetLength ∷ kinds.GetCharAt ∷ kinds.GetCurrentPos ∷ kinds.GetAnchor ∷ kinds.GetStyleAt ∷ kinds.CanRedo ∷ kinds.GetEndStyled ∷ kinds.MarkerGet ∷ kinds.MarkerNext ∷ kinds.MarkerPrevious ∷ kinds.GetLineState ∷ kinds.GetLineEndPosition ∷ kinds.GetReadOnly ∷ kinds.GetSelectionStart ∷ kinds.GetSelectionEnd ∷ kinds.GetLineCount ∷ kinds.GetModify ∷ kinds.LineFromPosition ∷ kinds.PositionFromLine ∷ kinds.CanUndo ∷ kinds.GetTextLength ∷ kinds.GetTargetStart ∷ kinds.GetTargetEnd ∷ kinds.VisibleFromDocLine ∷ kinds.DocLineFromVisible ∷ kinds.GetFoldLevel ∷ kinds.GetFoldParent ∷ kinds.GetLineVisible ∷ kinds.GetFoldExpanded ∷ kinds.LineLength ∷ kinds.PositionBefore ∷ kinds.PositionAfter ∷ kinds.IndicatorValueAt ∷ kinds.IndicatorStart ∷ kinds.IndicatorEnd ∷ kinds.GetSelectionEmpty ∷ []
 
 -- the plain question that has the number
 abbrev pub question_of : ℕ → Option Kind

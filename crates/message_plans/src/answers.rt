@@ -34,14 +34,14 @@ pub(crate) fn answer_some(value: Option<i64>) -> Planned
     }
 }
 
-/// Answers a line, or -1 for none, and does nothing.
-pub(crate) fn answer_line(line: Option<usize>) -> Planned
+/// A line as a value: -1 for none.
+pub(crate) fn line_or_none(line: Option<usize>) -> i64
     requires { IfSome line (λ line. line < 2 ^ 63) }
-    ensures { result ≡ answer (line_or_none line) }
+    ensures { result ≡ line_or_none line }
 {
     match line {
-        Some(line) => answer_number(line),
-        None => answer(-1),
+        Some(line) => line as i64,
+        None => -1,
     }
 }
 

@@ -6,7 +6,7 @@ ghost use Rattle.ed_model.specs.Requests.{answer, line_total};
 ghost use Rattle.ed_model.specs.FoldingPlans.{doc_line_from_visible, ensure_visible, fold_at, fold_by, fold_line, get_all_lines_visible, get_fold_expanded, get_fold_level, get_fold_parent, get_last_child, get_line_visible, hide_lines, line_shown_at, past_line, set_fold_expanded, set_fold_level, show_lines, toggle_fold, visible_from_doc_line};
 
 use crate::answers::{
-    answer, answer_flag, answer_line, answer_number, change_document, change_view, flag,
+    answer, answer_flag, answer_number, change_document, change_view, flag, line_or_none,
 };
 use crate::arguments::{clamped, is_on, line_among, some_or_all, within};
 use crate::request::Request;
@@ -57,12 +57,12 @@ pub(crate) fn get_last_child(r: &Request) -> Planned
 }
 
 /// GETFOLDPARENT: the nearest header before line `w` whose number is smaller.
-pub(crate) fn get_fold_parent(r: &Request) -> Planned
-    ensures { result ≡ get_fold_parent r.now }
+pub(crate) fn get_fold_parent(r: &Request) -> i64
+    ensures { answer result ≡ get_fold_parent r.now }
 {
     match line_among(r.line_total(), r.message.w) {
-        Some(line) => answer_line(fold_parent(&r.levels(), line)),
-        None => answer(-1),
+        Some(line) => line_or_none(fold_parent(&r.levels(), line)),
+        None => -1,
     }
 }
 
@@ -116,13 +116,13 @@ pub(crate) fn toggle_fold(r: &Request) -> Planned
 
 /// VISIBLEFROMDOCLINE: the display line of line `w`, and for a hidden one that of the visible line before it.
 #[tactic(auto, using(crate::proofs::Standing::flags_of_lines, crate::proofs::Ranges::display_bounded))]
-pub(crate) fn visible_from_doc_line(r: &Request) -> Planned
+pub(crate) fn visible_from_doc_line(r: &Request) -> i64
     requires { IsSoundRequest r.now }
-    ensures { result ≡ visible_from_doc_line r.now }
+    ensures { answer result ≡ visible_from_doc_line r.now }
 {
     match line_among(r.line_total(), r.message.w) {
-        Some(line) => answer_number(r.view.lines().display_of(line)),
-        None => answer(-1),
+        Some(line) => r.view.lines().display_of(line) as i64,
+        None => -1,
     }
 }
 
@@ -139,12 +139,12 @@ fn line_shown_at(r: &Request, argument: i64) -> usize
 
 /// DOCLINEFROMVISIBLE: the line that is shown at display line `w`, or how many lines there are for one past the last.
 #[tactic(auto, using(crate::proofs::Standing::flags_of_lines, crate::proofs::Ranges::shown_bounded))]
-pub(crate) fn doc_line_from_visible(r: &Request) -> Planned
+pub(crate) fn doc_line_from_visible(r: &Request) -> i64
     requires { IsSoundRequest r.now }
-    ensures { result ≡ doc_line_from_visible r.now }
+    ensures { answer result ≡ doc_line_from_visible r.now }
 {
     prove!(r.view.lines().count() == r.line_total());
-    answer_number(line_shown_at(r, r.message.w))
+    line_shown_at(r, r.message.w) as i64
 }
 
 /// Past which of so many lines a range ends whose last line is the argument.
@@ -235,12 +235,12 @@ pub(crate) fn get_all_lines_visible(r: &Request) -> Planned
 
 /// GETFOLDEXPANDED: whether line `w` counts as expanded.
 #[tactic(auto, using(crate::proofs::Standing::flags_of_lines))]
-pub(crate) fn get_fold_expanded(r: &Request) -> Planned
+pub(crate) fn get_fold_expanded(r: &Request) -> i64
     requires { IsSoundRequest r.now }
-    ensures { result ≡ get_fold_expanded r.now }
+    ensures { answer result ≡ get_fold_expanded r.now }
 {
     match line_among(r.line_total(), r.message.w) {
-        Some(line) => answer_flag(r.view.lines().expanded(line)),
-        None => answer(0),
+        Some(line) => flag(r.view.lines().expanded(line)),
+        None => 0,
     }
 }

@@ -5,7 +5,7 @@ ghost use Rattle.ed_model.specs.PlansFit.{IsSoundRequest};
 ghost use Rattle.ed_model.specs.Requests.{answer};
 ghost use Rattle.ed_model.specs.LinePlans.{convert_eols, get_eol_mode, get_line_state, has_handles, line_end_kind, line_end_number, line_of_handle, marker_add, marker_add_set, marker_delete, marker_delete_all, marker_delete_handle, marker_get, marker_line_from_handle, marker_next, marker_previous, numbers_in, set_eol_mode, set_line_state};
 
-use crate::answers::{answer, answer_line, answer_number, change_document};
+use crate::answers::{answer, answer_number, change_document, line_or_none};
 use crate::arguments::{at_least_zero, line_among, low_bits, some_or_all, within};
 use crate::edits::conversion_plan;
 use crate::request::Request;
@@ -163,23 +163,23 @@ pub(crate) fn marker_get(r: &Request) -> i64
 
 /// MARKERNEXT: the first line, from `w` on, whose mask has a bit in common with the low 32 bits of `l`.
 #[tactic(auto, using(crate::proofs::Ranges::next_bounded))]
-pub(crate) fn marker_next(r: &Request) -> Planned
-    ensures { result ≡ marker_next r.now }
+pub(crate) fn marker_next(r: &Request) -> i64
+    ensures { answer result ≡ marker_next r.now }
 {
     let from = at_least_zero(r.message.w);
-    answer_line(r.rows().next(from, low_bits(r.message.l)))
+    line_or_none(r.rows().next(from, low_bits(r.message.l)))
 }
 
 /// MARKERPREVIOUS: the last such line, up to and with `w`.
 #[tactic(auto, using(crate::proofs::Ranges::previous_bounded))]
-pub(crate) fn marker_previous(r: &Request) -> Planned
-    ensures { result ≡ marker_previous r.now }
+pub(crate) fn marker_previous(r: &Request) -> i64
+    ensures { answer result ≡ marker_previous r.now }
 {
     if r.message.w < 0 {
-        return answer(-1);
+        return -1;
     }
     let from = r.message.w as usize;
-    answer_line(r.rows().previous(from, low_bits(r.message.l)))
+    line_or_none(r.rows().previous(from, low_bits(r.message.l)))
 }
 
 /// The line of the marker with the handle in `w`.
@@ -200,7 +200,7 @@ pub(crate) fn marker_line_from_handle(r: &Request) -> Planned
     requires { IsSoundRequest r.now }
     ensures { result ≡ marker_line_from_handle r.now }
 {
-    answer_line(line_of_handle(r))
+    answer(line_or_none(line_of_handle(r)))
 }
 
 /// MARKERDELETEHANDLE: the marker with handle `w` goes.
@@ -230,11 +230,11 @@ pub(crate) fn set_line_state(r: &Request) -> Planned
 }
 
 /// GETLINESTATE: the state of line `w`.
-pub(crate) fn get_line_state(r: &Request) -> Planned
-    ensures { result ≡ get_line_state r.now }
+pub(crate) fn get_line_state(r: &Request) -> i64
+    ensures { answer result ≡ get_line_state r.now }
 {
     match line_among(r.line_total(), r.message.w) {
-        Some(line) => answer(i64::from(r.document.rows().state(line))),
-        None => answer(0),
+        Some(line) => i64::from(r.document.rows().state(line)),
+        None => 0,
     }
 }

@@ -7,7 +7,7 @@ ghost use Rattle.ed_model.specs.Requests.{answer, selection_start, size};
 ghost use Rattle.ed_model.specs.PlansFit.{IsSoundRequest};
 ghost use Rattle.ed_model.specs.SelectionPlans.{can_paste, clear, copy, copy_range, copy_text, cut, get_anchor, get_current_pos, get_paste_convert_endings, get_sel_text, get_selection_empty, get_selection_end, get_selection_start, go_to, go_to_line, go_to_pos, paste, replace_sel, select, select_all, selected, set_anchor, set_current_pos, set_paste_convert_endings, set_sel, set_selection_end, set_selection_start};
 
-use crate::answers::{answer, answer_flag, answer_number, change_session, change_view, hand_out};
+use crate::answers::{answer, answer_flag, change_session, change_view, flag, hand_out};
 use crate::arguments::{clamped, is_on, within};
 use crate::edits::{Replacement, edit_plan, replace_and_go, replace_plan};
 use crate::request::Request;
@@ -47,26 +47,26 @@ pub(crate) fn get_anchor(r: &Request) -> i64
 }
 
 /// GETSELECTIONSTART: the lesser end of the selection.
-pub(crate) fn get_selection_start(r: &Request) -> Planned
+pub(crate) fn get_selection_start(r: &Request) -> i64
     requires { IsSoundRequest r.now }
-    ensures { result ≡ get_selection_start r.now }
+    ensures { answer result ≡ get_selection_start r.now }
 {
-    answer_number(r.selection_start())
+    r.selection_start() as i64
 }
 
 /// GETSELECTIONEND: the greater end of the selection.
-pub(crate) fn get_selection_end(r: &Request) -> Planned
+pub(crate) fn get_selection_end(r: &Request) -> i64
     requires { IsSoundRequest r.now }
-    ensures { result ≡ get_selection_end r.now }
+    ensures { answer result ≡ get_selection_end r.now }
 {
-    answer_number(r.selection_end())
+    r.selection_end() as i64
 }
 
 /// GETSELECTIONEMPTY: whether nothing is selected.
-pub(crate) fn get_selection_empty(r: &Request) -> Planned
-    ensures { result ≡ get_selection_empty r.now }
+pub(crate) fn get_selection_empty(r: &Request) -> i64
+    ensures { answer result ≡ get_selection_empty r.now }
 {
-    answer_flag(r.view.selection().is_empty())
+    flag(r.view.selection().is_empty())
 }
 
 /// SELECTALL: selects the whole text.

@@ -6,7 +6,7 @@ ghost use Rattle.ed_model.specs.Requests.{answer, with_argument};
 ghost use Rattle.ed_model.specs.StylePlans.{colourise, fill_indicator, get_end_styled, get_indicator_current, get_indicator_value, get_style_at, get_styled_text, indicator_all_on_for, indicator_clear_range, indicator_end, indicator_fill_range, indicator_start, indicator_value_at, run_end_at, run_past, run_start, set_indicator_current, set_indicator_value, set_styling, set_styling_ex, start_styling, styles, unstyled, values_of};
 ghost use Rattle.ed_model.specs.TextPlans.{at_place};
 
-use crate::answers::{answer, answer_number, change_document, change_view};
+use crate::answers::{answer, change_document, change_view};
 use crate::arguments::within;
 use crate::request::Request;
 use crate::text_plans::past_argument;
@@ -52,11 +52,11 @@ pub(crate) fn get_styled_text(r: &Request) -> Planned
 }
 
 /// GETENDSTYLED: up to where the text is styled.
-pub(crate) fn get_end_styled(r: &Request) -> Planned
+pub(crate) fn get_end_styled(r: &Request) -> i64
     requires { IsSoundRequest r.now }
-    ensures { result ≡ get_end_styled r.now }
+    ensures { answer result ≡ get_end_styled r.now }
 {
-    answer_number(r.end_styled())
+    r.end_styled() as i64
 }
 
 /// STARTSTYLING: the text counts as styled up to `w`.
@@ -246,21 +246,21 @@ fn run_at(r: &Request, indicator: usize, argument: i64) -> (usize, usize)
 }
 
 /// INDICATORSTART: where the range of one value of indicator `w` starts that holds place `l`.
-pub(crate) fn indicator_start(r: &Request) -> Planned
-    ensures { result ≡ indicator_start r.now }
+pub(crate) fn indicator_start(r: &Request) -> Option<i64>
+    ensures { with_argument result answer ≡ indicator_start r.now }
 {
     match within(0, 31, r.message.w) {
-        Some(indicator) => answer_number(run_at(r, indicator, r.message.l).0),
-        None => Err(Refusal::BadArgument),
+        Some(indicator) => Some(run_at(r, indicator, r.message.l).0 as i64),
+        None => None,
     }
 }
 
 /// INDICATOREND: where that range is past.
-pub(crate) fn indicator_end(r: &Request) -> Planned
-    ensures { result ≡ indicator_end r.now }
+pub(crate) fn indicator_end(r: &Request) -> Option<i64>
+    ensures { with_argument result answer ≡ indicator_end r.now }
 {
     match within(0, 31, r.message.w) {
-        Some(indicator) => answer_number(run_at(r, indicator, r.message.l).1),
-        None => Err(Refusal::BadArgument),
+        Some(indicator) => Some(run_at(r, indicator, r.message.l).1 as i64),
+        None => None,
     }
 }

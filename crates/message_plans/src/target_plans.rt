@@ -2,11 +2,11 @@
 
 ghost use Rattle.std.specs.Prelude.{◌≡◌, ◌≤◌, ◌<◌, ◌+◌, ◌^◌, length, IfSome};
 ghost use Rattle.ed_model.specs.PlansFit.{IsSoundRequest};
-ghost use Rattle.ed_model.specs.Requests.{text};
+ghost use Rattle.ed_model.specs.Requests.{answer, text};
 ghost use Rattle.ed_model.specs.Matches.{match_in};
 ghost use Rattle.ed_model.specs.TargetPlans.{found_target, get_search_flags, get_target_end, get_target_start, get_target_text, replace_target, replacement_length, search_flags, search_in_target, set_search_flags, set_target, set_target_end, set_target_range, set_target_start, target_from_selection, target_whole_document};
 
-use crate::answers::{answer, answer_number, change_view, hand_out};
+use crate::answers::{answer, change_view, hand_out};
 use crate::arguments::{clamped, is_minus_one, within};
 use crate::edits::{Replacement, edit_plan};
 use crate::request::Request;
@@ -49,19 +49,19 @@ pub(crate) fn set_target_range(r: &Request) -> Planned
 }
 
 /// GETTARGETSTART: where the target starts.
-pub(crate) fn get_target_start(r: &Request) -> Planned
+pub(crate) fn get_target_start(r: &Request) -> i64
     requires { IsSoundRequest r.now }
-    ensures { result ≡ get_target_start r.now }
+    ensures { answer result ≡ get_target_start r.now }
 {
-    answer_number(r.target_start())
+    r.target_start() as i64
 }
 
 /// GETTARGETEND: where the target ends.
-pub(crate) fn get_target_end(r: &Request) -> Planned
+pub(crate) fn get_target_end(r: &Request) -> i64
     requires { IsSoundRequest r.now }
-    ensures { result ≡ get_target_end r.now }
+    ensures { answer result ≡ get_target_end r.now }
 {
-    answer_number(r.target_end())
+    r.target_end() as i64
 }
 
 /// TARGETFROMSELECTION: the target is the selection.

@@ -6,7 +6,7 @@ ghost use Rattle.ed_model.specs.PlansFit.{IsSoundRequest};
 ghost use Rattle.ed_model.specs.Requests.{answer, end_or_size, size, text};
 ghost use Rattle.ed_model.specs.TextPlans.{add_text, append_text, at_place, clear_all, delete_range, get_char_at, get_cur_line, get_length, get_line, get_line_count, get_line_end_position, get_text, get_text_range, insert_text, insertion_place, line_from_position, line_length, position_after, position_before, position_from_line, set_text};
 
-use crate::answers::{answer, answer_number, hand_out};
+use crate::answers::{answer, hand_out};
 use crate::arguments::{clamped, is_minus_one, line_among, within};
 use crate::edits::{Replacement, replace_and_go, replace_plan};
 use crate::request::Request;
@@ -236,15 +236,15 @@ pub(crate) fn position_from_line(r: &Request) -> i64
 }
 
 /// POSITIONBEFORE: the cut between characters before `w`, brought into the text.
-pub(crate) fn position_before(r: &Request) -> Planned
-    ensures { result ≡ position_before r.now }
+pub(crate) fn position_before(r: &Request) -> i64
+    ensures { answer result ≡ position_before r.now }
 {
-    answer_number(r.cut_before(clamped(r.size(), r.message.w)))
+    r.cut_before(clamped(r.size(), r.message.w)) as i64
 }
 
 /// POSITIONAFTER: the cut between characters behind `w`, brought into the text.
-pub(crate) fn position_after(r: &Request) -> Planned
-    ensures { result ≡ position_after r.now }
+pub(crate) fn position_after(r: &Request) -> i64
+    ensures { answer result ≡ position_after r.now }
 {
-    answer_number(r.cut_after(clamped(r.size(), r.message.w)))
+    r.cut_after(clamped(r.size(), r.message.w)) as i64
 }

@@ -1,11 +1,12 @@
 //! Plans of the messages on undo and redo, and on whether the text can be edited at all.
 
 ghost use Rattle.std.specs.Prelude.{◌≡◌};
+ghost use Rattle.ed_model.specs.Requests.{answer};
 ghost use Rattle.ed_model.specs.UndoPlans.{add_undo_action, begin_undo_action, empty_undo_buffer, end_undo_action, get_can_redo, get_can_undo, get_modify, get_read_only, get_undo_collection, redo, set_read_only, set_save_point, set_undo_collection, undo};
 ghost use Rattle.message_plans.specs.Acting.{act_if};
 ghost use Rattle.ed_model.specs.PlansFit.{IsSoundRequest};
 
-use crate::answers::{answer, answer_flag, change_document};
+use crate::answers::{answer, answer_flag, change_document, flag};
 use crate::arguments::{is_on, within};
 use crate::request::Request;
 use ed_model::{DocumentChange, Plan, Planned, undo_and_redo_are_never_too_long};
@@ -66,24 +67,24 @@ pub(crate) fn redo(r: &Request) -> Planned
 }
 
 /// CANUNDO: whether there is something to undo, in a document that can be edited.
-pub(crate) fn get_can_undo(r: &Request) -> Planned
-    ensures { result ≡ get_can_undo r.now }
+pub(crate) fn get_can_undo(r: &Request) -> i64
+    ensures { answer result ≡ get_can_undo r.now }
 {
-    answer_flag(r.document.history().can_undo() && !r.document.is_read_only())
+    flag(r.document.history().can_undo() && !r.document.is_read_only())
 }
 
 /// CANREDO: whether there is something to redo, in a document that can be edited.
-pub(crate) fn get_can_redo(r: &Request) -> Planned
-    ensures { result ≡ get_can_redo r.now }
+pub(crate) fn get_can_redo(r: &Request) -> i64
+    ensures { answer result ≡ get_can_redo r.now }
 {
-    answer_flag(r.document.history().can_redo() && !r.document.is_read_only())
+    flag(r.document.history().can_redo() && !r.document.is_read_only())
 }
 
 /// GETREADONLY: whether the document is read-only.
-pub(crate) fn get_read_only(r: &Request) -> Planned
-    ensures { result ≡ get_read_only r.now }
+pub(crate) fn get_read_only(r: &Request) -> i64
+    ensures { answer result ≡ get_read_only r.now }
 {
-    answer_flag(r.document.is_read_only())
+    flag(r.document.is_read_only())
 }
 
 /// SETREADONLY: whether the document is read-only from now on.
@@ -96,10 +97,10 @@ pub(crate) fn set_read_only(r: &Request) -> Planned
 }
 
 /// GETMODIFY: whether the document is away from its save point.
-pub(crate) fn get_modify(r: &Request) -> Planned
-    ensures { result ≡ get_modify r.now }
+pub(crate) fn get_modify(r: &Request) -> i64
+    ensures { answer result ≡ get_modify r.now }
 {
-    answer_flag(!r.document.history().is_at_save_point())
+    flag(!r.document.history().is_at_save_point())
 }
 
 /// SETSAVEPOINT: the document counts as unmodified where it is now.
