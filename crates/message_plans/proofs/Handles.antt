@@ -1,12 +1,11 @@
 -- A marker's handle is below the next one.
-use Rattle.std.proofs.Common.{◌≡◌, ℕ, zero, suc, ◌+◌, ◌<◌, ◌≤◌, Bool, true, false, cond, List, [], ◌∷◌, ◌++◌, length, map, refl, sym, ap, ◌∙◌, arith, length-append}
-use Rattle.std.specs.Prelude.{ℤ, pos, negsuc, ◌==◌, nat_le, ◌||◌, Option, Some, None, find, filter, slice_index_or}
+use Rattle.std.proofs.Common.{◌≡◌, ℕ, zero, suc, ◌+◌, Bool, true, false, cond, List, [], ◌∷◌, ◌++◌, length, map, refl, arith, length-append}
+use Rattle.std.specs.Prelude.{ℤ, pos, negsuc, ◌==◌, ◌||◌, None, find, filter, slice_index_or}
 use Rattle.std.specs.List.{range_with_len, list_any}
 use Rattle.std.proofs.lemmas.List.Elements.{filter-append}
-use Rattle.std.proofs.lemmas.Bool.Decides.{nat_tests}
 use Rattle.ed_model.specs.Numbers.{within}
 use Rattle.ed_model.specs.Rows.{Row, Marker, fresh_row}
-use Rattle.ed_model.specs.SoundLaws.{occurrences, handles_in, IsSoundDocument}
+use Rattle.ed_model.specs.SoundLaws.{occurrences, handles_in}
 use Rattle.ed_model.specs.Requests.{Request, line_total}
 use Rattle.ed_model.specs.LinePlans.{row_at, has_handle, line_of_handle}
 use Rattle.ed_model.specs.PlansFit.{IsSoundRequest}

@@ -8,7 +8,7 @@ use Rattle.std.proofs.lemmas.Bool.Decides.{nat_tests}
 use Rattle.ed_model.specs.Numbers.{within}
 use Rattle.ed_model.specs.Rows.{Row, Flags}
 use Rattle.ed_model.specs.Folding.{is_header, is_parent_of, fold_parent, fold_header, is_visible}
-use Rattle.ed_model.specs.DisplayLines.{display_line, visible_before, visible_lines, line_shown}
+use Rattle.ed_model.specs.DisplayLines.{display_line, visible_lines, line_shown}
 use Rattle.ed_model.specs.Requests.{Request}
 use Rattle.ed_model.specs.FoldingPlans.{line_shown_at}
 use Rattle.line_rows.specs.Kept.{first_from, last_up_to}

@@ -7,19 +7,16 @@ use Rattle.std.proofs.lemmas.Bool.{eqb-true, eq-eqb, lt-ltb}
 use Rattle.ed_types.specs.Notices.{Notice}
 use Rattle.ed_types.specs.declared.reply.Note.{Note}
 use Rattle.ed_model.specs.Numbers.{meets}
-use Rattle.ed_types.specs.Heard.{with_text}
 use Rattle.ed_model.specs.Steps.{Step, Insert, Delete, step_bytes}
 use Rattle.ed_model.specs.Notes.{told, heard, before_note, after_note, insert_text, delete_text}
 use Rattle.document.specs.declared.text_step.TextStep.{TextStep}
-use Rattle.document.specs.declared.text_step.TextStep.TheVariants.{Insert as put_in, Delete as take_out}
 use Rattle.document.specs.TextSteps.{step_in, IsStepOn}
 use Rattle.notify.specs.Gathered.{Gathered}
 use Rattle.ed_model.specs.Session.{View}
 use Rattle.scene.specs.declared.telling.Audience.TheVariants.{Hearers}
 use Rattle.scene.specs.declared.telling.NoteText.{NoteText}
-use Rattle.scene.specs.declared.telling.NoteText.TheVariants.{Shared}
 use Rattle.scene.specs.Hearing.{audience_of, with_note_text, hearers, before_kind, after_kind, step_kinds}
-use Rattle.scene.specs.StepNotes.{CanTellMade, text_before, note_text_before}
+use Rattle.scene.specs.StepNotes.{CanTellMade}
 
 -- what meets a mask meets it with more bits too
 and_none : (m a b : ℕ) → bit_and m (bit_or b a) ≡ 0 → bit_and m a ≡ 0

@@ -1,5 +1,5 @@
 -- The notes of a step are those of the model's step.
-use Rattle.std.proofs.Common.{◌≡◌, ℕ, ◌+◌, ◌-◌, ◌≤◌, ◌<◌, List, [], length, take, drop, refl, ap, sym, ◌∙◌, subst, arith}
+use Rattle.std.proofs.Common.{◌≡◌, ℕ, ◌+◌, ◌≤◌, List, [], length, ap, sym, ◌∙◌, subst, arith}
 use Rattle.std.specs.Prelude.{slice_range, ℤ}
 use Rattle.std.proofs.lemmas.List.{length-drop, length-take}
 use Rattle.ed_types.specs.declared.reply.Note.{Note}

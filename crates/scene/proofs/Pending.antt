@@ -1,7 +1,7 @@
 -- The views that are still to be told, of those that watch.
-use Rattle.std.proofs.Common.{◌≡◌, ℕ, ◌+◌, ◌<◌, ◌≤◌, Bool, true, false, cond, suc, List, [], ◌∷◌, map, refl, ap, sym, ◌∙◌, subst, length, get_or, drop, arith, drop-cons}
+use Rattle.std.proofs.Common.{◌≡◌, ℕ, ◌+◌, ◌<◌, ◌≤◌, Bool, true, false, cond, suc, List, [], ◌∷◌, refl, ap, sym, ◌∙◌, subst, length, get_or, drop, arith, drop-cons}
 use Rattle.std.proofs.lemmas.List.{drop_all}
-use Rattle.std.specs.Prelude.{◌==◌, Option, Some, None, find, filter_map, option_map}
+use Rattle.std.specs.Prelude.{◌==◌, Some, None, find, filter_map, option_map}
 use Rattle.ed_model.specs.Session.{View, view_at}
 use Rattle.id_table.specs.Entries.{Entry, value_at, value_of}
 use Rattle.ed_view.specs.Kept.{KeptView}

@@ -1,20 +1,18 @@
 -- A scene under a step: each view that stands on the document can follow, all follow as the model says, and stand on it again.
-use Rattle.std.proofs.Common.{◌≡◌, ℕ, ◌+◌, ◌^◌, ◌<◌, ◌≤◌, Bool, true, false, cond, List, [], ◌∷◌, ◌++◌, map, length, refl, ap, sym, ◌∙◌, subst, arith, length-append}
-use Rattle.std.specs.Prelude.{◌==◌, ◌&&◌, Option, Some, None, if◌then◌else◌}
+use Rattle.std.proofs.Common.{◌≡◌, ℕ, ◌+◌, ◌^◌, ◌<◌, ◌≤◌, Bool, true, false, cond, List, [], ◌∷◌, map, length, refl, ap, sym, ◌∙◌, subst, arith}
+use Rattle.std.specs.Prelude.{◌==◌, ◌&&◌, Some}
 use Rattle.std.specs.List.{AllByRecursion}
 use Rattle.std.proofs.lemmas.List.{length-map}
-use Rattle.std.proofs.lemmas.Bool.{eqb-true, eqb-false, eq-eqb, ne_eqb}
+use Rattle.std.proofs.lemmas.Bool.{eqb-true, eqb-false}
 use Rattle.ed_types.specs.Notices.{Notice}
 use Rattle.line_index.specs.declared.edit.LineEdit.{LineEdit}
-use Rattle.line_index.specs.Edits.{fresh_lines}
 use Rattle.line_index.specs.RoomLaws.{lines_for_step}
 use Rattle.line_index.specs.StepEdits.{EditsBringFewLines}
 use Rattle.selection.specs.declared.movements.Movement.{Movement}
 use Rattle.selection.specs.Positions.{movement_of, count_of}
 use Rattle.ed_model.specs.declared.plan.LineEndTypes.{LineEndTypes}
 use Rattle.ed_model.specs.Text.{Cell}
-use Rattle.ed_model.specs.Steps as model
-use Rattle.ed_model.specs.Steps.{Step, step_bytes}
+use Rattle.ed_model.specs.Steps.{Step}
 use Rattle.ed_model.specs.MergeLaws.{end_of}
 use Rattle.ed_model.specs.History.{History, TextStep as Text, appended, begins_transaction, at_save_point}
 use Rattle.ed_model.specs.Notes.{told, blank, save_point_left, performed_user}
@@ -24,17 +22,16 @@ use Rattle.ed_model.specs.SoundLaws.{Rise, StandsOn, IsViewOn, occurrences}
 use Rattle.ed_model.specs.StandingLaws.{StepsKeepViewsStanding}
 use Rattle.id_table.specs.Entries.{Entry, Entries}
 use Rattle.ed_view.specs.Kept.{KeptView}
-use Rattle.ed_view.specs.Moving.{view_moved, step_edits, MovesAreThoseOfSteps, StepsFitViews}
+use Rattle.ed_view.specs.Moving.{step_edits, MovesAreThoseOfSteps, StepsFitViews}
 use Rattle.document.specs.declared.text_step.TextStep.{TextStep}
 use Rattle.document.specs.declared.text_step.TextStep.TheVariants.{Insert, Delete}
-use Rattle.document.specs.declared.room.DocumentRoom.{DocumentRoom}
 use Rattle.document.specs.TextSteps.{step_in, IsStepOn, need_of}
 use Rattle.scene.specs.Scenes.{views_of, scene_in, AreNamed, StandsIfOn, IsWatched}
 use Rattle.scene.specs.Hearing.{left_note, user_bits}
 use Rattle.scene.specs.Following.{followed_at, CanFollow, CanFollowInTurn}
-use Rattle.scene.specs.StepNotes.{IsSmallStep, place_in, count_in}
+use Rattle.scene.specs.StepNotes.{IsSmallStep, count_in}
 use Rattle.scene.proofs.Followed.{view_id}
-use Rattle.scene.proofs.Watching.{ids_of, through, followed_through, through_none, through_once, can_in_turn, Ready, EachOnce, each_found, found_has, not_listed}
+use Rattle.scene.proofs.Watching.{ids_of, through, followed_through, through_none, through_once, can_in_turn, Ready, each_found, found_has, not_listed}
 use Rattle.scene.proofs.NotesOfSteps.{length_slice}
 
 abbrev pub scene_with : Document → List View → List Notice → Scene

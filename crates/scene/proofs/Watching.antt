@@ -1,14 +1,13 @@
 -- Views under a step: that those which the document lists follow it one after the other is that each view of it follows it once.
 use Rattle.std.proofs.Common.{◌≡◌, ℕ, ◌+◌, ◌<◌, ◌≤◌, Bool, true, false, cond, List, [], ◌∷◌, map, length, refl, ap, sym, ◌∙◌, subst, arith}
-use Rattle.std.specs.Prelude.{◌==◌, Option, Some, None, find, filter, if◌then◌else◌}
+use Rattle.std.specs.Prelude.{◌==◌, Option, Some, None, filter, if◌then◌else◌}
 use Rattle.std.specs.List.{AllByRecursion}
 use Rattle.std.proofs.lemmas.Bool.{eqb-true, eqb-false, eq-eqb, ne_eqb}
 use Rattle.line_index.specs.declared.edit.LineEdit.{LineEdit}
 use Rattle.selection.specs.declared.movements.Movement.{Movement}
-use Rattle.ed_model.specs.Session.{View, Document, view_at, with_view}
-use Rattle.ed_model.specs.SoundLaws.{Rise, StandsOn, IsViewOn, occurrences}
+use Rattle.ed_model.specs.Session.{View, view_at, with_view}
+use Rattle.ed_model.specs.SoundLaws.{Rise, IsViewOn, occurrences}
 use Rattle.ed_view.specs.Moving.{view_moved}
-use Rattle.scene.specs.Scenes.{StandsIfOn}
 use Rattle.scene.specs.Following.{with_followed, followed_at, CanFollow, CanFollowInTurn}
 use Rattle.scene.proofs.Followed.{view_id}
 

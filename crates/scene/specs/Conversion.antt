@@ -1,5 +1,5 @@
 -- Turning the line ends of a document's text into one kind: what the steps need, and how far they are made.
-use Rattle.std.specs.Prelude.{◌≡◌, ℕ, ◌+◌, ◌-◌, ◌*◌, ◌^◌, ◌≤◌, min, Bool, false, List, [], ◌∷◌, length}
+use Rattle.std.specs.Prelude.{◌≡◌, ℕ, ◌*◌, ◌≤◌, Bool, false, List, [], ◌∷◌, length}
 use Rattle.ed_model.specs.declared.plan.LineEnd.{LineEnd}
 use Rattle.ed_model.specs.declared.plan.LineEndTypes.{LineEndTypes}
 use Rattle.ed_model.specs.Steps.{Step, Insert, Delete}
@@ -12,9 +12,8 @@ use Rattle.ed_view.specs.Kept.{KeptView}
 use Rattle.notify.specs.Gathered.{Gathered}
 use Rattle.document.specs.declared.room.DocumentRoom.{DocumentRoom}
 use Rattle.document.specs.Kept.{Kept, document_room, no_room, HasRoom}
-use Rattle.scene.specs.declared.need.NoteRoom.{NoteRoom}
 use Rattle.scene.specs.Scenes.{scene_in, IsWatched}
-use Rattle.scene.specs.Needs.{note_room, notes_needed, bytes_needed}
+use Rattle.scene.specs.Needs.{notes_needed, bytes_needed}
 pub use Rattle.scene.specs.Undoing.{both_rooms, capped, capped_room, capped_notes}
 
 -- what a step needs of its document

@@ -1,5 +1,5 @@
 -- Who is told, and with what text.
-use Rattle.std.specs.Prelude.{ℕ, ◌+◌, nat_lt, if◌then◌else◌, Bool, true, false, List, [], ◌∷◌, ◌++◌, length, filter, bit_or}
+use Rattle.std.specs.Prelude.{ℕ, nat_lt, if◌then◌else◌, Bool, true, false, List, [], length, filter, bit_or}
 use Rattle.ed_types.specs.Notices.{Notice}
 use Rattle.ed_types.specs.declared.reply.Note.{Note}
 use Rattle.ed_types.specs.Heard.{with_text}

@@ -1,5 +1,5 @@
 -- A scene as it is kept: a document, the views of the session by their ids, and the notes.
-use Rattle.std.specs.Prelude.{◌≡◌, ℕ, List, map}
+use Rattle.std.specs.Prelude.{◌≡◌, List, map}
 use Rattle.std.specs.List.{AllByRecursion}
 use Rattle.ed_types.specs.Notices.{Notice}
 use Rattle.ed_model.specs.Session.{Document, View, watching}

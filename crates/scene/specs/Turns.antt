@@ -1,5 +1,5 @@
 -- One change of those that undo or redo performs.
-use Rattle.std.specs.Prelude.{◌≡◌, ℕ, ◌+◌, ◌<◌, ◌≤◌, ◌++◌, ◌==◌, nat_lt, Bool, true, false, if◌then◌else◌, List, length, map, slice_get, bit_or, Option, Some}
+use Rattle.std.specs.Prelude.{◌≡◌, ℕ, ◌+◌, ◌≤◌, ◌++◌, ◌==◌, nat_lt, Bool, true, false, if◌then◌else◌, List, length, map, slice_get, bit_or, Option, Some}
 use Rattle.ed_model.specs.Steps.{Step, step_bytes}
 use Rattle.ed_model.specs.History.{History, Change, TextStep, ContainerStep}
 use Rattle.ed_model.specs.InverseLaws.{Fits}

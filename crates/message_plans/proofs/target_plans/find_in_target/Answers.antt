@@ -1,4 +1,3 @@
-use Rattle.std.proofs.Common.{arith}
 use Rattle.message_plans.proofs.Searching.{match_bounded}
 use Rattle.message_plans.proofs.target_plans.find_in_target.Goals as goal
 

@@ -1,4 +1,4 @@
-use Rattle.std.proofs.Common.{◌≡◌, sym, ap, ◌∙◌, get_or}
+use Rattle.std.proofs.Common.{sym, ap, ◌∙◌, get_or}
 use Rattle.std.proofs.lemmas.List.{drop_all}
 use Rattle.std.specs.Option.{option_copied_mut}
 use Rattle.scene.proofs.Pending.{drop_next}

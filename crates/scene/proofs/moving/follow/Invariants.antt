@@ -1,4 +1,4 @@
-use Rattle.std.proofs.Common.{ℕ, List, drop}
+use Rattle.std.proofs.Common.{drop}
 use Rattle.scene.proofs.Followed.{IsFollowedSoFar}
 use Rattle.scene.proofs.moving.follow.Given as goal
 

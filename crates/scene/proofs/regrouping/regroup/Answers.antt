@@ -1,7 +1,5 @@
-use Rattle.std.proofs.Common.{◌≡◌, ◌∙◌, arith, sym, ap, subst}
-use Rattle.scene.specs.Following.{followed_at, CanFollowInTurn}
-use Rattle.scene.specs.Scenes.{views_of}
-use Rattle.scene.proofs.Regrouped.{nowhere, regrouped_can_all, regrouped_views, regrouped_watched}
+use Rattle.std.proofs.Common.{◌∙◌, arith}
+use Rattle.scene.proofs.Regrouped.{regrouped_can_all, regrouped_views, regrouped_watched}
 use Rattle.scene.proofs.regrouping.regroup.Goals as goal
 
 pub follow-requires-clause-can : goal.follow-requires-clause-can

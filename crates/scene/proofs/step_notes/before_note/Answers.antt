@@ -1,4 +1,3 @@
-use Rattle.std.proofs.Common.{◌≡◌}
 use Rattle.scene.proofs.NotesOfSteps.{note_before}
 use Rattle.scene.proofs.step_notes.before_note.Goals as goal
 

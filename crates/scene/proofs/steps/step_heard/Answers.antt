@@ -1,4 +1,4 @@
-use Rattle.std.proofs.Common.{◌≡◌, ◌++◌, ◌∙◌, length, sym, ap, arith, refl, subst}
+use Rattle.std.proofs.Common.{◌≡◌, ◌∙◌, length, sym, ap, arith, subst}
 use Rattle.line_index.specs.StepEdits.{edits_of}
 use Rattle.selection.specs.Positions.{movement_of}
 use Rattle.ed_model.specs.Numbers.{growth}
@@ -7,11 +7,11 @@ use Rattle.ed_model.specs.Notes.{heard, before_note, after_note}
 use Rattle.ed_model.specs.Performing.{document_after}
 use Rattle.document.specs.TextSteps.{step_in}
 use Rattle.ed_view.specs.Moving.{step_edits}
-use Rattle.scene.specs.Scenes.{watchers, views_of, IsWatched}
+use Rattle.scene.specs.Scenes.{watchers, IsWatched}
 use Rattle.scene.specs.Hearing.{left_note}
 use Rattle.scene.proofs.ToldSoFar.{heard_last, length_parts}
 use Rattle.scene.proofs.KindLemmas.{can_tell}
-use Rattle.scene.proofs.StepScenes.{length_text, on_text, end_within, small_step, count_is, lines_of_need, same_scene, watched_can, stands_can, watched_after, watched_again}
+use Rattle.scene.proofs.StepScenes.{on_text, end_within, small_step, count_is, lines_of_need, same_scene, watched_can, stands_can, watched_after, watched_again}
 use Rattle.scene.proofs.steps.step_heard.Goals as goal
 
 pub tell_before-hears-requires : goal.tell_before-hears-requires

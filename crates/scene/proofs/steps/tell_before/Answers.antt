@@ -1,4 +1,4 @@
-use Rattle.std.proofs.Common.{◌≡◌, ◌++◌, ◌∙◌, length, ap, arith}
+use Rattle.std.proofs.Common.{◌∙◌, ap, arith}
 use Rattle.ed_model.specs.Session.{text_of}
 use Rattle.ed_model.specs.Notes.{heard, before_note}
 use Rattle.document.specs.TextSteps.{step_in}

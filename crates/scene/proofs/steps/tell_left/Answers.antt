@@ -1,4 +1,4 @@
-use Rattle.std.proofs.Common.{◌≡◌, []}
+use Rattle.std.proofs.Common.{[]}
 use Rattle.scene.proofs.ToldSoFar.{told_left}
 use Rattle.scene.proofs.steps.tell_left.Goals as goal
 

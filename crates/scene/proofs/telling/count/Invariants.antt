@@ -1,5 +1,5 @@
 -- what was counted and what is still to be counted is the whole
-use Rattle.std.proofs.Common.{◌≡◌, ◌≤◌, ℕ, ◌+◌, List, length, drop}
+use Rattle.std.proofs.Common.{◌≡◌, ◌≤◌, ◌+◌, length, drop}
 use Rattle.scene.proofs.Pending.{pending}
 use Rattle.scene.proofs.telling.count.Given as goal
 

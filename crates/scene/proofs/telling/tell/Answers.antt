@@ -1,4 +1,4 @@
-use Rattle.std.proofs.Common.{◌≡◌, sym, ap, ◌∙◌, arith}
+use Rattle.std.proofs.Common.{sym, ap, ◌∙◌}
 use Rattle.std.specs.Prelude.{option_copied}
 use Rattle.scene.proofs.Pending.{next_told, next_passed, next_missing, nothing_pending}
 use Rattle.scene.proofs.ToldSoFar.{told_none, told_one, told_same, told_all, room_for_one, note_for_text}

@@ -1,5 +1,5 @@
 -- what was told and what is still to be told is the whole
-use Rattle.std.proofs.Common.{ℕ, List, drop}
+use Rattle.std.proofs.Common.{drop}
 use Rattle.scene.specs.Hearing.{with_note_text}
 use Rattle.scene.proofs.Pending.{pending}
 use Rattle.scene.proofs.ToldSoFar.{IsToldSoFar}
