@@ -84,35 +84,41 @@ fn assert_rows_are_set(rt: &impl Abort, rows: &LineRows) {
     }
 }
 
-#[test]
-fn rows_line_by_line(rt: HostRuntime) {
-    let mut rows = LineRows::new(rt.alloc()).expect(&rt, "memory");
-    row_is_set(&rt, &mut rows, 0);
+fn set_row_by_row(rt: &impl Abort, rows: &mut LineRows) {
+    row_is_set(rt, rows, 0);
     for line in 1..MARKED_LINES {
-        line_comes(&rt, &mut rows);
-        row_is_set(&rt, &mut rows, line);
+        line_comes(rt, rows);
+        row_is_set(rt, rows, line);
     }
     assert_eq!(rt; rows.count(), MARKED_LINES);
-    assert_rows_are_set(&rt, &rows);
+    assert_rows_are_set(rt, rows);
     assert_eq!(rt; rows.line_of_handle(100_000), Some(99_999));
 }
 
+// Of each test, one function owns the rows, and others, to which they are lent, do all else: what owns them over many calls takes long to prove.
 #[test]
-fn rows_at_once(rt: HostRuntime) {
+fn rows_line_by_line(rt: HostRuntime) {
     let mut rows = LineRows::new(rt.alloc()).expect(&rt, "memory");
-    rows.reserve(MARKED_LINES).expect(&rt, "memory");
+    set_row_by_row(&rt, &mut rows);
+}
+
+fn reserve_at_once(rt: &impl Abort, rows: &mut LineRows) {
+    rows.reserve(MARKED_LINES).expect(rt, "memory");
     let lines = rows.count();
     assert!(rt; lines == 1);
     rows.carry(&[LineEdit::Come {
         line: 1,
         count: MARKED_LINES - 2,
     }]);
-    rows.reserve_levels(MARKED_LINES - 2).expect(&rt, "memory");
-    rows.reserve_states(MARKED_LINES - 2).expect(&rt, "memory");
-    rows.reserve_markers(MARKED_LINES).expect(&rt, "memory");
+    rows.reserve_levels(MARKED_LINES - 2).expect(rt, "memory");
+    rows.reserve_states(MARKED_LINES - 2).expect(rt, "memory");
+    rows.reserve_markers(MARKED_LINES).expect(rt, "memory");
     assert!(rt; rows.count() == MARKED_LINES - 1);
+}
+
+fn set_and_join_all(rt: &impl Abort, rows: &mut LineRows) {
     for line in 0..MARKED_LINES - 2 {
-        row_is_set(&rt, &mut rows, line);
+        row_is_set(rt, rows, line);
     }
     assert!(rt; rows.count() == MARKED_LINES - 1);
     assert!(rt; rows.next(50_000, 1 << 3) == Some(50_000) && rows.mask(99_998) == 0);
@@ -121,4 +127,11 @@ fn rows_at_once(rt: HostRuntime) {
         count: 99_998,
     }]);
     assert_eq!(rt; rows.line_of_handle(99_998), Some(0));
+}
+
+#[test]
+fn rows_at_once(rt: HostRuntime) {
+    let mut rows = LineRows::new(rt.alloc()).expect(&rt, "memory");
+    reserve_at_once(&rt, &mut rows);
+    set_and_join_all(&rt, &mut rows);
 }
