@@ -1,5 +1,6 @@
 //! Each call that takes memory, at a large size. `tools/heap.sh` runs each of these tests once more where the heap may hold no more than the sizes justify,
 //! as its table says: a growth that no one needed is refused there, and the test fails.
+ghost use Rattle.line_index.specs.Index.{IsIndexOf};
 
 use crate::line_index_tests::insert;
 use ed_model::{LineEnd, LineEndTypes};
@@ -7,29 +8,32 @@ use line_ends::{convert_into, converted_len, count_unwanted, next_missing, next_
 use line_index::{LineEdit, LineIndex};
 use line_rows::LineRows;
 use partitioning::Probes;
+use std::alloc::Global;
 use std::process::Abort;
 use test_support::{LARGE, LINE, LINES, MARKED_LINES, large_text};
+
+fn assert_large_lines(rt: &impl Abort, alloc: Global, index: &mut LineIndex<u32>, bytes: &[u8])
+    requires { IsIndexOf [] index.old }
+{
+    let (text, _) = insert(rt, alloc, index, b"", 0, bytes, 524_288);
+    assert_eq!(rt; index.count(), 65_537);
+    let mut probes = Probes::new();
+    assert_eq!(rt; index.line_of(1_000_000, &mut probes), 62_500);
+    assert!(rt; 16 <= probes.count() && probes.count() <= 18);
+    let (_, _) = insert(rt, alloc, index, text.as_slice(), 8, b"\n", 9);
+    assert_eq!(rt; index.count(), 65_538);
+}
+
+fn index_large_lines(rt: &impl Abort, alloc: Global, types: LineEndTypes, bytes: &[u8]) {
+    let mut index: LineIndex<u32> = LineIndex::new(alloc, types).expect(rt, "memory");
+    assert_large_lines(rt, alloc, &mut index, bytes);
+}
 
 #[test]
 fn lines_of_a_large_text(rt: HostRuntime) {
     let bytes = large_text(rt.alloc()).expect(&rt, "memory");
     for types in [LineEndTypes::Default, LineEndTypes::Unicode] {
-        let mut index: LineIndex<u32> = LineIndex::new(rt.alloc(), types).expect(&rt, "memory");
-        let (text, _) = insert(
-            &rt,
-            rt.alloc(),
-            &mut index,
-            b"",
-            0,
-            bytes.as_slice(),
-            524_288,
-        );
-        assert_eq!(rt; index.count(), 65_537);
-        let mut probes = Probes::new();
-        assert_eq!(rt; index.line_of(1_000_000, &mut probes), 62_500);
-        assert!(rt; 16 <= probes.count() && probes.count() <= 18);
-        let (_, _) = insert(&rt, rt.alloc(), &mut index, text.as_slice(), 8, b"\n", 9);
-        assert_eq!(rt; index.count(), 65_538);
+        index_large_lines(&rt, rt.alloc(), types, bytes.as_slice());
     }
 }
 
