@@ -22,23 +22,27 @@ fn insertion(alloc: Global) -> Result<Command, AllocError> {
     Ok(Command::SendMessage { view: 1, message })
 }
 
-fn long_script(rt: &impl Abort, alloc: Global) -> Script {
-    let mut script = Script::new(alloc);
+// One function owns the script, and another, to which it is lent, fills it: what owns one over many calls takes long to prove.
+fn push_insertions(rt: &impl Abort, alloc: Global, script: &mut Script) {
     for _ in 0..COMMANDS {
         let command = insertion(alloc).expect(rt, "memory");
         script.push(command).expect(rt, "room");
     }
-    script
+    assert_eq!(rt; script.commands().len(), 100_000);
+}
+
+// The listing of a long script.
+fn long_listing(rt: &impl Abort, alloc: Global) -> Vec<u8> {
+    let mut script = Script::new(alloc);
+    push_insertions(rt, alloc, &mut script);
+    list(alloc, &script).expect(rt, "memory")
 }
 
 #[test]
 fn a_long_script_is_listed_and_read(rt: HostRuntime) {
-    let script = long_script(&rt, rt.alloc());
-    assert_eq!(rt; script.commands().len(), 100_000);
-    let listed = list(rt.alloc(), &script).expect(&rt, "memory");
+    let listed = long_listing(&rt, rt.alloc());
     // A first line of 6 bytes, and 32 for each command.
     assert_eq!(rt; listed.len(), 3_200_006);
-    drop(script);
     let again = assemble(rt.alloc(), listed.as_slice()).expect(&rt, "a script");
     assert_eq!(rt; again.commands().len(), 100_000);
 }
