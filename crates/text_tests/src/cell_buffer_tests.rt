@@ -17,17 +17,19 @@ fn put_text_in(rt: &impl Abort, cells: &mut Cells) {
     assert_eq!(rt; cells.byte(4), b'o');
 }
 
-fn style_five_bytes(rt: &impl Abort, cells: &mut Cells) {
+fn keep_styles_of_five(rt: &impl Abort, cells: &mut Cells) {
     assert_eq!(rt; cells.len(), 5);
     assert!(rt; !cells.keeps_styles());
     assert_eq!(rt; cells.style(2), 0);
     cells.keep_styles().expect(rt, "memory");
     assert!(rt; cells.keeps_styles());
     assert_eq!(rt; cells.style(2), 0);
-    assert_eq!(rt; cells.set_style_run(1, 3, 7), Some((1, 3)));
-    assert_eq!(rt; cells.set_styles(3, &[8, 9]), Some((3, 2)));
-    assert_styles(rt, cells, 0, &[0]);
-    assert_styles(rt, cells, 2, &[7, 8, 9]);
+}
+
+fn set_styles_of_five(rt: &impl Abort, cells: &mut Cells) {
+    assert!(rt; cells.len() == 5 && cells.keeps_styles());
+    assert!(rt; cells.set_style_run(1, 3, 7) == Some((1, 3)));
+    assert!(rt; cells.set_styles(3, &[8, 9]) == Some((3, 2)));
 }
 
 // The styles from a place on are these.
@@ -43,7 +45,10 @@ fn assert_styles(rt: &impl Abort, cells: &Cells, place: usize, wanted: &[u8]) {
 fn text_and_styles(rt: HostRuntime) {
     let mut cells = Cells::new(rt.alloc());
     put_text_in(&rt, &mut cells);
-    style_five_bytes(&rt, &mut cells);
+    keep_styles_of_five(&rt, &mut cells);
+    set_styles_of_five(&rt, &mut cells);
+    assert_styles(&rt, &cells, 0, &[0]);
+    assert_styles(&rt, &cells, 2, &[7, 8, 9]);
 }
 
 fn put_text_about_the_gap(rt: &impl Abort, cells: &mut Cells) {
@@ -73,20 +78,25 @@ fn text_of_both_halves(rt: HostRuntime) {
     assert_text_of_both_halves(&rt, &cells, &mut text);
 }
 
-fn assert_changes_of_styles(rt: &impl Abort, cells: &mut Cells) {
+fn style_nine_bytes(rt: &impl Abort, cells: &mut Cells) {
     cells.reserve(9).expect(rt, "memory");
     cells.insert_reserved(0, b"123456789");
     cells.keep_styles().expect(rt, "memory");
     assert_eq!(rt; cells.set_style_run(0, 9, 0), None);
-    assert_eq!(rt; cells.set_styles(2, &[0, 5, 0, 6, 0]), Some((3, 3)));
-    assert_eq!(rt; cells.set_style_run(2, 5, 5), Some((2, 5)));
-    assert_eq!(rt; cells.set_styles(2, &[5, 5, 4, 5, 5]), Some((4, 1)));
-    assert_eq!(rt; cells.set_styles(0, &[]), None);
+}
+
+fn assert_changes_of_styles(rt: &impl Abort, cells: &mut Cells) {
+    assert!(rt; cells.len() == 9 && cells.keeps_styles());
+    assert!(rt; cells.set_styles(2, &[0, 5, 0, 6, 0]) == Some((3, 3)));
+    assert!(rt; cells.set_style_run(2, 5, 5) == Some((2, 5)));
+    assert!(rt; cells.set_styles(2, &[5, 5, 4, 5, 5]) == Some((4, 1)));
+    assert!(rt; cells.set_styles(0, &[]) == None);
 }
 
 #[test]
 fn which_styles_changed(rt: HostRuntime) {
     let mut cells = Cells::new(rt.alloc());
+    style_nine_bytes(&rt, &mut cells);
     assert_changes_of_styles(&rt, &mut cells);
 }
 
@@ -121,6 +131,7 @@ fn assert_refused(rt: &impl Abort, cells: &mut Cells) {
     let room = cells.room();
     assert!(rt; cells.reserve(usize::MAX).is_err());
     assert_eq!(rt; cells.room(), room);
+    assert_eq!(rt; cells.len(), 2);
     assert_eq!(rt; cells.lend(0, 2), b"ab".as_slice());
 }
 
@@ -157,6 +168,7 @@ fn assert_no_moves_of_styles(rt: &impl Abort, cells: &mut Cells) {
     cells.reserve(4).expect(rt, "memory");
     cells.insert_reserved(0, b"abc");
     cells.insert_reserved(1, b"d");
+    assert_eq!(rt; cells.len(), 4);
     cells.delete(0, 2);
     assert_eq!(rt; cells.moved().1, 0);
     assert_eq!(rt; cells.gaps().1, 0);
