@@ -2,7 +2,6 @@
 
 use ed_types::{Bytes, Note, Reply};
 use notify::{NoteList, blank};
-use std::alloc::{AllocError, Global};
 use std::process::Abort;
 
 // A note to a view.
@@ -21,43 +20,56 @@ fn assert_note(rt: &impl Abort, reply: &Reply, index: usize, view: u32, text: &[
     assert_eq!(rt; its, text);
 }
 
-fn reply_of_six(alloc: Global) -> Result<Reply, AllocError> {
-    let mut notes = NoteList::new(alloc);
-    notes.reserve(6, 5)?;
+// One function owns the notes, and others, to which they are lent, do all else: what owns them over many calls takes long to prove.
+fn put_six(rt: &impl Abort, notes: &mut NoteList) {
+    notes.reserve(6, 5).expect(rt, "memory");
     notes.put(note_to(1), b"abc");
     notes.put_again(note_to(2));
     notes.put_bare(note_to(3));
     notes.put_again(note_to(4));
     notes.put_halves(note_to(5), b"d", b"e");
     notes.put_again(note_to(6));
-    Ok(notes.finish(7, Bytes::empty(alloc)))
+}
+
+fn assert_six(rt: &impl Abort, reply: &Reply) {
+    assert_eq!(rt; reply.value(), 7);
+    assert_eq!(rt; reply.text().len(), 0);
+    assert_eq!(rt; reply.note_count(), 6);
+    assert_note(rt, reply, 0, 1, b"abc");
+    assert_note(rt, reply, 1, 2, b"abc");
+    assert_note(rt, reply, 2, 3, b"");
+    assert_note(rt, reply, 3, 4, b"abc");
+    assert_note(rt, reply, 4, 5, b"de");
+    assert_note(rt, reply, 5, 6, b"de");
 }
 
 #[test]
 fn notes_with_their_texts(rt: HostRuntime) {
-    let reply = reply_of_six(rt.alloc()).expect(&rt, "memory");
-    assert_eq!(rt; reply.value(), 7);
-    assert_eq!(rt; reply.text().len(), 0);
-    assert_eq!(rt; reply.note_count(), 6);
-    assert_note(&rt, &reply, 0, 1, b"abc");
-    assert_note(&rt, &reply, 1, 2, b"abc");
-    assert_note(&rt, &reply, 2, 3, b"");
-    assert_note(&rt, &reply, 3, 4, b"abc");
-    assert_note(&rt, &reply, 4, 5, b"de");
-    assert_note(&rt, &reply, 5, 6, b"de");
+    let mut notes = NoteList::new(rt.alloc());
+    put_six(&rt, &mut notes);
+    let reply = notes.finish(7, Bytes::empty(rt.alloc()));
+    assert_six(&rt, &reply);
+}
+
+fn share_before_putting(rt: &impl Abort, notes: &mut NoteList) {
+    notes.reserve(1, 2).expect(rt, "memory");
+    notes.reserve(2, 1).expect(rt, "memory");
+    notes.share(b"x", b"y");
+    notes.put_bare(note_to(1));
+    notes.put_again(note_to(2));
+}
+
+fn assert_shared(rt: &impl Abort, reply: &Reply) {
+    assert_note(rt, reply, 0, 1, b"");
+    assert_note(rt, reply, 1, 2, b"xy");
 }
 
 #[test]
 fn a_text_is_held_before_its_notes(rt: HostRuntime) {
     let mut notes = NoteList::new(rt.alloc());
-    notes.reserve(1, 2).expect(&rt, "memory");
-    notes.reserve(2, 1).expect(&rt, "memory");
-    notes.share(b"x", b"y");
-    notes.put_bare(note_to(1));
-    notes.put_again(note_to(2));
+    share_before_putting(&rt, &mut notes);
     let reply = notes.finish(0, Bytes::empty(rt.alloc()));
-    assert_note(&rt, &reply, 0, 1, b"");
-    assert_note(&rt, &reply, 1, 2, b"xy");
+    assert_shared(&rt, &reply);
 }
 
 #[test]

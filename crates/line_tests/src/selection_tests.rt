@@ -49,8 +49,9 @@ fn after_key<P: Place>(
     Some(whole)
 }
 
-fn keys_at<P: Place>(rt: &impl Abort, alloc: Global) {
-    let lines = index_of::<P>(rt, alloc, &TEXT);
+fn assert_keys<P: Place>(rt: &impl Abort, lines: &LineIndex<P>)
+    requires { IsIndexOf TEXT lines.now }
+{
     let empty = selection(6, 6);
     let back = selection(7, 2);
     let cases = [
@@ -91,9 +92,15 @@ fn keys_at<P: Place>(rt: &impl Abort, alloc: Global) {
         (back, Motion::LineEnd, selection(2, 2), selection(7, 2)),
     ];
     for (from, motion, both, extended) in cases {
-        assert_eq!(rt; after_key(rt, &lines, from, motion, false), Some(both));
-        assert_eq!(rt; after_key(rt, &lines, from, motion, true), Some(extended));
+        assert_eq!(rt; after_key(rt, lines, from, motion, false), Some(both));
+        assert_eq!(rt; after_key(rt, lines, from, motion, true), Some(extended));
     }
+}
+
+// One function owns the index, and another, to which it is lent, does all else: what owns one over many calls takes long to prove.
+fn keys_at<P: Place>(rt: &impl Abort, alloc: Global) {
+    let lines = index_of::<P>(rt, alloc, &TEXT);
+    assert_keys(rt, &lines);
 }
 
 #[test]

@@ -117,6 +117,29 @@ fn long_text(alloc: Global, lines: usize) -> Result<Vec<u8>, AllocError> {
     Ok(text)
 }
 
+fn assert_found_in_a_long_text(rt: &impl Abort, text: &[u8]) {
+    let end = text.len();
+    assert_eq!(rt; end, 4011);
+    for middle in [0, 1, 1999, 2000, 2003, 2005, 2008, 2011, 4000, end] {
+        for flags in [0, MATCH_CASE, WHOLE_WORD, MATCH_CASE | WORD_START] {
+            assert_found_at(rt, flags, text, middle, b"lazy Dog", 0, end, Some(2002));
+            assert_found_at(rt, flags, text, middle, b"lazy Dog", end, 0, Some(2002));
+            assert_found_at(rt, flags, text, middle, b"the", 1, end, Some(20));
+            assert_found_at(rt, flags, text, middle, b"fox", end, 0, Some(4007));
+            assert_found_at(rt, flags, text, middle, b"fox\nA", 0, end, Some(1996));
+        }
+        assert_found_at(rt, 0, text, middle, b"LAZY dog", 0, end, Some(2002));
+        assert_found_at(rt, 0, text, middle, b"LAZY dog", end, 0, Some(2002));
+        assert_found_at(rt, MATCH_CASE, text, middle, b"LAZY dog", 0, end, None);
+        assert_found_at(rt, MATCH_CASE, text, middle, b"LAZY dog", end, 0, None);
+        assert_found_at(rt, WHOLE_WORD, text, middle, b"laz", 0, end, None);
+        assert_found_at(rt, WORD_START, text, middle, b"azy", end, 0, None);
+        assert_found_at(rt, 0, text, middle, b"lazy", 2003, end, None);
+        assert_found_at(rt, 0, text, middle, b"lazy", 2005, 0, None);
+        assert_found_at(rt, 0, text, middle, b"lazy", 2006, 0, Some(2002));
+    }
+}
+
 #[test]
 fn long_texts(rt: HostRuntime) {
     let alloc = rt.alloc();
@@ -126,27 +149,7 @@ fn long_texts(rt: HostRuntime) {
     let more = long_text(alloc, 100).expect(&rt, "memory");
     text.extend_from_slice(more.as_slice())
         .expect(&rt, "memory");
-    let text = text.as_slice();
-    let end = text.len();
-    assert_eq!(rt; end, 4011);
-    for middle in [0, 1, 1999, 2000, 2003, 2005, 2008, 2011, 4000, end] {
-        for flags in [0, MATCH_CASE, WHOLE_WORD, MATCH_CASE | WORD_START] {
-            assert_found_at(&rt, flags, text, middle, b"lazy Dog", 0, end, Some(2002));
-            assert_found_at(&rt, flags, text, middle, b"lazy Dog", end, 0, Some(2002));
-            assert_found_at(&rt, flags, text, middle, b"the", 1, end, Some(20));
-            assert_found_at(&rt, flags, text, middle, b"fox", end, 0, Some(4007));
-            assert_found_at(&rt, flags, text, middle, b"fox\nA", 0, end, Some(1996));
-        }
-        assert_found_at(&rt, 0, text, middle, b"LAZY dog", 0, end, Some(2002));
-        assert_found_at(&rt, 0, text, middle, b"LAZY dog", end, 0, Some(2002));
-        assert_found_at(&rt, MATCH_CASE, text, middle, b"LAZY dog", 0, end, None);
-        assert_found_at(&rt, MATCH_CASE, text, middle, b"LAZY dog", end, 0, None);
-        assert_found_at(&rt, WHOLE_WORD, text, middle, b"laz", 0, end, None);
-        assert_found_at(&rt, WORD_START, text, middle, b"azy", end, 0, None);
-        assert_found_at(&rt, 0, text, middle, b"lazy", 2003, end, None);
-        assert_found_at(&rt, 0, text, middle, b"lazy", 2005, 0, None);
-        assert_found_at(&rt, 0, text, middle, b"lazy", 2006, 0, Some(2002));
-    }
+    assert_found_in_a_long_text(&rt, text.as_slice());
 }
 
 // So many times `ab`, one after the other, then ` AB `, and as many again.
@@ -162,21 +165,24 @@ fn text_of_candidates(alloc: Global, count: usize) -> Result<Vec<u8>, AllocError
     Ok(text)
 }
 
-#[test]
-fn many_candidates(rt: HostRuntime) {
-    let text = text_of_candidates(rt.alloc(), 2000).expect(&rt, "memory");
-    let text = text.as_slice();
+fn assert_found_among_candidates(rt: &impl Abort, text: &[u8]) {
     let end = text.len();
     assert_eq!(rt; end, 8004);
     let exact = MATCH_CASE | WHOLE_WORD;
     for middle in [0, 3999, 4001, 4002, 4003, end] {
-        assert_found_at(&rt, WHOLE_WORD, text, middle, b"ab", 0, end, Some(4001));
-        assert_found_at(&rt, WHOLE_WORD, text, middle, b"ab", end, 0, Some(4001));
-        assert_found_at(&rt, WORD_START, text, middle, b"ab", 1, end, Some(4001));
-        assert_found_at(&rt, WORD_START, text, middle, b"ab", 4004, 0, Some(4001));
-        assert_found_at(&rt, exact, text, middle, b"ab", 0, end, None);
-        assert_found_at(&rt, exact, text, middle, b"AB", 0, end, Some(4001));
-        assert_found_at(&rt, exact, text, middle, b"ab", end, 0, None);
-        assert_found_at(&rt, exact, text, middle, b"AB", end, 0, Some(4001));
+        assert_found_at(rt, WHOLE_WORD, text, middle, b"ab", 0, end, Some(4001));
+        assert_found_at(rt, WHOLE_WORD, text, middle, b"ab", end, 0, Some(4001));
+        assert_found_at(rt, WORD_START, text, middle, b"ab", 1, end, Some(4001));
+        assert_found_at(rt, WORD_START, text, middle, b"ab", 4004, 0, Some(4001));
+        assert_found_at(rt, exact, text, middle, b"ab", 0, end, None);
+        assert_found_at(rt, exact, text, middle, b"AB", 0, end, Some(4001));
+        assert_found_at(rt, exact, text, middle, b"ab", end, 0, None);
+        assert_found_at(rt, exact, text, middle, b"AB", end, 0, Some(4001));
     }
+}
+
+#[test]
+fn many_candidates(rt: HostRuntime) {
+    let text = text_of_candidates(rt.alloc(), 2000).expect(&rt, "memory");
+    assert_found_among_candidates(&rt, text.as_slice());
 }

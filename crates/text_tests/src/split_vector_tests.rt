@@ -1,6 +1,7 @@
 //! The calls in rows, at several types of items. The lists are written out by hand.
 use split_vector::SplitVector;
 use std::alloc::AllocError;
+use std::process::Abort;
 
 #[derive(Clone, Copy, Debug, PartialEq)]
 struct Mark {
@@ -89,18 +90,22 @@ fn moves_are_counted(rt: HostRuntime) {
     assert_eq!(rt; v.len(), 1001);
 }
 
-#[test]
-fn growth_keeps_both_sides(rt: HostRuntime) {
-    let mut v: SplitVector<u32> = SplitVector::new(rt.alloc());
-    v.reserve(4).expect(&rt, "memory");
+// Of each long test, one function owns the list, and others, to which it is lent, do all else: what owns one over many calls takes long to prove.
+
+fn grow_about_the_gap(rt: &impl Abort, v: &mut SplitVector<u32>) {
+    v.reserve(4).expect(rt, "memory");
     v.insert_slice_reserved(0, &[10, 20, 30, 40]);
     v.delete(1, 1);
-    v.reserve(100).expect(&rt, "memory");
+    v.reserve(100).expect(rt, "memory");
     assert_eq!(rt; v.gap(), 1);
     assert!(rt; v.spare() >= 100);
     assert_eq!(rt; v.len(), 3);
     assert_eq!(rt; v.get(0), 10);
     assert_eq!(rt; v.get(2), 40);
+}
+
+fn fill_behind_the_gap(rt: &impl Abort, v: &mut SplitVector<u32>) {
+    assert!(rt; v.len() == 3 && v.spare() >= 2);
     v.set(1, 31);
     v.insert_fill_reserved(3, 2, 7);
     let mut part = [0; 4];
@@ -110,11 +115,16 @@ fn growth_keeps_both_sides(rt: HostRuntime) {
 }
 
 #[test]
-fn marks_are_copied(rt: HostRuntime) {
-    let mut v: SplitVector<Mark> = SplitVector::new(rt.alloc());
+fn growth_keeps_both_sides(rt: HostRuntime) {
+    let mut v: SplitVector<u32> = SplitVector::new(rt.alloc());
+    grow_about_the_gap(&rt, &mut v);
+    fill_behind_the_gap(&rt, &mut v);
+}
+
+fn copy_marks(rt: &impl Abort, v: &mut SplitVector<Mark>) {
     let first = Mark { line: 1, kind: 2 };
     let other = Mark { line: 9, kind: 0 };
-    v.reserve(3).expect(&rt, "memory");
+    v.reserve(3).expect(rt, "memory");
     v.insert_fill_reserved(0, 2, first);
     v.insert_reserved(1, other);
     assert_eq!(rt; v.len(), 3);
@@ -123,4 +133,10 @@ fn marks_are_copied(rt: HostRuntime) {
     v.copy_out(0, &mut part);
     assert_eq!(rt; part.as_slice(), [first, other, first].as_slice());
     assert_eq!(rt; v.lend(1, 2), [other, first].as_slice());
+}
+
+#[test]
+fn marks_are_copied(rt: HostRuntime) {
+    let mut v: SplitVector<Mark> = SplitVector::new(rt.alloc());
+    copy_marks(&rt, &mut v);
 }

@@ -39,21 +39,25 @@ fn assert_masks(rt: &impl Abort, store: &MarkerStore, masks: &[u32]) {
     }
 }
 
+// Of each test, one function owns the store, and others, to which it is lent, do all else: what owns one over many calls takes long to prove.
+
+fn mark_four_lines(rt: &impl Abort, store: &mut MarkerStore) {
+    shift(rt, store, 1, 3);
+    assert_eq!(rt; add(rt, store, 1, 3), 1);
+    assert_eq!(rt; add(rt, store, 1, 5), 2);
+    assert_eq!(rt; add(rt, store, 3, 0), 3);
+    assert_eq!(rt; add(rt, store, 1, 3), 4);
+}
+
 // Four lines: two copies of 3 with a 5 between them on line 1, and a 0 on line 3. Handles are 1 to 4.
 fn marked_lines(rt: &impl Abort, alloc: Global) -> MarkerStore {
     let mut store = MarkerStore::new(alloc).expect(rt, "memory");
-    shift(rt, &mut store, 1, 3);
-    assert_eq!(rt; add(rt, &mut store, 1, 3), 1);
-    assert_eq!(rt; add(rt, &mut store, 1, 5), 2);
-    assert_eq!(rt; add(rt, &mut store, 3, 0), 3);
-    assert_eq!(rt; add(rt, &mut store, 1, 3), 4);
+    mark_four_lines(rt, &mut store);
     store
 }
 
-#[test]
-fn a_fresh_store(rt: HostRuntime) {
-    let store = MarkerStore::new(rt.alloc()).expect(&rt, "memory");
-    assert_masks(&rt, &store, &[0]);
+fn assert_fresh(rt: &impl Abort, store: &MarkerStore) {
+    assert_masks(rt, store, &[0]);
     assert_eq!(rt; store.markers(), 0);
     assert_eq!(rt; store.next_handle(), 1);
     assert_eq!(rt; store.next(0, u32::MAX), None);
@@ -62,9 +66,13 @@ fn a_fresh_store(rt: HostRuntime) {
 }
 
 #[test]
-fn looks_markers_up(rt: HostRuntime) {
-    let store = marked_lines(&rt, rt.alloc());
-    assert_masks(&rt, &store, &[0, 40, 0, 1]);
+fn a_fresh_store(rt: HostRuntime) {
+    let store = MarkerStore::new(rt.alloc()).expect(&rt, "memory");
+    assert_fresh(&rt, &store);
+}
+
+fn assert_looked_up(rt: &impl Abort, store: &MarkerStore) {
+    assert_masks(rt, store, &[0, 40, 0, 1]);
     assert_eq!(rt; store.markers(), 4);
     assert_eq!(rt; store.line_of_handle(2), Some(1));
     assert_eq!(rt; store.line_of_handle(3), Some(3));
@@ -83,75 +91,103 @@ fn looks_markers_up(rt: HostRuntime) {
 }
 
 #[test]
-fn takes_the_first_copy_away(rt: HostRuntime) {
-    let mut store = marked_lines(&rt, rt.alloc());
-    assert!(rt; remove(&rt, &mut store, 1, Some(3)));
+fn looks_markers_up(rt: HostRuntime) {
+    let store = marked_lines(&rt, rt.alloc());
+    assert_looked_up(&rt, &store);
+}
+
+fn take_copies_away(rt: &impl Abort, store: &mut MarkerStore) {
+    assert!(rt; remove(rt, store, 1, Some(3)));
     assert_eq!(rt; store.line_of_handle(1), None);
     assert_eq!(rt; store.line_of_handle(4), Some(1));
-    assert!(rt; !remove(&rt, &mut store, 0, None));
-    assert!(rt; !remove(&rt, &mut store, 3, Some(3)));
-    assert_masks(&rt, &store, &[0, 40, 0, 1]);
-    assert!(rt; remove(&rt, &mut store, 1, Some(3)));
-    assert_masks(&rt, &store, &[0, 32, 0, 1]);
-    assert_eq!(rt; add(&rt, &mut store, 0, 31), 5);
-    assert!(rt; remove(&rt, &mut store, 1, None));
-    assert_masks(&rt, &store, &[1 << 31, 0, 0, 1]);
+    assert!(rt; !remove(rt, store, 0, None));
+    assert!(rt; !remove(rt, store, 3, Some(3)));
+    assert_masks(rt, store, &[0, 40, 0, 1]);
+    assert!(rt; remove(rt, store, 1, Some(3)));
+    assert_masks(rt, store, &[0, 32, 0, 1]);
+    assert_eq!(rt; add(rt, store, 0, 31), 5);
+    assert!(rt; remove(rt, store, 1, None));
+    assert_masks(rt, store, &[1 << 31, 0, 0, 1]);
     assert_eq!(rt; store.markers(), 2);
+}
+
+#[test]
+fn takes_the_first_copy_away(rt: HostRuntime) {
+    let mut store = marked_lines(&rt, rt.alloc());
+    take_copies_away(&rt, &mut store);
+}
+
+fn take_all_away(rt: &impl Abort, store: &mut MarkerStore) {
+    assert!(rt; !store.delete_all(Some(7)));
+    assert!(rt; store.delete_all(Some(3)));
+    assert_masks(rt, store, &[0, 32, 0, 1]);
+    assert_eq!(rt; store.delete_handle(1), None);
+    assert_eq!(rt; store.delete_handle(3), Some(3));
+    assert_masks(rt, store, &[0, 32, 0, 0]);
+    assert!(rt; store.delete_all(None));
+    assert!(rt; !store.delete_all(None));
+    assert_masks(rt, store, &[0, 0, 0, 0]);
 }
 
 #[test]
 fn takes_markers_of_all_lines_away(rt: HostRuntime) {
     let mut store = marked_lines(&rt, rt.alloc());
-    assert!(rt; !store.delete_all(Some(7)));
-    assert!(rt; store.delete_all(Some(3)));
-    assert_masks(&rt, &store, &[0, 32, 0, 1]);
-    assert_eq!(rt; store.delete_handle(1), None);
-    assert_eq!(rt; store.delete_handle(3), Some(3));
-    assert_masks(&rt, &store, &[0, 32, 0, 0]);
-    assert!(rt; store.delete_all(None));
-    assert!(rt; !store.delete_all(None));
-    assert_masks(&rt, &store, &[0, 0, 0, 0]);
+    take_all_away(&rt, &mut store);
+}
+
+fn put_lines_in_and_join_all(rt: &impl Abort, store: &mut MarkerStore) {
+    shift(rt, store, 1, 2);
+    assert_masks(rt, store, &[0, 0, 0, 40, 0, 1]);
+    shift(rt, store, 6, 1);
+    shift(rt, store, 4, 1);
+    assert_masks(rt, store, &[0, 0, 0, 40, 0, 0, 1, 0]);
+    merge(rt, store, 2, 0);
+    merge(rt, store, 0, 2);
+    assert_masks(rt, store, &[0, 40, 0, 0, 1, 0]);
+    merge(rt, store, 0, 5);
+    assert_masks(rt, store, &[41]);
+    assert_eq!(rt; store.line_of_handle(3), Some(0));
+}
+
+fn join_a_marked_line_to_another(rt: &impl Abort, store: &mut MarkerStore) {
+    shift(rt, store, 0, 1);
+    assert_eq!(rt; add(rt, store, 0, 3), 5);
+    merge(rt, store, 0, 1);
+    assert!(rt; remove(rt, store, 0, Some(3)));
+    assert_eq!(rt; store.line_of_handle(5), None);
+    assert_eq!(rt; store.line_of_handle(1), Some(0));
+}
+
+fn start_again(rt: &impl Abort, store: &mut MarkerStore) {
+    store.restart();
+    assert_masks(rt, store, &[0]);
+    assert_eq!(rt; store.markers(), 0);
+    assert_eq!(rt; add(rt, store, 0, 2), 6);
 }
 
 #[test]
 fn lines_come_and_go(rt: HostRuntime) {
     let mut store = marked_lines(&rt, rt.alloc());
-    shift(&rt, &mut store, 1, 2);
-    assert_masks(&rt, &store, &[0, 0, 0, 40, 0, 1]);
-    shift(&rt, &mut store, 6, 1);
-    shift(&rt, &mut store, 4, 1);
-    assert_masks(&rt, &store, &[0, 0, 0, 40, 0, 0, 1, 0]);
-    merge(&rt, &mut store, 2, 0);
-    merge(&rt, &mut store, 0, 2);
-    assert_masks(&rt, &store, &[0, 40, 0, 0, 1, 0]);
-    merge(&rt, &mut store, 0, 5);
-    assert_masks(&rt, &store, &[41]);
-    assert_eq!(rt; store.line_of_handle(3), Some(0));
+    put_lines_in_and_join_all(&rt, &mut store);
+    join_a_marked_line_to_another(&rt, &mut store);
+    start_again(&rt, &mut store);
+}
 
-    shift(&rt, &mut store, 0, 1);
-    assert_eq!(rt; add(&rt, &mut store, 0, 3), 5);
-    merge(&rt, &mut store, 0, 1);
-    assert!(rt; remove(&rt, &mut store, 0, Some(3)));
-    assert_eq!(rt; store.line_of_handle(5), None);
-    assert_eq!(rt; store.line_of_handle(1), Some(0));
-
-    store.restart();
-    assert_masks(&rt, &store, &[0]);
-    assert_eq!(rt; store.markers(), 0);
-    assert_eq!(rt; add(&rt, &mut store, 0, 2), 6);
+fn mark_as_many_lines_as_can_be(rt: &impl Abort, store: &mut MarkerStore) {
+    let last = GREATEST_LINES - 1;
+    shift(rt, store, 0, last);
+    assert_eq!(rt; store.lines(), GREATEST_LINES);
+    assert_eq!(rt; add(rt, store, last, 31), 1);
+    assert_eq!(rt; add(rt, store, 7, 0), 2);
+    assert_eq!(rt; store.next(8, u32::MAX), Some(last));
+    assert_eq!(rt; store.previous(last - 1, u32::MAX), Some(7));
+    merge(rt, store, 7, last - 7);
+    assert_eq!(rt; store.lines(), 8);
+    assert_eq!(rt; store.line_of_handle(1), Some(7));
 }
 
 #[test]
 fn as_many_lines_as_can_be(rt: HostRuntime) {
     let mut store = MarkerStore::new(rt.alloc()).expect(&rt, "memory");
-    let last = GREATEST_LINES - 1;
-    shift(&rt, &mut store, 0, last);
-    assert_eq!(rt; store.lines(), GREATEST_LINES);
-    assert_eq!(rt; add(&rt, &mut store, last, 31), 1);
-    assert_eq!(rt; add(&rt, &mut store, 7, 0), 2);
-    assert_eq!(rt; store.next(8, u32::MAX), Some(last));
-    assert_eq!(rt; store.previous(last - 1, u32::MAX), Some(7));
-    merge(&rt, &mut store, 7, last - 7);
-    assert_eq!(rt; store.lines(), 8);
-    assert_eq!(rt; store.line_of_handle(1), Some(7));
+    mark_as_many_lines_as_can_be(&rt, &mut store);
 }

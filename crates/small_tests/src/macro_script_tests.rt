@@ -4,6 +4,7 @@ use ed_types::{Bytes, Kind, Message, Note, Outcome, Refusal, Reply};
 use macro_script::printing::{append_integer, append_number, append_outcome, append_text};
 use macro_script::{Cause, Command, Script, ScriptFault, assemble, list};
 use std::alloc::{AllocError, Global};
+use std::process::Abort;
 
 /// The script of an insertion's notes, 95 bytes.
 const INSERTION: &[u8] =
@@ -13,46 +14,60 @@ const INSERTION: &[u8] =
 const EVERY_KIND: &[u8] =
     b"sci 2\nopen\nload 1 4294967295\nsend 1 2282 4 -9223372036854775808 \"\\\"\\\\\\x00\\x80 ~\"\nexpect -1\nclose 1\n";
 
-#[test]
-fn lists_what_it_assembles(rt: HostRuntime) {
-    for text in [INSERTION, EVERY_KIND] {
-        let script = assemble(rt.alloc(), text).expect(&rt, "a script");
-        let listed = list(rt.alloc(), &script).expect(&rt, "memory");
-        assert!(rt; listed.starts_with(b"sci 2\n"));
-        assert!(rt; text.ends_with(&listed[5..]));
-        assert_eq!(rt; listed.len(), text.len());
-    }
+// Of each long test, one function owns what it is of, and others, to which that is lent, do all else: what owns it over many calls takes long to prove.
+
+fn assert_listed_again(rt: &impl Abort, alloc: Global, text: &[u8]) {
+    let script = assemble(alloc, text).expect(rt, "a script");
+    let listed = list(alloc, &script).expect(rt, "memory");
+    assert!(rt; listed.starts_with(b"sci 2\n"));
+    assert!(rt; text.ends_with(&listed[5..]));
+    assert_eq!(rt; listed.len(), text.len());
 }
 
 #[test]
-fn pushes_what_it_assembles(rt: HostRuntime) {
-    let text = Vec::from_slice(rt.alloc(), b"\"\\\x00\x80 ~").expect(&rt, "memory");
+fn lists_what_it_assembles(rt: HostRuntime) {
+    assert_listed_again(&rt, rt.alloc(), INSERTION);
+    assert_listed_again(&rt, rt.alloc(), EVERY_KIND);
+}
+
+fn push_every_kind(rt: &impl Abort, script: &mut Script, text: Vec<u8>) {
     let message = Message {
         number: Kind::AppendText.number(),
         w: 4,
         l: i64::MIN,
         text: Bytes::new(text),
     };
-    let mut script = Script::new(rt.alloc());
-    script.push(Command::OpenView).expect(&rt, "memory");
+    script.push(Command::OpenView).expect(rt, "memory");
     script
         .push(Command::LoadFile {
             view: 1,
             file: u32::MAX,
         })
-        .expect(&rt, "memory");
+        .expect(rt, "memory");
     script
         .push(Command::SendMessage { view: 1, message })
-        .expect(&rt, "memory");
+        .expect(rt, "memory");
     script
         .push(Command::Expect { value: -1 })
-        .expect(&rt, "memory");
+        .expect(rt, "memory");
     script
         .push(Command::CloseView { view: 1 })
-        .expect(&rt, "memory");
+        .expect(rt, "memory");
     assert_eq!(rt; script.commands().len(), 5);
+}
+
+#[test]
+fn pushes_what_it_assembles(rt: HostRuntime) {
+    let text = Vec::from_slice(rt.alloc(), b"\"\\\x00\x80 ~").expect(&rt, "memory");
+    let mut script = Script::new(rt.alloc());
+    push_every_kind(&rt, &mut script, text);
     let listed = list(rt.alloc(), &script).expect(&rt, "memory");
     assert!(rt; listed.as_slice() == EVERY_KIND);
+}
+
+fn assert_fault(rt: &impl Abort, alloc: Global, text: &[u8], wanted: ScriptFault) {
+    let fault = assemble(alloc, text).err().expect(rt, "a fault");
+    assert!(rt; fault == wanted);
 }
 
 #[test]
@@ -67,8 +82,7 @@ fn names_the_first_fault(rt: HostRuntime) {
         (b"sci 2\nopen", 2, Cause::NoLineEnd),
     ];
     for (text, line, cause) in faults {
-        let fault = assemble(rt.alloc(), text).err().expect(&rt, "a fault");
-        assert!(rt; fault == ScriptFault::BadLine { line, cause });
+        assert_fault(&rt, rt.alloc(), text, ScriptFault::BadLine { line, cause });
     }
 }
 
@@ -95,9 +109,13 @@ fn takes_the_longest_line(rt: HostRuntime) {
     assert_eq!(rt; longest.len(), 65_536 + 7);
     assert!(rt; assemble(rt.alloc(), &longest).is_ok());
     let longer = long_line(rt.alloc(), 65_519).expect(&rt, "memory");
-    let fault = assemble(rt.alloc(), &longer).err().expect(&rt, "a fault");
     let cause = Cause::LineTooLong;
-    assert!(rt; fault == ScriptFault::BadLine { line: 2, cause });
+    assert_fault(
+        &rt,
+        rt.alloc(),
+        &longer,
+        ScriptFault::BadLine { line: 2, cause },
+    );
 }
 
 #[test]
@@ -106,12 +124,15 @@ fn takes_the_longest_script(rt: HostRuntime) {
     for _ in 0..16_777_216u32 {
         text.push(b'\n').expect(&rt, "memory");
     }
-    let fault = assemble(rt.alloc(), &text).err().expect(&rt, "a fault");
     let cause = Cause::BadVersion;
-    assert!(rt; fault == ScriptFault::BadLine { line: 1, cause });
+    assert_fault(
+        &rt,
+        rt.alloc(),
+        &text,
+        ScriptFault::BadLine { line: 1, cause },
+    );
     text.push(b'\n').expect(&rt, "memory");
-    let fault = assemble(rt.alloc(), &text).err().expect(&rt, "a fault");
-    assert!(rt; fault == ScriptFault::TooLong);
+    assert_fault(&rt, rt.alloc(), &text, ScriptFault::TooLong);
 }
 
 /// A message with a text of so many bytes.
@@ -125,41 +146,39 @@ fn long_message(alloc: Global, len: usize) -> Result<Command, AllocError> {
     Ok(Command::SendMessage { view: 1, message })
 }
 
+// Pushes a message with a text of so many bytes.
+fn push_long(
+    rt: &impl Abort,
+    alloc: Global,
+    script: &mut Script,
+    len: usize,
+) -> Result<(), ScriptFault> {
+    script.push(long_message(alloc, len).expect(rt, "memory"))
+}
+
+fn push_up_to_the_limits(rt: &impl Abort, alloc: Global, script: &mut Script) {
+    assert!(rt; push_long(rt, alloc, script, 65_519) == Err(ScriptFault::TooLong));
+    // 255 lines of 65,537 bytes, and one that fills the script up to its limit.
+    for _ in 0..255u32 {
+        assert!(rt; push_long(rt, alloc, script, 65_518).is_ok());
+    }
+    assert!(rt; push_long(rt, alloc, script, 65_257) == Err(ScriptFault::TooLong));
+    assert!(rt; push_long(rt, alloc, script, 65_256).is_ok());
+    assert!(rt; script.push(Command::OpenView) == Err(ScriptFault::TooLong));
+}
+
 #[test]
 fn pushes_up_to_the_limits(rt: HostRuntime) {
     let mut script = Script::new(rt.alloc());
-    assert!(rt;
-        script.push(long_message(rt.alloc(), 65_519).expect(&rt, "memory"))
-            == Err(ScriptFault::TooLong)
-    );
-    // 255 lines of 65,537 bytes, and one that fills the script up to its limit.
-    for _ in 0..255u32 {
-        assert!(rt;
-            script
-                .push(long_message(rt.alloc(), 65_518).expect(&rt, "memory"))
-                .is_ok()
-        );
-    }
-    assert!(rt;
-        script.push(long_message(rt.alloc(), 65_257).expect(&rt, "memory"))
-            == Err(ScriptFault::TooLong)
-    );
-    assert!(rt;
-        script
-            .push(long_message(rt.alloc(), 65_256).expect(&rt, "memory"))
-            .is_ok()
-    );
-    assert!(rt; script.push(Command::OpenView) == Err(ScriptFault::TooLong));
+    push_up_to_the_limits(&rt, rt.alloc(), &mut script);
     let listed = list(rt.alloc(), &script).expect(&rt, "memory");
     assert_eq!(rt; listed.len(), 16_777_216);
     let again = assemble(rt.alloc(), &listed).expect(&rt, "a script");
     assert_eq!(rt; again.commands().len(), 256);
 }
 
-#[test]
-fn prints_outcomes(rt: HostRuntime) {
-    let pool = Bytes::new(Vec::from_slice(rt.alloc(), b"ab\n").expect(&rt, "memory"));
-    let mut notes = Vec::new(rt.alloc());
+// A reply with a note that has a text.
+fn noted_reply(rt: &impl Abort, alloc: Global) -> Reply {
     let note = Note {
         view: 1,
         code: 2008,
@@ -176,10 +195,14 @@ fn prints_outcomes(rt: HostRuntime) {
         l: 0,
         text: 0..3,
     };
-    notes.push(note).expect(&rt, "memory");
-    let reply = Reply::new(5, Bytes::empty(rt.alloc()), notes, pool);
-    let mut out = Vec::new(rt.alloc());
-    for outcome in [
+    let pool = Bytes::new(Vec::from_slice(alloc, b"ab\n").expect(rt, "memory"));
+    let mut notes = Vec::new(alloc);
+    notes.push(note).expect(rt, "memory");
+    Reply::new(5, Bytes::empty(alloc), notes, pool)
+}
+
+fn append_outcomes(rt: &impl Abort, out: &mut Vec<u8>, reply: Reply) {
+    let outcomes = [
         Outcome::Opened(1),
         Outcome::Closed,
         Outcome::Replied(reply),
@@ -192,12 +215,24 @@ fn prints_outcomes(rt: HostRuntime) {
             met: false,
             value: -3,
         },
-    ] {
-        append_outcome(&mut out, &outcome).expect(&rt, "memory");
+    ];
+    for outcome in &outcomes {
+        append_outcome(out, outcome).expect(rt, "memory");
     }
-    append_number(&mut out, 256).expect(&rt, "memory");
-    append_integer(&mut out, -1).expect(&rt, "memory");
-    append_text(&mut out, b"\r").expect(&rt, "memory");
+}
+
+fn append_parts(rt: &impl Abort, out: &mut Vec<u8>) {
+    append_number(out, 256).expect(rt, "memory");
+    append_integer(out, -1).expect(rt, "memory");
+    append_text(out, b"\r").expect(rt, "memory");
+}
+
+#[test]
+fn prints_outcomes(rt: HostRuntime) {
+    let reply = noted_reply(&rt, rt.alloc());
+    let mut out = Vec::new(rt.alloc());
+    append_outcomes(&rt, &mut out, reply);
+    append_parts(&rt, &mut out);
     let want =
         b"= 1 \"\"\n= 0 \"\"\n= 5 \"\"\n@ 1 2008 8209 0 3 1 0 0 0 -7 0 0 0 \"ab\\x0a\"\n! 6\n+ 1\n- -3\n256-1\"\\x0d\"";
     assert!(rt; out.as_slice() == want.as_slice());

@@ -80,18 +80,26 @@ fn assert_starts<P: Place>(rt: &impl Abort, index: &LineIndex<P>, starts: &[usiz
     assert_eq!(rt; index.length(), length);
 }
 
-fn row_of_edits<P: Place>(rt: &impl Abort, alloc: Global) {
-    let mut index: LineIndex<P> = LineIndex::new(alloc, LineEndTypes::Default).expect(rt, "memory");
-    assert_starts(rt, &index, &[0], 0);
-    let (text, _) = insert(rt, alloc, &mut index, b"", 0, b"a\r\nb\rc\nd", 3);
-    assert_starts(rt, &index, &[0, 3, 5, 7], 8);
+// Of each test, one function owns the index, and others, to which it is lent, do all else: what owns one over many calls takes long to prove.
+
+fn edit_in_a_row<P: Place>(rt: &impl Abort, alloc: Global, index: &mut LineIndex<P>)
+    requires { IsIndexOf [] index.old }
+{
+    assert_starts(rt, index, &[0], 0);
+    let (text, _) = insert(rt, alloc, index, b"", 0, b"a\r\nb\rc\nd", 3);
+    assert_starts(rt, index, &[0, 3, 5, 7], 8);
     let mut probes = Probes::new();
     assert_eq!(rt; index.line_of(2, &mut probes), 0);
     assert_eq!(rt; index.line_of(3, &mut probes), 1);
     assert_eq!(rt; index.line_of(usize::MAX, &mut probes), 3);
-    let (text, change) = delete(rt, alloc, &mut index, text.as_slice(), 2, 3, 1);
+    let (text, change) = delete(rt, alloc, index, text.as_slice(), 2, 3, 1);
     assert_eq!(rt; text.as_slice(), b"a\rc\nd".as_slice());
-    assert_starts(rt, &index, &[0, 2, 4], 5);
+    assert_starts(rt, index, &[0, 2, 4], 5);
+}
+
+fn row_of_edits<P: Place>(rt: &impl Abort, alloc: Global) {
+    let mut index: LineIndex<P> = LineIndex::new(alloc, LineEndTypes::Default).expect(rt, "memory");
+    edit_in_a_row(rt, alloc, &mut index);
 }
 
 #[test]
@@ -104,42 +112,60 @@ fn large_places(rt: HostRuntime) {
     row_of_edits::<u64>(&rt, rt.alloc());
 }
 
+fn split_and_join(rt: &impl Abort, alloc: Global, index: &mut LineIndex<u32>)
+    requires { IsIndexOf [] index.old }
+{
+    let (text, _) = insert(rt, alloc, index, b"", 0, b"x\r\na", 2);
+    assert_starts(rt, index, &[0, 3], 4);
+    let (text, _) = insert(rt, alloc, index, text.as_slice(), 2, b"z", 3);
+    assert_starts(rt, index, &[0, 2, 4], 5);
+    let (_, _) = delete(rt, alloc, index, text.as_slice(), 2, 1, 2);
+    assert_starts(rt, index, &[0, 3], 4);
+}
+
 #[test]
 fn a_line_end_split_and_joined(rt: HostRuntime) {
     let alloc = rt.alloc();
     let mut index: LineIndex<u32> = LineIndex::new(alloc, LineEndTypes::Default).expect(
         &rt, "memory",
     );
-    let (text, _) = insert(&rt, alloc, &mut index, b"", 0, b"x\r\na", 2);
-    assert_starts(&rt, &index, &[0, 3], 4);
-    let (text, _) = insert(&rt, alloc, &mut index, text.as_slice(), 2, b"z", 3);
-    assert_starts(&rt, &index, &[0, 2, 4], 5);
-    let (_, _) = delete(&rt, alloc, &mut index, text.as_slice(), 2, 1, 2);
-    assert_starts(&rt, &index, &[0, 3], 4);
+    split_and_join(&rt, alloc, &mut index);
+}
+
+fn complete_a_line_end(rt: &impl Abort, alloc: Global, index: &mut LineIndex<u32>)
+    requires { IsIndexOf [] index.old }
+{
+    let (text, _) = insert(rt, alloc, index, b"", 0, b"\xE2\x80", 0);
+    assert_starts(rt, index, &[0], 2);
+    let (text, _) = insert(rt, alloc, index, text.as_slice(), 2, b"\xA8", 1);
+    assert_starts(rt, index, &[0, 3], 3);
+    let (_, _) = delete(rt, alloc, index, text.as_slice(), 0, 3, 0);
+    assert_starts(rt, index, &[0], 0);
+}
+
+fn break_a_line_end(rt: &impl Abort, alloc: Global, index: &mut LineIndex<u32>)
+    requires { IsIndexOf [] index.old }
+{
+    let bytes = b"a\xC2\x85b\xE2\x80\xA8c";
+    let (text, _) = insert(rt, alloc, index, b"", 0, bytes, 5);
+    assert_starts(rt, index, &[0, 3, 7], 8);
+    let (text, _) = insert(rt, alloc, index, text.as_slice(), 2, b"x", 2);
+    assert_starts(rt, index, &[0, 8], 9);
+    let (_, _) = delete(rt, alloc, index, text.as_slice(), 2, 1, 2);
+    assert_starts(rt, index, &[0, 3, 7], 8);
 }
 
 #[test]
 fn line_ends_of_unicode(rt: HostRuntime) {
     let alloc = rt.alloc();
-    let mut index: LineIndex<u32> = LineIndex::new(alloc, LineEndTypes::Unicode).expect(
+    let mut first: LineIndex<u32> = LineIndex::new(alloc, LineEndTypes::Unicode).expect(
         &rt, "memory",
     );
-    let (text, _) = insert(&rt, alloc, &mut index, b"", 0, b"\xE2\x80", 0);
-    assert_starts(&rt, &index, &[0], 2);
-    let (text, _) = insert(&rt, alloc, &mut index, text.as_slice(), 2, b"\xA8", 1);
-    assert_starts(&rt, &index, &[0, 3], 3);
-    let (_, _) = delete(&rt, alloc, &mut index, text.as_slice(), 0, 3, 0);
-    assert_starts(&rt, &index, &[0], 0);
-    let mut index: LineIndex<u32> = LineIndex::new(alloc, LineEndTypes::Unicode).expect(
+    complete_a_line_end(&rt, alloc, &mut first);
+    let mut second: LineIndex<u32> = LineIndex::new(alloc, LineEndTypes::Unicode).expect(
         &rt, "memory",
     );
-    let bytes = b"a\xC2\x85b\xE2\x80\xA8c";
-    let (text, _) = insert(&rt, alloc, &mut index, b"", 0, bytes, 5);
-    assert_starts(&rt, &index, &[0, 3, 7], 8);
-    let (text, _) = insert(&rt, alloc, &mut index, text.as_slice(), 2, b"x", 2);
-    assert_starts(&rt, &index, &[0, 8], 9);
-    let (_, _) = delete(&rt, alloc, &mut index, text.as_slice(), 2, 1, 2);
-    assert_starts(&rt, &index, &[0, 3, 7], 8);
+    break_a_line_end(&rt, alloc, &mut second);
 }
 
 // What is kept of each line is told of the step by these edits.
@@ -162,33 +188,36 @@ fn assert_moves(rt: &impl Abort, change: &LineChange, lines: &[usize]) {
     }
 }
 
+fn follow_lines(rt: &impl Abort, alloc: Global, index: &mut LineIndex<u32>)
+    requires { IsIndexOf [] index.old }
+{
+    let (text, change) = insert(rt, alloc, index, b"", 0, b"x\ry", 1);
+    assert_moves(rt, &change, &[1]);
+    let (text, change) = insert(rt, alloc, index, text.as_slice(), 2, b"\n", 1);
+    assert_starts(rt, index, &[0, 3], 4);
+    assert_moves(rt, &change, &[0, 1]);
+    let (text, change) = insert(rt, alloc, index, text.as_slice(), 3, b"1\n2\n", 4);
+    assert_starts(rt, index, &[0, 3, 5, 7], 8);
+    assert_moves(rt, &change, &[0, 3]);
+    let (_, change) = delete(rt, alloc, index, text.as_slice(), 1, 5, 2);
+    assert_starts(rt, index, &[0, 2], 3);
+    assert_moves(rt, &change, &[0, 0, 0, 1]);
+}
+
 #[test]
 fn lines_come_to_lines(rt: HostRuntime) {
     let alloc = rt.alloc();
     let mut index: LineIndex<u32> = LineIndex::new(alloc, LineEndTypes::Default).expect(
         &rt, "memory",
     );
-    let (text, change) = insert(&rt, alloc, &mut index, b"", 0, b"x\ry", 1);
-    assert_moves(&rt, &change, &[1]);
-    let (text, change) = insert(&rt, alloc, &mut index, text.as_slice(), 2, b"\n", 1);
-    assert_starts(&rt, &index, &[0, 3], 4);
-    assert_moves(&rt, &change, &[0, 1]);
-    let (text, change) = insert(&rt, alloc, &mut index, text.as_slice(), 3, b"1\n2\n", 4);
-    assert_starts(&rt, &index, &[0, 3, 5, 7], 8);
-    assert_moves(&rt, &change, &[0, 3]);
-    let (_, change) = delete(&rt, alloc, &mut index, text.as_slice(), 1, 5, 2);
-    assert_starts(&rt, &index, &[0, 2], 3);
-    assert_moves(&rt, &change, &[0, 0, 0, 1]);
+    follow_lines(&rt, alloc, &mut index);
 }
 
-#[test]
-fn ends_of_lines(rt: HostRuntime) {
-    let alloc = rt.alloc();
-    let mut index: LineIndex<u32> = LineIndex::new(alloc, LineEndTypes::Unicode).expect(
-        &rt, "memory",
-    );
+fn assert_ends(rt: &impl Abort, alloc: Global, index: &mut LineIndex<u32>)
+    requires { IsIndexOf [] index.old }
+{
     let bytes = b"a\r\nb\rc\xE2\x80\xA9d";
-    let (text, _) = insert(&rt, alloc, &mut index, b"", 0, bytes, 4);
+    let (text, _) = insert(rt, alloc, index, b"", 0, bytes, 4);
     let text = text.as_slice();
     assert!(rt; text.len() >= 2);
     let (before, after) = text.split_at(2);
@@ -198,6 +227,15 @@ fn ends_of_lines(rt: HostRuntime) {
     assert_eq!(rt; index.end(1, before, after), 4);
     assert_eq!(rt; index.end(2, before, after), 6);
     assert_eq!(rt; index.end(3, before, after), 10);
+}
+
+#[test]
+fn ends_of_lines(rt: HostRuntime) {
+    let alloc = rt.alloc();
+    let mut index: LineIndex<u32> = LineIndex::new(alloc, LineEndTypes::Unicode).expect(
+        &rt, "memory",
+    );
+    assert_ends(&rt, alloc, &mut index);
 }
 
 // Lines of five letters, a CR and an LF, and at last one that a CR alone ends.
@@ -214,22 +252,32 @@ fn long_text(rt: &impl Abort, alloc: Global) -> Vec<u8> {
     text
 }
 
+fn assert_long_lines(rt: &impl Abort, alloc: Global, index: &mut LineIndex<u32>, bytes: &[u8])
+    requires { IsIndexOf [] index.old }
+{
+    let (text, _) = insert(rt, alloc, index, b"", 0, bytes, 500);
+    assert_eq!(rt; index.count(), 144);
+    for line in 0..143 {
+        assert_eq!(rt; index.start(line), 7 * line);
+    }
+    assert_eq!(rt; index.start(143), 1000);
+    let (_, _) = insert(rt, alloc, index, text.as_slice(), 1000, b"\n", 0);
+    assert_eq!(rt; index.count(), 144);
+    assert_eq!(rt; index.start(143), 1001);
+}
+
+fn index_long_lines(rt: &impl Abort, alloc: Global, types: LineEndTypes, bytes: &[u8]) {
+    assert_eq!(rt; lines_in(types, bytes), 144);
+    let mut index: LineIndex<u32> = LineIndex::new(alloc, types).expect(rt, "memory");
+    assert_long_lines(rt, alloc, &mut index, bytes);
+}
+
 #[test]
 fn lines_of_a_long_text(rt: HostRuntime) {
     let alloc = rt.alloc();
     let bytes = long_text(&rt, alloc);
     for types in [LineEndTypes::Default, LineEndTypes::Unicode] {
-        assert_eq!(rt; lines_in(types, bytes.as_slice()), 144);
-        let mut index: LineIndex<u32> = LineIndex::new(alloc, types).expect(&rt, "memory");
-        let (text, _) = insert(&rt, alloc, &mut index, b"", 0, bytes.as_slice(), 500);
-        assert_eq!(rt; index.count(), 144);
-        for line in 0..143 {
-            assert_eq!(rt; index.start(line), 7 * line);
-        }
-        assert_eq!(rt; index.start(143), 1000);
-        let (_, _) = insert(&rt, alloc, &mut index, text.as_slice(), 1000, b"\n", 0);
-        assert_eq!(rt; index.count(), 144);
-        assert_eq!(rt; index.start(143), 1001);
+        index_long_lines(&rt, alloc, types, bytes.as_slice());
     }
 }
 
@@ -256,21 +304,35 @@ fn a_refused_growth_changes_nothing(rt: HostRuntime) {
     assert_starts(&rt, &index, &[0], 0);
 }
 
-fn row_of_changes<P: Place>(rt: &impl Abort, alloc: Global) {
-    let mut index: LineIndex<P> = LineIndex::new(alloc, LineEndTypes::Default).expect(rt, "memory");
-    let (text, change) = insert(rt, alloc, &mut index, b"", 0, b"x\nY", 1);
+fn change_in_a_row<P: Place>(rt: &impl Abort, alloc: Global, index: &mut LineIndex<P>)
+    requires { IsIndexOf [] index.old }
+{
+    let (text, change) = insert(rt, alloc, index, b"", 0, b"x\nY", 1);
     assert_edits(rt, &change, &[LineEdit::Come { line: 0, count: 1 }]);
-    let (text, change) = insert(rt, alloc, &mut index, text.as_slice(), 2, b"abc\n", 3);
+    let (text, change) = insert(rt, alloc, index, text.as_slice(), 2, b"abc\n", 3);
     assert_edits(rt, &change, &[LineEdit::Come { line: 1, count: 1 }]);
-    let (text, change) = insert(rt, alloc, &mut index, text.as_slice(), 1, b"z", 3);
+    let (text, change) = insert(rt, alloc, index, text.as_slice(), 1, b"z", 3);
     assert_edits(rt, &change, &[]);
-    let (text, change) = delete(rt, alloc, &mut index, text.as_slice(), 1, 6, 1);
+    let (text, change) = delete(rt, alloc, index, text.as_slice(), 1, 6, 1);
     assert_eq!(rt; text.as_slice(), b"xY".as_slice());
     assert_edits(rt, &change, &[LineEdit::Join { line: 0, count: 2 }]);
-    let mut index: LineIndex<P> = LineIndex::new(alloc, LineEndTypes::Default).expect(rt, "memory");
-    let (text, _) = insert(rt, alloc, &mut index, b"", 0, b"x\nY", 1);
-    let (_, change) = delete(rt, alloc, &mut index, text.as_slice(), 0, 3, 0);
+}
+
+fn delete_all<P: Place>(rt: &impl Abort, alloc: Global, index: &mut LineIndex<P>)
+    requires { IsIndexOf [] index.old }
+{
+    let (text, _) = insert(rt, alloc, index, b"", 0, b"x\nY", 1);
+    let (_, change) = delete(rt, alloc, index, text.as_slice(), 0, 3, 0);
     assert_edits(rt, &change, &[LineEdit::Restart]);
+}
+
+fn row_of_changes<P: Place>(rt: &impl Abort, alloc: Global) {
+    let mut first: LineIndex<P> = LineIndex::new(alloc, LineEndTypes::Default).expect(rt, "memory");
+    change_in_a_row(rt, alloc, &mut first);
+    let mut second: LineIndex<P> = LineIndex::new(alloc, LineEndTypes::Default).expect(
+        rt, "memory",
+    );
+    delete_all(rt, alloc, &mut second);
 }
 
 #[test]
@@ -283,38 +345,56 @@ fn edits_of_steps_in_large_places(rt: HostRuntime) {
     row_of_changes::<u64>(&rt, rt.alloc());
 }
 
+fn change_a_line_end(rt: &impl Abort, alloc: Global, index: &mut LineIndex<u32>)
+    requires { IsIndexOf [] index.old }
+{
+    let (text, _) = insert(rt, alloc, index, b"", 0, b"x\r\na", 2);
+    let (text, change) = insert(rt, alloc, index, text.as_slice(), 2, b"z", 3);
+    assert_edits(rt, &change, &[LineEdit::Come { line: 1, count: 1 }]);
+    let (_, change) = delete(rt, alloc, index, text.as_slice(), 2, 1, 2);
+    assert_edits(rt, &change, &[LineEdit::Join { line: 0, count: 1 }]);
+}
+
+fn complete_a_cr_lf(rt: &impl Abort, alloc: Global, index: &mut LineIndex<u32>)
+    requires { IsIndexOf [] index.old }
+{
+    let (text, _) = insert(rt, alloc, index, b"", 0, b"x\ra", 1);
+    let (_, change) = insert(rt, alloc, index, text.as_slice(), 2, b"\n", 2);
+    assert_edits(rt, &change, &[]);
+}
+
 // A CR LF is split and joined again, and an LF comes behind a CR alone: its row stays with the line behind it.
 #[test]
 fn edits_about_line_ends(rt: HostRuntime) {
     let alloc = rt.alloc();
-    let mut index: LineIndex<u32> = LineIndex::new(alloc, LineEndTypes::Default).expect(
+    let mut first: LineIndex<u32> = LineIndex::new(alloc, LineEndTypes::Default).expect(
         &rt, "memory",
     );
-    let (text, _) = insert(&rt, alloc, &mut index, b"", 0, b"x\r\na", 2);
-    let (text, change) = insert(&rt, alloc, &mut index, text.as_slice(), 2, b"z", 3);
-    assert_edits(&rt, &change, &[LineEdit::Come { line: 1, count: 1 }]);
-    let (_, change) = delete(&rt, alloc, &mut index, text.as_slice(), 2, 1, 2);
-    assert_edits(&rt, &change, &[LineEdit::Join { line: 0, count: 1 }]);
-    let mut index: LineIndex<u32> = LineIndex::new(alloc, LineEndTypes::Default).expect(
+    change_a_line_end(&rt, alloc, &mut first);
+    let mut second: LineIndex<u32> = LineIndex::new(alloc, LineEndTypes::Default).expect(
         &rt, "memory",
     );
-    let (text, _) = insert(&rt, alloc, &mut index, b"", 0, b"x\ra", 1);
-    let (_, change) = insert(&rt, alloc, &mut index, text.as_slice(), 2, b"\n", 2);
-    assert_edits(&rt, &change, &[]);
+    complete_a_cr_lf(&rt, alloc, &mut second);
 }
 
 // The bytes of one step come piece after piece: the row of line 1 goes with `Y`.
-fn row_of_pieces<P: Place>(rt: &impl Abort, alloc: Global) {
-    let mut index: LineIndex<P> = LineIndex::new(alloc, LineEndTypes::Default).expect(rt, "memory");
-    let (text, _) = insert(rt, alloc, &mut index, b"", 0, b"x\nY", 1);
+fn insert_pieces<P: Place>(rt: &impl Abort, alloc: Global, index: &mut LineIndex<P>)
+    requires { IsIndexOf [] index.old }
+{
+    let (text, _) = insert(rt, alloc, index, b"", 0, b"x\nY", 1);
     let about = index.lines_about(2, 2);
-    let (text, first) = insert(rt, alloc, &mut index, text.as_slice(), 2, b"ab", 3);
+    let (text, first) = insert(rt, alloc, index, text.as_slice(), 2, b"ab", 3);
     assert_edits(rt, &first, &[]);
-    let (text, last) = insert(rt, alloc, &mut index, text.as_slice(), 4, b"c\n", 3);
+    let (text, last) = insert(rt, alloc, index, text.as_slice(), 4, b"c\n", 3);
     assert_eq!(rt; text.as_slice(), b"x\nabc\nY".as_slice());
     assert_edits(rt, &last, &[LineEdit::Come { line: 2, count: 1 }]);
     let whole = index.change_since(about, 6);
     assert_edits(rt, &whole, &[LineEdit::Come { line: 1, count: 1 }]);
+}
+
+fn row_of_pieces<P: Place>(rt: &impl Abort, alloc: Global) {
+    let mut index: LineIndex<P> = LineIndex::new(alloc, LineEndTypes::Default).expect(rt, "memory");
+    insert_pieces(rt, alloc, &mut index);
 }
 
 #[test]
@@ -349,50 +429,48 @@ fn set_types<P: Place>(
     index.set_types(types, before, after);
 }
 
-fn row_of_settings<P: Place>(rt: &impl Abort, alloc: Global) {
-    let mut index: LineIndex<P> = LineIndex::new(alloc, LineEndTypes::Default).expect(rt, "memory");
+fn change_settings<P: Place>(rt: &impl Abort, alloc: Global, index: &mut LineIndex<P>)
+    requires { IsIndexOf [] index.old }
+{
     let bytes = b"a\xC2\x85b\xE2\x80\xA8c";
-    let (text, _) = insert(rt, alloc, &mut index, b"", 0, bytes, 5);
+    let (text, _) = insert(rt, alloc, index, b"", 0, bytes, 5);
     let text = text.as_slice();
     assert!(rt; text.len() >= 2);
     let (before, after) = text.split_at(2);
-    assert_starts(rt, &index, &[0], 8);
+    assert_starts(rt, index, &[0], 8);
     let come = [LineEdit::Come { line: 1, count: 2 }];
     set_types(
         rt,
         alloc,
-        &mut index,
+        index,
         LineEndTypes::Unicode,
         before,
         after,
         &come,
     );
-    assert_starts(rt, &index, &[0, 3, 7], 8);
+    assert_starts(rt, index, &[0, 3, 7], 8);
     let count = index.count();
     assert_eq!(rt; count, 3);
     assert_eq!(rt; index.end(0, before, after), 1);
     assert_eq!(rt; index.end(1, before, after), 4);
-    set_types(
-        rt,
-        alloc,
-        &mut index,
-        LineEndTypes::Unicode,
-        before,
-        after,
-        &[],
-    );
-    assert_starts(rt, &index, &[0, 3, 7], 8);
+    set_types(rt, alloc, index, LineEndTypes::Unicode, before, after, &[]);
+    assert_starts(rt, index, &[0, 3, 7], 8);
     let join = [LineEdit::Join { line: 0, count: 2 }];
     set_types(
         rt,
         alloc,
-        &mut index,
+        index,
         LineEndTypes::Default,
         before,
         after,
         &join,
     );
-    assert_starts(rt, &index, &[0], 8);
+    assert_starts(rt, index, &[0], 8);
+}
+
+fn row_of_settings<P: Place>(rt: &impl Abort, alloc: Global) {
+    let mut index: LineIndex<P> = LineIndex::new(alloc, LineEndTypes::Default).expect(rt, "memory");
+    change_settings(rt, alloc, &mut index);
 }
 
 #[test]
@@ -405,6 +483,47 @@ fn settings_in_large_places(rt: HostRuntime) {
     row_of_settings::<u64>(&rt, rt.alloc());
 }
 
+fn change_settings_between(rt: &impl Abort, alloc: Global, index: &mut LineIndex<u32>)
+    requires { IsIndexOf [] index.old }
+{
+    let bytes = b"\xC2\x85a\nb\r\n\xE2\x80\xA9\xC2\x85\rc\xC2\x85";
+    let (text, _) = insert(rt, alloc, index, b"", 0, bytes, 9);
+    let text = text.as_slice();
+    assert!(rt; text.len() >= 8);
+    let (before, after) = text.split_at(8);
+    assert_starts(rt, index, &[0, 4, 7, 13], 16);
+    let come = [
+        LineEdit::Come { line: 1, count: 1 },
+        LineEdit::Come { line: 4, count: 2 },
+        LineEdit::Come { line: 7, count: 1 },
+    ];
+    set_types(
+        rt,
+        alloc,
+        index,
+        LineEndTypes::Unicode,
+        before,
+        after,
+        &come,
+    );
+    assert_starts(rt, index, &[0, 2, 4, 7, 10, 12, 13, 16], 16);
+    let join = [
+        LineEdit::Join { line: 0, count: 1 },
+        LineEdit::Join { line: 2, count: 2 },
+        LineEdit::Join { line: 3, count: 1 },
+    ];
+    set_types(
+        rt,
+        alloc,
+        index,
+        LineEndTypes::Default,
+        before,
+        after,
+        &join,
+    );
+    assert_starts(rt, index, &[0, 4, 7, 13], 16);
+}
+
 // Line ends of both kinds: those of Unicode lie in the first line, the third and the last, at the text's end.
 #[test]
 fn settings_with_line_ends_between(rt: HostRuntime) {
@@ -412,40 +531,5 @@ fn settings_with_line_ends_between(rt: HostRuntime) {
     let mut index: LineIndex<u32> = LineIndex::new(alloc, LineEndTypes::Default).expect(
         &rt, "memory",
     );
-    let bytes = b"\xC2\x85a\nb\r\n\xE2\x80\xA9\xC2\x85\rc\xC2\x85";
-    let (text, _) = insert(&rt, alloc, &mut index, b"", 0, bytes, 9);
-    let text = text.as_slice();
-    assert!(rt; text.len() >= 8);
-    let (before, after) = text.split_at(8);
-    assert_starts(&rt, &index, &[0, 4, 7, 13], 16);
-    let come = [
-        LineEdit::Come { line: 1, count: 1 },
-        LineEdit::Come { line: 4, count: 2 },
-        LineEdit::Come { line: 7, count: 1 },
-    ];
-    set_types(
-        &rt,
-        alloc,
-        &mut index,
-        LineEndTypes::Unicode,
-        before,
-        after,
-        &come,
-    );
-    assert_starts(&rt, &index, &[0, 2, 4, 7, 10, 12, 13, 16], 16);
-    let join = [
-        LineEdit::Join { line: 0, count: 1 },
-        LineEdit::Join { line: 2, count: 2 },
-        LineEdit::Join { line: 3, count: 1 },
-    ];
-    set_types(
-        &rt,
-        alloc,
-        &mut index,
-        LineEndTypes::Default,
-        before,
-        after,
-        &join,
-    );
-    assert_starts(&rt, &index, &[0, 4, 7, 13], 16);
+    change_settings_between(&rt, alloc, &mut index);
 }

@@ -47,33 +47,45 @@ fn assert_starts<P: Place>(
     assert_eq!(rt; table.length(), length);
 }
 
-fn row_of_edits<P: Place>(rt: &impl Abort, alloc: Global) {
-    let mut table: Partitioning<P> = Partitioning::new(alloc).expect(rt, "memory");
-    assert_starts(rt, &table, &[0], 0);
-    put_in(rt, &mut table, 0, 5);
-    table.reserve(2).expect(rt, "memory");
-    split(rt, &mut table, 1, 2);
-    split(rt, &mut table, 2, 4);
-    assert_starts(rt, &table, &[0, 2, 4], 5);
-    put_in(rt, &mut table, 0, 3);
-    assert_starts(rt, &table, &[0, 5, 7], 8);
+// Of each test, one function owns the table, and others, to which it is lent, do all else: what owns one over many calls takes long to prove.
 
+fn cut_in_three<P: Place>(rt: &impl Abort, table: &mut Partitioning<P>) {
+    assert_starts(rt, table, &[0], 0);
+    put_in(rt, table, 0, 5);
+    table.reserve(2).expect(rt, "memory");
+    split(rt, table, 1, 2);
+    split(rt, table, 2, 4);
+    assert_starts(rt, table, &[0, 2, 4], 5);
+    put_in(rt, table, 0, 3);
+    assert_starts(rt, table, &[0, 5, 7], 8);
+}
+
+fn look_up_in_three<P: Place>(rt: &impl Abort, table: &Partitioning<P>) {
     let mut probes = Probes::new();
     assert_eq!(rt; table.partition_of(5, &mut probes), 1);
     assert_eq!(rt; table.partition_of(8, &mut probes), 2);
     assert_eq!(rt; table.partition_of(usize::MAX, &mut probes), 2);
+}
 
-    take_out(rt, &mut table, 0, 1);
-    assert_starts(rt, &table, &[0, 4, 6], 7);
-    join(rt, &mut table, 1);
-    assert_starts(rt, &table, &[0, 6], 7);
-
-    put_in(rt, &mut table, 1, 2);
-    assert_starts(rt, &table, &[0, 6], 9);
-    put_in(rt, &mut table, 0, 1);
-    assert_starts(rt, &table, &[0, 7], 10);
+fn leave_two<P: Place>(rt: &impl Abort, table: &mut Partitioning<P>) {
+    take_out(rt, table, 0, 1);
+    assert_starts(rt, table, &[0, 4, 6], 7);
+    join(rt, table, 1);
+    assert_starts(rt, table, &[0, 6], 7);
+    put_in(rt, table, 1, 2);
+    assert_starts(rt, table, &[0, 6], 9);
+    put_in(rt, table, 0, 1);
+    assert_starts(rt, table, &[0, 7], 10);
+    let mut probes = Probes::new();
     assert_eq!(rt; table.partition_of(6, &mut probes), 0);
     assert_eq!(rt; table.partition_of(7, &mut probes), 1);
+}
+
+fn row_of_edits<P: Place>(rt: &impl Abort, alloc: Global) {
+    let mut table: Partitioning<P> = Partitioning::new(alloc).expect(rt, "memory");
+    cut_in_three(rt, &mut table);
+    look_up_in_three(rt, &table);
+    leave_two(rt, &mut table);
 }
 
 #[test]
@@ -92,29 +104,44 @@ fn single_bytes<P: Place>(rt: &impl Abort, alloc: Global, count: usize) -> Parti
     table
 }
 
-fn row_of_counts<P: Place>(rt: &impl Abort, alloc: Global) {
-    for (partitions, least, most) in [(1, 0, 2), (3, 1, 3), (1000, 9, 11)] {
-        let table: Partitioning<P> = single_bytes(rt, alloc, partitions);
-        for place in 0..partitions + 2 {
-            let mut probes = Probes::new();
-            let found = table.partition_of(place, &mut probes);
-            assert_eq!(rt; found, place.min(partitions - 1));
-            let reads = probes.count();
-            assert!(rt;
-                least <= reads && reads <= most,
-                "{reads} reads at {place} of {partitions}"
-            );
-        }
+// Each look-up reads at least and at most so many starts.
+fn assert_reads<P: Place>(rt: &impl Abort, table: &Partitioning<P>, least: u64, most: u64) {
+    let partitions = table.count();
+    assert!(rt; 0 < partitions && partitions <= 1000);
+    for place in 0..partitions + 2 {
+        let mut probes = Probes::new();
+        let found = table.partition_of(place, &mut probes);
+        assert_eq!(rt; found, place.min(partitions - 1));
+        let reads = probes.count();
+        assert!(rt;
+            least <= reads && reads <= most,
+            "{reads} reads at {place} of {partitions}"
+        );
     }
+}
 
-    let mut table: Partitioning<P> = single_bytes(rt, alloc, 1000);
-    put_in(rt, &mut table, 0, 1);
+fn count_reads<P: Place>(rt: &impl Abort, alloc: Global, partitions: usize, least: u64, most: u64) {
+    let table: Partitioning<P> = single_bytes(rt, alloc, partitions);
+    assert_eq!(rt; table.count(), partitions);
+    assert_reads(rt, &table, least, most);
+}
+
+fn count_steps<P: Place>(rt: &impl Abort, table: &mut Partitioning<P>) {
+    put_in(rt, table, 0, 1);
     assert_eq!(rt; table.step_at(), 0);
     let before = table.stepped();
-    put_in(rt, &mut table, 999, 1);
+    put_in(rt, table, 999, 1);
     assert_eq!(rt; table.step_at(), 999);
     let after = table.stepped();
     assert!(rt; before <= after && 998 <= after - before);
+}
+
+fn row_of_counts<P: Place>(rt: &impl Abort, alloc: Global) {
+    for (partitions, least, most) in [(1, 0, 2), (3, 1, 3), (1000, 9, 11)] {
+        count_reads::<P>(rt, alloc, partitions, least, most);
+    }
+    let mut table: Partitioning<P> = single_bytes(rt, alloc, 1000);
+    count_steps(rt, &mut table);
 }
 
 #[test]
@@ -124,23 +151,27 @@ fn counts_at_both_places(rt: HostRuntime) {
 }
 
 // A start that comes or goes on either side of the step leaves the others as they are stored.
-fn row_of_starts<P: Place>(rt: &impl Abort, alloc: Global) {
-    let mut table: Partitioning<P> = single_bytes(rt, alloc, 3);
-    put_in(rt, &mut table, 0, 4);
+fn move_starts<P: Place>(rt: &impl Abort, table: &mut Partitioning<P>) {
+    put_in(rt, table, 0, 4);
     let stepped = table.stepped();
-    split(rt, &mut table, 3, 7);
-    assert_starts(rt, &table, &[0, 5, 6, 7], 7);
+    split(rt, table, 3, 7);
+    assert_starts(rt, table, &[0, 5, 6, 7], 7);
     assert_eq!(rt; table.step_at(), 0);
-    split(rt, &mut table, 1, 2);
-    assert_starts(rt, &table, &[0, 2, 5, 6, 7], 7);
+    split(rt, table, 1, 2);
+    assert_starts(rt, table, &[0, 2, 5, 6, 7], 7);
     assert_eq!(rt; table.step_at(), 1);
-    join(rt, &mut table, 3);
-    join(rt, &mut table, 1);
-    assert_starts(rt, &table, &[0, 5, 7], 7);
+    join(rt, table, 3);
+    join(rt, table, 1);
+    assert_starts(rt, table, &[0, 5, 7], 7);
     assert_eq!(rt; table.step_at(), 0);
     assert_eq!(rt; table.stepped(), stepped);
-    put_in(rt, &mut table, 0, 1);
-    assert_starts(rt, &table, &[0, 6, 8], 8);
+    put_in(rt, table, 0, 1);
+    assert_starts(rt, table, &[0, 6, 8], 8);
+}
+
+fn row_of_starts<P: Place>(rt: &impl Abort, alloc: Global) {
+    let mut table: Partitioning<P> = single_bytes(rt, alloc, 3);
+    move_starts(rt, &mut table);
 }
 
 #[test]

@@ -88,61 +88,79 @@ fn join<P: Place>(rt: &impl Abort, view: &mut Contraction<P>, line: usize, count
     view.carry(&[LineEdit::Join { line, count }]);
 }
 
-fn inner_folds<P: Place>(rt: &impl Abort, alloc: Global) {
+// Of each test, one function owns the view, and others, to which it is lent, do all else: what owns one over many calls takes long to prove.
+
+fn fold_inside<P: Place>(rt: &impl Abort, view: &mut Contraction<P>) {
     let before = [0x2400, 0x2401];
     let after = [0x402, 0x401];
     let levels = Levels::new(&before, &after, 4);
-    let mut view: Contraction<P> = view_of(rt, alloc, 4);
     assert!(rt; view.is_all_visible());
-    contract(rt, &mut view, &levels, 1);
-    contract(rt, &mut view, &levels, 0);
-    expand(rt, &mut view, &levels, 0);
-    assert_visible(rt, &view, &[true, true, false, true]);
-    assert_expanded(rt, &view, &[true, false, true, true]);
+    contract(rt, view, &levels, 1);
+    contract(rt, view, &levels, 0);
+    expand(rt, view, &levels, 0);
+    assert_visible(rt, view, &[true, true, false, true]);
+    assert_expanded(rt, view, &[true, false, true, true]);
     assert!(rt; !view.is_all_visible());
-    assert_eq!(rt; display_of(rt, &view, 2), 1);
+    assert_eq!(rt; display_of(rt, view, 2), 1);
     assert_eq!(rt; view.doc_of(2), 3);
     assert_eq!(rt; view.doc_of(3), 4);
-    ensure(rt, &mut view, &levels, 2);
-    assert_visible(rt, &view, &[true, true, true, true]);
-    assert_expanded(rt, &view, &[true, true, true, true]);
+    ensure(rt, view, &levels, 2);
+    assert_visible(rt, view, &[true, true, true, true]);
+    assert_expanded(rt, view, &[true, true, true, true]);
     assert!(rt; view.is_all_visible());
+}
+
+fn inner_folds<P: Place>(rt: &impl Abort, alloc: Global) {
+    let mut view: Contraction<P> = view_of(rt, alloc, 4);
+    fold_inside(rt, &mut view);
+}
+
+fn hide_and_show<P: Place>(rt: &impl Abort, view: &mut Contraction<P>) {
+    hide(rt, view, 0, 4);
+    assert_visible(rt, view, &[true, false, false, false]);
+    assert!(rt; !view.is_all_visible());
+    assert_eq!(rt; display_of(rt, view, 3), 0);
+    assert_eq!(rt; view.doc_of(0), 0);
+    assert_eq!(rt; view.doc_of(1), 4);
+    show(rt, view, 1, 3);
+    assert_eq!(rt; view.doc_of(2), 2);
+    assert_eq!(rt; display_of(rt, view, 3), 2);
 }
 
 fn hidden_lines<P: Place>(rt: &impl Abort, alloc: Global) {
     let mut view: Contraction<P> = view_of(rt, alloc, 4);
-    hide(rt, &mut view, 0, 4);
-    assert_visible(rt, &view, &[true, false, false, false]);
-    assert!(rt; !view.is_all_visible());
-    assert_eq!(rt; display_of(rt, &view, 3), 0);
-    assert_eq!(rt; view.doc_of(0), 0);
-    assert_eq!(rt; view.doc_of(1), 4);
-    show(rt, &mut view, 1, 3);
-    assert_eq!(rt; view.doc_of(2), 2);
-    assert_eq!(rt; display_of(rt, &view, 3), 2);
+    hide_and_show(rt, &mut view);
+}
+
+fn carry_flags<P: Place>(rt: &impl Abort, view: &mut Contraction<P>) {
+    hide(rt, view, 2, 3);
+    set_expanded(rt, view, 2, false);
+    come(rt, view, 2, 1);
+    assert_visible(rt, view, &[true, true, true, false, true]);
+    assert_expanded(rt, view, &[true, true, true, false, true]);
+    join(rt, view, 3, 1);
+    assert_visible(rt, view, &[true, true, true, false]);
+    join(rt, view, 2, 1);
+    assert_visible(rt, view, &[true, true, true]);
+    assert_expanded(rt, view, &[true, true, true]);
+}
+
+fn start_again<P: Place>(rt: &impl Abort, view: &mut Contraction<P>) {
+    set_expanded(rt, view, 1, false);
+    set_expanded(rt, view, 1, true);
+    assert_expanded(rt, view, &[true, true, true]);
+    hide(rt, view, 1, 3);
+    assert!(rt; 1 <= P::GREATEST);
+    assert!(rt; view.count() < P::GREATEST);
+    view.carry(&[LineEdit::Restart]);
+    assert_visible(rt, view, &[true]);
+    assert!(rt; view.is_all_visible());
 }
 
 fn carried_lines<P: Place>(rt: &impl Abort, alloc: Global) {
     let mut view: Contraction<P> = view_of(rt, alloc, 4);
-    hide(rt, &mut view, 2, 3);
-    set_expanded(rt, &mut view, 2, false);
-    come(rt, &mut view, 2, 1);
-    assert_visible(rt, &view, &[true, true, true, false, true]);
-    assert_expanded(rt, &view, &[true, true, true, false, true]);
-    join(rt, &mut view, 3, 1);
-    assert_visible(rt, &view, &[true, true, true, false]);
-    join(rt, &mut view, 2, 1);
-    assert_visible(rt, &view, &[true, true, true]);
-    assert_expanded(rt, &view, &[true, true, true]);
-    set_expanded(rt, &mut view, 1, false);
-    set_expanded(rt, &mut view, 1, true);
-    assert_expanded(rt, &view, &[true, true, true]);
-    hide(rt, &mut view, 1, 3);
-    assert!(rt; 1 <= P::GREATEST);
-    assert!(rt; view.count() < P::GREATEST);
-    view.carry(&[LineEdit::Restart]);
-    assert_visible(rt, &view, &[true]);
-    assert!(rt; view.is_all_visible());
+    carry_flags(rt, &mut view);
+    start_again(rt, &mut view);
 }
 
 #[test]

@@ -1,0 +1,228 @@
+//! Each call that takes memory, at a large size. `tools/heap.sh` runs each of these tests once more where the heap may hold no more than the sizes justify,
+//! as its table says: a growth that no one needed is refused there, and the test fails.
+
+use cell_buffer::Cells;
+use decorations::Decorations;
+use partitioning::{Partitioning, Place, Probes};
+use split_vector::SplitVector;
+use std::alloc::Global;
+use std::process::Abort;
+use test_support::{LARGE, LINE, LINES, MARKED_LINES, large_text};
+use undo_history::{StepKind, UndoHistory};
+
+// Of each long test, one function owns what it is of, and others, to which that is lent, do all else: what owns it over many calls takes long to prove.
+
+fn put_in_at_once(rt: &impl Abort, whole: &mut SplitVector<u8>, text: &[u8]) {
+    assert!(rt; whole.is_empty());
+    whole.reserve(text.len()).expect(rt, "memory");
+    whole.insert_slice_reserved(0, text);
+    assert!(rt; whole.lend(0, whole.len()) == text);
+}
+
+fn put_in_one_by_one(rt: &impl Abort, single: &mut SplitVector<u8>, text: &[u8]) {
+    for byte in text {
+        let end = single.len();
+        single.reserve(1).expect(rt, "memory");
+        single.insert_reserved(end, *byte);
+    }
+    assert_eq!(rt; single.len(), LARGE);
+    assert_eq!(rt; single.moved(), 1_048_576);
+}
+
+fn put_in_one_item_often(rt: &impl Abort, filled: &mut SplitVector<u32>) {
+    filled.reserve(LINES).expect(rt, "memory");
+    filled.insert_fill_reserved(0, LINES, 7);
+    assert_eq!(rt; filled.len(), LINES);
+    assert!(rt; filled.len() > 65_535);
+    assert_eq!(rt; filled.get(65_535), 7);
+}
+
+#[test]
+fn items_at_once_and_one_by_one(rt: HostRuntime) {
+    let text = large_text(rt.alloc()).expect(&rt, "memory");
+    let mut whole: SplitVector<u8> = SplitVector::new(rt.alloc());
+    put_in_at_once(&rt, &mut whole, text.as_slice());
+    let mut single: SplitVector<u8> = SplitVector::new(rt.alloc());
+    put_in_one_by_one(&rt, &mut single, text.as_slice());
+    let mut filled: SplitVector<u32> = SplitVector::new(rt.alloc());
+    put_in_one_item_often(&rt, &mut filled);
+}
+
+fn put_cells_in_at_once(rt: &impl Abort, cells: &mut Cells, text: &[u8]) {
+    cells.reserve(text.len()).expect(rt, "memory");
+    cells.insert_reserved(0, text);
+    cells.keep_styles().expect(rt, "memory");
+    assert_eq!(rt; cells.len(), LARGE);
+    assert!(rt; cells.lend(0, cells.len()) == text);
+}
+
+fn copy_cells_out(rt: &impl Abort, cells: &Cells, copy: &mut Vec<u8>) {
+    cells
+        .append_text_to(0, cells.len(), copy)
+        .expect(rt, "memory");
+}
+
+#[test]
+fn cells_of_a_large_text(rt: HostRuntime) {
+    let text = large_text(rt.alloc()).expect(&rt, "memory");
+    let mut cells = Cells::new(rt.alloc());
+    put_cells_in_at_once(&rt, &mut cells, text.as_slice());
+    let mut copy = Vec::with_capacity(rt.alloc(), LARGE).expect(&rt, "memory");
+    copy_cells_out(&rt, &cells, &mut copy);
+    assert!(rt; copy == text);
+}
+
+fn put_cells_in_line_by_line(rt: &impl Abort, cells: &mut Cells) {
+    cells.keep_styles().expect(rt, "memory");
+    for _ in 0..LINES {
+        let end = cells.len();
+        let line = b"a line of bytes\n".as_slice();
+        cells.reserve(line.len()).expect(rt, "memory");
+        cells.insert_reserved(end, line);
+    }
+    assert_eq!(rt; cells.len(), LARGE);
+}
+
+#[test]
+fn cells_of_a_large_text_line_by_line(rt: HostRuntime) {
+    let mut cells = Cells::new(rt.alloc());
+    put_cells_in_line_by_line(&rt, &mut cells);
+}
+
+fn cut_one_by_one<P: Place>(rt: &impl Abort, table: &mut Partitioning<P>) {
+    assert!(rt; table.count() == 1 && LARGE <= P::GREATEST && table.length() == 0);
+    table.insert_text(0, LARGE);
+    for index in 1..LINES {
+        let start = LINE * index;
+        assert!(rt; table.count() == index && start <= table.length());
+        assert!(rt; table.start_of(index - 1) < start);
+        table.reserve(1).expect(rt, "memory");
+        table.insert_reserved(index, start);
+    }
+    assert_eq!(rt; table.count(), LINES);
+}
+
+// So many look-ups that each may read a few starts, and not all of them.
+fn look_all_places_up<P: Place>(rt: &impl Abort, table: &Partitioning<P>) {
+    for place in 0..LARGE {
+        let mut probes = Probes::new();
+        assert_eq!(rt; table.partition_of(place, &mut probes), place / LINE);
+        assert!(rt; 16 <= probes.count() && probes.count() <= 18);
+    }
+}
+
+fn partitions_one_by_one<P: Place>(rt: &impl Abort, alloc: Global) {
+    let mut table: Partitioning<P> = Partitioning::new(alloc).expect(rt, "memory");
+    cut_one_by_one(rt, &mut table);
+    look_all_places_up(rt, &table);
+}
+
+#[test]
+fn many_small_partitions(rt: HostRuntime) {
+    partitions_one_by_one::<u32>(&rt, rt.alloc());
+}
+
+#[test]
+fn many_large_partitions(rt: HostRuntime) {
+    partitions_one_by_one::<u64>(&rt, rt.alloc());
+}
+
+fn append_one_step(rt: &impl Abort, history: &mut UndoHistory, text: &[u8]) {
+    history.reserve(1, text.len()).expect(rt, "memory");
+    history.append_reserved(false, StepKind::Insert, 0, text);
+    assert_eq!(rt; history.undo_len(), 1);
+    assert!(rt; history.change_to_undo(0).bytes == text);
+}
+
+#[test]
+fn a_step_of_a_large_text(rt: HostRuntime) {
+    let text = large_text(rt.alloc()).expect(&rt, "memory");
+    let mut history = UndoHistory::new(rt.alloc());
+    append_one_step(&rt, &mut history, text.as_slice());
+}
+
+fn append_many_steps(rt: &impl Abort, history: &mut UndoHistory) {
+    for index in 0..LINES {
+        let line = b"a line of bytes\n".as_slice();
+        history.reserve(1, line.len()).expect(rt, "memory");
+        history.append_reserved(false, StepKind::Insert, LINE * index, line);
+    }
+    assert_eq!(rt; history.undo_len(), LINES);
+    history.undo();
+    assert_eq!(rt; history.redo_len(), LINES);
+}
+
+#[test]
+fn many_steps(rt: HostRuntime) {
+    let mut history = UndoHistory::new(rt.alloc());
+    append_many_steps(&rt, &mut history);
+}
+
+/// How long a line is, in bytes, on which an indicator is set.
+const MARKED_LINE: usize = 10;
+
+// A text of `LARGE` bytes, in which an indicator is set on the first half of each marked line.
+fn fill_line_by_line<P: Place>(rt: &impl Abort, indicators: &mut Decorations<P>) {
+    indicators.reserve(1).expect(rt, "memory");
+    assert!(rt; indicators.length() == 0 && LARGE <= P::GREATEST);
+    indicators.insert(0, LARGE);
+    for line in 0..MARKED_LINES {
+        let start = MARKED_LINE * line;
+        assert!(rt; indicators.length() == LARGE && start + 5 <= LARGE);
+        indicators.reserve_fill(7).expect(rt, "memory");
+        assert!(rt; indicators.fill(7, start, 5, 1) == Some((start, 5)));
+    }
+}
+
+fn assert_filled_line_by_line<P: Place>(rt: &impl Abort, indicators: &Decorations<P>) {
+    for line in 0..MARKED_LINES {
+        let start = MARKED_LINE * line;
+        assert!(rt; indicators.length() == LARGE && start + 5 <= LARGE);
+        assert!(rt; indicators.run(7, start + 4) == (start, start + 5));
+        assert!(rt; indicators.value(7, start + 5) == 0);
+    }
+}
+
+fn indicators_line_by_line<P: Place>(rt: &impl Abort, alloc: Global) {
+    let mut indicators: Decorations<P> = Decorations::new(alloc);
+    fill_line_by_line(rt, &mut indicators);
+    assert_filled_line_by_line(rt, &indicators);
+}
+
+#[test]
+fn indicators_of_small_places(rt: HostRuntime) {
+    indicators_line_by_line::<u32>(&rt, rt.alloc());
+}
+
+#[test]
+fn indicators_of_large_places(rt: HostRuntime) {
+    indicators_line_by_line::<u64>(&rt, rt.alloc());
+}
+
+fn fill_all(rt: &impl Abort, indicators: &mut Decorations<u32>) {
+    indicators.reserve(1).expect(rt, "memory");
+    assert!(rt; indicators.length() == 0);
+    indicators.insert(0, LARGE);
+    indicators.reserve_fill(31).expect(rt, "memory");
+    assert!(rt; indicators.length() == LARGE);
+    assert_eq!(rt; indicators.fill(31, 0, LARGE, 7), Some((0, LARGE)));
+}
+
+// Each in the midst of the value, that it gets, with room for all made at once.
+fn insert_in_the_midst(rt: &impl Abort, indicators: &mut Decorations<u32>) {
+    for line in 0..MARKED_LINES {
+        indicators.reserve(MARKED_LINES - line).expect(rt, "memory");
+        let length = indicators.length();
+        assert!(rt; length == LARGE + line);
+        indicators.insert(MARKED_LINE * line + 1, 1);
+    }
+    assert_eq!(rt; indicators.length(), LARGE + MARKED_LINES);
+    assert!(rt; indicators.run(31, 500_000) == (0, LARGE + MARKED_LINES));
+}
+
+#[test]
+fn insertions_about_an_indicator(rt: HostRuntime) {
+    let mut indicators: Decorations<u32> = Decorations::new(rt.alloc());
+    fill_all(&rt, &mut indicators);
+    insert_in_the_midst(&rt, &mut indicators);
+}
