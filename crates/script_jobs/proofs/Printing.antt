@@ -241,25 +241,16 @@ no_memory text value r fault commands (Some bytes) old is which read =
     subst (λ (script : Result (List Command) ScriptFault). Answers text value script r old old) (sym read)
     (subst (λ (q : Result ℕ RunFault). Answers text value (Ok commands) q old old) (sym (is ∙ ap Err which)) (refl, front_none old (text commands)))
 
--- a run from a new session, whose buffer is written at the end
-abbrev pub from_start : List (List ℕ) → List Command → Running → List ℕ
-from_start files commands start = printed (outcomes files commands start)
+-- a run whose buffer is written at the end
+pub run_cut : (old mid new : Option (List ℕ)) (before buffer shown text : List ℕ) → before ≡ [] → shown ≡ buffer → Moves old mid before buffer text → AppendsFront mid new shown → AppendsFront old new text
+run_cut old mid new before buffer shown text none same moved more = flush_failed old mid new before buffer text none moved (subst (AppendsFront mid new) same more)
 
-pub run_cut : (files : List (List ℕ)) (commands : List Command) (start : Running) (old mid new : Option (List ℕ)) (before buffer shown : List ℕ) → start ≡ starting (new_session greatest_limits) → before ≡ [] → shown ≡ buffer → Moves old mid before buffer (from_start files commands start) → AppendsFront mid new shown → AppendsFront old new (printed_run files commands)
-run_cut files commands start old mid new before buffer shown begin none same moved more =
-    subst (λ (s : Running). AppendsFront old new (from_start files commands s)) begin
-    (flush_failed old mid new before buffer (from_start files commands start) none moved (subst (AppendsFront mid new) same more))
+pub run_written : (old mid new : Option (List ℕ)) (before buffer shown text : List ℕ) → before ≡ [] → shown ≡ buffer → Moves old mid before buffer text → Appends mid new shown → Appends old new text
+run_written old mid new before buffer shown text none same moved more =
+    subst (Appends old new) (sym (sym (ap (λ bs. bs ++ text) none) ∙ moved.split)) (appends_more old mid new moved.written buffer moved.appended (subst (Appends mid new) same more))
 
-pub run_written : (files : List (List ℕ)) (commands : List Command) (start : Running) (old mid new : Option (List ℕ)) (before buffer shown : List ℕ) → start ≡ starting (new_session greatest_limits) → before ≡ [] → shown ≡ buffer → Moves old mid before buffer (from_start files commands start) → Appends mid new shown → Appends old new (printed_run files commands)
-run_written files commands start old mid new before buffer shown begin none same moved more =
-    let text = from_start files commands start in
-    subst (λ (s : Running). Appends old new (from_start files commands s)) begin
-    (subst (Appends old new) (sym (sym (ap (λ bs. bs ++ text) none) ∙ moved.split)) (appends_more old mid new moved.written buffer moved.appended (subst (Appends mid new) same more)))
-
-pub run_stopped : (files : List (List ℕ)) (commands : List Command) (start : Running) (old mid new : Option (List ℕ)) (before buffer shown : List ℕ) (r : Result (Unit {0}) WriteFailed) → start ≡ starting (new_session greatest_limits) → before ≡ [] → shown ≡ buffer → MovesPart old mid before buffer (from_start files commands start) → WritesAll shown mid new r → AppendsFront old new (printed_run files commands)
-run_stopped files commands start old mid new before buffer shown r begin none same some more =
-    subst (λ (s : Running). AppendsFront old new (from_start files commands s)) begin
-    (flush_part old mid new before buffer (from_start files commands start) r none some (subst (λ (bs : List ℕ). WritesAll bs mid new r) same more))
+pub run_stopped : (old mid new : Option (List ℕ)) (before buffer shown text : List ℕ) (r : Result (Unit {0}) WriteFailed) → before ≡ [] → shown ≡ buffer → MovesPart old mid before buffer text → WritesAll shown mid new r → AppendsFront old new text
+run_stopped old mid new before buffer shown text r none same some more = flush_part old mid new before buffer text r none some (subst (λ (bs : List ℕ). WritesAll bs mid new r) same more)
 
 pub stopped_by : (text : List ℕ) (field : RunFault) (fault : ScriptFault) (old now : Option (List ℕ)) (before after : List ℕ) → field ≡ Script fault → Puts {T = ℕ} text (Err field) old now before after → (fault ≡ OutOfMemory) × MovesPart old now before after text
 stopped_by text field fault old now before after is put = let P : RunFault → Type 0 = λ f. Puts {T = ℕ} text (Err f) old now before after in subst P is put

@@ -26,6 +26,10 @@ pub trait Source {
     ghost has_failed: { Self → Bool };
 
     /// Reads bytes into the front of `buf`, and answers how many: none only at the end, or where `buf` is empty.
+    ///
+    /// # Errors
+    ///
+    /// `ReadFailed` where the read fails. No byte is taken then.
     fn read(&mut self, buf: &mut [u8]) -> Result<usize, ReadFailed>
         ensures bound { ReadsAtMost result buf.new }
         ensures bytes { ReadConsumes (remaining self.old) (remaining self.new) result buf.new }
@@ -41,6 +45,10 @@ pub trait Sink {
     ghost has_failed: { Self → Bool };
 
     /// Writes bytes from the front of `bytes`, and answers how many it took.
+    ///
+    /// # Errors
+    ///
+    /// `WriteFailed` where the write fails. No byte is written then.
     fn write(&mut self, bytes: &[u8]) -> Result<usize, WriteFailed>
         ensures bound { WritesAtMost result bytes.now }
         ensures bytes { WriteAppends (contents self.old) (contents self.new) result bytes.now }

@@ -64,11 +64,11 @@ fn run_commands_quietly<W: Sink>(
     Ok(unmet)
 }
 
-/// Runs commands from a new session, and writes what they print without notes. What was printed before a want of memory is still
-/// written.
-fn print_run_quietly<W: Sink>(
+/// Does the commands, and writes what they print without notes. What was printed before a want of memory is still written.
+fn print_quietly<W: Sink>(
     alloc: Global,
     sink: &mut W,
+    run: &mut Run,
     files: &[Bytes],
     commands: &[Command],
 ) -> Result<u64, RunFault>
@@ -76,8 +76,7 @@ fn print_run_quietly<W: Sink>(
     ensures cause { WriteCause result (W.has_failed sink.new) }
 {
     let mut buffer = Vec::with_capacity(alloc, ROOM)?;
-    let mut run = Run::new(Session::new(alloc));
-    match run_commands_quietly(sink, &mut buffer, &mut run, files, commands) {
+    match run_commands_quietly(sink, &mut buffer, run, files, commands) {
         Ok(unmet) => {
             write_all(sink, &buffer)?;
             Ok(unmet)
@@ -88,6 +87,20 @@ fn print_run_quietly<W: Sink>(
         }
         Err(fault) => Err(fault),
     }
+}
+
+/// Runs commands from a new session, which it lends as `print_run` does, and writes what they print without notes.
+fn print_run_quietly<W: Sink>(
+    alloc: Global,
+    sink: &mut W,
+    files: &[Bytes],
+    commands: &[Command],
+) -> Result<u64, RunFault>
+    requires { W.has_failed sink.old ≡ false }
+    ensures cause { WriteCause result (W.has_failed sink.new) }
+{
+    let mut run = Run::new(Session::new(alloc));
+    print_quietly(alloc, sink, &mut run, files, commands)
 }
 
 /// Reads a script, runs it as `run_script` does, and writes what that prints without the lines of notes. Answers how many expects were

@@ -67,6 +67,10 @@ fn read_up_to<S: Source>(alloc: Global, source: &mut S, limit: usize) -> Result<
 }
 
 /// Reads the bytes of a script, at most 16 MiB and one byte.
+///
+/// # Errors
+///
+/// `Read` where a read failed, and `Script` for want of memory.
 pub fn read_text<S: Source>(alloc: Global, source: &mut S) -> Result<Vec<u8>, RunFault>
     requires { S.has_failed source.old ≡ false }
     ensures text { IfOk result (λ text. IfSome (S.remaining source.old) (λ bytes. text.items ≡ take 16777217 bytes)) }
@@ -77,6 +81,10 @@ pub fn read_text<S: Source>(alloc: Global, source: &mut S) -> Result<Vec<u8>, Ru
 }
 
 /// Reads a script and assembles it. At most 16 MiB and one byte are read.
+///
+/// # Errors
+///
+/// `Script` with the fault of bytes that are no script, or for want of memory, and `Read` where a read failed.
 pub fn read_script<S: Source>(alloc: Global, source: &mut S) -> Result<Script, RunFault>
     requires { S.has_failed source.old ≡ false }
     ensures script { IfSome (S.remaining source.old) (λ bytes. ReadsScript (reading_of bytes) result) }
@@ -90,7 +98,11 @@ pub fn read_script<S: Source>(alloc: Global, source: &mut S) -> Result<Script, R
     }
 }
 
-/// Reads a file whole. One above 2^31 - 1 bytes is a read fault.
+/// Reads a file whole.
+///
+/// # Errors
+///
+/// `Read` where a read failed or the file has more than 2^31 - 1 bytes, and `Script` for want of memory.
 pub fn read_file<S: Source>(alloc: Global, source: &mut S) -> Result<Bytes, RunFault>
     requires { S.has_failed source.old ≡ false }
     ensures file { IfSome (S.remaining source.old) (λ bytes. ReadsFile bytes result (S.has_failed source.new)) }

@@ -56,7 +56,35 @@ fn run_commands<W: Sink>(
     Ok(unmet)
 }
 
-/// Runs commands from a new session, and writes what they print. What was printed before a want of memory is still written.
+/// Does the commands, and writes what they print. What was printed before a want of memory is still written.
+fn print_outcomes<W: Sink>(
+    alloc: Global,
+    sink: &mut W,
+    run: &mut Run,
+    files: &[Bytes],
+    commands: &[Command],
+) -> Result<u64, RunFault>
+    requires { W.has_failed sink.old ≡ false }
+    ensures written { Writes (printed (outcomes files.now commands.now run.old)) result (W.contents sink.old) (W.contents sink.new) }
+    ensures unmet { IfOk result (λ k. k ≡ count_by is_unmet_outcome (outcomes files.now commands.now run.old)) }
+    ensures cause { WriteCause result (W.has_failed sink.new) }
+{
+    let mut buffer = Vec::with_capacity(alloc, ROOM)?;
+    match run_commands(sink, &mut buffer, run, files, commands) {
+        Ok(unmet) => {
+            write_all(sink, &buffer)?;
+            Ok(unmet)
+        }
+        Err(RunFault::Script(fault)) => {
+            let _ = write_all(sink, &buffer);
+            Err(RunFault::Script(fault))
+        }
+        Err(fault) => Err(fault),
+    }
+}
+
+/// Runs commands from a new session, and writes what they print. What was printed before a want of memory is still written. The run
+/// is lent from here, since each way out of the function that owns it is proved through all that is dropped.
 fn print_run<W: Sink>(
     alloc: Global,
     sink: &mut W,
@@ -68,19 +96,8 @@ fn print_run<W: Sink>(
     ensures unmet { IfOk result (λ k. k ≡ unmet files.now commands.now) }
     ensures cause { WriteCause result (W.has_failed sink.new) }
 {
-    let mut buffer = Vec::with_capacity(alloc, ROOM)?;
     let mut run = Run::new(Session::new(alloc));
-    match run_commands(sink, &mut buffer, &mut run, files, commands) {
-        Ok(unmet) => {
-            write_all(sink, &buffer)?;
-            Ok(unmet)
-        }
-        Err(RunFault::Script(fault)) => {
-            let _ = write_all(sink, &buffer);
-            Err(RunFault::Script(fault))
-        }
-        Err(fault) => Err(fault),
-    }
+    print_outcomes(alloc, sink, &mut run, files, commands)
 }
 
 /// Reads a script, assembles it, runs it with these files in a new session, and writes what it prints. Answers how many expects

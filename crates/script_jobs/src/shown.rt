@@ -62,6 +62,10 @@ fn line_at(text: &[u8], line: u64) -> &[u8] {
 }
 
 /// Sets `shown` to a line of a text, counted from 1, as it is shown; at most 120 characters, and `...` where there is more.
+///
+/// # Errors
+///
+/// `AllocError` for want of memory. A front part of what is to be shown is in `shown` then.
 pub fn show_line(shown: &mut String, text: &[u8], line: u64) -> Result<(), AllocError> {
     shown.clear();
     for byte in line_at(text, line) {

@@ -89,6 +89,20 @@ fn follow<C: Source, W: Sink>(
     Ok(())
 }
 
+/// Follows orders from before the first command, in a new session.
+fn follow_from_start<C: Source, W: Sink>(
+    alloc: Global,
+    commands: &[Command],
+    files: &[Bytes],
+    orders: &mut C,
+    sink: &mut W,
+) -> Result<(), RunFault>
+    requires { W.has_failed sink.old ≡ false }
+{
+    let mut walk = Walk::new(alloc, commands, files);
+    follow(alloc, &mut walk, orders, sink)
+}
+
 /// Steps through commands with these files, by the orders that a source gives, and writes what they show. Answers 0.
 ///
 /// # Errors
@@ -103,10 +117,6 @@ pub fn step_commands<C: Source, W: Sink>(
 ) -> Result<u64, RunFault>
     requires { W.has_failed sink.old ≡ false }
 {
-    let mut walk = Walk::new(alloc, commands, files);
-    let followed = follow(alloc, &mut walk, orders, sink);
-    match followed {
-        Ok(()) => Ok(0),
-        Err(fault) => Err(fault),
-    }
+    follow_from_start(alloc, commands, files, orders, sink)?;
+    Ok(0)
 }

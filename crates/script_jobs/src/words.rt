@@ -193,6 +193,10 @@ fn direct_job(alloc: Global, words: &[String]) -> Result<Option<Job>, AllocError
 ///
 /// Where each word is plain, not empty and without `-` at its front, the answer is the job that they ask for and no other. `clap` reads
 /// the rest, `-` for a script among them, and makes the texts of usage faults.
+///
+/// # Errors
+///
+/// `Usage` for words that ask for no job, with the text for the user, and `OutOfMemory` for want of memory.
 pub fn read_words(alloc: Global, words: &[String]) -> Result<Job, WordFault>
     ensures { are_plain_texts (map string_bytes words.now) ≡ true → ReadsWords (map string_bytes words.now) result }
 {
@@ -227,6 +231,10 @@ fn direct_step(alloc: Global, words: &[String]) -> Result<Option<Task>, AllocErr
 /// Reads the words behind the program's name: those of a job, `step SCRIPT FILE..`, or `run --quiet SCRIPT FILE..`.
 ///
 /// Where each word is plain, the answer is the task that they ask for and no other.
+///
+/// # Errors
+///
+/// As of `read_words`.
 pub fn read_task(alloc: Global, words: &[String]) -> Result<Task, WordFault>
     ensures { are_plain_texts (map string_bytes words.now) ≡ true → ReadsTask (map string_bytes words.now) result }
 {
