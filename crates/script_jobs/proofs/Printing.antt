@@ -12,13 +12,12 @@ use Rattle.ed_types.specs.declared.script.ScriptFault.{ScriptFault}
 use Rattle.ed_types.specs.declared.script.ScriptFault.TheVariants.{OutOfMemory}
 use Rattle.ed_model.specs.Reading.{reading}
 use Rattle.ed_model.specs.Printed.{printed, printed_outcome}
-use Rattle.ed_model.specs.Run.{Running, starting, outcomes, after_command, is_unmet}
-use Rattle.ed_model.specs.Session.{new_session, greatest_limits}
+use Rattle.ed_model.specs.Run.{Running, outcomes, after_command, is_unmet}
 use Rattle.script_jobs.specs.declared.fault.RunFault.{RunFault}
 use Rattle.script_jobs.specs.declared.fault.RunFault.TheVariants.{Script, Read, Write}
 use Rattle.script_jobs.specs.declared.ends.WriteFailed.{WriteFailed}
 use Rattle.script_jobs.specs.Ends.{AppendsFront, WritesAll}
-use Rattle.script_jobs.specs.Answers.{Moves, MovesPart, Puts, Writes, Answers, ReadsScript, printed_run}
+use Rattle.script_jobs.specs.Answers.{Moves, MovesPart, Puts, Writes, Answers, ReadsScript}
 
 -- nothing is written yet
 pub appends_none : (old : Option (List ℕ)) → Appends old old []
