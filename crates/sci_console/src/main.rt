@@ -8,37 +8,17 @@
 //! SCRIPT and each FILE are paths; `-` for SCRIPT is standard input.
 #![tactic(auto)]
 
-mod command_line;
-mod ends;
-mod fault;
-#[cfg(test)]
-mod memory;
-mod output;
-mod quiet;
-mod reading;
-mod running;
-mod shown;
-mod stepping;
-mod streams;
-#[cfg(test)]
-mod tests;
-mod words;
-
 ghost use Rattle.std.specs.Prelude.{◌≡◌, IfOk, false, length};
-ghost use Rattle.sci_console.specs.Status.{status};
+ghost use Rattle.script_jobs.specs.Status.{status};
 
 use ed_types::{Bytes, ScriptFault};
-use fault::{RunFault, status_of};
-use quiet::run_quietly;
-use reading::{read_file, read_script, read_text};
-use running::do_job;
-use shown::show_line;
+use script_jobs::{
+    Job, ReaderSource, RunFault, Task, TextSource, Word, WordFault, Words, WriterSink, do_job,
+    read_file, read_script, read_task, read_text, run_quietly, show_line, status_of, step_commands,
+};
 use std::fs::File;
 use std::process::ExitCode;
 use std::{env, io};
-use stepping::step_commands;
-use streams::{ReaderSource, TextSource, WriterSink};
-use words::{Job, Task, Word, WordFault, Words, read_task};
 
 /// The exit status for words that are no job, and for a request for help.
 const USAGE: u8 = 2;

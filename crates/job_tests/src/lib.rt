@@ -1,0 +1,7 @@
+//! Tests of what is done with scripts, over the public calls of `script_jobs`.
+#![tactic(auto)]
+
+#[cfg(test)]
+mod memory;
+#[cfg(test)]
+mod script_jobs_tests;

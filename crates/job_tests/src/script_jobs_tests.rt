@@ -1,0 +1,255 @@
+//! Tests of what no clause says: that memory suffices, values from outside, and each call that fails.
+
+ghost use Rattle.std.specs.Prelude.{◌≡◌, false};
+
+use crate::memory::{MemorySink, MemorySource};
+use ed_types::{Cause, ScriptFault};
+use script_jobs::{
+    Job, RunFault, Task, WordFault, check_script, do_job, list_script, read_file, read_task,
+    read_words, run_script, status_of,
+};
+use std::alloc::Global;
+use std::process::Abort;
+use std::test::Fail;
+
+/// The script `examples/hello.sci`, and what it prints. `tools/run_examples.py` runs all the examples.
+const HELLO: &[u8] =
+    b"sci 1\nopen\nsend 1 2003 0 0 \"hello\"\nsend 1 2006 0 0 \"\"\nsend 1 2182 0 0 \"\"\n";
+
+const HELLO_PRINTED: &[u8] =
+    b"= 1 \"\"\n= 0 \"\"\n@ 1 2008 1040 0 5 0 0 0 0 0 0 0 0 \"hello\"\n@ 1 2003 0 0 0 0 0 0 0 0 0 0 0 \"\"\n@ 1 2008 8209 0 5 0 0 0 0 0 0 0 0 \"hello\"\n= 5 \"\"\n= 5 \"hello\"\n";
+
+/// Its listing.
+const HELLO_LISTING: &[u8] =
+    b"sci 2\nopen\nsend 1 2003 0 0 \"hello\"\nsend 1 2006 0 0 \"\"\nsend 1 2182 0 0 \"\"\n";
+
+/// What a run from memory to memory answers, a few bytes at a time.
+fn run(
+    alloc: Global,
+    script: &[u8],
+    good_reads: usize,
+    sink: &mut MemorySink,
+) -> Result<u64, RunFault>
+    requires { sink.old.failed ≡ false }
+{
+    let mut source = MemorySource::new(script, 7, good_reads);
+    run_script(alloc, &mut source, Vec::new(alloc), sink)
+}
+
+#[test]
+fn runs_a_script(rt: HostRuntime) {
+    let mut sink = MemorySink::new(rt.alloc(), 5, 1000, false);
+    let answer = run(rt.alloc(), HELLO, 1000, &mut sink);
+    assert!(rt; answer == Ok(0));
+    assert!(rt; sink.bytes() == HELLO_PRINTED);
+    assert_eq!(rt; status_of(&answer), 0);
+}
+
+#[test]
+fn counts_expects_that_are_not_met(rt: HostRuntime) {
+    let script = b"sci 2\nopen\nexpect 1\nexpect 1\nexpect 2\n".as_slice();
+    let mut sink = MemorySink::new(rt.alloc(), 5, 1000, false);
+    let answer = run(rt.alloc(), script, 1000, &mut sink);
+    assert!(rt; answer == Ok(1));
+    assert!(rt; sink.bytes() == b"= 1 \"\"\n+ 1\n+ 1\n- 2\n".as_slice());
+    assert_eq!(rt; status_of(&answer), 4);
+}
+
+#[test]
+fn refuses_what_is_no_script(rt: HostRuntime) {
+    let bad_version = ScriptFault::BadLine {
+        line: 1,
+        cause: Cause::BadVersion,
+    };
+    let unknown = ScriptFault::BadLine {
+        line: 2,
+        cause: Cause::UnknownCommand,
+    };
+    for (script, fault) in [
+        (b"sci 3\n".as_slice(), bad_version),
+        (b"sci 1\nexpect 0\n".as_slice(), unknown),
+    ] {
+        let mut sink = MemorySink::new(rt.alloc(), 5, 1000, false);
+        let answer = run(rt.alloc(), script, 1000, &mut sink);
+        assert!(rt; answer == Err(RunFault::Script(fault)));
+        assert!(rt; sink.bytes().is_empty());
+        assert_eq!(rt; status_of(&answer), 1);
+    }
+}
+
+/// How many reads of 7 bytes it takes to read HELLO, and to meet its end.
+const HELLO_READS: usize = 12;
+
+/// A job that asks for HELLO.
+fn job_of_hello(alloc: Global, verb: &str) -> Result<Job, WordFault> {
+    job(alloc, &[verb, "hello.sci"])
+}
+
+/// What a job of HELLO answers, from memory to memory.
+fn do_hello(
+    alloc: Global,
+    verb: &str,
+    good_reads: usize,
+    sink: &mut MemorySink,
+) -> Result<Result<u64, RunFault>, WordFault>
+    requires { sink.old.failed ≡ false }
+{
+    let job = job_of_hello(alloc, verb)?;
+    let mut source = MemorySource::new(HELLO, 7, good_reads);
+    Ok(do_job(alloc, &job, Vec::new(alloc), &mut source, sink))
+}
+
+/// What a check writes of it.
+const HELLO_CHECKED: &[u8] = b"ok 4\n";
+
+/// Each job, and what it writes of HELLO.
+const JOBS: [(&str, &[u8]); 3] = [
+    ("run", HELLO_PRINTED),
+    ("list", HELLO_LISTING),
+    ("check", HELLO_CHECKED),
+];
+
+/// A job of HELLO whose reads fail after `good` of them.
+fn stops_at_read(rt: &impl Abort, alloc: Global, verb: &str, good: usize) -> Result<(), Fail> {
+    let mut sink = MemorySink::new(alloc, 5, 1000, false);
+    let answer = do_hello(alloc, verb, good, &mut sink)?;
+    if good < HELLO_READS {
+        assert!(rt; answer == Err(RunFault::Read));
+        assert!(rt; sink.bytes().is_empty());
+        assert_eq!(rt; status_of(&answer), 3);
+    } else {
+        assert!(rt; answer == Ok(0));
+    }
+    Ok(())
+}
+
+#[test]
+fn stops_at_each_failed_read(rt: HostRuntime) -> Result<(), Fail> {
+    for (verb, _) in &JOBS {
+        for good in 0..=HELLO_READS {
+            stops_at_read(&rt, rt.alloc(), verb, good)?;
+        }
+    }
+    Ok(())
+}
+
+/// A job of HELLO whose writes of 10 bytes fail after `good` of them, or take nothing where the sink stalls.
+fn stops_at_write(
+    rt: &impl Abort,
+    alloc: Global,
+    verb: &str,
+    text: &[u8],
+    good: usize,
+    stalls: bool,
+) -> Result<(), Fail> {
+    let mut sink = MemorySink::new(alloc, 10, good, stalls);
+    let answer = do_hello(alloc, verb, 1000, &mut sink)?;
+    if good < text.len().div_ceil(10) {
+        assert!(rt; answer == Err(RunFault::Write));
+        assert_eq!(rt; sink.bytes().len(), good.saturating_mul(10));
+        assert!(rt; text.starts_with(sink.bytes()));
+        assert_eq!(rt; status_of(&answer), 3);
+    } else {
+        assert!(rt; answer == Ok(0));
+        assert!(rt; sink.bytes() == text);
+    }
+    Ok(())
+}
+
+#[test]
+fn stops_at_each_failed_write(rt: HostRuntime) -> Result<(), Fail> {
+    for (verb, text) in &JOBS {
+        for good in 0..=text.len().div_ceil(10) {
+            stops_at_write(&rt, rt.alloc(), verb, text, good, false)?;
+            stops_at_write(&rt, rt.alloc(), verb, text, good, true)?;
+        }
+    }
+    Ok(())
+}
+
+#[test]
+fn lists_and_checks(rt: HostRuntime) -> Result<(), Fail> {
+    let mut sink = MemorySink::new(rt.alloc(), 5, 1000, false);
+    let mut source = MemorySource::new(HELLO, 7, 1000);
+    let answer = list_script(rt.alloc(), &mut source, &mut sink);
+    assert!(rt; answer == Ok(0));
+    assert!(rt; sink.bytes() == HELLO_LISTING);
+    let mut sink = MemorySink::new(rt.alloc(), 5, 1000, false);
+    let mut source = MemorySource::new(HELLO, 7, 1000);
+    let answer = check_script(rt.alloc(), &mut source, &mut sink);
+    assert!(rt; answer == Ok(0));
+    assert!(rt; sink.bytes() == b"ok 4\n".as_slice());
+    let mut source = MemorySource::new(HELLO, 7, 1000);
+    let file = read_file(rt.alloc(), &mut source)?;
+    assert!(rt; file.as_slice() == HELLO);
+    Ok(())
+}
+
+/// Words of their own.
+fn copies(alloc: Global, words: &[&str]) -> Result<Vec<String>, WordFault> {
+    let mut copies = Vec::new(alloc);
+    for word in words {
+        copies.push(String::from_str(alloc, word)?)?;
+    }
+    Ok(copies)
+}
+
+/// Reads words as a job.
+fn job(alloc: Global, words: &[&str]) -> Result<Job, WordFault> {
+    read_words(alloc, &copies(alloc, words)?)
+}
+
+/// Reads words as a task.
+fn task(alloc: Global, words: &[&str]) -> Result<Task, WordFault> {
+    read_task(alloc, &copies(alloc, words)?)
+}
+
+fn is_usage_fault(job: &Result<Job, WordFault>) -> bool {
+    matches!(job, Err(WordFault::Usage(_)))
+}
+
+#[test]
+fn reads_words(rt: HostRuntime) {
+    let run = job(rt.alloc(), &["run", "-", "f"]);
+    assert!(rt;
+        matches!(&run, Ok(Job::Run { script, files })
+        if script.as_str() == "-" && files.as_slice().len() == 1 && files.as_slice()[0].as_str() == "f")
+    );
+    let run = job(rt.alloc(), &["run", "s", "f", "g"]);
+    assert!(rt;
+        matches!(&run, Ok(Job::Run { script, files })
+        if script.as_str() == "s" && files.as_slice().len() == 2 && files.as_slice()[1].as_str() == "g")
+    );
+    let list = job(rt.alloc(), &["list", "s"]);
+    assert!(rt; matches!(&list, Ok(Job::List { script }) if script.as_str() == "s"));
+    let check = job(rt.alloc(), &["check", "-"]);
+    assert!(rt; matches!(&check, Ok(Job::Check { script }) if script.as_str() == "-"));
+    assert!(rt; is_usage_fault(&job(rt.alloc(), &[])));
+    assert!(rt; is_usage_fault(&job(rt.alloc(), &["run"])));
+    assert!(rt; is_usage_fault(&job(rt.alloc(), &["list", "a", "b"])));
+    assert!(rt; is_usage_fault(&job(rt.alloc(), &["go", "a"])));
+    assert!(rt; is_usage_fault(&job(rt.alloc(), &["--help"])));
+    assert!(rt; is_usage_fault(&job(rt.alloc(), &["run", "--wrong"])));
+}
+
+#[test]
+fn reads_tasks(rt: HostRuntime) {
+    let step = task(rt.alloc(), &["step", "s", "f"]);
+    assert!(rt;
+        matches!(&step, Ok(Task::Step { script, files })
+        if script.as_str() == "s" && files.as_slice().len() == 1 && files.as_slice()[0].as_str() == "f")
+    );
+    let quiet = task(rt.alloc(), &["run", "--quiet", "s", "f"]);
+    assert!(rt;
+        matches!(&quiet, Ok(Task::RunQuietly { script, files })
+        if script.as_str() == "s" && files.as_slice().len() == 1 && files.as_slice()[0].as_str() == "f")
+    );
+    let check = task(rt.alloc(), &["check", "s"]);
+    assert!(rt; matches!(&check, Ok(Task::Whole(Job::Check { script })) if script.as_str() == "s"));
+    let run = task(rt.alloc(), &["run", "-"]);
+    assert!(rt; matches!(&run, Ok(Task::Whole(Job::Run { script, .. })) if script.as_str() == "-"));
+    // No job is asked for by these, but tasks.
+    assert!(rt; is_usage_fault(&job(rt.alloc(), &["step", "s"])));
+    assert!(rt; is_usage_fault(&job(rt.alloc(), &["run", "--quiet", "s"])));
+    assert!(rt; matches!(&task(rt.alloc(), &["step"]), Err(WordFault::Usage(_))));
+}

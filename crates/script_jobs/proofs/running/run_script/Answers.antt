@@ -1,0 +1,10 @@
+use Rattle.std.proofs.Common.{ap, ◌∙◌, Err}
+use Rattle.std.proofs.lemmas.Result.{err_from_is_err_and}
+use Rattle.script_jobs.specs.Answers.{printed_run, unmet}
+use Rattle.script_jobs.proofs.Printing.{unread}
+use Rattle.script_jobs.proofs.running.run_script.Goals as goal
+
+pub returns-in_err-script-clause-ran : goal.returns-in_err-script-clause-ran
+returns-in_err-script-clause-ran g c =
+    let p = err_from_is_err_and c.from_residual.result c.from_residual.ensures.1 in
+    unread (printed_run c.args.files.items) (unmet c.args.files.items) c.from_residual.result c.in_err-script.field-0.0 _ _ (p.1 ∙ ap Err p.2) c.in_err-script.ensures.script

@@ -1,0 +1,204 @@
+//! Scripts, run, listed and checked from a source to a sink.
+
+ghost use Rattle.std.specs.Prelude.{◌≡◌, IfSome, IfOk, count_by, false};
+ghost use Rattle.ed_model.specs.Listing.{listing};
+ghost use Rattle.ed_model.specs.Printed.{printed};
+ghost use Rattle.ed_model.specs.Reading.{reading};
+ghost use Rattle.ed_model.specs.Run.{outcomes, is_unmet as is_unmet_outcome};
+ghost use Rattle.script_jobs.specs.Ends.{TakesAtMost};
+ghost use Rattle.script_jobs.specs.Answers.{Answers, HasCause, WritesNoneAtRead, Puts, PutCause, Writes, WriteCause, printed_run, unmet, checked, none, text_of_job, value_of_job};
+
+use crate::ends::{Sink, Source};
+use crate::fault::RunFault;
+use crate::output::{put, write_all};
+use crate::reading::read_script;
+use crate::words::Job;
+use ed_types::{Bytes, Command, Outcome};
+use editor_session::{Run, Session};
+use macro_script::list;
+use macro_script::printing::append_number;
+use std::alloc::Global;
+
+/// The room that a buffer starts with, in bytes.
+pub const ROOM: usize = 65_536;
+
+/// Whether an expect was not met.
+pub fn is_unmet(outcome: &Outcome) -> bool
+    ensures { result ≡ is_unmet_outcome outcome.now }
+{
+    match outcome {
+        Outcome::Expected { met, .. } => !*met,
+        Outcome::Opened(_) | Outcome::Closed | Outcome::Replied(_) | Outcome::Refused(_) => false,
+    }
+}
+
+/// Does the commands, puts what they print into the buffer, and counts the expects that are not met. A want of memory ends the run.
+fn run_commands<W: Sink>(
+    sink: &mut W,
+    buffer: &mut Vec<u8>,
+    run: &mut Run,
+    files: &[Bytes],
+    commands: &[Command],
+) -> Result<u64, RunFault>
+    requires { W.has_failed sink.old ≡ false }
+    ensures put { Puts (printed (outcomes files.now commands.now run.old)) result (W.contents sink.old) (W.contents sink.new) buffer.old.items buffer.new.items }
+    ensures unmet { IfOk result (λ k. k ≡ count_by is_unmet_outcome (outcomes files.now commands.now run.old)) }
+    ensures cause { PutCause result (W.has_failed sink.new) }
+{
+    let mut unmet = 0;
+    for command in commands {
+        let outcome = run.step(files, command)?;
+        put(sink, buffer, &outcome)?;
+        if is_unmet(&outcome) {
+            unmet += 1;
+        }
+    }
+    Ok(unmet)
+}
+
+/// Does the commands, and writes what they print. What was printed before a want of memory is still written.
+fn print_outcomes<W: Sink>(
+    alloc: Global,
+    sink: &mut W,
+    run: &mut Run,
+    files: &[Bytes],
+    commands: &[Command],
+) -> Result<u64, RunFault>
+    requires { W.has_failed sink.old ≡ false }
+    ensures written { Writes (printed (outcomes files.now commands.now run.old)) result (W.contents sink.old) (W.contents sink.new) }
+    ensures unmet { IfOk result (λ k. k ≡ count_by is_unmet_outcome (outcomes files.now commands.now run.old)) }
+    ensures cause { WriteCause result (W.has_failed sink.new) }
+{
+    let mut buffer = Vec::with_capacity(alloc, ROOM)?;
+    match run_commands(sink, &mut buffer, run, files, commands) {
+        Ok(unmet) => {
+            write_all(sink, &buffer)?;
+            Ok(unmet)
+        }
+        Err(RunFault::Script(fault)) => {
+            let _ = write_all(sink, &buffer);
+            Err(RunFault::Script(fault))
+        }
+        Err(fault) => Err(fault),
+    }
+}
+
+/// Runs commands from a new session, and writes what they print. What was printed before a want of memory is still written. The run
+/// is lent from here, since each way out of the function that owns it is proved through all that is dropped.
+fn print_run<W: Sink>(
+    alloc: Global,
+    sink: &mut W,
+    files: &[Bytes],
+    commands: &[Command],
+) -> Result<u64, RunFault>
+    requires { W.has_failed sink.old ≡ false }
+    ensures written { Writes (printed_run files.now commands.now) result (W.contents sink.old) (W.contents sink.new) }
+    ensures unmet { IfOk result (λ k. k ≡ unmet files.now commands.now) }
+    ensures cause { WriteCause result (W.has_failed sink.new) }
+{
+    let mut run = Run::new(Session::new(alloc));
+    print_outcomes(alloc, sink, &mut run, files, commands)
+}
+
+/// Reads a script, assembles it, runs it with these files in a new session, and writes what it prints. Answers how many expects
+/// were not met.
+///
+/// # Errors
+///
+/// `Script` with the fault of bytes that are no script, or for want of memory, which ends a run; `Read` where a read failed, and
+/// `Write` where a write failed or took no byte. Nothing is written before the script is assembled, and what was written before an
+/// error is a part of the printed text, from its front.
+pub fn run_script<R: Source, W: Sink>(
+    alloc: Global,
+    reader: &mut R,
+    files: Vec<Bytes>,
+    writer: &mut W,
+) -> Result<u64, RunFault>
+    requires reader { R.has_failed reader.old ≡ false }
+    requires writer { W.has_failed writer.old ≡ false }
+    ensures ran { IfSome (R.remaining reader.old) (λ bytes.
+        Answers (printed_run files.items) (unmet files.items) (reading bytes) result (W.contents writer.old) (W.contents writer.new)) }
+    ensures taken { TakesAtMost 16777217 (R.remaining reader.old) (R.remaining reader.new) }
+    ensures cause { HasCause result (R.has_failed reader.new) (W.has_failed writer.new) }
+    ensures unread { WritesNoneAtRead result (W.contents writer.old) (W.contents writer.new) }
+{
+    let script = read_script(alloc, reader)?;
+    print_run(alloc, writer, &files, script.commands())
+}
+
+/// Reads a script, assembles it, and writes its listing. Answers 0.
+///
+/// # Errors
+///
+/// As of `run_script`.
+pub fn list_script<R: Source, W: Sink>(
+    alloc: Global,
+    reader: &mut R,
+    writer: &mut W,
+) -> Result<u64, RunFault>
+    requires reader { R.has_failed reader.old ≡ false }
+    requires writer { W.has_failed writer.old ≡ false }
+    ensures listed { IfSome (R.remaining reader.old) (λ bytes.
+        Answers (listing 2) none (reading bytes) result (W.contents writer.old) (W.contents writer.new)) }
+    ensures taken { TakesAtMost 16777217 (R.remaining reader.old) (R.remaining reader.new) }
+    ensures cause { HasCause result (R.has_failed reader.new) (W.has_failed writer.new) }
+    ensures unread { WritesNoneAtRead result (W.contents writer.old) (W.contents writer.new) }
+{
+    let script = read_script(alloc, reader)?;
+    let text = list(alloc, &script)?;
+    write_all(writer, &text)?;
+    Ok(0)
+}
+
+/// Reads a script, assembles it, and writes `ok N`, N the number of its commands. Answers 0.
+///
+/// # Errors
+///
+/// As of `run_script`.
+pub fn check_script<R: Source, W: Sink>(
+    alloc: Global,
+    reader: &mut R,
+    writer: &mut W,
+) -> Result<u64, RunFault>
+    requires reader { R.has_failed reader.old ≡ false }
+    requires writer { W.has_failed writer.old ≡ false }
+    ensures checked { IfSome (R.remaining reader.old) (λ bytes.
+        Answers checked none (reading bytes) result (W.contents writer.old) (W.contents writer.new)) }
+    ensures taken { TakesAtMost 16777217 (R.remaining reader.old) (R.remaining reader.new) }
+    ensures cause { HasCause result (R.has_failed reader.new) (W.has_failed writer.new) }
+    ensures unread { WritesNoneAtRead result (W.contents writer.old) (W.contents writer.new) }
+{
+    let script = read_script(alloc, reader)?;
+    let mut line = Vec::from_slice(alloc, b"ok ")?;
+    append_number(&mut line, script.commands().len() as u64)?;
+    line.extend_from_slice(b"\n")?;
+    write_all(writer, &line)?;
+    Ok(0)
+}
+
+/// Does a job: runs, lists or checks the script that comes from the reader. Answers how many expects were not met, for a listing and a check 0.
+///
+/// # Errors
+///
+/// As of `run_script`.
+pub fn do_job<R: Source, W: Sink>(
+    alloc: Global,
+    job: &Job,
+    files: Vec<Bytes>,
+    reader: &mut R,
+    writer: &mut W,
+) -> Result<u64, RunFault>
+    requires reader { R.has_failed reader.old ≡ false }
+    requires writer { W.has_failed writer.old ≡ false }
+    ensures done { IfSome (R.remaining reader.old) (λ bytes.
+        Answers (text_of_job job.now files.items) (value_of_job job.now files.items) (reading bytes) result (W.contents writer.old) (W.contents writer.new)) }
+    ensures taken { TakesAtMost 16777217 (R.remaining reader.old) (R.remaining reader.new) }
+    ensures cause { HasCause result (R.has_failed reader.new) (W.has_failed writer.new) }
+    ensures unread { WritesNoneAtRead result (W.contents writer.old) (W.contents writer.new) }
+{
+    match job {
+        Job::Run { .. } => run_script(alloc, reader, files, writer),
+        Job::List { .. } => list_script(alloc, reader, writer),
+        Job::Check { .. } => check_script(alloc, reader, writer),
+    }
+}

@@ -1,0 +1,78 @@
+//! Bytes, shown to people.
+
+use std::alloc::AllocError;
+
+/// How many characters of a line are shown at most.
+const WIDTH: usize = 120;
+
+/// Whether a byte is shown as the character that it is.
+fn is_printable(byte: u8) -> bool {
+    byte >= 0x20 && byte <= 0x7E
+}
+
+/// How many characters a byte is shown by, 1 or 4.
+pub fn shown_width(byte: u8) -> usize {
+    if is_printable(byte) { 1 } else { 4 }
+}
+
+/// Appends a byte as it is shown: a printable one as its character, any other as `\xhh`.
+pub fn append_byte(out: &mut String, byte: u8) -> Result<(), AllocError> {
+    if is_printable(byte) {
+        out.push(char::from(byte))
+    } else {
+        write!(out, "\\x{byte:02x}")
+    }
+}
+
+/// Appends bytes as they are shown.
+pub fn append_bytes(out: &mut String, bytes: &[u8]) -> Result<(), AllocError> {
+    for byte in bytes {
+        append_byte(out, *byte)?;
+    }
+    Ok(())
+}
+
+/// Appends a text between quotes, as it is shown, with `"` and `\` escaped.
+pub fn append_quoted(out: &mut String, text: &[u8]) -> Result<(), AllocError> {
+    out.push_str("\"")?;
+    for byte in text {
+        if *byte == b'"' || *byte == b'\\' {
+            out.push_str("\\")?;
+        }
+        append_byte(out, *byte)?;
+    }
+    out.push_str("\"")
+}
+
+/// The first line of a text, without its LF, and what stands behind it.
+fn split_line(text: &[u8]) -> (&[u8], &[u8]) {
+    match text.iter().position(|byte| *byte == b'\n') {
+        Some(at) => (&text[..at], &text[at + 1..]),
+        None => (text, &[]),
+    }
+}
+
+/// A line of a text, counted from 1, without its LF; empty behind the last one.
+fn line_at(text: &[u8], line: u64) -> &[u8] {
+    let mut rest = text;
+    for _ in 1..line {
+        rest = split_line(rest).1;
+    }
+    split_line(rest).0
+}
+
+/// Sets `shown` to a line of a text, counted from 1, as it is shown; at most 120 characters, and `...` where there is more.
+///
+/// # Errors
+///
+/// `AllocError` for want of memory. A front part of what is to be shown is in `shown` then.
+pub fn show_line(shown: &mut String, text: &[u8], line: u64) -> Result<(), AllocError> {
+    shown.clear();
+    for byte in line_at(text, line) {
+        if shown.len().saturating_add(shown_width(*byte)) > WIDTH {
+            return shown.push_str("...");
+        }
+        append_byte(shown, *byte)?;
+    }
+    Ok(())
+}
