@@ -90,29 +90,37 @@ fn join<P: Place>(rt: &impl Abort, view: &mut Contraction<P>, line: usize, count
 
 // Of each test, one function owns the view, and others, to which it is lent, do all else: what owns one over many calls takes long to prove.
 
-fn fold_inside<P: Place>(rt: &impl Abort, view: &mut Contraction<P>) {
-    let before = [0x2400, 0x2401];
-    let after = [0x402, 0x401];
-    let levels = Levels::new(&before, &after, 4);
+fn fold_inside<P: Place>(rt: &impl Abort, view: &mut Contraction<P>, levels: &Levels) {
     assert!(rt; view.is_all_visible());
-    contract(rt, view, &levels, 1);
-    contract(rt, view, &levels, 0);
-    expand(rt, view, &levels, 0);
+    contract(rt, view, levels, 1);
+    contract(rt, view, levels, 0);
+    expand(rt, view, levels, 0);
     assert_visible(rt, view, &[true, true, false, true]);
     assert_expanded(rt, view, &[true, false, true, true]);
     assert!(rt; !view.is_all_visible());
+}
+
+fn assert_folded_inside<P: Place>(rt: &impl Abort, view: &Contraction<P>) {
     assert_eq!(rt; display_of(rt, view, 2), 1);
     assert_eq!(rt; view.doc_of(2), 3);
     assert_eq!(rt; view.doc_of(3), 4);
-    ensure(rt, view, &levels, 2);
+}
+
+fn ensure_inside<P: Place>(rt: &impl Abort, view: &mut Contraction<P>, levels: &Levels) {
+    ensure(rt, view, levels, 2);
     assert_visible(rt, view, &[true, true, true, true]);
     assert_expanded(rt, view, &[true, true, true, true]);
     assert!(rt; view.is_all_visible());
 }
 
 fn inner_folds<P: Place>(rt: &impl Abort, alloc: Global) {
+    let before = [0x2400, 0x2401];
+    let after = [0x402, 0x401];
+    let levels = Levels::new(&before, &after, 4);
     let mut view: Contraction<P> = view_of(rt, alloc, 4);
-    fold_inside(rt, &mut view);
+    fold_inside(rt, &mut view, &levels);
+    assert_folded_inside(rt, &view);
+    ensure_inside(rt, &mut view, &levels);
 }
 
 fn hide_and_show<P: Place>(rt: &impl Abort, view: &mut Contraction<P>) {

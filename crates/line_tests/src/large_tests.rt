@@ -1,5 +1,6 @@
 //! Each call that takes memory, at a large size. `tools/heap.sh` runs each of these tests once more where the heap may hold no more than the sizes justify,
 //! as its table says: a growth that no one needed is refused there, and the test fails.
+ghost use Rattle.std.specs.Prelude.{[]};
 ghost use Rattle.line_index.specs.Index.{IsIndexOf};
 
 use crate::line_index_tests::insert;

@@ -1,5 +1,5 @@
 //! Small texts, edited step by step. Each helper makes the new text, and hands it in cut in two.
-ghost use Rattle.std.specs.Prelude.{◌≡◌, ◌+◌, ◌≤◌, ◌++◌, length};
+ghost use Rattle.std.specs.Prelude.{◌≡◌, ◌+◌, ◌≤◌, ◌++◌, length, []};
 ghost use Rattle.line_index.specs.Index.{IsIndexOf};
 
 use ed_model::LineEndTypes;
