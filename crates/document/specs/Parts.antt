@@ -16,6 +16,7 @@ use Rattle.ed_model.specs.declared.plan.LineEndTypes.{LineEndTypes}
 use Rattle.line_index.specs.Index.{Index, IsIndexOf}
 use Rattle.line_rows.specs.Kept.{KeptRows}
 use Rattle.document.specs.Kept.{Kept, ChangeRoom, document_room, bound_of}
+use Rattle.document.specs.TextSteps.{bytes_out}
 use Rattle.document.specs.declared.room.DocumentRoom.{DocumentRoom}
 use Rattle.document.specs.Places.{LinesOf, IndicatorsOf}
 use Rattle.document.specs.declared.kept.Document.TheInside.{Inside}
@@ -121,12 +122,12 @@ pub record CanTake (p : TextParts) (need : DocumentRoom) : Type 0 where
   pub lines : need.lines ≤ p.rows.room.lines
   pub insertions : need.insertions ≤ p.indicators.decorated.room
 
--- the parts after the step, for which no more room was taken than it needs
+-- the parts after the step, for which no more room was taken than it needs; what goes out of the text leaves its room
 pub record AreStepped (old new : TextParts) (step : Step) (need : DocumentRoom) : Type 0 where
   pub together : (options : ℕ) → AreTogether options old → AreTogether options new
   pub cells : new.cells ≡ edited_cells step old.cells
   pub types : new.lines.index.types ≡ old.lines.index.types
   pub rows : AreCarried old.rows new.rows old.lines.index.types step (bytes_of old.cells)
   pub values : new.indicators.decorated.values ≡ indicators_after step old.indicators.decorated.values
-  pub text_left : old.room ≤ new.room + need.text
+  pub text_left : old.room + bytes_out step ≤ new.room + need.text
   pub insertions_left : old.indicators.decorated.room ≤ new.indicators.decorated.room + need.insertions

@@ -13,6 +13,11 @@ abbrev pub step_in : TextStep → List ℕ → model.Step
 step_in (Insert place bytes) text = model.Insert place bytes.now
 step_in (Delete place count) text = model.Delete place (slice_range text place (place + count))
 
+-- how many bytes it takes out; their room is free afterwards
+abbrev pub bytes_out : model.Step → ℕ
+bytes_out (model.Insert place bytes) = 0
+bytes_out (model.Delete place bytes) = length bytes
+
 -- it can be made on a text of the length
 abbrev pub IsStepOn : TextStep → ℕ → Type 0
 IsStepOn (Insert place bytes) size = place ≤ size

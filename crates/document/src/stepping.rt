@@ -7,7 +7,7 @@ ghost use Rattle.ed_model.specs.Performing.{document_after};
 ghost use Rattle.line_index.specs.StepEdits.{SmallLines, change_of};
 ghost use Rattle.document.specs.Kept.{HasRoom, HasTextRoom, HasHistoryRoom, TakesRoom, IsAtMost, FitsWidth, no_room, text_part, history_part};
 ghost use Rattle.line_index.specs.RoomLaws.{lines_for_insertion, lines_for_deletion};
-ghost use Rattle.document.specs.TextSteps.{step_in, IsStepOn, need_of};
+ghost use Rattle.document.specs.TextSteps.{bytes_out, step_in, IsStepOn, need_of};
 
 use crate::kept::Document;
 use crate::making::make_step;
@@ -73,12 +73,13 @@ impl Document {
     }
 
     /// Makes a step of the text. The cells, the line starts, the rows, the indicators and how far it is styled go with it. Returns
-    /// what became of the lines. The history is left alone. There must be room for all but the history.
+    /// what became of the lines. The history is left alone. There must be room for all but the history; what goes out of the text leaves its room.
     pub fn step(&mut self, step: TextStep) -> LineChange
         requires fits { IsStepOn step (length self.old.document.cells) }
         requires room { HasTextRoom self.old (need_of self.old.document.line_end_types step) }
         ensures document { self.new.document ≡ document_after (step_in step.entry (text_of self.old.document)) self.old.document }
         ensures room_left { TakesRoom self.old.room self.new.room (text_part (need_of self.old.document.line_end_types step.entry)) }
+        ensures text_freed { self.old.room.text + bytes_out (step_in step.entry (text_of self.old.document)) ≤ self.new.room.text + (need_of self.old.document.line_end_types step.entry).text }
         ensures lines { result ≡ change_of self.old.document.line_end_types (step_in step.entry (text_of self.old.document)) (text_of self.old.document) }
         ensures small { SmallLines result.old_lines × SmallLines result.new_lines }
         ensures views { self.new.spare.views ≡ self.old.spare.views }

@@ -1,6 +1,6 @@
 //! Undo and redo of a document: their changes one by one, and the history behind them.
 
-ghost use Rattle.std.specs.Prelude.{◌≡◌, ◌<◌, ℕ, List, length, slice_get, Some, IsSomeAnd};
+ghost use Rattle.std.specs.Prelude.{◌≡◌, ◌<◌, ◌≤◌, ◌+◌, ℕ, List, length, slice_get, Some, IsSomeAnd};
 ghost use Rattle.ed_model.specs.History.{TextStep as Text, inverse_change};
 ghost use Rattle.ed_model.specs.Performing.{document_after};
 ghost use Rattle.ed_model.specs.Session.{text_of};
@@ -8,6 +8,7 @@ ghost use Rattle.ed_model.specs.Steps.{Step};
 ghost use Rattle.line_index.specs.StepEdits.{SmallLines, change_of as change_of_lines};
 ghost use Rattle.undo_history.specs.Records.{change_of, HasItsBytes};
 ghost use Rattle.document.specs.Kept.{TakesRoom};
+ghost use Rattle.document.specs.TextSteps.{bytes_out};
 ghost use Rattle.document.specs.Undoing.{changes_of, history_behind, outline_of, bytes_in, room_of_step, room_of_change, CanMake, IsLentOf};
 
 use crate::kept::Document;
@@ -158,11 +159,12 @@ impl Document {
     }
 
     /// Makes this change, a step of the text, from the bytes that the history has. All but the history goes with it, as with
-    /// `step`. Returns what became of the lines. There must be room for it.
+    /// `step`. Returns what became of the lines. There must be room for it; what goes out of the text leaves its room.
     pub fn make_change(&mut self, direction: Direction, index: usize) -> LineChange
         requires can { IsSomeAnd (slice_get (changes_of direction self.old.document.history) index) (CanMake self.old) }
         ensures document { (step : Step) → slice_get (changes_of direction self.old.document.history) index ≡ Some (Text step) → self.new.document ≡ document_after step self.old.document }
         ensures room_left { (step : Step) → slice_get (changes_of direction self.old.document.history) index ≡ Some (Text step) → TakesRoom self.old.room self.new.room (room_of_step self.old.document.line_end_types step) }
+        ensures text_freed { (step : Step) → slice_get (changes_of direction self.old.document.history) index ≡ Some (Text step) → self.old.room.text + bytes_out step ≤ self.new.room.text + (room_of_step self.old.document.line_end_types step).text }
         ensures lines { (step : Step) → slice_get (changes_of direction self.old.document.history) index ≡ Some (Text step) → result ≡ change_of_lines self.old.document.line_end_types step (text_of self.old.document) }
         ensures small { SmallLines result.old_lines × SmallLines result.new_lines }
         ensures views { self.new.spare.views ≡ self.old.spare.views }

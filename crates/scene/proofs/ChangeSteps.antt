@@ -18,11 +18,11 @@ use Rattle.document.specs.declared.text_step.TextStep.TheVariants.{Insert, Delet
 use Rattle.document.specs.declared.room.DocumentRoom.{DocumentRoom}
 use Rattle.document.specs.TextSteps.{step_in, IsStepOn}
 use Rattle.document.specs.Kept.{TakesRoom, no_room}
-use Rattle.document.specs.Undoing.{room_of_step}
+use Rattle.document.specs.Undoing.{room_of_step, room_of_change}
 use Rattle.line_index.specs.RoomLaws.{lines_for_step}
 use Rattle.selection.specs.Positions.{movement_of, count_of}
 use Rattle.scene.specs.StepNotes.{IsSmallStep}
-use Rattle.scene.specs.Undoing.{both_rooms}
+use Rattle.scene.specs.Undoing.{both_rooms, free_behind, freed_by, room_beside}
 use Rattle.scene.specs.Turns.{ChangeFits}
 
 -- A step of a change.
@@ -81,33 +81,44 @@ pub steps_left : CellsFollowBytes → (who several : ℕ) (last changed : Bool) 
 steps_left law who several last changed (Text s) cs scene all = subst (λ text. AreStepsOf text (text_steps cs)) (sym (text_after law s scene.document)) all.1
 steps_left law who several last changed (ContainerStep token coalesce) cs scene all = all
 
--- Room: what there was and what is still needed is no more than what there is and what was needed in all.
-pub record LeavesRoom (old now whole rest : DocumentRoom) : Type 0 where
-  pub text : old.text + rest.text ≤ now.text + whole.text
+-- Room: what there was, what is free of it by now, and what is still needed is no more than what there is and what was needed in all.
+pub record LeavesRoom (old now : DocumentRoom) (free : ℕ) (whole rest : DocumentRoom) : Type 0 where
+  pub text : old.text + free + rest.text ≤ now.text + whole.text
   pub lines : old.lines + rest.lines ≤ now.lines + whole.lines
   pub insertions : old.insertions + rest.insertions ≤ now.insertions + whole.insertions
   pub steps : old.steps + rest.steps ≤ now.steps + whole.steps
   pub bytes : old.bytes + rest.bytes ≤ now.bytes + whole.bytes
 
-pub leaves_all : (old whole : DocumentRoom) → LeavesRoom old old whole whole
+pub leaves_all : (old whole : DocumentRoom) → LeavesRoom old old 0 whole whole
 leaves_all old whole = record { text = omega arith; lines = omega arith; insertions = omega arith; steps = omega arith; bytes = omega arith }
 
-pub leaves_next : (old now new whole first rest : DocumentRoom) → LeavesRoom old now whole (both_rooms first rest) → TakesRoom now new first → LeavesRoom old new whole rest
-leaves_next old now new whole first rest so takes =
-    let a = so.text in
+text_next : (types : LineEndTypes) (c : Change) (old now new free whole rest : ℕ) → old + free + (((room_of_change types c).text - free) + rest) ≤ now + whole
+    → now + freed_by c ≤ new + (room_of_change types c).text → old + free_behind free c + rest ≤ new + whole
+text_next types (Text (model.Insert place bytes)) old now new free whole rest so freed = omega arith
+text_next types (Text (model.Delete place bytes)) old now new free whole rest so freed = omega arith
+text_next types (ContainerStep token coalesce) old now new free whole rest so freed = omega arith
+
+pub leaves_next : (types : LineEndTypes) (c : Change) (old now new : DocumentRoom) (free : ℕ) (whole rest : DocumentRoom) → LeavesRoom old now free whole (both_rooms (room_beside types free c) rest)
+    → TakesRoom now new (room_of_change types c) → now.text + freed_by c ≤ new.text + (room_of_change types c).text → LeavesRoom old new (free_behind free c) whole rest
+leaves_next types c old now new free whole rest so takes freed =
     let b = so.lines in
-    let c = so.insertions in
+    let i = so.insertions in
     let d = so.steps in
     let e = so.bytes in
-    let a' = takes.text_left in
     let b' = takes.lines_left in
-    let c' = takes.insertions_left in
+    let i' = takes.insertions_left in
     let d' = takes.steps_left in
     let e' = takes.bytes_left in
-    record { text = omega arith; lines = omega arith; insertions = omega arith; steps = omega arith; bytes = omega arith }
+    record {
+      text = text_next types c old.text now.text new.text free whole.text rest.text so.text freed;
+      lines = omega arith;
+      insertions = omega arith;
+      steps = omega arith;
+      bytes = omega arith;
+    }
 
-pub leaves_none : (old now whole : DocumentRoom) → LeavesRoom old now whole no_room → TakesRoom old now whole
-leaves_none old now whole so =
+pub leaves_none : (old now : DocumentRoom) (free : ℕ) (whole : DocumentRoom) → LeavesRoom old now free whole no_room → TakesRoom old now whole
+leaves_none old now free whole so =
     let a = so.text in
     let b = so.lines in
     let c = so.insertions in

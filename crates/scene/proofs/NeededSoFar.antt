@@ -5,11 +5,10 @@ use Rattle.ed_model.specs.History.{Change}
 use Rattle.ed_model.specs.Session.{View}
 use Rattle.document.specs.declared.room.DocumentRoom.{DocumentRoom}
 use Rattle.document.specs.Kept.{document_room, no_room, amount_sum, room_sum}
-use Rattle.document.specs.Undoing.{room_of_change}
 use Rattle.scene.specs.declared.need.NoteRoom.{NoteRoom}
 use Rattle.scene.specs.declared.undoing.HistoryNeed.{HistoryNeed}
 use Rattle.scene.specs.Needs.{note_room}
-use Rattle.scene.specs.Undoing.{notes_of_change, bytes_of_change, notes_of_changes, bytes_of_changes, notes_of_history, room_of_changes, capped, capped_room, capped_notes}
+use Rattle.scene.specs.Undoing.{notes_of_change, bytes_of_change, notes_of_changes, bytes_of_changes, notes_of_history, free_behind, room_beside, room_of_changes, rooms_beside, capped, capped_room, capped_notes}
 
 -- an amount so far, what is left, and the whole
 abbrev pub IsSum : ℕ → ℕ → ℕ → Type 0
@@ -27,20 +26,20 @@ sum_next n c rest whole so = let e = so.1 in (omega arith, omega arith)
 sum_all : (n whole : ℕ) → IsSum n 0 whole → n ≡ capped whole
 sum_all n whole so = let e = so.1 in let h : n < 2 ^ 64 = so.0 in omega arith
 
-pub record IsNeededSoFar (views : List View) (who : ℕ) (types : LineEndTypes) (rest all : List Change) (need : HistoryNeed) : Type 0 where
+pub record IsNeededSoFar (views : List View) (who : ℕ) (types : LineEndTypes) (free : ℕ) (rest all : List Change) (need : HistoryNeed) : Type 0 where
   pub notes : IsSum need.notes.notes (notes_of_changes views who rest) (notes_of_history views who all)
   pub texts : IsSum need.notes.bytes (bytes_of_changes views who rest) (bytes_of_changes views who all)
-  pub text : IsSum need.document.text (room_of_changes types rest).text (room_of_changes types all).text
-  pub lines : IsSum need.document.lines (room_of_changes types rest).lines (room_of_changes types all).lines
-  pub insertions : IsSum need.document.insertions (room_of_changes types rest).insertions (room_of_changes types all).insertions
-  pub steps : IsSum need.document.steps (room_of_changes types rest).steps (room_of_changes types all).steps
-  pub bytes : IsSum need.document.bytes (room_of_changes types rest).bytes (room_of_changes types all).bytes
+  pub text : IsSum need.document.text (rooms_beside types free rest).text (room_of_changes types all).text
+  pub lines : IsSum need.document.lines (rooms_beside types free rest).lines (room_of_changes types all).lines
+  pub insertions : IsSum need.document.insertions (rooms_beside types free rest).insertions (room_of_changes types all).insertions
+  pub steps : IsSum need.document.steps (rooms_beside types free rest).steps (room_of_changes types all).steps
+  pub bytes : IsSum need.document.bytes (rooms_beside types free rest).bytes (room_of_changes types all).bytes
 
 abbrev pub history_need : NoteRoom → DocumentRoom → HistoryNeed
 history_need notes document = record { notes = notes; document = document }
 
 pub needed_none : (views : List View) (who : ℕ) (types : LineEndTypes) (all : List Change) → length views < 2 ^ 64
-    → IsNeededSoFar views who types all all (history_need (note_room (length views) 0) no_room)
+    → IsNeededSoFar views who types 0 all all (history_need (note_room (length views) 0) no_room)
 needed_none views who types all h = record {
   notes = sum_start (length views) (notes_of_changes views who all) h;
   texts = sum_none (bytes_of_changes views who all);
@@ -51,15 +50,15 @@ needed_none views who types all h = record {
   bytes = sum_none (room_of_changes types all).bytes;
 }
 
-pub needed_next : (views : List View) (who : ℕ) (types : LineEndTypes) (c : Change) (rest after all : List Change) (need : HistoryNeed)
-    → IsNeededSoFar views who types rest all need → rest ≡ c ∷ after
-    → IsNeededSoFar views who types after all (history_need
+pub needed_next : (views : List View) (who : ℕ) (types : LineEndTypes) (free : ℕ) (c : Change) (rest after all : List Change) (need : HistoryNeed)
+    → IsNeededSoFar views who types free rest all need → rest ≡ c ∷ after
+    → IsNeededSoFar views who types (free_behind free c) after all (history_need
     (note_room (amount_sum need.notes.notes (notes_of_change views who c)) (amount_sum need.notes.bytes (bytes_of_change views who c)))
-    (room_sum need.document (room_of_change types c)))
-needed_next views who types c rest after all need so e =
-    let so = subst (λ cs. IsNeededSoFar views who types cs all need) e so in
-    let room = room_of_change types c in
-    let left = room_of_changes types after in
+    (room_sum need.document (room_beside types free c)))
+needed_next views who types free c rest after all need so e =
+    let so = subst (λ cs. IsNeededSoFar views who types free cs all need) e so in
+    let room = room_beside types free c in
+    let left = rooms_beside types (free_behind free c) after in
     let whole = room_of_changes types all in
     record {
       notes = sum_next need.notes.notes (notes_of_change views who c) (notes_of_changes views who after) (notes_of_history views who all) so.notes;
@@ -71,10 +70,10 @@ needed_next views who types c rest after all need so e =
       bytes = sum_next need.document.bytes room.bytes left.bytes whole.bytes so.bytes;
     }
 
-pub needed_notes : (views : List View) (who : ℕ) (types : LineEndTypes) (rest all : List Change) (need : HistoryNeed)
-    → IsNeededSoFar views who types rest all need → rest ≡ [] → need.notes ≡ capped_notes (notes_of_history views who all) (bytes_of_changes views who all)
-needed_notes views who types rest all need so e =
-    let so = subst (λ cs. IsNeededSoFar views who types cs all need) e so in
+pub needed_notes : (views : List View) (who : ℕ) (types : LineEndTypes) (free : ℕ) (rest all : List Change) (need : HistoryNeed)
+    → IsNeededSoFar views who types free rest all need → rest ≡ [] → need.notes ≡ capped_notes (notes_of_history views who all) (bytes_of_changes views who all)
+needed_notes views who types free rest all need so e =
+    let so = subst (λ cs. IsNeededSoFar views who types free cs all need) e so in
     let a = sum_all need.notes.notes (notes_of_history views who all) so.notes in
     let b = sum_all need.notes.bytes (bytes_of_changes views who all) so.texts in
     ap (λ n. note_room n need.notes.bytes) a ∙ ap (λ n. note_room (capped (notes_of_history views who all)) n) b
@@ -82,10 +81,10 @@ needed_notes views who types rest all need so e =
 same_room : (a a' b b' c c' d d' e e' : ℕ) → a ≡ a' → b ≡ b' → c ≡ c' → d ≡ d' → e ≡ e' → document_room a b c d e ≡ document_room a' b' c' d' e'
 same_room a a' b b' c c' d d' e e' p q r s t = cc
 
-pub needed_room : (views : List View) (who : ℕ) (types : LineEndTypes) (rest all : List Change) (need : HistoryNeed)
-    → IsNeededSoFar views who types rest all need → rest ≡ [] → need.document ≡ capped_room (room_of_changes types all)
-needed_room views who types rest all need so e =
-    let so = subst (λ cs. IsNeededSoFar views who types cs all need) e so in
+pub needed_room : (views : List View) (who : ℕ) (types : LineEndTypes) (free : ℕ) (rest all : List Change) (need : HistoryNeed)
+    → IsNeededSoFar views who types free rest all need → rest ≡ [] → need.document ≡ capped_room (room_of_changes types all)
+needed_room views who types free rest all need so e =
+    let so = subst (λ cs. IsNeededSoFar views who types free cs all need) e so in
     let whole = room_of_changes types all in
     same_room _ _ _ _ _ _ _ _ _ _ (sum_all need.document.text whole.text so.text) (sum_all need.document.lines whole.lines so.lines)
     (sum_all need.document.insertions whole.insertions so.insertions) (sum_all need.document.steps whole.steps so.steps) (sum_all need.document.bytes whole.bytes so.bytes)

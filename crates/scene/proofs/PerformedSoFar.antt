@@ -21,7 +21,7 @@ use Rattle.document.specs.Kept.{Kept, HasTextRoom, TakesRoom}
 use Rattle.document.specs.Undoing.{changes_of, room_of_change}
 use Rattle.scene.specs.declared.performing.Turn.{Turn}
 use Rattle.scene.specs.Scenes.{views_of, scene_in, watchers, IsWatched}
-use Rattle.scene.specs.Undoing.{bits_of, notes_of_changes, bytes_of_changes, room_of_changes}
+use Rattle.scene.specs.Undoing.{bits_of, notes_of_changes, bytes_of_changes, free_behind, freed_by, room_of_changes, rooms_beside}
 use Rattle.scene.specs.Turns.{several_bits, CanPerform, IsPerformed}
 use Rattle.scene.specs.Performed.{CanPerformAll, AreAllPerformed}
 use Rattle.scene.proofs.ChangeNotes.{HearAlike, hear_alike_still, notes_alike, bytes_alike, performed_few}
@@ -37,8 +37,9 @@ pub record IsPerformedSoFar (direction : Direction) (rest : List Change) (change
   pub history : now.document.history ≡ old.document.history
   pub types : now.document.line_end_types ≡ old.document.line_end_types
   pub steps : AreStepsOf (text_of now.document) (text_steps rest)
-  pub room : LeavesRoom old.room now.room (room_of_changes old.document.line_end_types (changes_of direction old.document.history))
-      (room_of_changes old.document.line_end_types rest)
+  pub free : ℕ
+  pub room : LeavesRoom old.room now.room free (room_of_changes old.document.line_end_types (changes_of direction old.document.history))
+      (rooms_beside old.document.line_end_types free rest)
   pub notes : notes_of_changes (watchers now.document views') (bits_of direction) rest + length (watchers now.document views') ≤ gathered'.note_room
   pub note_room : gathered'.note_room + length gathered'.notes ≡ gathered.note_room + length gathered.notes
   pub text_room : gathered'.text_room + bytes_of_changes (watchers old.document views) (bits_of direction) (changes_of direction old.document.history)
@@ -55,6 +56,7 @@ performed_none direction old views gathered can = record {
   history = refl;
   types = refl;
   steps = can.steps;
+  free = 0;
   room = leaves_all old.room (room_of_changes old.document.line_end_types (changes_of direction old.document.history));
   notes = can.notes;
   note_room = refl;
@@ -82,7 +84,7 @@ module _ (turn : Turn) (c : Change) (rest after : List Change) (changed : Bool) 
   pub next_can : CanPerformAll turn.direction old views gathered → slice_get (changes_of turn.direction old.document.history) turn.index ≡ Some c
       → CanPerform turn now views' gathered' c
   next_can can at =
-      let room = subst (λ cs. LeavesRoom old.room now.room (room_of_changes old.document.line_end_types (changes_of turn.direction old.document.history)) (room_of_changes old.document.line_end_types cs)) e so.room in
+      let room = subst (λ cs. LeavesRoom old.room now.room so.free (room_of_changes old.document.line_end_types (changes_of turn.direction old.document.history)) (rooms_beside old.document.line_end_types so.free cs)) e so.room in
       let notes = subst (λ cs. notes_of_changes (watchers now.document views') (bits_of turn.direction) cs + length (watchers now.document views') ≤ gathered'.note_room) e so.notes in
       let texts = so.text_room ∙ ap (λ cs. gathered.text_room + bytes_of_changes (watchers now.document views') (bits_of turn.direction) cs) e in
       let there = can.texts in
@@ -157,9 +159,11 @@ module _ (turn : Turn) (c : Change) (rest after : List Change) (changed : Bool) 
           types = ap (λ (d : Document). d.line_end_types) document ∙ types_still c who (several_bits turn) turn.last changed' before ∙ so.types;
           steps = subst (λ (d : Document). AreStepsOf (text_of d) (text_steps after)) (sym document)
               (steps_left law who (several_bits turn) turn.last changed' c after before (subst (λ cs. AreStepsOf (text_of now.document) (text_steps cs)) e so.steps));
-          room = leaves_next old.room now.room new.room (room_of_changes types all) (room_of_change types c) (room_of_changes types after)
-              (subst (λ cs. LeavesRoom old.room now.room (room_of_changes types all) (room_of_changes types cs)) e so.room)
-              (subst (λ t. TakesRoom now.room new.room (room_of_change t c)) so.types p.room);
+          free = free_behind so.free c;
+          room = leaves_next types c old.room now.room new.room so.free (room_of_changes types all) (rooms_beside types (free_behind so.free c) after)
+              (subst (λ cs. LeavesRoom old.room now.room so.free (room_of_changes types all) (rooms_beside types so.free cs)) e so.room)
+              (subst (λ t. TakesRoom now.room new.room (room_of_change t c)) so.types p.room)
+              (subst (λ t. now.room.text + freed_by c ≤ new.room.text + (room_of_change t c).text) so.types p.freed);
           notes = omega arith;
           note_room = p.note_room ∙ so.note_room;
           text_room = omega arith;
@@ -180,8 +184,8 @@ performed_all direction rest changed old now views views' gathered gathered' so 
       scene = ap (λ cs. changes_performed who bits changed cs (scene_in now.document views'.entries gathered'.notes)) (sym e) ∙ so.scene;
       history = so.history;
       watched = so.watched;
-      room = leaves_none old.room now.room (room_of_changes old.document.line_end_types all)
-          (subst (λ cs. LeavesRoom old.room now.room (room_of_changes old.document.line_end_types all) (room_of_changes old.document.line_end_types cs)) e so.room);
+      room = leaves_none old.room now.room so.free (room_of_changes old.document.line_end_types all)
+          (subst (λ cs. LeavesRoom old.room now.room so.free (room_of_changes old.document.line_end_types all) (rooms_beside old.document.line_end_types so.free cs)) e so.room);
       left = omega arith;
       note_room = so.note_room;
       text_room = omega arith;

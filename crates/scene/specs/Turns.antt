@@ -14,7 +14,7 @@ use Rattle.document.specs.Kept.{Kept, HasTextRoom, TakesRoom}
 use Rattle.document.specs.Undoing.{changes_of, room_of_change}
 use Rattle.scene.specs.declared.performing.Turn.{Turn}
 use Rattle.scene.specs.Scenes.{scene_in, watchers, IsWatched}
-use Rattle.scene.specs.Undoing.{bits_of, performed_kinds, notes_of_change, bytes_of_change}
+use Rattle.scene.specs.Undoing.{bits_of, freed_by, performed_kinds, notes_of_change, bytes_of_change}
 use Rattle.scene.specs.Hearing.{hearers}
 
 -- the change whose turn it is
@@ -55,6 +55,7 @@ pub record IsPerformed (turn : Turn) (lines_changed changed : Bool) (k : Kept) (
       ≡ change_performed (bits_of turn.direction) (several_bits turn) turn.last changed change (scene_in k.document views.entries gathered.notes)
   pub watched : IsWatched k'.document views'
   pub room : TakesRoom k.room k'.room (room_of_change k.document.line_end_types change)
+  pub freed : k.room.text + freed_by change ≤ k'.room.text + (room_of_change k.document.line_end_types change).text
   pub note_room : gathered'.note_room + length gathered'.notes ≡ gathered.note_room + length gathered.notes
   pub text_room : gathered'.text_room + bytes_of_change (watchers k.document views) (bits_of turn.direction) change ≡ gathered.text_room
   pub ids : map id_of views'.entries ≡ map id_of views.entries

@@ -1,7 +1,7 @@
 -- Undo and redo: the bits of their notes, and what they need.
 use Rattle.std.specs.Prelude.{ℕ, ◌+◌, ◌-◌, ◌*◌, ◌^◌, min, true, List, [], ◌∷◌, length, bit_or, Option, Some, None}
 use Rattle.ed_model.specs.declared.plan.LineEndTypes.{LineEndTypes}
-use Rattle.ed_model.specs.Steps.{Step, step_bytes}
+use Rattle.ed_model.specs.Steps.{Step, Insert, Delete, step_bytes}
 use Rattle.ed_model.specs.History.{Change, TextStep, ContainerStep}
 use Rattle.ed_model.specs.Session.{View}
 use Rattle.ed_model.specs.Notes as notes
@@ -9,7 +9,8 @@ use Rattle.ed_model.specs.Performing.{last_bits, place_behind}
 use Rattle.document.specs.declared.undoing.Direction.{Direction}
 use Rattle.document.specs.declared.undoing.Direction.TheVariants.{Undo, Redo}
 use Rattle.document.specs.declared.room.DocumentRoom.{DocumentRoom}
-use Rattle.document.specs.Kept.{document_room, no_room}
+use Rattle.document.specs.Kept.{document_room, no_room, amount_sum}
+use Rattle.document.specs.TextSteps.{bytes_out}
 use Rattle.document.specs.Undoing.{room_of_change}
 use Rattle.scene.specs.declared.need.NoteRoom.{NoteRoom}
 use Rattle.scene.specs.Hearing.{step_kinds, hearers, bytes_shared}
@@ -53,9 +54,29 @@ abbrev pub both_rooms : DocumentRoom → DocumentRoom → DocumentRoom
 both_rooms a b =
     document_room (a.text + b.text) (a.lines + b.lines) (a.insertions + b.insertions) (a.steps + b.steps) (a.bytes + b.bytes)
 
+-- how many bytes a change takes out
+abbrev pub freed_by : Change → ℕ
+freed_by (TextStep step) = bytes_out step
+freed_by (ContainerStep token coalesce) = 0
+
+-- how many bytes of room are free behind a change, of so many before it: what comes takes of them, and what goes leaves its own
+abbrev pub free_behind : ℕ → Change → ℕ
+free_behind free (TextStep (Insert place bytes)) = free - length bytes
+free_behind free (TextStep (Delete place bytes)) = amount_sum free (length bytes)
+free_behind free (ContainerStep token coalesce) = free
+
+-- the room that it needs beside these
+abbrev pub room_beside : LineEndTypes → ℕ → Change → DocumentRoom
+room_beside types free c =
+    let need = room_of_change types c in record need { text = need.text - free }
+
+abbrev pub rooms_beside : LineEndTypes → ℕ → List Change → DocumentRoom
+rooms_beside types free [] = no_room
+rooms_beside types free (c ∷ cs) = both_rooms (room_beside types free c) (rooms_beside types (free_behind free c) cs)
+
+-- the room that changes in turn need: of the text, for what stands there at once beyond what stands there now
 abbrev pub room_of_changes : LineEndTypes → List Change → DocumentRoom
-room_of_changes types [] = no_room
-room_of_changes types (c ∷ cs) = both_rooms (room_of_change types c) (room_of_changes types cs)
+room_of_changes types cs = rooms_beside types 0 cs
 
 -- with the notes that the save point is reached or left
 abbrev pub notes_of_history : List View → ℕ → List Change → ℕ

@@ -1,6 +1,6 @@
 //! Undo and redo: a transaction performed, and what that needs.
 
-ghost use Rattle.std.specs.Prelude.{◌≡◌, ◌≤◌, ◌<◌, ◌+◌, ◌++◌, length, map, reverse, slice_get, Some};
+ghost use Rattle.std.specs.Prelude.{◌≡◌, ◌≤◌, ◌<◌, ◌+◌, ◌-◌, ◌++◌, length, map, reverse, slice_get, Some};
 ghost use Rattle.ed_model.specs.History.{Change, latest_text_step};
 ghost use Rattle.ed_model.specs.Session.{text_of};
 ghost use Rattle.ed_model.specs.SoundLaws.{AreStepsOf};
@@ -8,12 +8,12 @@ ghost use Rattle.ed_model.specs.UndoPlans.{text_steps};
 ghost use Rattle.ed_model.specs.Performing.{save_point_change, transaction_performed};
 ghost use Rattle.id_table.specs.Entries.{id_of};
 ghost use Rattle.document.specs.Kept.{HasTextRoom, TakesRoom};
-ghost use Rattle.document.specs.Undoing.{changes_of, history_behind};
+ghost use Rattle.document.specs.Undoing.{changes_of, history_behind, outline_of};
 ghost use Rattle.scene.specs.Scenes.{scene_in, watchers, AreNamed, IsWatched};
 ghost use Rattle.scene.specs.Needs.{note_room};
 ghost use Rattle.scene.specs.Turns.{turn_of};
 ghost use Rattle.scene.specs.Performed.{CanPerformAll, AreAllPerformed};
-ghost use Rattle.scene.specs.Undoing.{bits_of, notes_of_change, bytes_of_change, bytes_of_changes, notes_of_history, room_of_changes, capped_room, capped_notes, place_behind_any};
+ghost use Rattle.scene.specs.Undoing.{bits_of, free_behind, notes_of_change, bytes_of_change, bytes_of_changes, notes_of_history, room_of_changes, capped_room, capped_notes, place_behind_any};
 
 use crate::need::{NoteRoom, told_need};
 use crate::performing::{CONTAINER, Turn, all_bits, bit_of, perform_change};
@@ -170,7 +170,28 @@ fn change_note_need(
     }
 }
 
-/// Returns what undo or redo needs at most.
+// How many bytes of room are free behind a change, of so many before it: what comes takes of them, and what goes leaves its own.
+fn free_behind(free: usize, change: ChangeOutline) -> usize
+    ensures { (c : Change) → change ≡ outline_of c → result ≡ free_behind free c }
+{
+    match change {
+        ChangeOutline::Insert { count, .. } => free.saturating_sub(count),
+        ChangeOutline::Delete { count, .. } => free.saturating_add(count),
+        ChangeOutline::Container { .. } => free,
+    }
+}
+
+// What is needed where so many bytes of room are free.
+fn beside(free: usize, need: DocumentRoom) -> DocumentRoom
+    ensures { result ≡ record need { text = need.text - free } }
+{
+    DocumentRoom {
+        text: need.text.saturating_sub(free),
+        ..need
+    }
+}
+
+/// Returns what undo or redo needs at most. What goes out of the text makes room for what comes later.
 pub fn history_need(document: &Document, views: &IdTable<View>, direction: Direction) -> HistoryNeed
     requires named { AreNamed views.now.entries }
     ensures notes { result.notes ≡ capped_notes (notes_of_history (watchers document.now.document views.now) (bits_of direction) (changes_of direction document.now.document.history)) (bytes_of_changes (watchers document.now.document views.now) (bits_of direction) (changes_of direction document.now.document.history)) }
@@ -183,12 +204,15 @@ pub fn history_need(document: &Document, views: &IdTable<View>, direction: Direc
         },
         document: DocumentRoom::none(),
     };
+    let mut free = 0;
     for index in 0..document.change_count(direction) {
         let notes = change_note_need(document, views, direction, index);
+        let room = beside(free, document.change_need(direction, index));
         need = HistoryNeed {
             notes: need.notes.plus(notes),
-            document: need.document.plus(document.change_need(direction, index)),
+            document: need.document.plus(room),
         };
+        free = free_behind(free, document.change_outline(direction, index));
     }
     need
 }

@@ -49,6 +49,6 @@ returns-clause-stepped c =
       types = put.lines.types_are;
       rows = carried;
       values = c.delete.ensures.values (slice_range (bytes_of cells) c.args.place (c.args.place + c.args.count)) counted;
-      text_left = omega (arith, put.room);
+      text_left = omega (arith, put.room, counted);
       insertions_left = omega (arith, c.delete.ensures.room);
     }

@@ -135,6 +135,7 @@ returns c =
       watched = subst (λ x. IsWatched x c.follow.new.views) (sym after)
           (watched_again s d d.history c.args.views.now c.follow.new.views c.steps_keep_views_standing.ensures can.watched views c.follow.ensures.named c.follow.ensures.next);
       room = c.make_change-change.ensures.room_left s can.at;
+      freed = c.make_change-change.ensures.text_freed s can.at;
       note_room = told.note_room;
       text_room = rw told.text_room tb.text_room;
       ids = c.follow.ensures.ids;

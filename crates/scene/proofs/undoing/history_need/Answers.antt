@@ -17,7 +17,9 @@ loop-index-preserved c =
     let next = there all i (omega arith) in
     let N = c.change_note_need-notes.ensures next.0 next.1 in
     let D = some_has _ _ next.0 next.1 c.change_need.ensures.need in
-    rw (c.plus.ensures, c.plus-in-loop-index.ensures, N, D) (needed_next (watchers d c.args.views.now) (bits_of c.args.direction) d.line_end_types next.0 (drop i all) (drop (i + 1) all) all
+    let O = some_has _ _ next.0 next.1 c.change_outline.ensures.outline in
+    let F = c.free_behind-free.ensures next.0 O in
+    rw (c.plus.ensures, c.plus-in-loop-index.ensures, N, c.beside-room.ensures, D, F) (needed_next (watchers d c.args.views.now) (bits_of c.args.direction) d.line_end_types c.loop-index.free next.0 (drop i all) (drop (i + 1) all) all
     c.loop-index.need c.loop-index.invariant (drop_some all i next.0 next.1))
 
 pub returns : goal.returns
@@ -29,6 +31,6 @@ returns c =
     let W = watchers d c.args.views.now in
     let who = bits_of c.args.direction in
     record {
-      notes = needed_notes W who d.line_end_types (drop c.loop-index.index all) all c.loop-index.need c.loop-index.invariant none;
-      document = needed_room W who d.line_end_types (drop c.loop-index.index all) all c.loop-index.need c.loop-index.invariant none;
+      notes = needed_notes W who d.line_end_types c.loop-index.free (drop c.loop-index.index all) all c.loop-index.need c.loop-index.invariant none;
+      document = needed_room W who d.line_end_types c.loop-index.free (drop c.loop-index.index all) all c.loop-index.need c.loop-index.invariant none;
     }

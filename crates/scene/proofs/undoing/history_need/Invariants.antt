@@ -8,5 +8,5 @@ use Rattle.scene.proofs.undoing.history_need.Given as goal
 -- what is needed so far and what those need that are left is what all need
 abbrev pub invariant-loop-index : goal.invariant-loop-index
 invariant-loop-index l =
-    IsNeededSoFar (watchers l.fn.document.document l.fn.views) (bits_of l.fn.direction) l.fn.document.document.line_end_types
+    IsNeededSoFar (watchers l.fn.document.document l.fn.views) (bits_of l.fn.direction) l.fn.document.document.line_end_types l.free
     (drop l.index (changes_of l.fn.direction l.fn.document.document.history)) (changes_of l.fn.direction l.fn.document.document.history) l.need
