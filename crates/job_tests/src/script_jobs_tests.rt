@@ -5,7 +5,7 @@ ghost use Rattle.std.specs.Prelude.{◌≡◌, false};
 use crate::memory::{MemorySink, MemorySource};
 use ed_types::{Cause, ScriptFault};
 use script_jobs::{
-    Job, RunFault, Task, WordFault, check_script, do_job, list_script, read_file, read_task,
+    Job, RunFault, Task, WordFault, Words, check_script, do_job, list_script, read_file, read_task,
     read_words, run_script, status_of,
 };
 use std::alloc::Global;
@@ -204,52 +204,85 @@ fn task(alloc: Global, words: &[&str]) -> Result<Task, WordFault> {
     read_task(alloc, &copies(alloc, words)?)
 }
 
-fn is_usage_fault(job: &Result<Job, WordFault>) -> bool {
-    matches!(job, Err(WordFault::Usage(_)))
+/// Whether words are these texts.
+fn are_texts(words: &Words, texts: &[&str]) -> bool {
+    let words = words.as_slice();
+    for (at, text) in texts.iter().enumerate() {
+        match words.get(at) {
+            Some(word) if word.as_str() == *text => {}
+            _ => return false,
+        }
+    }
+    words.len() == texts.len()
+}
+
+/// Whether words are a job that runs this script with these files.
+fn is_run(alloc: Global, words: &[&str], wanted: &str, names: &[&str]) -> bool {
+    matches!(&job(alloc, words), Ok(Job::Run { script, files }) if script.as_str() == wanted && are_texts(files, names))
+}
+
+/// Whether words are a job that lists this script.
+fn is_list(alloc: Global, words: &[&str], wanted: &str) -> bool {
+    matches!(&job(alloc, words), Ok(Job::List { script }) if script.as_str() == wanted)
+}
+
+/// Whether words are a job that checks this script.
+fn is_check(alloc: Global, words: &[&str], wanted: &str) -> bool {
+    matches!(&job(alloc, words), Ok(Job::Check { script }) if script.as_str() == wanted)
+}
+
+/// Whether words are no job.
+fn is_no_job(alloc: Global, words: &[&str]) -> bool {
+    matches!(&job(alloc, words), Err(WordFault::Usage(_)))
 }
 
 #[test]
 fn reads_words(rt: HostRuntime) {
-    let run = job(rt.alloc(), &["run", "-", "f"]);
-    assert!(rt;
-        matches!(&run, Ok(Job::Run { script, files })
-        if script.as_str() == "-" && files.as_slice().len() == 1 && files.as_slice()[0].as_str() == "f")
-    );
-    let run = job(rt.alloc(), &["run", "s", "f", "g"]);
-    assert!(rt;
-        matches!(&run, Ok(Job::Run { script, files })
-        if script.as_str() == "s" && files.as_slice().len() == 2 && files.as_slice()[1].as_str() == "g")
-    );
-    let list = job(rt.alloc(), &["list", "s"]);
-    assert!(rt; matches!(&list, Ok(Job::List { script }) if script.as_str() == "s"));
-    let check = job(rt.alloc(), &["check", "-"]);
-    assert!(rt; matches!(&check, Ok(Job::Check { script }) if script.as_str() == "-"));
-    assert!(rt; is_usage_fault(&job(rt.alloc(), &[])));
-    assert!(rt; is_usage_fault(&job(rt.alloc(), &["run"])));
-    assert!(rt; is_usage_fault(&job(rt.alloc(), &["list", "a", "b"])));
-    assert!(rt; is_usage_fault(&job(rt.alloc(), &["go", "a"])));
-    assert!(rt; is_usage_fault(&job(rt.alloc(), &["--help"])));
-    assert!(rt; is_usage_fault(&job(rt.alloc(), &["run", "--wrong"])));
+    assert!(rt; is_run(rt.alloc(), &["run", "-", "f"], "-", &["f"]));
+    assert!(rt; is_run(rt.alloc(), &["run", "s", "f", "g"], "s", &["f", "g"]));
+    assert!(rt; is_list(rt.alloc(), &["list", "s"], "s"));
+    assert!(rt; is_check(rt.alloc(), &["check", "-"], "-"));
+    assert!(rt; is_no_job(rt.alloc(), &[]));
+    assert!(rt; is_no_job(rt.alloc(), &["run"]));
+    assert!(rt; is_no_job(rt.alloc(), &["list", "a", "b"]));
+    assert!(rt; is_no_job(rt.alloc(), &["go", "a"]));
+    assert!(rt; is_no_job(rt.alloc(), &["--help"]));
+    assert!(rt; is_no_job(rt.alloc(), &["run", "--wrong"]));
+}
+
+/// Whether words ask for steps through this script with these files.
+fn is_step(alloc: Global, words: &[&str], wanted: &str, names: &[&str]) -> bool {
+    matches!(&task(alloc, words), Ok(Task::Step { script, files }) if script.as_str() == wanted && are_texts(files, names))
+}
+
+/// Whether words ask for a run of this script with these files, without notes.
+fn is_quiet_run(alloc: Global, words: &[&str], wanted: &str, names: &[&str]) -> bool {
+    matches!(&task(alloc, words), Ok(Task::RunQuietly { script, files }) if script.as_str() == wanted && are_texts(files, names))
+}
+
+/// Whether words ask for a check of this script, among all tasks.
+fn is_check_task(alloc: Global, words: &[&str], wanted: &str) -> bool {
+    matches!(&task(alloc, words), Ok(Task::Whole(Job::Check { script })) if script.as_str() == wanted)
+}
+
+/// Whether words ask for a run of this script, among all tasks.
+fn is_run_task(alloc: Global, words: &[&str], wanted: &str) -> bool {
+    matches!(&task(alloc, words), Ok(Task::Whole(Job::Run { script, .. })) if script.as_str() == wanted)
+}
+
+/// Whether words ask for no task.
+fn is_no_task(alloc: Global, words: &[&str]) -> bool {
+    matches!(&task(alloc, words), Err(WordFault::Usage(_)))
 }
 
 #[test]
 fn reads_tasks(rt: HostRuntime) {
-    let step = task(rt.alloc(), &["step", "s", "f"]);
-    assert!(rt;
-        matches!(&step, Ok(Task::Step { script, files })
-        if script.as_str() == "s" && files.as_slice().len() == 1 && files.as_slice()[0].as_str() == "f")
-    );
-    let quiet = task(rt.alloc(), &["run", "--quiet", "s", "f"]);
-    assert!(rt;
-        matches!(&quiet, Ok(Task::RunQuietly { script, files })
-        if script.as_str() == "s" && files.as_slice().len() == 1 && files.as_slice()[0].as_str() == "f")
-    );
-    let check = task(rt.alloc(), &["check", "s"]);
-    assert!(rt; matches!(&check, Ok(Task::Whole(Job::Check { script })) if script.as_str() == "s"));
-    let run = task(rt.alloc(), &["run", "-"]);
-    assert!(rt; matches!(&run, Ok(Task::Whole(Job::Run { script, .. })) if script.as_str() == "-"));
+    assert!(rt; is_step(rt.alloc(), &["step", "s", "f"], "s", &["f"]));
+    assert!(rt; is_quiet_run(rt.alloc(), &["run", "--quiet", "s", "f"], "s", &["f"]));
+    assert!(rt; is_check_task(rt.alloc(), &["check", "s"], "s"));
+    assert!(rt; is_run_task(rt.alloc(), &["run", "-"], "-"));
     // No job is asked for by these, but tasks.
-    assert!(rt; is_usage_fault(&job(rt.alloc(), &["step", "s"])));
-    assert!(rt; is_usage_fault(&job(rt.alloc(), &["run", "--quiet", "s"])));
-    assert!(rt; matches!(&task(rt.alloc(), &["step"]), Err(WordFault::Usage(_))));
+    assert!(rt; is_no_job(rt.alloc(), &["step", "s"]));
+    assert!(rt; is_no_job(rt.alloc(), &["run", "--quiet", "s"]));
+    assert!(rt; is_no_task(rt.alloc(), &["step"]));
 }
