@@ -2,7 +2,7 @@
 
 ghost use Rattle.std.specs.Prelude.{◌≡◌, Some, [], false};
 
-use script_jobs::{ReadFailed, Sink, Source, WriteFailed};
+use script_ends::{ReadFailed, Sink, Source, WriteFailed};
 use std::alloc::Global;
 
 /// Bytes to be read, a piece at a time.

@@ -4,10 +4,9 @@ ghost use Rattle.std.specs.Prelude.{◌≡◌, false};
 
 use crate::memory::{MemorySink, MemorySource};
 use ed_types::{Cause, ScriptFault};
-use script_jobs::{
-    Job, RunFault, Task, WordFault, Words, check_script, do_job, list_script, read_file, read_task,
-    read_words, run_script, status_of,
-};
+use job_words::{Job, Task, WordFault, Words, read_task, read_words};
+use script_ends::{RunFault, check_script, list_script, read_file, status_of};
+use script_jobs::{do_job, run_script};
 use std::alloc::Global;
 use std::process::Abort;
 use std::test::Fail;

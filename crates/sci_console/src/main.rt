@@ -9,13 +9,14 @@
 #![tactic(auto)]
 
 ghost use Rattle.std.specs.Prelude.{◌≡◌, IfOk, false, length};
-ghost use Rattle.script_jobs.specs.Status.{status};
+ghost use Rattle.script_ends.specs.Status.{status};
 
 use ed_types::{Bytes, ScriptFault};
-use script_jobs::{
-    Job, ReaderSource, RunFault, Task, TextSource, Word, WordFault, Words, WriterSink, do_job,
-    read_file, read_script, read_task, read_text, run_quietly, show_line, status_of, step_commands,
+use job_words::{Job, Task, Word, WordFault, Words, read_task};
+use script_ends::{
+    ReaderSource, RunFault, TextSource, WriterSink, read_file, read_script, read_text, status_of,
 };
+use script_jobs::{do_job, run_quietly, show_line, step_commands};
 use std::fs::File;
 use std::process::ExitCode;
 use std::{env, io};

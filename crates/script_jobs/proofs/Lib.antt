@@ -1,3 +1,2 @@
 -- Lemmas.
-pub mod TakenBytes
 pub mod Printing

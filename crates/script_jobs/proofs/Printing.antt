@@ -1,75 +1,22 @@
 -- Text that goes through a buffer to a writer.
-use Rattle.std.proofs.Common.{◌≡◌, ℕ, zero, suc, ◌+◌, ◌-◌, ◌<◌, ◌≤◌, Bool, true, false, cond, List, [], ◌∷◌, ◌++◌, length, take, drop, refl, sym, ◌∙◌, ap, subst, arith, append_assoc, append-nil, take-add, take-append-drop, add-zero, length-drop, Option, Some, None, IfSome, Result, Ok, Err, inl, inr, get_or, IsErr}
-use Rattle.std.specs.Prelude.{◌==◌, ◌&&◌, nat_lt}
-use Rattle.std.proofs.lemmas.Bool.{le-leb, ne_eqb}
-use Rattle.std.proofs.lemmas.List.{drop_more, take_all, drop_all}
+use Rattle.std.proofs.Common.{◌≡◌, ℕ, ◌+◌, ◌<◌, ◌≤◌, Bool, true, false, cond, List, [], ◌∷◌, ◌++◌, length, drop, refl, sym, ◌∙◌, ap, subst, arith, append_assoc, append-nil, add-zero, Option, Result, Ok, Err, get_or}
+use Rattle.std.proofs.lemmas.List.{drop_more, drop_all}
 use Rattle.std.proofs.lemmas.List.Sums.{sum_by-cons}
 use Rattle.std.specs.List.{count_by}
-use Rattle.std.specs.Io.KnownBytes.{Keeps, Appends}
+use Rattle.std.specs.Io.KnownBytes.{Appends}
 use Rattle.ed_types.specs.declared.script.Command.{Command}
 use Rattle.ed_types.specs.declared.script.Outcome.{Outcome}
 use Rattle.ed_types.specs.declared.script.ScriptFault.{ScriptFault}
 use Rattle.ed_types.specs.declared.script.ScriptFault.TheVariants.{OutOfMemory}
-use Rattle.ed_model.specs.Reading.{reading}
 use Rattle.ed_model.specs.Printed.{printed, printed_outcome}
 use Rattle.ed_model.specs.Run.{Running, outcomes, after_command, is_unmet}
-use Rattle.script_jobs.specs.declared.fault.RunFault.{RunFault}
-use Rattle.script_jobs.specs.declared.fault.RunFault.TheVariants.{Script, Read, Write}
-use Rattle.script_jobs.specs.declared.ends.WriteFailed.{WriteFailed}
-use Rattle.script_jobs.specs.Ends.{AppendsFront, WritesAll}
-use Rattle.script_jobs.specs.Answers.{Moves, MovesPart, Puts, Writes, Answers, ReadsScript}
-
--- nothing is written yet
-pub appends_none : (old : Option (List ℕ)) → Appends old old []
-appends_none None = tt
-appends_none (Some bytes) = sym (append-nil bytes)
-
-pub keeps : (old : Option (List ℕ)) → Keeps old old
-keeps None = tt
-keeps (Some bytes) = refl
-
--- what was written, and what is written then
-pub appends_more : (old mid new : Option (List ℕ)) (first more : List ℕ) → Appends old mid first → Appends mid new more → Appends old new (first ++ more)
-appends_more None mid new first more a b = tt
-appends_more (Some xs) None new first more a b = absurd a
-appends_more (Some xs) (Some ys) None first more a b = absurd b
-appends_more (Some xs) (Some ys) (Some zs) first more a b = b ∙ ap (λ front. front ++ more) a ∙ append_assoc xs first more
-
--- a write that fails writes nothing
-pub appends_kept : (old mid new : Option (List ℕ)) (first : List ℕ) → Appends old mid first → Keeps mid new → Appends old new first
-appends_kept None mid new first a b = tt
-appends_kept (Some xs) None new first a b = absurd a
-appends_kept (Some xs) (Some ys) None first a b = absurd b
-appends_kept (Some xs) (Some ys) (Some zs) first a b = b ∙ a
-
--- a part of the bytes at a time
-pub written_on : (old mid new : Option (List ℕ)) (bytes : List ℕ) (at count : ℕ) → Appends old mid (take at bytes) → Appends mid new (take count (drop at bytes)) → Appends old new (take (at + count) bytes)
-written_on old mid new bytes at count a b = subst (Appends old new) (sym (take-add at count bytes)) (appends_more old mid new (take at bytes) (take count (drop at bytes)) a b)
-
-pub front_written : (old now : Option (List ℕ)) (bytes : List ℕ) (at : ℕ) → Appends old now (take at bytes) → AppendsFront old now bytes
-front_written old now bytes at a = record { front = take at bytes; left = drop at bytes; split = sym (take-append-drop at bytes); appended = a }
-
-pub front_kept : (old mid new : Option (List ℕ)) (bytes : List ℕ) (at : ℕ) → Appends old mid (take at bytes) → Keeps mid new → AppendsFront old new bytes
-front_kept old mid new bytes at a b = front_written old new bytes at (appends_kept old mid new (take at bytes) a b)
-
--- what is left of the bytes
-pub tail : (at : ℕ) (bytes : List ℕ) → take (length bytes - at) (drop at bytes) ≡ drop at bytes
-tail at bytes = take_all (length bytes - at) (drop at bytes) (omega (arith, length-drop at bytes))
-
-pub written_from : (old mid new : Option (List ℕ)) (bytes : List ℕ) (at count : ℕ) → Appends old mid (take at bytes) → Appends mid new (take count (take (length bytes - at) (drop at bytes))) → Appends old new (take (at + count) bytes)
-written_from old mid new bytes at count a b = written_on old mid new bytes at count a (subst (λ (rest : List ℕ). Appends mid new (take count rest)) (tail at bytes) b)
-
--- a write that took some bytes has not failed
-pub still_fresh : (old new : Bool) (count len : ℕ) → (count ≡ 0 → ⊥) → new ≡ cond (count == 0 && nat_lt 0 len) true old → old ≡ false → new ≡ false
-still_fresh old new zero len some is fresh = absurd (some refl)
-still_fresh old new (suc n) len some is fresh = is ∙ ap (λ b. cond (b && nat_lt 0 len) true old) (ne_eqb (suc n) 0 some) ∙ fresh
-
-pub failed_then : (old new : Bool) (count len : ℕ) → count ≡ 0 → 0 < len → new ≡ cond (count == 0 && nat_lt 0 len) true old → new ≡ true
-failed_then old new count len none some is = is ∙ ap (λ n. cond (n == 0 && nat_lt 0 len) true old) none ∙ ap (λ b. cond b true old) (le-leb 1 len some)
-
-pub failed_write : (r : Result (Unit {0}) WriteFailed) (old new : Option (List ℕ)) (bytes : List ℕ) → IsErr r → AppendsFront old new bytes → WritesAll bytes old new r
-failed_write (Ok done) old new bytes is some = cc
-failed_write (Err failed) old new bytes is some = some
+use Rattle.script_ends.specs.declared.fault.RunFault.{RunFault}
+use Rattle.script_ends.specs.declared.fault.RunFault.TheVariants.{Script, Read, Write}
+use Rattle.script_ends.specs.declared.ends.WriteFailed.{WriteFailed}
+use Rattle.script_ends.specs.Ends.{AppendsFront, WritesAll}
+use Rattle.script_ends.specs.Answers.{Moves, MovesPart, Puts}
+use Rattle.script_ends.specs.proved.Written.{appends_none, appends_more}
+use Rattle.script_jobs.specs.Runs.{Writes}
 
 -- How far a text has gone in: a part of it is written or in the buffer, and the rest is left.
 pub record Progress (old now : Option (List ℕ)) (before after all rest : List ℕ) : Type 0 where
@@ -186,10 +133,6 @@ all_in old now before after all rest is so_far = gone_in old now before after al
 
 -- The end of a run.
 
--- nothing is written
-pub front_none : (old : Option (List ℕ)) (text : List ℕ) → AppendsFront old old text
-front_none old text = record { front = []; left = text; split = refl; appended = appends_none old }
-
 -- what is in the buffer is written, as far as it goes
 pub flush_failed : (old mid new : Option (List ℕ)) (before buffer text : List ℕ) → before ≡ [] → Moves old mid before buffer text → AppendsFront mid new buffer → AppendsFront old new text
 flush_failed old mid new before buffer text none moved more = record {
@@ -217,28 +160,6 @@ flush_part old mid new before buffer text (Err failed) none some more =
 -- the answer where a write failed
 pub writes_failed : (r : Result ℕ RunFault) (fault : RunFault) (text : List ℕ) (old new : Option (List ℕ)) → r ≡ Err fault → fault ≡ Write → AppendsFront old new text → Writes text r old new
 writes_failed r fault text old new is which some = subst (λ (q : Result ℕ RunFault). Writes text q old new) (sym (is ∙ ap Err which)) some
-
--- the answer where the script was not read
-pub not_read : (text : List Command → List ℕ) (value : List Command → ℕ) (read : Result (List Command) ScriptFault) (fault : RunFault) (old : Option (List ℕ)) → ReadsScript read (Err fault) → Answers text value read (Err fault) old old
-not_read text value (Ok commands) (Script fault) old (inl other) = cc
-not_read text value (Ok commands) (Script fault) old (inr which) = (which, front_none old (text commands))
-not_read text value (Ok commands) Read old none = keeps old
-not_read text value (Ok commands) Write old none = absurd none
-not_read text value (Err named) (Script fault) old (inl same) = (inl (cc), keeps old)
-not_read text value (Err named) (Script fault) old (inr which) = (inr which, keeps old)
-not_read text value (Err named) Read old none = keeps old
-not_read text value (Err named) Write old none = absurd none
-
-pub unread : (text : List Command → List ℕ) (value : List Command → ℕ) (r : Result ℕ RunFault) (fault : RunFault) (known old : Option (List ℕ)) → r ≡ Err fault → IfSome known (λ bytes. ReadsScript (reading bytes) (Err fault)) → IfSome known (λ bytes. Answers text value (reading bytes) r old old)
-unread text value r fault None old is read = tt
-unread text value r fault (Some bytes) old is read = subst (λ (q : Result ℕ RunFault). Answers text value (reading bytes) q old old) (sym is) (not_read text value (reading bytes) fault old read)
-
--- the answer where memory ran out behind a script that was read
-pub no_memory : (text : List Command → List ℕ) (value : List Command → ℕ) (r : Result ℕ RunFault) (fault : RunFault) (commands : List Command) (known old : Option (List ℕ)) → r ≡ Err fault → fault ≡ Script OutOfMemory → IfSome known (λ bytes. reading bytes ≡ Ok commands) → IfSome known (λ bytes. Answers text value (reading bytes) r old old)
-no_memory text value r fault commands None old is which read = tt
-no_memory text value r fault commands (Some bytes) old is which read =
-    subst (λ (script : Result (List Command) ScriptFault). Answers text value script r old old) (sym read)
-    (subst (λ (q : Result ℕ RunFault). Answers text value (Ok commands) q old old) (sym (is ∙ ap Err which)) (refl, front_none old (text commands)))
 
 -- a run whose buffer is written at the end
 pub run_cut : (old mid new : Option (List ℕ)) (before buffer shown text : List ℕ) → before ≡ [] → shown ≡ buffer → Moves old mid before buffer text → AppendsFront mid new shown → AppendsFront old new text

@@ -1,6 +1,2 @@
 -- Definitions that the contracts cite.
-pub mod Ends
-pub mod Status
-pub mod Answers
-pub mod Files
-pub mod Jobs
+pub mod Runs

@@ -1,16 +1,14 @@
 //! Runs of which no notes are printed.
 
 ghost use Rattle.std.specs.Prelude.{◌≡◌, false};
-ghost use Rattle.script_jobs.specs.Answers.{PutCause, WriteCause, HasCause};
+ghost use Rattle.script_ends.specs.Answers.{PutCause, HasCause};
+ghost use Rattle.script_jobs.specs.Runs.{WriteCause};
 
-use crate::ends::{Sink, Source};
-use crate::fault::RunFault;
-use crate::output::{FULL, write_all};
-use crate::reading::read_script;
 use crate::running::{ROOM, is_unmet};
 use ed_types::{Bytes, Command, Outcome};
 use editor_session::{Run, Session};
 use macro_script::printing::{append_integer, append_outcome, append_text};
+use script_ends::{FULL, RunFault, Sink, Source, read_script, write_all};
 use std::alloc::{AllocError, Global};
 
 /// Appends what an outcome prints, but for its notes.

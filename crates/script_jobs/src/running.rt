@@ -1,22 +1,17 @@
-//! Scripts, run, listed and checked from a source to a sink.
+//! Scripts, run from a source to a sink, and jobs done.
 
 ghost use Rattle.std.specs.Prelude.{◌≡◌, IfSome, IfOk, count_by, false};
-ghost use Rattle.ed_model.specs.Listing.{listing};
 ghost use Rattle.ed_model.specs.Printed.{printed};
 ghost use Rattle.ed_model.specs.Reading.{reading};
 ghost use Rattle.ed_model.specs.Run.{outcomes, is_unmet as is_unmet_outcome};
-ghost use Rattle.script_jobs.specs.Ends.{TakesAtMost};
-ghost use Rattle.script_jobs.specs.Answers.{Answers, HasCause, WritesNoneAtRead, Puts, PutCause, Writes, WriteCause, printed_run, unmet, checked, none, text_of_job, value_of_job};
+ghost use Rattle.script_ends.specs.Ends.{TakesAtMost};
+ghost use Rattle.script_ends.specs.Answers.{Answers, HasCause, WritesNoneAtRead, Puts, PutCause};
+ghost use Rattle.script_jobs.specs.Runs.{Writes, WriteCause, printed_run, unmet, text_of_job, value_of_job};
 
-use crate::ends::{Sink, Source};
-use crate::fault::RunFault;
-use crate::output::{put, write_all};
-use crate::reading::read_script;
-use crate::words::Job;
 use ed_types::{Bytes, Command, Outcome};
 use editor_session::{Run, Session};
-use macro_script::list;
-use macro_script::printing::append_number;
+use job_words::Job;
+use script_ends::{RunFault, Sink, Source, check_script, list_script, put, read_script, write_all};
 use std::alloc::Global;
 
 /// The room that a buffer starts with, in bytes.
@@ -124,56 +119,6 @@ pub fn run_script<R: Source, W: Sink>(
 {
     let script = read_script(alloc, reader)?;
     print_run(alloc, writer, &files, script.commands())
-}
-
-/// Reads a script, assembles it, and writes its listing. Answers 0.
-///
-/// # Errors
-///
-/// As of `run_script`.
-pub fn list_script<R: Source, W: Sink>(
-    alloc: Global,
-    reader: &mut R,
-    writer: &mut W,
-) -> Result<u64, RunFault>
-    requires reader { R.has_failed reader.old ≡ false }
-    requires writer { W.has_failed writer.old ≡ false }
-    ensures listed { IfSome (R.remaining reader.old) (λ bytes.
-        Answers (listing 2) none (reading bytes) result (W.contents writer.old) (W.contents writer.new)) }
-    ensures taken { TakesAtMost 16777217 (R.remaining reader.old) (R.remaining reader.new) }
-    ensures cause { HasCause result (R.has_failed reader.new) (W.has_failed writer.new) }
-    ensures unread { WritesNoneAtRead result (W.contents writer.old) (W.contents writer.new) }
-{
-    let script = read_script(alloc, reader)?;
-    let text = list(alloc, &script)?;
-    write_all(writer, &text)?;
-    Ok(0)
-}
-
-/// Reads a script, assembles it, and writes `ok N`, N the number of its commands. Answers 0.
-///
-/// # Errors
-///
-/// As of `run_script`.
-pub fn check_script<R: Source, W: Sink>(
-    alloc: Global,
-    reader: &mut R,
-    writer: &mut W,
-) -> Result<u64, RunFault>
-    requires reader { R.has_failed reader.old ≡ false }
-    requires writer { W.has_failed writer.old ≡ false }
-    ensures checked { IfSome (R.remaining reader.old) (λ bytes.
-        Answers checked none (reading bytes) result (W.contents writer.old) (W.contents writer.new)) }
-    ensures taken { TakesAtMost 16777217 (R.remaining reader.old) (R.remaining reader.new) }
-    ensures cause { HasCause result (R.has_failed reader.new) (W.has_failed writer.new) }
-    ensures unread { WritesNoneAtRead result (W.contents writer.old) (W.contents writer.new) }
-{
-    let script = read_script(alloc, reader)?;
-    let mut line = Vec::from_slice(alloc, b"ok ")?;
-    append_number(&mut line, script.commands().len() as u64)?;
-    line.extend_from_slice(b"\n")?;
-    write_all(writer, &line)?;
-    Ok(0)
 }
 
 /// Does a job: runs, lists or checks the script that comes from the reader. Answers how many expects were not met, for a listing and a check 0.

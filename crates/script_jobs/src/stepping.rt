@@ -7,13 +7,11 @@ mod orders;
 mod say;
 mod walk;
 
-use crate::ends::{Sink, Source};
-use crate::fault::RunFault;
-use crate::output::write_all;
 use ed_types::{Bytes, Command};
 use look::say_views;
 use orders::{Order, order_of, read_line};
 use say::{say_command, say_outcome};
+use script_ends::{RunFault, Sink, Source, write_all};
 use std::alloc::{AllocError, Global};
 use walk::Walk;
 

@@ -1,7 +1,6 @@
 //! The orders of someone who steps through a script, a line each.
 
-use crate::ends::Source;
-use crate::fault::RunFault;
+use script_ends::{RunFault, Source};
 
 /// How many bytes of a line are kept. No order is as long.
 const LONGEST: usize = 64;

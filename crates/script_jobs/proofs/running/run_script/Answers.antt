@@ -1,7 +1,7 @@
 use Rattle.std.proofs.Common.{ap, ◌∙◌, Err}
 use Rattle.std.proofs.lemmas.Result.{err_from_is_err_and}
-use Rattle.script_jobs.specs.Answers.{printed_run, unmet}
-use Rattle.script_jobs.proofs.Printing.{unread}
+use Rattle.script_jobs.specs.Runs.{printed_run, unmet}
+use Rattle.script_ends.specs.proved.Written.{unread}
 use Rattle.script_jobs.proofs.running.run_script.Goals as goal
 
 pub returns-in_err-script-clause-ran : goal.returns-in_err-script-clause-ran

@@ -1,0 +1,252 @@
+//! The words behind the program's name, read as a job.
+
+ghost use Rattle.std.specs.Prelude.{◌≡◌, map, IfOk, IsErr, true, string_bytes};
+ghost use Rattle.job_words.specs.Jobs.{are_plain as are_plain_texts, is_plain as is_plain_text, job_of, step_of, ReadsWords, ReadsTask};
+
+use crate::command_line::{no_job, parsed_job, parsed_task};
+use clap::Error;
+use clap::error::ErrorKind;
+use std::alloc::{AllocError, AllocFailed, Global};
+use std::convert::AsStr;
+use std::marker::Model;
+
+/// A word. Contracts see its bytes.
+#[derive(Debug, Drop)]
+pub struct Word {
+    text: String,
+}
+
+impl Model for Word {
+    ghost use Rattle.std.specs.Prelude.{List, ℕ};
+    ghost use Rattle.std.specs.String.{string_bytes};
+
+    ghost Value = { List ℕ };
+
+    ghost view = { λ word. string_bytes word.text };
+}
+
+impl Word {
+    /// A word of this text.
+    pub fn new(text: String) -> Self
+        ensures { result ≡ string_bytes text }
+    {
+        Word { text }
+    }
+
+    /// Its text, lent.
+    pub fn as_str(&self) -> &str
+        ensures { result.now ≡ self.now }
+    {
+        self.text.as_str()
+    }
+}
+
+/// A list of words. Contracts see the list of their bytes.
+#[derive(Debug, Drop)]
+pub struct Words {
+    words: Vec<Word>,
+}
+
+impl Model for Words {
+    ghost use Rattle.std.specs.Prelude.{List, ℕ};
+
+    ghost Value = { List (List ℕ) };
+
+    ghost view = { λ words. words.words.items };
+}
+
+impl Words {
+    /// These words. Takes no memory.
+    pub fn new(words: Vec<Word>) -> Self
+        ensures { result ≡ words.items }
+    {
+        Words { words }
+    }
+
+    /// The words, lent.
+    pub fn as_slice(&self) -> &[Word]
+        ensures { result.now ≡ self.now }
+    {
+        self.words.as_slice()
+    }
+}
+
+/// What the program is asked to do.
+#[derive(Debug, Drop)]
+pub enum Job {
+    /// Runs a script with files.
+    Run { script: Word, files: Words },
+    /// Prints a script's listing.
+    List { script: Word },
+    /// Prints the number of a script's commands.
+    Check { script: Word },
+}
+
+/// What the program is asked to do: a job, or something beyond the three forms of jobs.
+#[derive(Debug, Drop)]
+pub enum Task {
+    /// A job.
+    Whole(Job),
+    /// Runs a script with files, and prints no notes.
+    RunQuietly { script: Word, files: Words },
+    /// Steps through a script with files.
+    Step { script: Word, files: Words },
+}
+
+/// Why words are no job.
+#[derive(Debug, Drop)]
+pub enum WordFault {
+    /// They are none of the program's forms, or ask for help; with the text for the user.
+    Usage(Error),
+    /// Memory ran out.
+    OutOfMemory,
+}
+
+impl From<AllocError> for WordFault {
+    fn from(_refused: AllocError) -> WordFault {
+        WordFault::OutOfMemory
+    }
+}
+
+impl<T: Drop> From<AllocFailed<T>> for WordFault {
+    fn from(_refused: AllocFailed<T>) -> WordFault {
+        WordFault::OutOfMemory
+    }
+}
+
+impl From<Error> for WordFault {
+    fn from(error: Error) -> WordFault {
+        match error.kind() {
+            ErrorKind::OutOfMemory => WordFault::OutOfMemory,
+            _ => WordFault::Usage(error),
+        }
+    }
+}
+
+/// Whether a word is not empty and does not begin with `-`.
+fn is_plain(word: &str) -> bool
+    ensures { result ≡ is_plain_text word.now }
+{
+    match word.as_bytes() {
+        [] => false,
+        [first, ..] => *first != b'-',
+    }
+}
+
+/// Whether all words are plain.
+fn are_plain(words: &[String]) -> bool
+    ensures { result ≡ are_plain_texts (map string_bytes words.now) }
+{
+    for word in words {
+        if !is_plain(word.as_str()) {
+            return false;
+        }
+    }
+    true
+}
+
+/// A copy of a word.
+pub fn copy_word(alloc: Global, word: &str) -> Result<Word, AllocError>
+    ensures { IfOk result (λ copy. copy ≡ word.now) }
+{
+    Ok(Word::new(String::from_str(alloc, word)?))
+}
+
+/// A copy of a list of words.
+pub fn copy_words<S: AsStr>(alloc: Global, words: &[S]) -> Result<Words, AllocError>
+    ensures { IfOk result (λ copy. copy ≡ map S.text words.now) }
+{
+    let mut copies = Vec::new(alloc);
+    for word in words {
+        copies.push(copy_word(alloc, word.as_str())?)?;
+    }
+    Ok(Words::new(copies))
+}
+
+/// The job of words of the three forms.
+fn direct_job(alloc: Global, words: &[String]) -> Result<Option<Job>, AllocError>
+    ensures { IfOk result (λ job. job ≡ job_of (map string_bytes words.now)) }
+{
+    let [verb, script, files @ ..] = words else {
+        return Ok(None);
+    };
+    if verb.as_str() == "run" {
+        let script = copy_word(alloc, script.as_str())?;
+        let files = copy_words(alloc, files)?;
+        return Ok(Some(Job::Run { script, files }));
+    }
+    if !files.is_empty() {
+        return Ok(None);
+    }
+    if verb.as_str() == "list" {
+        let script = copy_word(alloc, script.as_str())?;
+        return Ok(Some(Job::List { script }));
+    }
+    if verb.as_str() == "check" {
+        let script = copy_word(alloc, script.as_str())?;
+        return Ok(Some(Job::Check { script }));
+    }
+    Ok(None)
+}
+
+/// Reads the words behind the program's name: `run SCRIPT FILE..`, `list SCRIPT` or `check SCRIPT`.
+///
+/// Where each word is plain, not empty and without `-` at its front, the answer is the job that they ask for and no other. `clap` reads
+/// the rest, `-` for a script among them, and makes the texts of usage faults.
+///
+/// # Errors
+///
+/// `Usage` for words that ask for no job, with the text for the user, and `OutOfMemory` for want of memory.
+pub fn read_words(alloc: Global, words: &[String]) -> Result<Job, WordFault>
+    ensures { are_plain_texts (map string_bytes words.now) ≡ true → ReadsWords (map string_bytes words.now) result }
+{
+    if !are_plain(words) {
+        return parsed_job(alloc, words);
+    }
+    match direct_job(alloc, words) {
+        Ok(Some(job)) => Ok(job),
+        Ok(None) => match parsed_job(alloc, words) {
+            Ok(_) => no_job(alloc),
+            Err(fault) => Err(fault),
+        },
+        Err(_) => Err(WordFault::OutOfMemory),
+    }
+}
+
+/// The task of the words `step SCRIPT FILE..`.
+fn direct_step(alloc: Global, words: &[String]) -> Result<Option<Task>, AllocError>
+    ensures { IfOk result (λ task. task ≡ step_of (map string_bytes words.now)) }
+{
+    let [verb, script, files @ ..] = words else {
+        return Ok(None);
+    };
+    if verb.as_str() == "step" {
+        let script = copy_word(alloc, script.as_str())?;
+        let files = copy_words(alloc, files)?;
+        return Ok(Some(Task::Step { script, files }));
+    }
+    Ok(None)
+}
+
+/// Reads the words behind the program's name: those of a job, `step SCRIPT FILE..`, or `run --quiet SCRIPT FILE..`.
+///
+/// Where each word is plain, the answer is the task that they ask for and no other.
+///
+/// # Errors
+///
+/// As of `read_words`.
+pub fn read_task(alloc: Global, words: &[String]) -> Result<Task, WordFault>
+    ensures { are_plain_texts (map string_bytes words.now) ≡ true → ReadsTask (map string_bytes words.now) result }
+{
+    if !are_plain(words) {
+        return parsed_task(alloc, words);
+    }
+    match direct_step(alloc, words) {
+        Ok(Some(task)) => Ok(task),
+        Ok(None) => match read_words(alloc, words) {
+            Ok(job) => Ok(Task::Whole(job)),
+            Err(fault) => Err(fault),
+        },
+        Err(_) => Err(WordFault::OutOfMemory),
+    }
+}

@@ -1,0 +1,3 @@
+-- Lemmas.
+pub mod TakenBytes
+pub mod Writing

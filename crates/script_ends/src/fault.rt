@@ -1,0 +1,70 @@
+//! Why a run stopped, and what the program answers to the system.
+
+ghost use Rattle.std.specs.Prelude.{◌≡◌};
+ghost use Rattle.ed_types.specs.declared.script.ScriptFault.TheVariants.{OutOfMemory};
+ghost use Rattle.script_ends.specs.declared.fault.RunFault.TheVariants.{Script, Read, Write};
+ghost use Rattle.script_ends.specs.Status.{status};
+
+use crate::ends::{ReadFailed, WriteFailed};
+use ed_types::ScriptFault;
+use std::alloc::AllocError;
+use thiserror::Error;
+
+/// Why a script was not run to its end.
+#[derive(Clone, Copy, Debug, PartialEq, Eq, Error)]
+pub enum RunFault {
+    /// The bytes are no script, or memory ran out.
+    #[error("{0}")]
+    Script(ScriptFault),
+    /// A read failed.
+    #[error("read fault")]
+    Read,
+    /// A write failed, or took no byte.
+    #[error("write fault")]
+    Write,
+}
+
+impl From<ScriptFault> for RunFault {
+    ghost from_gives = { λ cause fault. fault ≡ Script cause };
+
+    fn from(cause: ScriptFault) -> RunFault {
+        RunFault::Script(cause)
+    }
+}
+
+impl From<AllocError> for RunFault {
+    ghost from_gives = { λ _ fault. fault ≡ Script OutOfMemory };
+
+    fn from(_refused: AllocError) -> RunFault {
+        RunFault::Script(ScriptFault::OutOfMemory)
+    }
+}
+
+impl From<ReadFailed> for RunFault {
+    ghost from_gives = { λ _ fault. fault ≡ Read };
+
+    fn from(_failed: ReadFailed) -> RunFault {
+        RunFault::Read
+    }
+}
+
+impl From<WriteFailed> for RunFault {
+    ghost from_gives = { λ _ fault. fault ≡ Write };
+
+    fn from(_failed: WriteFailed) -> RunFault {
+        RunFault::Write
+    }
+}
+
+/// The exit status of the program after this answer: 0 where it is done and each expect was met, 4 where some was not, 1 for a refused
+/// script or want of memory, 3 for a failed read or write. (2, for words that are no job, is never answered here.) Takes no memory.
+pub fn status_of(answer: &Result<u64, RunFault>) -> u8
+    ensures { result ≡ status answer.now }
+{
+    match answer {
+        Ok(0) => 0,
+        Ok(_) => 4,
+        Err(RunFault::Script(_)) => 1,
+        Err(RunFault::Read | RunFault::Write) => 3,
+    }
+}

@@ -1,5 +1,0 @@
-use Rattle.std.proofs.Common.{◌≡◌, take, map}
-use Rattle.script_jobs.proofs.words.copy_words.Given as goal
-
-abbrev pub invariant-loop-word : goal.invariant-loop-word
-invariant-loop-word g l = l.copies.items ≡ map g.S.AsStr.text (take l.word-index l.words)

@@ -1,0 +1,54 @@
+-- What a run and a job answer and write.
+use Rattle.std.specs.Prelude.{◌≡◌, ⊤, ℕ, Bool, true, false, List, count_by, Option, Result, Ok, Err}
+use Rattle.std.specs.Io.KnownBytes.{Appends}
+use Rattle.ed_types.specs.declared.script.Command.{Command}
+use Rattle.ed_types.specs.declared.script.Outcome.{Outcome}
+use Rattle.ed_types.specs.declared.script.ScriptFault.TheVariants.{OutOfMemory}
+use Rattle.ed_model.specs.Listing.{listing}
+use Rattle.ed_model.specs.Printed.{printed}
+use Rattle.ed_model.specs.Run.{starting, outcomes, is_unmet}
+use Rattle.ed_model.specs.Session.{new_session, greatest_limits}
+use Rattle.job_words.specs.declared.words.Job.{Job}
+use Rattle.job_words.specs.declared.words.Job.TheVariants.{Run, List as ListJob, Check}
+use Rattle.script_ends.specs.declared.fault.RunFault.{RunFault}
+use Rattle.script_ends.specs.declared.fault.RunFault.TheVariants.{Script, Read, Write}
+use Rattle.script_ends.specs.Ends.{AppendsFront}
+use Rattle.script_ends.specs.Answers.{checked, none}
+
+-- what comes of a script's commands with these files, from a new session
+abbrev pub answers : List (List ℕ) → List Command → List Outcome
+answers files commands = outcomes files commands (starting (new_session greatest_limits))
+
+-- the text that is printed of them, and how many expects were not met
+abbrev pub printed_run : List (List ℕ) → List Command → List ℕ
+printed_run files commands = printed (answers files commands)
+
+abbrev pub unmet : List (List ℕ) → List Command → ℕ
+unmet files commands = count_by is_unmet (answers files commands)
+
+-- what a job writes of a script's commands, with these files, and what it answers
+abbrev pub text_of_job : Job → List (List ℕ) → List Command → List ℕ
+text_of_job (Run script paths) files = printed_run files
+text_of_job (ListJob script) files = listing 2
+text_of_job (Check script) files = checked
+
+abbrev pub value_of_job : Job → List (List ℕ) → List Command → ℕ
+value_of_job (Run script paths) files = unmet files
+value_of_job (ListJob script) files = none
+value_of_job (Check script) files = none
+
+-- The parts of a run.
+
+-- a text was put into a buffer and written, so that nothing is left there; or a part of it, from its front
+abbrev pub Writes : List ℕ → Result ℕ RunFault → Option (List ℕ) → Option (List ℕ) → Type 0
+Writes text (Ok value) old new = Appends old new text
+Writes text (Err (Script fault)) old new = (fault ≡ OutOfMemory) × AppendsFront old new text
+Writes text (Err Read) old new = ⊥
+Writes text (Err Write) old new = AppendsFront old new text
+
+-- a write fault comes only where a write failed; what is in the buffer may still be tried after a want of memory
+abbrev pub WriteCause : {T : Type 0} → Result T RunFault → Bool → Type 0
+WriteCause (Ok value) writer = writer ≡ false
+WriteCause (Err (Script fault)) writer = ⊤
+WriteCause (Err Read) writer = ⊥
+WriteCause (Err Write) writer = writer ≡ true
