@@ -13,10 +13,11 @@ ghost use Rattle.script_ends.specs.Status.{status};
 
 use ed_types::{Bytes, ScriptFault};
 use job_words::{Job, Task, Word, WordFault, Words, read_task};
+use script_ends::shown::show_line;
 use script_ends::{
     ReaderSource, RunFault, TextSource, WriterSink, read_file, read_script, read_text, status_of,
 };
-use script_jobs::{do_job, run_quietly, show_line, step_commands};
+use script_jobs::{do_job, run_quietly, step_commands};
 use std::fs::File;
 use std::process::ExitCode;
 use std::{env, io};

@@ -3,4 +3,5 @@ pub mod Ends
 pub mod Status
 pub mod Answers
 pub mod Files
+pub mod Shown
 pub mod proved

@@ -1,5 +1,5 @@
-//! Where scripts come from and where answers go: sources and sinks, what fails of them, and what is done with a script that needs no session: it
-//! is read, listed and checked.
+//! Where scripts come from and where answers go: sources and sinks, and what fails of them; and what is done with a script without a
+//! session: it is read, listed and checked, and bytes of it are shown.
 #![tactic(auto)]
 
 mod ends;
@@ -7,6 +7,7 @@ mod fault;
 mod listing;
 mod output;
 mod reading;
+pub mod shown;
 mod streams;
 
 pub use ends::{ReadFailed, Sink, Source, WriteFailed};

@@ -4,10 +4,8 @@
 
 mod quiet;
 mod running;
-mod shown;
 mod stepping;
 
 pub use quiet::run_quietly;
 pub use running::{do_job, run_script};
-pub use shown::show_line;
 pub use stepping::step_commands;

@@ -3,8 +3,8 @@
 use super::orders::Look;
 use super::say::say_changes;
 use super::walk::Walk;
-use crate::shown::{append_byte, append_bytes, shown_width};
 use ed_types::Kind;
+use script_ends::shown::{append_byte, append_bytes, shown_width};
 use std::alloc::AllocError;
 
 /// What stands before a line's text: its number, in six columns, and ` | `.

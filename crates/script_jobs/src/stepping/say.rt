@@ -1,7 +1,7 @@
 //! Commands, answers and notes in words.
 
-use crate::shown::append_quoted;
 use ed_types::{Command, Kind, Message, Note, Outcome, Reply};
+use script_ends::shown::append_quoted;
 use std::alloc::AllocError;
 
 /// The code of a note on a change.

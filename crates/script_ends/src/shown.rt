@@ -1,22 +1,35 @@
 //! Bytes, shown to people.
 
+ghost use Rattle.std.specs.Prelude.{◌≡◌, ◌++◌, OnOk, length, string_bytes};
+ghost use Rattle.script_ends.specs.Shown.{is_printable as is_printable_byte, shown as shown_byte, shown_bytes, quoted};
+
 use std::alloc::AllocError;
 
 /// How many characters of a line are shown at most.
 const WIDTH: usize = 120;
 
 /// Whether a byte is shown as the character that it is.
-fn is_printable(byte: u8) -> bool {
+fn is_printable(byte: u8) -> bool
+    ensures { result ≡ is_printable_byte byte }
+{
     byte >= 0x20 && byte <= 0x7E
 }
 
 /// How many characters a byte is shown by, 1 or 4.
-pub fn shown_width(byte: u8) -> usize {
+pub fn shown_width(byte: u8) -> usize
+    ensures { result ≡ length (shown_byte byte) }
+{
     if is_printable(byte) { 1 } else { 4 }
 }
 
 /// Appends a byte as it is shown: a printable one as its character, any other as `\xhh`.
-pub fn append_byte(out: &mut String, byte: u8) -> Result<(), AllocError> {
+///
+/// # Errors
+///
+/// `AllocError` for want of memory.
+pub fn append_byte(out: &mut String, byte: u8) -> Result<(), AllocError>
+    ensures { OnOk result (string_bytes out.new ≡ string_bytes out.old ++ shown_byte byte) }
+{
     if is_printable(byte) {
         out.push(char::from(byte))
     } else {
@@ -25,7 +38,13 @@ pub fn append_byte(out: &mut String, byte: u8) -> Result<(), AllocError> {
 }
 
 /// Appends bytes as they are shown.
-pub fn append_bytes(out: &mut String, bytes: &[u8]) -> Result<(), AllocError> {
+///
+/// # Errors
+///
+/// `AllocError` for want of memory. A front part of what is to be shown may be appended then.
+pub fn append_bytes(out: &mut String, bytes: &[u8]) -> Result<(), AllocError>
+    ensures { OnOk result (string_bytes out.new ≡ string_bytes out.old ++ shown_bytes bytes.now) }
+{
     for byte in bytes {
         append_byte(out, *byte)?;
     }
@@ -33,7 +52,13 @@ pub fn append_bytes(out: &mut String, bytes: &[u8]) -> Result<(), AllocError> {
 }
 
 /// Appends a text between quotes, as it is shown, with `"` and `\` escaped.
-pub fn append_quoted(out: &mut String, text: &[u8]) -> Result<(), AllocError> {
+///
+/// # Errors
+///
+/// `AllocError` for want of memory. A front part of what is to be shown may be appended then.
+pub fn append_quoted(out: &mut String, text: &[u8]) -> Result<(), AllocError>
+    ensures { OnOk result (string_bytes out.new ≡ string_bytes out.old ++ quoted text.now) }
+{
     out.push_str("\"")?;
     for byte in text {
         if *byte == b'"' || *byte == b'\\' {

@@ -1,0 +1,6 @@
+use Rattle.std.proofs.Common.{◌≡◌, ◌++◌, drop, string_bytes}
+use Rattle.script_ends.specs.Shown.{shown_bytes}
+use Rattle.script_ends.proofs.shown.append_bytes.Given as goal
+
+abbrev pub invariant-loop-byte : goal.invariant-loop-byte
+invariant-loop-byte l = string_bytes l.out ++ shown_bytes (drop l.byte-index l.bytes) ≡ string_bytes l.fn.out ++ shown_bytes l.bytes
