@@ -17,6 +17,7 @@ mod need;
 mod opening;
 mod perform;
 mod prepare;
+mod quietly;
 mod ready;
 mod run;
 mod sending;
