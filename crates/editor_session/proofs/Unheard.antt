@@ -1,5 +1,5 @@
 -- Changes of which no view hears.
-use Rattle.std.proofs.Common.{◌≡◌, ℕ, ◌+◌, ◌≤◌, ◌&&◌, ◌==◌, ℤ, Bool, true, false, List, [], ◌∷◌, length, map, refl, ap, sym, ◌∙◌, subst, arith, Option, Some, None, Ok, IsSome, IfSome, IsSomeAnd}
+use Rattle.std.proofs.Common.{◌≡◌, ℕ, ◌+◌, ◌≤◌, ◌&&◌, ◌==◌, ℤ, Bool, true, false, List, [], ◌∷◌, length, refl, ap, sym, ◌∙◌, subst, arith, Option, Some, None, Ok, IsSome, IfSome, IsSomeAnd}
 use Rattle.std.specs.Prelude.{not}
 use Rattle.std.proofs.lemmas.Bool.{and_parts}
 use Rattle.ed_types.specs.declared.kind.Kind.{Kind}
@@ -13,7 +13,7 @@ use Rattle.ed_model.specs.declared.plan.ViewChange.{ViewChange}
 use Rattle.ed_model.specs.declared.plan.ViewChange.TheVariants as change
 use Rattle.ed_model.specs.Changes.{view_change_performed}
 use Rattle.ed_model.specs.Performing.{quiet}
-use Rattle.ed_model.specs.PlansFit.{IsFitPlan, IsFitPlanned}
+use Rattle.ed_model.specs.PlansFit.{IsFitPlanned}
 use Rattle.ed_model.specs.Requests.{Request}
 use Rattle.ed_model.specs.Session.{Session, Document, watching}
 use Rattle.ed_model.specs.Table.{table, plan_of}
@@ -30,12 +30,11 @@ use Rattle.message_plans.specs.declared.state.SessionState.{SessionState}
 use Rattle.session_changes.specs.Asked.{IsAsked, CanChangeView}
 use Rattle.session_changes.specs.Folding.{takes_fold_room, HasFoldRoomAt}
 use Rattle.session_changes.specs.Kept.{IsKept}
-use Rattle.editor_session.specs.declared.find.Task.{Task}
 use Rattle.editor_session.specs.Doing.{CanTell, IsChangedIn, Changes}
 use Rattle.editor_session.specs.Unheard.{unrecorded, no_notes, IsSent, IsSentWith}
 use Rattle.editor_session.specs.Plans.{is_free, planned_without_memory}
 use Rattle.editor_session.specs.Tasks.{IsFound, IsTask, IsAskedBy}
-use Rattle.editor_session.proofs.Performing.{asked_by, answered_so, can_change_view, view_changed, view_here, kept_at, of_room, of_kept, for_kept, for_document, session_is, can_tell, changed, change_fits, read_change}
+use Rattle.editor_session.proofs.Performing.{asked_by, answered_so, can_change_view, view_changed, view_here, kept_at, of_room, of_kept, for_kept, session_is, can_tell, changed, change_fits, read_change}
 use Rattle.editor_session.proofs.TableWay.{fit_of, free_found}
 
 -- The task of a message that is found, and is not recorded.

@@ -1,4 +1,4 @@
-use Rattle.std.proofs.Common.{◌≡◌, false, true, inl, inr, ◌⊎◌}
+use Rattle.std.proofs.Common.{◌≡◌, false, true, inl, inr}
 use Rattle.editor_session.proofs.Performing.{document_here}
 use Rattle.editor_session.proofs.Preparing.{all_taken, turned_empty, turns_nothing, needs_none}
 use Rattle.editor_session.proofs.prepare.prepare.Goals as goal

@@ -1,14 +1,14 @@
-use Rattle.std.proofs.Common.{◌≡◌, ◌++◌, map, sym, ap, subst, ◌∙◌, IfSome, IsSomeAnd}
+use Rattle.std.proofs.Common.{◌≡◌, ◌++◌, map, sym, ap, subst, ◌∙◌, IfSome}
 use Rattle.std.specs.Option.{option_copied_mut}
 use Rattle.ed_model.specs.Changes.{changed_document, changed_lines, change_told}
 use Rattle.ed_model.specs.Session.{Document}
 use Rattle.id_table.specs.Entries.{with_value_at}
 use Rattle.notify.specs.Gathered.{Gathered}
 use Rattle.scene.specs.Scenes.{views_of, watchers}
-use Rattle.editor_session.specs.Doing.{CanTell, IsChangedIn}
+use Rattle.editor_session.specs.Doing.{IsChangedIn}
 use Rattle.editor_session.specs.Unheard.{no_notes}
 use Rattle.editor_session.proofs.Needing.{roomier, still_named_there}
-use Rattle.editor_session.proofs.Unheard.{can_tell_still, none_told}
+use Rattle.editor_session.proofs.Unheard.{none_told}
 use Rattle.editor_session.proofs.Replacing.{document_put, put_named, change_keeps_id}
 use Rattle.editor_session.proofs.quietly.change_in.Goals as goal
 

@@ -1,12 +1,7 @@
-use Rattle.std.proofs.Common.{◌≡◌, refl, sym, subst, IfSome}
+use Rattle.std.proofs.Common.{refl}
 use Rattle.ed_model.specs.Performing.{quiet}
-use Rattle.ed_model.specs.SoundLaws.{IsSound}
-use Rattle.document.specs.Kept.{Kept}
-use Rattle.id_table.specs.Entries.{value_at}
 use Rattle.message_plans.specs.declared.state.SessionState.{SessionState}
-use Rattle.editor_session.specs.Doing.{IsChangedIn, Changes}
-use Rattle.editor_session.specs.Unheard.{no_notes}
-use Rattle.editor_session.proofs.Keeping.{kept_with, kept_after_message}
+use Rattle.editor_session.proofs.Keeping.{kept_after_message}
 use Rattle.editor_session.proofs.Unheard.{unheard_can, unheard_answer}
 use Rattle.editor_session.proofs.quietly.change_unheard.Goals as goal
 

@@ -1,4 +1,4 @@
-use Rattle.std.proofs.Common.{rules, ◌≡◌, false, true, Ok, Err, refl, sym, ap, subst, ◌∙◌, to_z, of_z, w64}
+use Rattle.std.proofs.Common.{rules, ◌≡◌, false, true, Ok, refl, sym, ap, subst, ◌∙◌, to_z, of_z, w64}
 use Rattle.ed_model.specs.declared.plan.Plan.TheVariants.{ChangeDocument}
 use Rattle.ed_model.specs.Table.{table}
 use Rattle.message_plans.specs.Requested.{session_in}
