@@ -8,7 +8,7 @@ pub mod Performing
 pub mod Changing
 pub mod Preparing
 pub mod Keeping
-pub mod Light
+pub mod Unheard
 pub mod OpeningLemmas
 pub mod Needing
 pub mod LendingLemmas

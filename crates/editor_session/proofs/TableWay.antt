@@ -1,6 +1,6 @@
 -- The way of a message through the table.
 use Rattle.std.proofs.Common.{inl, ◌&&◌, ◌≡◌, ◌≢◌, ℕ, Bool, true, false, cond, ◌==◌, List, [], ◌∷◌, ℤ, refl, ap, sym, ◌∙◌, subst, Option, Some, None, Ok, Err}
-use Rattle.std.specs.Prelude.{Result, not, ◌+◌, slice_range, IsOk, IfOk, IfErr}
+use Rattle.std.specs.Prelude.{Result, not, ◌+◌, slice_range, IsOk, IfOk, IfErr, OnErr}
 use Rattle.ed_types.specs.declared.message.Message.{Message}
 use Rattle.ed_types.specs.declared.kind.Kind.{Kind}
 use Rattle.ed_types.specs.declared.refusal.Refusal.{Refusal}
@@ -83,6 +83,15 @@ text_handed_out s view m kind r value start count f planned unheard =
 pub handed_so : (says : Result (Session × Response) Refusal) (s : Session) (reply : Response) (result : Result Response Refusal) → says ≡ Ok (s, reply) → IfOk result (λ x. x ≡ reply) → IfErr result (λ e. e ≡ OutOfMemory) → AnswersBy says s s result
 handed_so says s reply (Ok x) is ok err = is ∙ ap (λ y. Ok (s, y)) (sym ok)
 handed_so says s reply (Err e) is ok err = (refl, inl err)
+
+-- the table refuses no message that has a plan
+pub with_a_plan : (P : Refusal → Type 0) (s : Session) (view : ℕ) (m m' : Message) (kind : Kind) (r : Request) (what : Plan) → m ≡ m' → IsFound s view m kind r → plan_of kind r ≡ Ok what → IfErr (table s view m') P
+with_a_plan P s view m m' kind r what same f planned = subst (λ t. IfErr t P) (sym (ap (table s view) (sym same) ∙ f.answer ∙ ap (answered kind r) planned)) tt
+
+-- what answers by the table, or is refused memory and leaves the session
+pub carried_so : (says : Result (Session × Response) Refusal) (old new : Session) (result : Result Response Refusal) → IfOk result (λ reply. says ≡ Ok (new, reply)) → OnErr result (new ≡ old) → IfErr result (λ e. e ≡ OutOfMemory) → AnswersBy says old new result
+carried_so says old new (Ok x) ok same err = ok
+carried_so says old new (Err e) ok same err = (same, inl err)
 
 pub never_refused : (result : Result Response Refusal) → IsOk result → IfErr result (λ e. e ≢ OutOfMemory)
 never_refused (Ok x) h = tt

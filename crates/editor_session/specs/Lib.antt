@@ -12,3 +12,4 @@ pub mod Edited
 pub mod Edits
 pub mod Opening
 pub mod PartLends
+pub mod Unheard

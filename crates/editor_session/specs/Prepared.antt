@@ -1,8 +1,7 @@
 -- The memory that was taken for a message.
-use Rattle.std.specs.Prelude.{◌≡◌, ℕ, ◌+◌, ◌≤◌, ◌&&◌, not, Bool, true, false, List, [], IsSome, IsSomeAnd, vec_capacity}
+use Rattle.std.specs.Prelude.{◌≡◌, ℕ, ◌+◌, ◌≤◌, not, Bool, true, false, List, [], IsSomeAnd, vec_capacity}
 use Rattle.ed_model.specs.declared.plan.DocumentChange.{DocumentChange}
 use Rattle.ed_model.specs.declared.plan.SessionChange.{SessionChange}
-use Rattle.ed_model.specs.declared.plan.ViewChange.{ViewChange}
 use Rattle.ed_model.specs.declared.plan.Source.TheVariants as source
 use Rattle.ed_model.specs.declared.plan.Edit.TheVariants as edit
 use Rattle.ed_model.specs.declared.plan.Plan.{Plan}
@@ -52,18 +51,6 @@ takes_nothing (plan.ChangeDocument change value) = not (needs_room change)
 takes_nothing (plan.ChangeView change value) = not (takes_fold_room change)
 takes_nothing (plan.ChangeSession change value) = not (takes_memory change)
 takes_nothing other = true
-
--- a change of a view that asks for no room, whatever the view is
-abbrev pub is_light_change : ViewChange → Bool
-is_light_change change = not (takes_fold_room change)
-
-abbrev pub is_light_plan : Bool → Plan → Bool
-is_light_plan is_recorded (plan.ChangeView change value) = not is_recorded && is_light_change change
-is_light_plan is_recorded other = false
-
--- such a change, of which nobody hears
-abbrev pub is_light : Task → Bool
-is_light task = is_light_plan task.is_recorded task.plan
 
 -- it puts in the clipboard with other line ends
 abbrev pub is_turned : Plan → Bool

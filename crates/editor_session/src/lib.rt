@@ -2,7 +2,7 @@
 //!
 //! A message goes one way. Its view and document are found and its number is decoded; a plan is made, which carries every
 //! refusal but want of memory; what the plan needs is told, and reserved in one pass; and then the plan is performed, which
-//! cannot fail.
+//! cannot fail. A plain question is answered before a plan is made, and a change of which nobody hears is made at once.
 #![tactic(auto)]
 
 mod asking;
@@ -17,6 +17,7 @@ mod need;
 mod opening;
 mod perform;
 mod prepare;
+mod quietly;
 mod ready;
 mod run;
 mod sending;

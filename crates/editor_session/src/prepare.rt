@@ -10,13 +10,13 @@ ghost use Rattle.session_changes.specs.Kept.{IsKept, DocumentsAreNamed};
 ghost use Rattle.editor_session.specs.Plans.{needs_no_memory};
 ghost use Rattle.editor_session.specs.Tasks.{IsAskedBy, IsPlanned};
 ghost use Rattle.editor_session.specs.Needs.{no_need};
-ghost use Rattle.editor_session.specs.Prepared.{HasAll, IsTaken, IsPastedIn, is_light, is_light_change, is_turned, takes_nothing};
+ghost use Rattle.editor_session.specs.Prepared.{HasAll, IsTaken, IsPastedIn, is_turned, takes_nothing};
 
 use crate::find::Task;
 use crate::handing_out::line_end_in;
 use crate::need::{Need, task_need};
 use crate::ready::{Ready, make_ready};
-use ed_model::{Edit, Plan, Source, ViewChange};
+use ed_model::{Edit, Plan, Source};
 use line_ends::{convert_into, converted_len};
 use message_plans::SessionState;
 use notify::NoteList;
@@ -35,48 +35,6 @@ pub(crate) struct Prepared {
     pub notes: NoteList,
     /// What the plan asks for beside.
     pub ready: Ready,
-}
-
-impl Prepared {
-    /// No memory at all.
-    fn nothing(alloc: Global) -> Prepared
-        ensures text { result.text.items ≡ [] }
-        ensures clipboard { result.clipboard.items ≡ [] }
-        ensures pasted { result.pasted.items ≡ [] }
-        ensures notes { result.notes.notes ≡ [] }
-    {
-        Prepared {
-            text: Vec::new(alloc),
-            clipboard: Vec::new(alloc),
-            pasted: Vec::new(alloc),
-            notes: NoteList::new(alloc),
-            ready: Ready::Room,
-        }
-    }
-}
-
-/// Whether a change of a view takes no memory, whatever the view is.
-fn is_light_change(change: ViewChange) -> bool
-    ensures { result ≡ is_light_change change }
-{
-    match change {
-        ViewChange::HideLines { .. }
-        | ViewChange::Contract { .. }
-        | ViewChange::Expand { .. }
-        | ViewChange::EnsureVisible { .. } => false,
-        ViewChange::SetExpanded { on, .. } => on,
-        _ => true,
-    }
-}
-
-/// Whether a task is a light change of a view, of which nobody hears. It needs no memory, so that none is counted.
-fn is_light(task: &Task) -> bool
-    ensures { result ≡ is_light task.now }
-{
-    match task.plan {
-        Plan::ChangeView { change, .. } => !task.is_recorded && is_light_change(change),
-        _ => false,
-    }
 }
 
 /// Whether a plan puts in the clipboard with other line ends.
@@ -187,9 +145,6 @@ pub(crate) fn prepare(
     ensures ok { IfOk result (λ prepared. (r : Request) → IsAskedBy (session_in state.old) task.now message_text.now r → HasAll r state.new task.now prepared) }
     ensures free { (r : Request) → IsAskedBy (session_in state.old) task.now message_text.now r → needs_no_memory r task.now.plan ≡ true → task.now.is_recorded ≡ false → IsOk result }
 {
-    if is_light(task) {
-        return Ok(Prepared::nothing(alloc));
-    }
     let Ok(pasted) = turned_clipboard(alloc, state, task) else {
         return Err(AllocError);
     };

@@ -3,7 +3,8 @@
 ghost use Rattle.std.specs.Prelude.{◌≡◌, ◌≢◌, ◌&&◌, ◌≤◌, ◌+◌, [], length, slice_range, true, OnErr, IfOk, IfErr, IsOk, Ok, Err};
 ghost use Rattle.ed_types.specs.declared.refusal.Refusal.TheVariants.{OutOfMemory};
 ghost use Rattle.ed_types.specs.Messages.{marks_of};
-ghost use Rattle.ed_model.specs.Performing.{response};
+ghost use Rattle.ed_model.specs.declared.plan.Plan.TheVariants as plan;
+ghost use Rattle.ed_model.specs.Performing.{quiet, response};
 ghost use Rattle.ed_model.specs.Session.{text_of};
 ghost use Rattle.ed_model.specs.Table.{table};
 ghost use Rattle.message_plans.specs.Requested.{session_in};
@@ -11,23 +12,33 @@ ghost use Rattle.session_changes.specs.Kept.{IsKept};
 ghost use Rattle.editor_session.specs.Answers.{AnswersBy, message_with};
 ghost use Rattle.editor_session.specs.Plans.{is_free};
 ghost use Rattle.editor_session.specs.Tasks.{IsTask};
+ghost use Rattle.editor_session.specs.Unheard.{unrecorded};
 
 use crate::asking::ask;
 use crate::find::{Task, find};
 use crate::perform::perform;
 use crate::prepare::prepare;
+use crate::quietly::{change_lightly, change_unheard, is_light, is_unheard};
 use document::Document;
-use ed_model::{Plan, plans_are_fit, soundness_is_kept};
+use ed_model::{DocumentChange, Plan, plans_are_fit, soundness_is_kept};
 use ed_types::{Bytes, Kind, Refusal, Reply};
 use message_plans::{Request, SessionState, plan_of};
-use std::alloc::{AllocError, Global};
+use std::alloc::Global;
+
+/// The reply of a value alone. Takes no memory.
+#[inline(always)]
+fn answer(alloc: Global, value: i64) -> Reply
+    ensures { result ≡ quiet value }
+{
+    Reply::quiet(alloc, value, Bytes::empty(alloc))
+}
 
 /// Makes room for the plan of a task, and performs it. It stands apart, so that a message that only answers a number sets up
 /// nothing of what others need.
 ///
 /// # Errors
 ///
-/// `AllocError` where memory is refused. The session is then as it was.
+/// `OutOfMemory` where memory is refused. The session is then as it was.
 #[inline(never)]
 fn carry_out(
     alloc: Global,
@@ -37,18 +48,60 @@ fn carry_out(
     w: i64,
     l: i64,
     text: &[u8],
-) -> Result<Reply, AllocError>
+) -> Result<Reply, Refusal>
     requires kept { IsKept state.old }
     requires task { IsTask (session_in state.old) task.now.view (message_with number w l text.now) task.now }
     ensures answer { IfOk result (λ reply. table (session_in state.old) task.now.view (message_with number w l text.now) ≡ Ok (session_in state.new, reply)) }
     ensures same { OnErr result (session_in state.new ≡ session_in state.old) }
+    ensures refused { IfErr result (λ refusal. refusal ≡ OutOfMemory) }
     ensures kept { IsKept state.new }
     ensures free { is_free (session_in state.old) task.now.view (message_with number w l text.now) ≡ true → IsOk result }
 {
     // The law that the session stays sound.
     soundness_is_kept();
-    let prepared = prepare(alloc, state, task, text)?;
+    let Ok(prepared) = prepare(alloc, state, task, text) else {
+        return Err(Refusal::OutOfMemory);
+    };
     Ok(perform(state, task, number, w, l, text, prepared))
+}
+
+/// Answers a message that is not recorded and changes a document: at once where no view hears of it, else by its task. It stands
+/// apart, so that all others set up nothing of it.
+///
+/// # Errors
+///
+/// `OutOfMemory` where memory is refused. The session is then as it was.
+#[inline(never)]
+fn answer_change(
+    alloc: Global,
+    state: &mut SessionState,
+    document: u32,
+    view: u32,
+    number: u32,
+    w: i64,
+    l: i64,
+    text: &[u8],
+    change: DocumentChange,
+    value: i64,
+) -> Result<Reply, Refusal>
+    requires kept { IsKept state.old }
+    requires task { IsTask (session_in state.old) view (message_with number w l text.now) (unrecorded document view (plan.ChangeDocument change value)) }
+    ensures answer { AnswersBy (table (session_in state.old) view (message_with number w l text.now)) (session_in state.old) (session_in state.new) result }
+    ensures refused { IfErr result (λ refusal. refusal ≡ OutOfMemory) }
+    ensures kept { IsKept state.new }
+    ensures free { is_free (session_in state.old) view (message_with number w l text.now) ≡ true → IsOk result }
+{
+    if is_unheard(state, document, change) {
+        change_unheard(alloc, state, document, view, text, change)?;
+        return Ok(answer(alloc, value));
+    }
+    let task = Task {
+        view,
+        document,
+        plan: Plan::ChangeDocument { change, value },
+        is_recorded: false,
+    };
+    carry_out(alloc, state, &task, number, w, l, text)
 }
 
 /// Hands out the `count` bytes of a document from `start` on, with a value. It takes memory for these bytes alone.
@@ -113,12 +166,11 @@ pub(crate) fn answer_by_plan(
         Ok(found) => found,
         Err(refusal) => return Err(refusal),
     };
+    let document = request.document.id();
     let is_recorded = is_recorded(kind, &request);
     // A plan is not small: those of the messages that are sent most are read where they stand.
     let plan = match plan_of(kind, &request) {
-        Ok(Plan::Answer { value }) if !is_recorded => {
-            return Ok(Reply::quiet(alloc, value, Bytes::empty(alloc)));
-        }
+        Ok(Plan::Answer { value }) if !is_recorded => return Ok(answer(alloc, value)),
         Ok(
             Plan::HandOut {
                 value,
@@ -126,19 +178,25 @@ pub(crate) fn answer_by_plan(
                 count,
             },
         ) if !is_recorded => return hand_out(alloc, request.document, value, start, count),
+        Ok(Plan::ChangeView { change, value }) if !is_recorded && is_light(change) => {
+            change_lightly(state, document, view, change);
+            return Ok(answer(alloc, value));
+        }
+        Ok(Plan::ChangeDocument { change, value }) if !is_recorded => {
+            return answer_change(
+                alloc, state, document, view, number, w, l, text, change, value,
+            );
+        }
         Ok(plan) => plan,
         Err(refusal) => return Err(refusal),
     };
     let task = Task {
         view,
-        document: request.document.id(),
+        document,
         plan,
         is_recorded,
     };
-    match carry_out(alloc, state, &task, number, w, l, text) {
-        Ok(reply) => Ok(reply),
-        Err(_) => Err(Refusal::OutOfMemory),
-    }
+    carry_out(alloc, state, &task, number, w, l, text)
 }
 
 /// Answers a message to the view of an id.
@@ -162,7 +220,7 @@ pub(crate) fn answer_message(
     ensures free { is_free (session_in state.old) view (message_with number w l text.now) ≡ true → IfErr result (λ refusal. refusal ≢ OutOfMemory) }
 {
     match ask(state, view, number, w, l) {
-        Some(value) => Ok(Reply::quiet(alloc, value, Bytes::empty(alloc))),
+        Some(value) => Ok(answer(alloc, value)),
         None => answer_by_plan(alloc, state, view, number, w, l, text),
     }
 }

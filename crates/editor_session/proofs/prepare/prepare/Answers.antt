@@ -1,5 +1,4 @@
-use Rattle.std.proofs.Common.{◌≡◌, false, true, inl, inr, ◌⊎◌, sym, ◌∙◌}
-use Rattle.editor_session.proofs.Light.{all_of_nothing}
+use Rattle.std.proofs.Common.{◌≡◌, false, true, inl, inr}
 use Rattle.editor_session.proofs.Performing.{document_here}
 use Rattle.editor_session.proofs.Preparing.{all_taken, turned_empty, turns_nothing, needs_none}
 use Rattle.editor_session.proofs.prepare.prepare.Goals as goal
@@ -25,9 +24,3 @@ pub turned_clipboard-requires : goal.turned_clipboard-requires
 turned_clipboard-requires c =
     let p = c.requires.planned in
     record { there = document_here c.args.state.now c.args.task.now c.args.message_text.now c.requires.kept p.request p.asked }
-
-pub returns-then-is_light-clause-ok : goal.returns-then-is_light-clause-ok
-returns-then-is_light-clause-ok c =
-    let a = c.args in
-    let n = c.nothing.ensures in
-    all_of_nothing a.state.now a.task.now a.message_text.now c.requires.kept (sym c.is_light.ensures ∙ c.if-is_light.true) c.nothing.result n.text n.clipboard n.pasted n.notes

@@ -1,15 +1,18 @@
 use Rattle.std.proofs.Common.{rules, ◌≡◌, false, true, Ok, Err, refl, sym, ap, subst, ◌∙◌, to_z, of_z, w64}
 use Rattle.std.specs.Prelude.{◌&&◌, ◌+◌, ◌==◌, [], IfOk, IfErr, slice_range}
 use Rattle.ed_types.specs.Messages.{marks_of}
-use Rattle.ed_model.specs.declared.plan.Plan.TheVariants.{Answer, HandOut}
+use Rattle.ed_model.specs.declared.plan.Plan.TheVariants.{Answer, HandOut, ChangeView, ChangeDocument}
 use Rattle.ed_model.specs.Performing.{response}
 use Rattle.ed_model.specs.PlansFit.{IsFitPlanned}
 use Rattle.ed_model.specs.Session.{text_of}
 use Rattle.ed_model.specs.Table.{table, plan_of}
 use Rattle.message_plans.specs.Requested.{session_in}
-use Rattle.editor_session.specs.Answers.{message_with}
+use Rattle.editor_session.specs.Answers.{AnswersBy, message_with}
 use Rattle.editor_session.specs.Plans.{is_free, planned_without_memory}
-use Rattle.editor_session.proofs.TableWay.{plain_answer, text_handed_out, handed_so, never_refused, free_found, fit_of}
+use Rattle.editor_session.specs.Tasks.{IsTask}
+use Rattle.editor_session.specs.Unheard.{unrecorded}
+use Rattle.editor_session.proofs.TableWay.{plain_answer, text_handed_out, handed_so, with_a_plan, carried_so, never_refused, free_found, fit_of}
+use Rattle.editor_session.proofs.Unheard.{unrecorded_task}
 use Rattle.editor_session.proofs.sending.answer_by_plan.Goals as goal
 
 pub returns-in-Ok-Answer-clause-answer : goal.returns-in-Ok-Answer-clause-answer
@@ -52,20 +55,30 @@ carry_out-requires-clause-task c =
       fit = fit_of kind r (search rules) (c.plans_are_fit.ensures.in_range kind r c.in-Ok.ensures.found.sound);
     }
 
-pub returns-in-Ok-carry_out-clause-answer : goal.returns-in-Ok-carry_out-clause-answer
-returns-in-Ok-carry_out-clause-answer c =
+pub returns-clause-answer : goal.returns-clause-answer
+returns-clause-answer c =
     let a = c.args in
     let s = session_in a.state.now in
+    let n = session_in c.carry_out.new.state in
+    let e = c.carry_out.ensures in
     let same : message_with a.number (to_z w64 (of_z w64 a.w)) (to_z w64 (of_z w64 a.l)) a.text.now ≡ message_with a.number a.w a.l a.text.now = search rules in
-    subst (λ x. table s a.view x ≡ Ok (session_in c.carry_out.new.state, c.in-Ok-carry_out.reply)) same c.in-Ok-carry_out.ensures.answer
+    subst (λ x. AnswersBy (table s a.view x) s n c.carry_out.result) same
+    (carried_so (table s a.view (message_with a.number (to_z w64 (of_z w64 a.w)) (to_z w64 (of_z w64 a.l)) a.text.now)) s n c.carry_out.result e.answer e.same e.refused)
 
-pub returns-in-Err-carry_out-clause-free : goal.returns-in-Err-carry_out-clause-free
-returns-in-Err-carry_out-clause-free c free =
+pub returns-clause-refused : goal.returns-clause-refused
+returns-clause-refused c =
+    let a = c.args in
+    let kind = c.in-Ok.found.0 in
+    let r = c.in-Ok.found.1 in
+    let planned : plan_of kind r ≡ Ok c.in-Ok-plan_of.plan = search rules in
+    with_a_plan _ (session_in a.state.now) a.view (message_with a.number (to_z w64 (of_z w64 a.w)) (to_z w64 (of_z w64 a.l)) a.text.now) (message_with a.number a.w a.l a.text.now) kind r c.in-Ok-plan_of.plan (search rules) c.in-Ok.ensures.found planned
+
+pub returns-clause-free : goal.returns-clause-free
+returns-clause-free c free =
     let a = c.args in
     let s = session_in a.state.now in
     let same : message_with a.number (to_z w64 (of_z w64 a.w)) (to_z w64 (of_z w64 a.l)) a.text.now ≡ message_with a.number a.w a.l a.text.now = search rules in
-    let bad : false ≡ true = c.in-Err-carry_out.ensures.free (subst (λ x. is_free s a.view x ≡ true) (sym same) free) in
-    absurd (cc)
+    never_refused c.carry_out.result (c.carry_out.ensures.free (subst (λ x. is_free s a.view x ≡ true) (sym same) free))
 
 pub returns-in-Ok-HandOut-clause-answer : goal.returns-in-Ok-HandOut-clause-answer
 returns-in-Ok-HandOut-clause-answer c =
@@ -106,3 +119,66 @@ returns-in-Ok-HandOut-clause-free c free =
     let none : (h.count == 0) ≡ true = subst (λ p. planned_without_memory r p ≡ true) planned parts.0 in
     let zero : h.count ≡ 0 = search rules in
     never_refused c.hand_out.result (c.hand_out.ensures.free zero)
+
+pub change_lightly-requires-clause-sent : goal.change_lightly-requires-clause-sent
+change_lightly-requires-clause-sent c =
+    let a = c.args in
+    let kind = c.in-Ok.found.0 in
+    let r = c.in-Ok.found.1 in
+    let e = c.in-Ok-ChangeView in
+    let m = message_with a.number (to_z w64 (of_z w64 a.w)) (to_z w64 (of_z w64 a.l)) a.text.now in
+    let planned : plan_of kind r ≡ Ok (ChangeView e.change e.value) = search rules in
+    record {
+      message = m;
+      value = e.value;
+      task = unrecorded_task (session_in a.state.now) _ a.view m kind r (ChangeView e.change e.value) c.in-Ok.ensures.found planned (search rules) (search rules) (c.plans_are_fit.ensures.in_range kind r c.in-Ok.ensures.found.sound);
+    }
+
+pub returns-in-Ok-ChangeView-clause-answer : goal.returns-in-Ok-ChangeView-clause-answer
+returns-in-Ok-ChangeView-clause-answer c =
+    let a = c.args in
+    let s = session_in a.state.now in
+    let kind = c.in-Ok.found.0 in
+    let r = c.in-Ok.found.1 in
+    let e = c.in-Ok-ChangeView in
+    let m = message_with a.number (to_z w64 (of_z w64 a.w)) (to_z w64 (of_z w64 a.l)) a.text.now in
+    let same : m ≡ message_with a.number a.w a.l a.text.now = search rules in
+    let planned : plan_of kind r ≡ Ok (ChangeView e.change e.value) = search rules in
+    let task : IsTask s a.view m (unrecorded c.id-document.result a.view (ChangeView e.change e.value)) =
+    unrecorded_task s c.id-document.result a.view m kind r (ChangeView e.change e.value) c.in-Ok.ensures.found planned (search rules) (search rules) (c.plans_are_fit.ensures.in_range kind r c.in-Ok.ensures.found.sound) in
+    ap (table s a.view) (sym same) ∙ c.change_lightly.ensures.answer m e.value task ∙ ap (λ x. Ok (session_in c.change_lightly.new.state, x)) (search rules)
+
+pub returns-in-Ok-ChangeView-clause-refused : goal.returns-in-Ok-ChangeView-clause-refused
+returns-in-Ok-ChangeView-clause-refused c =
+    let answer = returns-in-Ok-ChangeView-clause-answer c in
+    rw answer (search rules)
+
+pub answer_change-requires-clause-task : goal.answer_change-requires-clause-task
+answer_change-requires-clause-task c =
+    let a = c.args in
+    let kind = c.in-Ok.found.0 in
+    let r = c.in-Ok.found.1 in
+    unrecorded_task (session_in a.state.now) _ a.view _ kind r _ c.in-Ok.ensures.found (search rules) (search rules) (search rules) (c.plans_are_fit.ensures.in_range kind r c.in-Ok.ensures.found.sound)
+
+pub returns-in-Ok-ChangeDocument-clause-answer : goal.returns-in-Ok-ChangeDocument-clause-answer
+returns-in-Ok-ChangeDocument-clause-answer c =
+    let a = c.args in
+    let s = session_in a.state.now in
+    let same : message_with a.number (to_z w64 (of_z w64 a.w)) (to_z w64 (of_z w64 a.l)) a.text.now ≡ message_with a.number a.w a.l a.text.now = search rules in
+    subst (λ x. AnswersBy (table s a.view x) s (session_in c.answer_change.new.state) c.answer_change.result) same c.answer_change.ensures.answer
+
+pub returns-in-Ok-ChangeDocument-clause-refused : goal.returns-in-Ok-ChangeDocument-clause-refused
+returns-in-Ok-ChangeDocument-clause-refused c =
+    let a = c.args in
+    let kind = c.in-Ok.found.0 in
+    let r = c.in-Ok.found.1 in
+    let e = c.in-Ok-ChangeDocument in
+    let planned : plan_of kind r ≡ Ok (ChangeDocument e.change e.value) = search rules in
+    with_a_plan _ (session_in a.state.now) a.view (message_with a.number (to_z w64 (of_z w64 a.w)) (to_z w64 (of_z w64 a.l)) a.text.now) (message_with a.number a.w a.l a.text.now) kind r (ChangeDocument e.change e.value) (search rules) c.in-Ok.ensures.found planned
+
+pub returns-in-Ok-ChangeDocument-clause-free : goal.returns-in-Ok-ChangeDocument-clause-free
+returns-in-Ok-ChangeDocument-clause-free c free =
+    let a = c.args in
+    let s = session_in a.state.now in
+    let same : message_with a.number (to_z w64 (of_z w64 a.w)) (to_z w64 (of_z w64 a.l)) a.text.now ≡ message_with a.number a.w a.l a.text.now = search rules in
+    never_refused c.answer_change.result (c.answer_change.ensures.free (subst (λ x. is_free s a.view x ≡ true) (sym same) free))

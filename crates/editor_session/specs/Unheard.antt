@@ -1,0 +1,27 @@
+-- Changes of which no view hears, by messages that are not recorded.
+use Rattle.std.specs.Prelude.{◌≡◌, ℕ, ℤ, false, List, []}
+use Rattle.ed_types.specs.declared.message.Message.{Message}
+use Rattle.ed_model.specs.declared.plan.Plan.{Plan}
+use Rattle.ed_model.specs.Session.{Session}
+use Rattle.notify.specs.Gathered.{Gathered, gathered}
+use Rattle.editor_session.specs.declared.find.Task.{Task}
+use Rattle.editor_session.specs.Tasks.{IsTask}
+
+-- the task of a message that is not recorded
+abbrev pub unrecorded : ℕ → ℕ → Plan → Task
+unrecorded document view what = record { view = view; document = document; plan = what; is_recorded = false }
+
+-- no notes, and no room for any
+abbrev pub no_notes : Gathered
+no_notes = gathered [] [] 0 0
+
+-- such a message comes to this plan, whatever the value is that it answers
+pub record IsSent (s : Session) (document view : ℕ) (what : ℤ → Plan) : Type 0 where
+  pub message : Message
+  pub value : ℤ
+  pub task : IsTask s view message (unrecorded document view (what value))
+
+-- .. with this text
+pub record IsSentWith (s : Session) (document view : ℕ) (text : List ℕ) (what : ℤ → Plan) : Type 0 where
+  pub sent : IsSent s document view what
+  pub text_is : sent.message.text ≡ text
