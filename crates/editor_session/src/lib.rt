@@ -17,6 +17,7 @@ mod need;
 mod opening;
 mod perform;
 mod prepare;
+mod reading;
 mod ready;
 mod run;
 mod sending;
