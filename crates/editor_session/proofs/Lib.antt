@@ -1,5 +1,6 @@
 pub mod Finding
 pub mod Questions
+pub mod TextQuestions
 pub mod Styled
 pub mod TableWay
 pub mod Stepping

@@ -22,7 +22,7 @@ use Rattle.editor_session.specs.Answers.{message_with}
 use Rattle.editor_session.specs.Asked.{value_from_document, value_from_view, value_from_kind, value_to}
 
 -- A plain question is not recorded, and its plan is that of the same message with another text.
-record IsPlain (kind : Kind) : Type 0 where
+pub record IsPlain (kind : Kind) : Type 0 where
   pub unrecorded : (marks_of kind).r ≡ false
   pub any_text : (r : Request) (text : List ℕ) → plan_of kind (record r { message = record r.message { text = text } }) ≡ plan_of kind r
 
@@ -38,13 +38,13 @@ shown_of_any_text : (r : Request) (text : List ℕ) (w : ℤ) → line_shown_at 
 shown_of_any_text r text (pos n) = refl
 shown_of_any_text r text (negsuc n) = refl
 
-plain : {kind : Kind} → (marks_of kind).r ≡ false → ((r : Request) (text : List ℕ) → plan_of kind (record r { message = record r.message { text = text } }) ≡ plan_of kind r) → IsPlain kind
+pub plain : {kind : Kind} → (marks_of kind).r ≡ false → ((r : Request) (text : List ℕ) → plan_of kind (record r { message = record r.message { text = text } }) ≡ plan_of kind r) → IsPlain kind
 plain u t = record { unrecorded = u; any_text = t }
 
 all_plain : AllByRecursion IsPlain questions
 all_plain = (plain refl (λ r text. refl), (plain refl (λ r text. refl), (plain refl (λ r text. refl), (plain refl (λ r text. refl), (plain refl (λ r text. refl), (plain refl (λ r text. refl), (plain refl (λ r text. refl), (plain refl (λ r text. refl), (plain refl (λ r text. refl), (plain refl (λ r text. refl), (plain refl (λ r text. refl), (plain refl (λ r text. ap answer (end_of_any_text r text r.message.w)), (plain refl (λ r text. refl), (plain refl (λ r text. refl), (plain refl (λ r text. refl), (plain refl (λ r text. refl), (plain refl (λ r text. refl), (plain refl (λ r text. refl), (plain refl (λ r text. ap answer (start_of_any_text r text r.message.w)), (plain refl (λ r text. refl), (plain refl (λ r text. refl), (plain refl (λ r text. refl), (plain refl (λ r text. refl), (plain refl (λ r text. refl), (plain refl (λ r text. ap answer_number (shown_of_any_text r text r.message.w)), (plain refl (λ r text. refl), (plain refl (λ r text. refl), (plain refl (λ r text. refl), (plain refl (λ r text. refl), (plain refl (λ r text. refl), (plain refl (λ r text. refl), (plain refl (λ r text. refl), (plain refl (λ r text. refl), (plain refl (λ r text. refl), (plain refl (λ r text. refl), (plain refl (λ r text. refl), tt))))))))))))))))))))))))))))))))))))
 
-found_plain : (number : ℕ) (kinds : List Kind) (kind : Kind) → AllByRecursion IsPlain kinds → kind_among kinds number ≡ Some kind → IsPlain kind × ((number_of kind == number) ≡ true)
+pub found_plain : (number : ℕ) (kinds : List Kind) (kind : Kind) → AllByRecursion IsPlain kinds → kind_among kinds number ≡ Some kind → IsPlain kind × ((number_of kind == number) ≡ true)
 found_plain number [] kind all e = absurd (cc)
 found_plain number (k ∷ ks) kind all e = go (number_of k == number) refl e (λ e. found_plain number ks kind all.1 e)
   where
@@ -63,7 +63,7 @@ planned true (Err refusal) value e = absurd (cc)
 planned true (Ok (plan.Answer other)) value e = let same : other ≡ value = cc in ap answer same
 planned true (Ok other) value e = absurd (cc)
 
-unheard : (records recorded : Bool) → recorded ≡ false → (records && recorded) ≡ false
+pub unheard : (records recorded : Bool) → recorded ≡ false → (records && recorded) ≡ false
 unheard true recorded e = e
 unheard false recorded e = refl
 

@@ -18,6 +18,7 @@ mod opening;
 mod perform;
 mod prepare;
 mod quietly;
+mod reading;
 mod ready;
 mod run;
 mod sending;

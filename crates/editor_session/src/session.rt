@@ -1,18 +1,19 @@
 //! `Session` and its calls.
 
-ghost use Rattle.std.specs.Prelude.{◌≡◌, ◌≢◌, ◌⊎◌, ℕ, List, [], true, OnOk, OnErr, IfOk, IfErr, IfSome, Ok, Err, is_some};
+ghost use Rattle.std.specs.Prelude.{◌≡◌, ◌≢◌, ◌⊎◌, ℕ, List, [], ◌≤◌, length, vec_capacity, Some, true, OnOk, OnErr, IfOk, IfErr, IfNone, IfSome, IsSome, Ok, Err, is_some};
 ghost use Rattle.ed_types.specs.declared.refusal.Refusal.TheVariants.{BadArgument, NoSuchView, OutOfMemory};
 ghost use Rattle.ed_model.specs.Session.{new_session, greatest_limits, is_between_one_and, is_allowed, view_at};
-ghost use Rattle.ed_model.specs.Performing.{quiet};
+ghost use Rattle.ed_model.specs.Performing.{quiet, response};
 ghost use Rattle.ed_model.specs.Table.{table, limited, opened, closed};
 ghost use Rattle.editor_session.specs.Answers.{AnswersBy, message_with};
-ghost use Rattle.editor_session.specs.Asked.{value_to};
+ghost use Rattle.editor_session.specs.Asked.{reply_to, value_to};
 ghost use Rattle.editor_session.specs.Plans.{is_free};
 ghost use Rattle.editor_session.specs.Lent.{lent_range};
 
 use crate::asking::ask;
 use crate::lending::{document_with, lend};
 use crate::opening::{close, open};
+use crate::reading::read;
 use crate::sending::{answer_by_plan, answer_message};
 use document_table::DocumentTable;
 use ed_model::soundness_is_kept;
@@ -214,6 +215,21 @@ impl Session {
         ensures answer { IfSome result (λ value. (text : List ℕ) → table self.now view (message_with number w l text) ≡ Ok (self.now, quiet value)) }
     {
         ask(&self.state, view, number, w, l)
+    }
+
+    /// Asks a view a text question, as GETTEXTRANGE or GETLINE: a message that hands out bytes of the document (`text_questions` of the
+    /// definitions). Its bytes take the place of what `into` holds, whose memory is used again, and its value is answered. Sent with
+    /// whatever text, the message is answered by a reply of this value and these bytes, and leaves the session as it is. `None` for all
+    /// other messages, for what is refused or hands out no bytes, and where `into` has not the room and memory is refused; `into` is
+    /// then as it was, and `send` says why.
+    #[inline(always)]
+    pub fn read(&self, view: u32, number: u32, w: i64, l: i64, into: &mut Vec<u8>) -> Option<i64>
+        ensures reply { IfSome result (λ value. reply_to self.now view (message_with number w l []) ≡ Some (response value into.new.items [])) }
+        ensures answer { IfSome result (λ value. (text : List ℕ) → table self.now view (message_with number w l text) ≡ Ok (self.now, response value into.new.items [])) }
+        ensures room { IfSome (reply_to self.now view (message_with number w l [])) (λ reply. length reply.text ≤ vec_capacity into.old → IsSome result) }
+        ensures same { IfNone result (into.new ≡ into.old) }
+    {
+        read(self.alloc, &self.state, view, number, w, l, into)
     }
 
     /// Lends the `count` bytes of the view's document from `start` on as one slice, which is not copied. The session stays as

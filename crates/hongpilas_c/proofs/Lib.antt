@@ -1,2 +1,3 @@
 pub mod AsBox
 pub mod Refusing
+pub mod ReadTexts

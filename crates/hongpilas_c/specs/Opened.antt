@@ -8,7 +8,7 @@ use Rattle.hongpilas_c.specs.declared.opening.LimitsInC.{LimitsInC}
 
 -- the session, and a reply that says nothing
 abbrev pub fresh : Session → Held
-fresh session = record { session = session; value = pos 0; reply = record { value = pos 0; text = []; notes = [] } }
+fresh session = record { session = session; value = pos 0; read = []; reply = record { value = pos 0; text = []; notes = [] } }
 
 -- what is held is this session, just opened
 abbrev pub IsFresh : Result Session Refusal → Option Held → Type 0

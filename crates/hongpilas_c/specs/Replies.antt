@@ -1,7 +1,13 @@
 -- The last reply.
+use Rattle.std.specs.Prelude.{ℕ, List, [], ◌∷◌}
 use Rattle.ed_types.specs.Notices.{Response}
 use Rattle.hongpilas_c.specs.declared.held.Held.{Held}
 
--- its value stands beside its text and its notes
+-- a text, or another where there is none
+abbrev pub text_or : List ℕ → List ℕ → List ℕ
+text_or [] other = other
+text_or (byte ∷ bytes) other = byte ∷ bytes
+
+-- its value stands beside its text and its notes, and so does a text that was read
 abbrev pub reply_in : Held → Response
-reply_in held = record held.reply { value = held.value }
+reply_in held = record held.reply { value = held.value; text = text_or held.reply.text held.read }

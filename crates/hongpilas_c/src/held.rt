@@ -1,8 +1,8 @@
 //! What a handle leads to.
 
-ghost use Rattle.std.specs.Prelude.{◌≡◌, ◌≢◌, true, length, Ok};
+ghost use Rattle.std.specs.Prelude.{◌≡◌, ◌≢◌, [], pos, true, length, Ok};
 ghost use Rattle.ed_types.specs.declared.refusal.Refusal.TheVariants.{OutOfMemory};
-ghost use Rattle.ed_model.specs.Performing.{quiet};
+ghost use Rattle.ed_model.specs.Performing.{quiet, response};
 ghost use Rattle.ed_model.specs.Table.{table, opened, closed};
 ghost use Rattle.ed_model.specs.Printed.{refusal_number};
 ghost use Rattle.editor_session.specs.Answers.{message_with};
@@ -12,6 +12,7 @@ ghost use Rattle.hongpilas_c.specs.Answers.{answered, refused_with};
 ghost use Rattle.hongpilas_c.specs.Replies.{reply_in};
 
 use crate::answers::{DONE, number_of};
+use crate::read_text::ReadText;
 use crate::starts::start_of;
 use ed_types::Reply;
 use editor_session::Session;
@@ -22,19 +23,51 @@ pub struct Held {
     pub session: Session,
     /// The value of the last reply. It stands beside the rest, so that a plain question writes nothing else.
     pub value: i64,
-    /// The last reply's text and notes.
+    /// The last reply's text where it was read without a plan; else nothing.
+    pub read: ReadText,
+    /// The last reply's notes, and its text where it was not read.
     pub reply: Reply,
 }
 
 impl Held {
-    /// Whether the last reply is a value alone, without text and notes.
-    fn is_value_alone(&self) -> bool
-        ensures { result ≡ true → reply_in self.now ≡ quiet self.now.value }
+    /// The last reply's text.
+    pub(crate) fn text(&self) -> &[u8]
+        ensures { result.now ≡ (reply_in self.now).text }
     {
-        self.reply.text().is_empty() && self.reply.note_count() == 0
+        let own = self.reply.text();
+        if own.is_empty() {
+            self.read.as_slice()
+        } else {
+            own
+        }
     }
 
-    /// Sends a message, and keeps its reply. A plain question is asked, where the reply before it leaves nothing to be given back.
+    /// Gives back the reply's own text and its notes.
+    #[inline(never)]
+    fn give_reply_back(&mut self)
+        ensures reply { self.new.reply ≡ quiet (pos 0) }
+        ensures session { self.new.session ≡ self.old.session }
+        ensures value { self.new.value ≡ self.old.value }
+        ensures read { self.new.read ≡ self.old.read }
+    {
+        self.reply = self.read.no_reply();
+    }
+
+    /// Makes the last reply one of this value, without notes, and with what was read as its text.
+    #[inline(always)]
+    fn answer(&mut self, answer: i64)
+        ensures reply { reply_in self.new ≡ response answer self.old.read [] }
+        ensures value { self.new.value ≡ answer }
+        ensures session { self.new.session ≡ self.old.session }
+    {
+        self.value = answer;
+        if self.reply.text().is_empty() && self.reply.note_count() == 0 {
+            return;
+        }
+        self.give_reply_back();
+    }
+
+    /// Sends a message, and keeps its reply. A plain question is asked, and a text question is read.
     pub(crate) fn send(
         &mut self,
         view: u32,
@@ -51,18 +84,23 @@ impl Held {
         ensures value_kept { result ≢ 0 → value.new ≡ value.old }
         ensures free { is_free self.old.session view (message_with number w l text.now) ≡ true → result ≢ refusal_number OutOfMemory }
     {
-        if self.is_value_alone() {
-            if let Some(answer) = self.session.ask(view, number, w, l) {
-                *value = answer;
-                self.value = answer;
-                return DONE;
-            }
+        if let Some(answer) = self.session.ask(view, number, w, l) {
+            self.read.clear();
+            self.answer(answer);
+            *value = answer;
+            return DONE;
+        }
+        if let Some(answer) = self.read.read(&self.session, view, number, w, l) {
+            self.answer(answer);
+            *value = answer;
+            return DONE;
         }
         match self.session.send_by_plan(view, number, w, l, text) {
             Ok(reply) => {
                 *value = reply.value();
                 self.value = reply.value();
                 self.reply = reply;
+                self.read.clear();
                 DONE
             }
             Err(refusal) => number_of(refusal),
@@ -77,6 +115,7 @@ impl Held {
         ensures view_kept { result ≢ 0 → view.new ≡ view.old }
         ensures value { self.new.value ≡ self.old.value }
         ensures reply { self.new.reply ≡ self.old.reply }
+        ensures read { self.new.read ≡ self.old.read }
     {
         match self.session.new_view() {
             Ok(opened) => {
@@ -94,6 +133,7 @@ impl Held {
         ensures kept { result ≢ 0 → self.new.session ≡ self.old.session }
         ensures value { self.new.value ≡ self.old.value }
         ensures reply { self.new.reply ≡ self.old.reply }
+        ensures read { self.new.read ≡ self.old.read }
     {
         match self.session.close_view(view) {
             Ok(()) => DONE,

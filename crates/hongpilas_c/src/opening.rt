@@ -11,6 +11,7 @@ ghost use Rattle.hongpilas_c.specs.Opened.{fresh, limits_of, IsFresh};
 use crate::answers::{DONE, number_of};
 use crate::handle::Handle;
 use crate::held::Held;
+use crate::read_text::ReadText;
 use ed_types::{Bytes, Limits, Refusal, Reply};
 use editor_session::Session;
 use std::alloc::Global;
@@ -38,6 +39,7 @@ fn hold(alloc: Global, session: Session, handle: &mut Handle) -> u32
     let held = Held {
         session,
         value: 0,
+        read: ReadText::new(alloc),
         reply,
     };
     match Handle::new(alloc, held) {

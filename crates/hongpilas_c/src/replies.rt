@@ -27,7 +27,7 @@ pub extern "C" fn hongpilas_text(handle: &mut Handle, text: &mut *const u8) -> u
     ensures same { handle.new.held ≡ handle.old.held }
 {
     let held = handle.held();
-    tell_start(held.reply.text(), text)
+    tell_start(held.text(), text)
 }
 
 /// Copies the text of the last reply from `start` on, as much as there is and has room, and answers how much that is.
@@ -39,7 +39,7 @@ pub extern "C" fn hongpilas_copy_text(handle: &mut Handle, start: usize, into: &
     ensures same { handle.new.held ≡ handle.old.held }
 {
     let held = handle.held();
-    copy_from(held.reply.text(), start, into)
+    copy_from(held.text(), start, into)
 }
 
 /// How many notes the last reply has.

@@ -4,10 +4,19 @@ ghost use Rattle.std.specs.Prelude.{◌≡◌, ◌<◌, ◌^◌, IfSome};
 ghost use Rattle.ed_model.specs.Numbers.{flag};
 ghost use Rattle.ed_model.specs.Requests.{answer, answer_number, change_document, change_session, change_view, with_argument};
 ghost use Rattle.ed_model.specs.LinePlans.{line_or_none};
-ghost use Rattle.ed_model.specs.TextPlans.{hand_out};
+ghost use Rattle.ed_model.specs.TextPlans.{hand_out as hand_out_plan};
+ghost use Rattle.message_plans.specs.Asking.{handed_out, handed_or_zero};
 
 use ed_model::{DocumentChange, Plan, Planned, SessionChange, ViewChange};
 use ed_types::Refusal;
+
+/// What a text question is answered by: a value, and the `count` bytes of the document's text from `start` on.
+#[derive(Clone, Copy, Debug)]
+pub struct HandedOut {
+    pub value: i64,
+    pub start: usize,
+    pub count: usize,
+}
 
 /// Answers a value, and does nothing.
 pub(crate) fn answer(value: i64) -> Planned
@@ -59,17 +68,53 @@ pub(crate) fn answer_flag(on: bool) -> Planned
     answer(flag(on))
 }
 
-/// Hands out the bytes from one place up to another.
-pub(crate) fn hand_out(start: usize, past: usize) -> Planned
+/// The bytes from one place up to another, and how many they are.
+pub(crate) fn bytes_between(start: usize, past: usize) -> HandedOut
     requires { past < 2 ^ 63 }
-    ensures { result ≡ hand_out start past }
+    ensures { handed_out result ≡ hand_out_plan start past }
 {
     let count = past.saturating_sub(start);
-    Ok(Plan::HandOut {
+    HandedOut {
         value: count as i64,
         start,
         count,
+    }
+}
+
+/// Hands out bytes with a value.
+pub(crate) fn hand_out(handed: HandedOut) -> Planned
+    ensures { result ≡ handed_out handed }
+{
+    let HandedOut {
+        value,
+        start,
+        count,
+    } = handed;
+    Ok(Plan::HandOut {
+        value,
+        start,
+        count,
     })
+}
+
+/// Hands out bytes that there are; none is a bad argument.
+pub(crate) fn hand_out_some(handed: Option<HandedOut>) -> Planned
+    ensures { result ≡ with_argument handed handed_out }
+{
+    match handed {
+        Some(handed) => hand_out(handed),
+        None => Err(Refusal::BadArgument),
+    }
+}
+
+/// Hands out bytes that there are; for none it answers 0.
+pub(crate) fn hand_out_or_zero(handed: Option<HandedOut>) -> Planned
+    ensures { result ≡ handed_or_zero handed }
+{
+    match handed {
+        Some(handed) => hand_out(handed),
+        None => answer(0),
+    }
 }
 
 /// A change of the document, which answers 0.

@@ -1,9 +1,11 @@
-//! Plain questions: messages that are answered by a number of the document or of the view. Their values are found without a plan.
+//! Plain questions, which are answered by a number of the document or of the view, and text questions, which are answered by bytes of
+//! the document. What they answer is found without a plan.
 
 ghost use Rattle.std.specs.Prelude.{◌≡◌};
 ghost use Rattle.ed_model.specs.PlansFit.{IsSoundRequest};
-ghost use Rattle.message_plans.specs.Asking.{question_of, value_asked};
+ghost use Rattle.message_plans.specs.Asking.{handed_asked, question_of, text_question_of, value_asked};
 
+use crate::answers::HandedOut;
 use crate::request::Request;
 use crate::{
     folding_plans, line_plans, selection_plans, style_plans, target_plans, text_plans, undo_plans,
@@ -97,6 +99,38 @@ pub fn value_of(kind: Kind, r: &Request) -> Option<i64>
         Kind::IndicatorStart => style_plans::indicator_start(r),
         Kind::IndicatorEnd => style_plans::indicator_end(r),
         Kind::GetSelectionEmpty => Some(selection_plans::get_selection_empty(r)),
+        _ => None,
+    }
+}
+
+/// The text question with this number, if it is one.
+pub fn text_question_of(number: u32) -> Option<Kind>
+    ensures { result ≡ text_question_of number }
+{
+    match number {
+        2027 => Some(Kind::GetCurLine),
+        2153 => Some(Kind::GetLine),
+        2161 => Some(Kind::GetSelText),
+        2162 => Some(Kind::GetTextRange),
+        2182 => Some(Kind::GetText),
+        2687 => Some(Kind::GetTargetText),
+        _ => None,
+    }
+}
+
+/// What the plan of a text question hands out. `None` for all other messages, and where the question is refused or hands out nothing.
+#[tactic(auto, using(crate::proofs::Plain::handed_so, crate::proofs::Plain::handed_if, crate::proofs::Plain::handed_if_any))]
+pub fn handed_of(kind: Kind, r: &Request) -> Option<HandedOut>
+    requires sound { IsSoundRequest r.now }
+    ensures { result ≡ handed_asked kind r.now }
+{
+    match kind {
+        Kind::GetCurLine => Some(text_plans::get_cur_line(r)),
+        Kind::GetLine => text_plans::get_line(r),
+        Kind::GetSelText => Some(selection_plans::get_sel_text(r)),
+        Kind::GetTextRange => text_plans::get_text_range(r),
+        Kind::GetText => Some(text_plans::get_text(r)),
+        Kind::GetTargetText => Some(target_plans::get_target_text(r)),
         _ => None,
     }
 }

@@ -21,7 +21,8 @@ mod target_plans;
 mod text_plans;
 mod undo_plans;
 
-pub use asking::{question_of, value_of};
+pub use answers::HandedOut;
+pub use asking::{handed_of, question_of, text_question_of, value_of};
 pub use plan::plan_of;
 pub use request::{Request, SentMessage};
 pub use state::SessionState;

@@ -4,7 +4,7 @@ ghost use Rattle.std.specs.Prelude.{◌≡◌};
 ghost use Rattle.ed_model.specs.PlansFit.{IsSoundRequest};
 ghost use Rattle.ed_model.specs.Table.{plan_of};
 
-use crate::answers::{answer, answer_some};
+use crate::answers::{answer, answer_some, hand_out, hand_out_or_zero, hand_out_some};
 use crate::request::Request;
 use crate::{
     folding_plans, key_plans, line_plans, selection_plans, session_plans, style_plans,
@@ -27,11 +27,11 @@ pub fn plan_of(kind: Kind, r: &Request) -> Planned
         Kind::DeleteRange => text_plans::delete_range(r),
         Kind::GetLength | Kind::GetTextLength => answer(text_plans::get_length(r)),
         Kind::GetCharAt => answer(text_plans::get_char_at(r)),
-        Kind::GetText => text_plans::get_text(r),
-        Kind::GetTextRange => text_plans::get_text_range(r),
+        Kind::GetText => hand_out(text_plans::get_text(r)),
+        Kind::GetTextRange => hand_out_some(text_plans::get_text_range(r)),
         Kind::GetLineCount => answer(text_plans::get_line_count(r)),
-        Kind::GetLine => text_plans::get_line(r),
-        Kind::GetCurLine => text_plans::get_cur_line(r),
+        Kind::GetLine => hand_out_or_zero(text_plans::get_line(r)),
+        Kind::GetCurLine => hand_out(text_plans::get_cur_line(r)),
         Kind::LineLength => answer(text_plans::line_length(r)),
         Kind::GetLineEndPosition => answer(text_plans::get_line_end_position(r)),
         Kind::LineFromPosition => answer(text_plans::line_from_position(r)),
@@ -69,7 +69,7 @@ pub fn plan_of(kind: Kind, r: &Request) -> Planned
         Kind::SetSelectionStart => selection_plans::set_selection_start(r),
         Kind::SetSelectionEnd => selection_plans::set_selection_end(r),
         Kind::SetSel => selection_plans::set_sel(r),
-        Kind::GetSelText => selection_plans::get_sel_text(r),
+        Kind::GetSelText => hand_out(selection_plans::get_sel_text(r)),
         Kind::ReplaceSel => selection_plans::replace_sel(r),
         Kind::CanPaste => selection_plans::can_paste(r),
         Kind::Cut => selection_plans::cut(r),
@@ -100,7 +100,7 @@ pub fn plan_of(kind: Kind, r: &Request) -> Planned
         Kind::GetTargetEnd => answer(target_plans::get_target_end(r)),
         Kind::TargetFromSelection => target_plans::target_from_selection(r),
         Kind::TargetWholeDocument => target_plans::target_whole_document(r),
-        Kind::GetTargetText => target_plans::get_target_text(r),
+        Kind::GetTargetText => hand_out(target_plans::get_target_text(r)),
         Kind::ReplaceTarget => target_plans::replace_target(r),
         Kind::GetSearchFlags => target_plans::get_search_flags(r),
         Kind::GetDocPointer => session_plans::get_doc_pointer(r),

@@ -5,9 +5,12 @@ ghost use Rattle.ed_model.specs.declared.plan.Source.TheVariants.{Clipboard};
 ghost use Rattle.ed_model.specs.Edits.{source_bytes};
 ghost use Rattle.ed_model.specs.Requests.{answer, selection_start, size};
 ghost use Rattle.ed_model.specs.PlansFit.{IsSoundRequest};
+ghost use Rattle.message_plans.specs.Asking.{handed_out};
 ghost use Rattle.ed_model.specs.SelectionPlans.{can_paste, clear, copy, copy_range, copy_text, cut, get_anchor, get_current_pos, get_paste_convert_endings, get_sel_text, get_selection_empty, get_selection_end, get_selection_start, go_to, go_to_line, go_to_pos, paste, replace_sel, select, select_all, selected, set_anchor, set_current_pos, set_paste_convert_endings, set_sel, set_selection_end, set_selection_start};
 
-use crate::answers::{answer, answer_flag, change_session, change_view, flag, hand_out};
+use crate::answers::{
+    HandedOut, answer, answer_flag, bytes_between, change_session, change_view, flag,
+};
 use crate::arguments::{clamped, is_on, within};
 use crate::edits::{Replacement, edit_plan, replace_and_go, replace_plan};
 use crate::request::Request;
@@ -138,11 +141,11 @@ pub(crate) fn set_sel(r: &Request) -> Planned
 }
 
 /// GETSELTEXT: the selected bytes.
-pub(crate) fn get_sel_text(r: &Request) -> Planned
+pub(crate) fn get_sel_text(r: &Request) -> HandedOut
     requires { IsSoundRequest r.now }
-    ensures { result ≡ get_sel_text r.now }
+    ensures { handed_out result ≡ get_sel_text r.now }
 {
-    hand_out(r.selection_start(), r.selection_end())
+    bytes_between(r.selection_start(), r.selection_end())
 }
 
 /// How many bytes are selected.

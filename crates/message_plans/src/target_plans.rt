@@ -2,11 +2,12 @@
 
 ghost use Rattle.std.specs.Prelude.{◌≡◌, ◌≤◌, ◌<◌, ◌+◌, ◌^◌, length, IfSome};
 ghost use Rattle.ed_model.specs.PlansFit.{IsSoundRequest};
+ghost use Rattle.message_plans.specs.Asking.{handed_out};
 ghost use Rattle.ed_model.specs.Requests.{answer, text};
 ghost use Rattle.ed_model.specs.Matches.{match_in};
 ghost use Rattle.ed_model.specs.TargetPlans.{found_target, get_search_flags, get_target_end, get_target_start, get_target_text, replace_target, replacement_length, search_flags, search_in_target, set_search_flags, set_target, set_target_end, set_target_range, set_target_start, target_from_selection, target_whole_document};
 
-use crate::answers::{answer, change_view, hand_out};
+use crate::answers::{HandedOut, answer, bytes_between, change_view};
 use crate::arguments::{clamped, is_minus_one, within};
 use crate::edits::{Replacement, edit_plan};
 use crate::request::Request;
@@ -80,11 +81,11 @@ pub(crate) fn target_whole_document(r: &Request) -> Planned
 }
 
 /// GETTARGETTEXT: the bytes of the target.
-pub(crate) fn get_target_text(r: &Request) -> Planned
+pub(crate) fn get_target_text(r: &Request) -> HandedOut
     requires { IsSoundRequest r.now }
-    ensures { result ≡ get_target_text r.now }
+    ensures { handed_out result ≡ get_target_text r.now }
 {
-    hand_out(r.target_least(), r.target_greatest())
+    bytes_between(r.target_least(), r.target_greatest())
 }
 
 /// The argument as flags of a search, if it is made of whole word, match case and word start.

@@ -3,14 +3,15 @@
 ghost use Rattle.std.specs.Prelude.{◌≡◌, ◌≤◌, ◌<◌, ◌^◌, IfSome};
 ghost use Rattle.ed_model.specs.Numbers.{within};
 ghost use Rattle.ed_model.specs.PlansFit.{IsSoundRequest};
-ghost use Rattle.ed_model.specs.Requests.{answer, end_or_size, size, text};
+ghost use Rattle.ed_model.specs.Requests.{answer, end_or_size, size, text, with_argument};
+ghost use Rattle.message_plans.specs.Asking.{handed_or_zero, handed_out};
 ghost use Rattle.ed_model.specs.TextPlans.{add_text, append_text, at_place, clear_all, delete_range, get_char_at, get_cur_line, get_length, get_line, get_line_count, get_line_end_position, get_text, get_text_range, insert_text, insertion_place, line_from_position, line_length, position_after, position_before, position_from_line, set_text};
 
-use crate::answers::{answer, hand_out};
+use crate::answers::{HandedOut, bytes_between};
 use crate::arguments::{clamped, is_minus_one, line_among, within};
 use crate::edits::{Replacement, replace_and_go, replace_plan};
 use crate::request::Request;
-use ed_model::{Plan, Planned, Source};
+use ed_model::{Planned, Source};
 use ed_types::Refusal;
 
 /// Where INSERTTEXT inserts: -1 is the caret.
@@ -122,10 +123,10 @@ pub(crate) fn get_char_at(r: &Request) -> i64
 }
 
 /// GETTEXT: the whole text.
-pub(crate) fn get_text(r: &Request) -> Planned
-    ensures { result ≡ get_text r.now }
+pub(crate) fn get_text(r: &Request) -> HandedOut
+    ensures { handed_out result ≡ get_text r.now }
 {
-    hand_out(0, r.size())
+    bytes_between(0, r.size())
 }
 
 /// Where a range that starts there ends by `l`, if it may end there; -1 is the end of the text.
@@ -142,16 +143,16 @@ pub(crate) fn past_argument(r: &Request, start: usize) -> Option<usize>
     }
 }
 
-/// GETTEXTRANGE: the bytes from `w` up to `l`, where -1 is the end of the text.
-pub(crate) fn get_text_range(r: &Request) -> Planned
-    ensures { result ≡ get_text_range r.now }
+/// GETTEXTRANGE: the bytes from `w` up to `l`, where -1 is the end of the text; none where there is no such range, which is refused.
+pub(crate) fn get_text_range(r: &Request) -> Option<HandedOut>
+    ensures { with_argument result handed_out ≡ get_text_range r.now }
 {
     let Some(start) = within(0, r.size(), r.message.w) else {
-        return Err(Refusal::BadArgument);
+        return None;
     };
     match past_argument(r, start) {
-        Some(past) => hand_out(start, past),
-        None => Err(Refusal::BadArgument),
+        Some(past) => Some(bytes_between(start, past)),
+        None => None,
     }
 }
 
@@ -162,29 +163,29 @@ pub(crate) fn get_line_count(r: &Request) -> i64
     r.line_total() as i64
 }
 
-/// GETLINE: the bytes of line `w`, its end with them.
-pub(crate) fn get_line(r: &Request) -> Planned
-    ensures { result ≡ get_line r.now }
+/// GETLINE: the bytes of line `w`, its end with them; none where there is no such line, for which 0 is answered.
+pub(crate) fn get_line(r: &Request) -> Option<HandedOut>
+    ensures { handed_or_zero result ≡ get_line r.now }
 {
     match line_among(r.line_total(), r.message.w) {
-        Some(line) => hand_out(r.line_start(line), r.line_past(line)),
-        None => answer(0),
+        Some(line) => Some(bytes_between(r.line_start(line), r.line_past(line))),
+        None => None,
     }
 }
 
 /// GETCURLINE: the caret's line, and where in it the caret stands.
-pub(crate) fn get_cur_line(r: &Request) -> Planned
+pub(crate) fn get_cur_line(r: &Request) -> HandedOut
     requires { IsSoundRequest r.now }
-    ensures { result ≡ get_cur_line r.now }
+    ensures { handed_out result ≡ get_cur_line r.now }
 {
     let caret = r.caret();
     let line = r.line_at(caret);
     let start = r.line_start(line);
-    Ok(Plan::HandOut {
+    HandedOut {
         value: caret.saturating_sub(start) as i64,
         start,
         count: r.line_past(line).saturating_sub(start),
-    })
+    }
 }
 
 /// LINELENGTH: how many bytes line `w` has, its end with them.

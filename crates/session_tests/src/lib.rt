@@ -11,3 +11,5 @@ mod large_session_tests;
 mod lending_tests;
 #[cfg(test)]
 mod message_tests;
+#[cfg(test)]
+mod reading_tests;

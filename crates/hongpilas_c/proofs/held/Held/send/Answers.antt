@@ -1,10 +1,12 @@
-use Rattle.std.proofs.Common.{rules, ◌≡◌, ◌≢◌, true, subst, sym, ap, ◌∙◌, to_z, of_z, w64, Ok}
+use Rattle.std.proofs.Common.{rules, ◌≡◌, ◌≢◌, [], true, subst, sym, ap, ◌∙◌, to_z, of_z, w64, Ok}
 use Rattle.ed_types.specs.declared.refusal.Refusal.TheVariants.{OutOfMemory}
 use Rattle.ed_types.specs.Notices.{Response}
 use Rattle.ed_model.specs.Table.{table}
 use Rattle.editor_session.specs.Answers.{message_with}
 use Rattle.editor_session.specs.Plans.{is_free}
 use Rattle.hongpilas_c.specs.Answers.{refused_with}
+use Rattle.hongpilas_c.specs.Replies.{text_or}
+use Rattle.hongpilas_c.proofs.ReadTexts.{text_alone}
 use Rattle.hongpilas_c.proofs.Refusing.{refused_as_said, memory_alone}
 use Rattle.hongpilas_c.proofs.held.Held.send.Goals as goal
 
@@ -13,8 +15,11 @@ returns-in-Ok-clause-done c done =
     let same : message_with c.args.number (to_z w64 (of_z w64 c.args.w)) (to_z w64 (of_z w64 c.args.l)) c.args.text.now ≡ message_with c.args.number c.args.w c.args.l c.args.text.now = search rules in
     let reply : Response = c.in-Ok.reply in
     let value : to_z w64 (of_z w64 c.value-self.result) ≡ reply.value = search rules in
+    let cleared : c.clear-in-Ok.new.self ≡ [] = search rules in
     subst (λ m. table c.args.self.now.session c.args.view m ≡ Ok (c.send_by_plan.new.self, c.in-Ok.reply)) same c.in-Ok.ensures.answer
     ∙ ap (λ v. Ok (c.send_by_plan.new.self, record reply { value = v })) (sym value)
+    ∙ ap (λ t. Ok (c.send_by_plan.new.self, record reply { value = to_z w64 (of_z w64 c.value-self.result); text = t })) (sym (text_alone reply.text))
+    ∙ ap (λ read. Ok (c.send_by_plan.new.self, record reply { value = to_z w64 (of_z w64 c.value-self.result); text = text_or reply.text read })) (sym cleared)
 
 pub returns-in-Err-clause-refused : goal.returns-in-Err-clause-refused
 returns-in-Err-clause-refused c other =

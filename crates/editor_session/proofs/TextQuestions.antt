@@ -1,0 +1,97 @@
+-- Text questions, and what the table answers to them.
+use Rattle.std.proofs.Common.{arith, ◌≡◌, ℕ, ℤ, ◌+◌, ◌≤◌, Bool, true, false, cond, List, [], ◌∷◌, length, refl, ap, sym, subst, ◌∙◌, Option, Some, None, Ok, Err, slice_range}
+use Rattle.std.specs.Prelude.{IfSome}
+use Rattle.std.specs.List.{AllByRecursion}
+use Rattle.std.proofs.lemmas.Bool.{eqb-true}
+use Rattle.std.proofs.lemmas.List.{length-take, length-drop, length-map}
+use Rattle.ed_model.specs.Text.{Cell}
+use Rattle.ed_types.specs.declared.kind.Kind.{Kind}
+use Rattle.ed_types.specs.declared.message.Message.{Message}
+use Rattle.ed_types.specs.Messages.{number_of, kind_of, marks_of}
+use Rattle.ed_types.specs.MessagesLaws.{EachKindIsFound}
+use Rattle.ed_types.specs.Notices.{Response}
+use Rattle.ed_model.specs.declared.plan.Plan.TheVariants as plan
+use Rattle.ed_model.specs.Requests.{Request, Planned, size}
+use Rattle.ed_model.specs.Session.{Session, View, Document, view_at, document_at, text_of}
+use Rattle.ed_model.specs.Performing.{response}
+use Rattle.ed_model.specs.PlansFit.{PlansFit, IsSoundRequest, IsFitPlanned}
+use Rattle.ed_model.specs.Table.{table, record_note, table_from_view, table_from_kind, table_from_document, answered, request, plan_of}
+use Rattle.message_plans.specs.declared.answers.HandedOut.{HandedOut}
+use Rattle.message_plans.specs.Asking.{text_questions, text_question_of, is_text_question, handed_out, handed_planned, handed_asked}
+use Rattle.editor_session.specs.Answers.{message_with}
+use Rattle.editor_session.specs.Asked.{reply_handing, reply_from_document, reply_from_view, reply_from_kind, reply_to}
+use Rattle.editor_session.proofs.Questions.{IsPlain, plain, found_plain, unheard}
+
+-- they are not recorded, and read no text
+texts_plain : AllByRecursion IsPlain text_questions
+texts_plain = (plain refl (λ r text. refl), (plain refl (λ r text. refl), (plain refl (λ r text. refl), (plain refl (λ r text. refl), (plain refl (λ r text. refl), (plain refl (λ r text. refl), tt))))))
+
+decoded : EachKindIsFound → (number : ℕ) (kind : Kind) → text_question_of number ≡ Some kind → kind_of number ≡ Some kind
+decoded law number kind e =
+    subst (λ n. kind_of n ≡ Some kind) (eqb-true (number_of kind) number (found_plain number text_questions kind texts_plain e).1) (law kind)
+
+planned : (b : Bool) (p : Planned) (h : HandedOut) → cond b (handed_planned p) None ≡ Some h → p ≡ handed_out h
+planned false p h e = absurd (cc)
+planned true (Err refusal) h e = absurd (cc)
+planned true (Ok (plan.HandOut value start count)) h e =
+    let made : HandedOut = record { value = value; start = start; count = count } in
+    let same : made ≡ h = cc in
+    ap handed_out same
+planned true (Ok other) h e = absurd (cc)
+
+-- what is handed out is the plan, and lies in the text
+planned_so : (kind : Kind) (r : Request) (h : HandedOut) → handed_asked kind r ≡ Some h → plan_of kind r ≡ handed_out h
+planned_so kind r h e = planned (is_text_question kind) (plan_of kind r) h e
+
+pub handed_within : PlansFit → (kind : Kind) (r : Request) (h : HandedOut) → IsSoundRequest r → handed_asked kind r ≡ Some h → h.start + h.count ≤ size r
+handed_within law kind r h sound e = subst (IsFitPlanned r) (planned_so kind r h e) (law kind r sound)
+
+-- the reply that hands it out
+abbrev pub handing : Document → HandedOut → Response
+handing d h = response h.value (slice_range (text_of d) h.start (h.start + h.count)) []
+
+length_slice : (text : List ℕ) (p count : ℕ) → p + count ≤ length text → length (slice_range text p (p + count)) ≡ count
+length_slice text p count h = simp (length-take, length-drop) (omega arith)
+
+pub handing_length : (d : Document) (h : HandedOut) → h.start + h.count ≤ length d.cells → length (handing d h).text ≡ h.count
+handing_length d h within =
+    let long : length (text_of d) ≡ length d.cells = length-map d.cells (λ (c : Cell). c.byte) in
+    length_slice (text_of d) h.start h.count (omega (arith, long, within))
+
+-- the table's answer to a text question, with whatever text
+pub text_reply : EachKindIsFound → (s : Session) (view number : ℕ) (w l : ℤ) (kind : Kind) (v : View) (d : Document) (h : HandedOut) → text_question_of number ≡ Some kind → view_at s.views view ≡ Some v
+    → document_at s.documents v.document ≡ Some d → handed_asked kind (request s v d (message_with number w l [])) ≡ Some h → (text : List ℕ) → table s view (message_with number w l text) ≡ Ok (s, handing d h)
+text_reply law s view number w l kind v d h is found there e text =
+    let m = message_with number w l text in
+    let r = request s v d (message_with number w l []) in
+    let with = request s v d m in
+    let p = (found_plain number text_questions kind texts_plain is).0 in
+    ap (table_from_view s m) found
+    ∙ ap (table_from_kind s v m) (decoded law number kind is)
+    ∙ ap (table_from_document s v kind m) there
+    ∙ ap (answered kind with) (p.any_text r text ∙ planned_so kind r h e)
+    ∙ ap (λ b. Ok (s, cond b (record (handing d h) { notes = record_note with ∷ [] }) (handing d h))) (unheard v.records (marks_of kind).r p.unrecorded)
+
+-- What a text question comes to, by what is found of it.
+
+pub no_question : (s : Session) (id : ℕ) (m : Message) → text_question_of m.number ≡ None → reply_to s id m ≡ None
+no_question s id m none = ap (reply_from_kind s id m) none
+
+pub asked_of_no_view : (s : Session) (id : ℕ) (m : Message) (kind : Kind) → text_question_of m.number ≡ Some kind → view_at s.views id ≡ None → reply_to s id m ≡ None
+asked_of_no_view s id m kind is none = ap (reply_from_kind s id m) is ∙ ap (reply_from_view s kind m) none
+
+pub asked_of_no_document : (s : Session) (id : ℕ) (m : Message) (kind : Kind) (v : View) → text_question_of m.number ≡ Some kind → view_at s.views id ≡ Some v → document_at s.documents v.document ≡ None
+    → reply_to s id m ≡ None
+asked_of_no_document s id m kind v is found none = ap (reply_from_kind s id m) is ∙ ap (reply_from_view s kind m) found ∙ ap (reply_from_document s v kind m) none
+
+pub asked_of : (s : Session) (id : ℕ) (m : Message) (kind : Kind) (v : View) (d : Document) → text_question_of m.number ≡ Some kind → view_at s.views id ≡ Some v → document_at s.documents v.document ≡ Some d
+    → reply_to s id m ≡ reply_handing d (handed_asked kind (request s v d m))
+asked_of s id m kind v d is found there = ap (reply_from_kind s id m) is ∙ ap (reply_from_view s kind m) found ∙ ap (reply_from_document s v kind m) there
+
+-- where it comes to none, nothing is promised
+pub none_promised : (o : Option Response) (P : Response → Type 0) → o ≡ None → IfSome o P
+none_promised o P none = subst (λ o. IfSome o P) (sym none) tt
+
+pub all_promised : (o : Option Response) (P : Response → Type 0) → ((reply : Response) → P reply) → IfSome o P
+all_promised None P all = tt
+all_promised (Some reply) P all = all reply

@@ -1,0 +1,143 @@
+//! Text questions to a session, whose bytes are put into a buffer before any plan is made.
+
+ghost use Rattle.std.specs.Prelude.{◌≡◌, ◌≤◌, ◌+◌, ℕ, List, [], Ok, Some, IsOk, OnOk, OnErr, IfNone, IfSome, IsSome, length, slice_range, vec_len, vec_capacity};
+ghost use Rattle.ed_model.specs.Performing.{response};
+ghost use Rattle.ed_model.specs.Session.{text_of};
+ghost use Rattle.ed_model.specs.Table.{table};
+ghost use Rattle.message_plans.specs.Asking.{text_question_of};
+ghost use Rattle.message_plans.specs.Requested.{session_in};
+ghost use Rattle.session_changes.specs.Kept.{IsKept};
+ghost use Rattle.editor_session.specs.Answers.{message_with};
+ghost use Rattle.editor_session.specs.Asked.{reply_to};
+
+use document::Document;
+use ed_model::plans_are_fit;
+use ed_types::{Kind, kinds_and_numbers};
+use message_plans::{Request, SentMessage, SessionState, handed_of, text_question_of};
+use std::alloc::{AllocError, Global};
+
+/// Empties a buffer that has room for `count` bytes. One that has not becomes another, which has so much more room that texts which
+/// become longer and longer take amortised constant time for each byte.
+///
+/// # Errors
+///
+/// `AllocError` where memory is refused. The buffer is then as it was.
+fn make_room(alloc: Global, count: usize, into: &mut Vec<u8>) -> Result<(), AllocError>
+    ensures items { OnOk result (into.new.items ≡ []) }
+    ensures len { OnOk result (vec_len into.new ≡ 0) }
+    ensures room { OnOk result (count ≤ vec_capacity into.new) }
+    ensures room_is_there { count ≤ vec_capacity into.old → IsOk result }
+    ensures err { OnErr result (into.new ≡ into.old) }
+{
+    let capacity = into.capacity();
+    if count <= capacity {
+        into.clear();
+        return Ok(());
+    }
+    let Ok(larger) = Vec::with_capacity(alloc, count.saturating_add(capacity)) else {
+        return Err(AllocError);
+    };
+    *into = larger;
+    Ok(())
+}
+
+/// Puts the `count` bytes of a document from `start` on in the place of what a buffer holds.
+///
+/// # Errors
+///
+/// `AllocError` where memory is refused. The buffer is then as it was.
+fn read_bytes(
+    alloc: Global,
+    document: &Document,
+    start: usize,
+    count: usize,
+    into: &mut Vec<u8>,
+) -> Result<(), AllocError>
+    requires range { start + count ≤ length document.now.document.cells }
+    ensures bytes { OnOk result (into.new.items ≡ slice_range (text_of document.now.document) start (start + count)) }
+    ensures room_is_there { count ≤ vec_capacity into.old → IsOk result }
+    ensures err { OnErr result (into.new ≡ into.old) }
+{
+    let Ok(()) = make_room(alloc, count, into) else {
+        return Err(AllocError);
+    };
+    let Ok(()) = document.append_text_to(start, count, into) else {
+        unreachable!()
+    };
+    Ok(())
+}
+
+/// Answers this text question to the view of an id. `None` where the table refuses it or no bytes are handed out, and where memory is
+/// refused. It stands apart, as `ask_as` does.
+#[inline(never)]
+fn read_as(
+    alloc: Global,
+    state: &SessionState,
+    view: u32,
+    kind: Kind,
+    number: u32,
+    w: i64,
+    l: i64,
+    into: &mut Vec<u8>,
+) -> Option<i64>
+    requires kept { IsKept state.now }
+    requires question { text_question_of number ≡ Some kind }
+    ensures reply { IfSome result (λ value. reply_to (session_in state.now) view (message_with number w l []) ≡ Some (response value into.new.items [])) }
+    ensures answer { IfSome result (λ value. (text : List ℕ) → table (session_in state.now) view (message_with number w l text) ≡ Ok (session_in state.now, response value into.new.items [])) }
+    ensures room { IfSome (reply_to (session_in state.now) view (message_with number w l [])) (λ reply. length reply.text ≤ vec_capacity into.old → IsSome result) }
+    ensures same { IfNone result (into.new ≡ into.old) }
+{
+    // The laws that each kind is found by its number, and that what is handed out lies in the text.
+    kinds_and_numbers();
+    plans_are_fit();
+    let Some(view) = state.views.get(view) else {
+        return None;
+    };
+    let Some(document) = state.documents.get(view.document()) else {
+        return None;
+    };
+    // No text question reads a text.
+    let message = SentMessage {
+        number,
+        w,
+        l,
+        text: &[],
+    };
+    let request = Request {
+        session: state,
+        view,
+        document,
+        message,
+    };
+    let Some(handed) = handed_of(kind, &request) else {
+        return None;
+    };
+    match read_bytes(alloc, document, handed.start, handed.count, into) {
+        Ok(()) => Some(handed.value),
+        Err(_) => None,
+    }
+}
+
+/// Answers a text question to the view of an id by its value, and puts its bytes in the place of what a buffer holds. `None` for all
+/// other messages, for what the table refuses, where no bytes are handed out, and where memory is refused.
+#[inline(always)]
+pub(crate) fn read(
+    alloc: Global,
+    state: &SessionState,
+    view: u32,
+    number: u32,
+    w: i64,
+    l: i64,
+    into: &mut Vec<u8>,
+) -> Option<i64>
+    requires kept { IsKept state.now }
+    ensures reply { IfSome result (λ value. reply_to (session_in state.now) view (message_with number w l []) ≡ Some (response value into.new.items [])) }
+    ensures answer { IfSome result (λ value. (text : List ℕ) → table (session_in state.now) view (message_with number w l text) ≡ Ok (session_in state.now, response value into.new.items [])) }
+    ensures room { IfSome (reply_to (session_in state.now) view (message_with number w l [])) (λ reply. length reply.text ≤ vec_capacity into.old → IsSome result) }
+    ensures same { IfNone result (into.new ≡ into.old) }
+{
+    match text_question_of(number) {
+        Some(kind) => read_as(alloc, state, view, kind, number, w, l, into),
+        None => None,
+    }
+}

@@ -1,0 +1,68 @@
+//! Text questions: their bytes are put into a buffer, whose memory is used again.
+
+use ed_types::Kind;
+use editor_session::Session;
+use std::process::Abort;
+
+/// Puts bytes in at a place of the first view's document.
+fn put(rt: &impl Abort, session: &mut Session, place: i64, bytes: &[u8]) {
+    let number = Kind::InsertText.number();
+    let reply = session.send_lent(1, number, place, 0, bytes);
+    assert!(rt; reply.is_ok());
+}
+
+/// A text question is answered by this value and these bytes.
+fn assert_read(
+    rt: &impl Abort,
+    session: &Session,
+    kind: Kind,
+    w: i64,
+    l: i64,
+    into: &mut Vec<u8>,
+    value: i64,
+    bytes: &[u8],
+) {
+    assert_eq!(rt; session.read(1, kind.number(), w, l, into), Some(value));
+    assert_eq!(rt; into.as_slice(), bytes);
+}
+
+/// A message is not answered, and the buffer has these bytes still.
+fn assert_unread(
+    rt: &impl Abort,
+    session: &Session,
+    view: u32,
+    kind: Kind,
+    w: i64,
+    l: i64,
+    into: &mut Vec<u8>,
+    bytes: &[u8],
+) {
+    assert_eq!(rt; session.read(view, kind.number(), w, l, into), None);
+    assert_eq!(rt; into.as_slice(), bytes);
+}
+
+#[test]
+fn texts_are_read_into_one_buffer(rt: HostRuntime) {
+    let mut session = Session::new(rt.alloc());
+    let mut into = Vec::new(rt.alloc());
+    assert_eq!(rt; session.new_view(), Ok(1));
+    put(&rt, &mut session, 0, b"a\nb\nd");
+    // The gap lies behind the c then.
+    put(&rt, &mut session, 2, b"c");
+    let (session, into) = (&session, &mut into);
+    assert_read(&rt, session, Kind::GetTextRange, 1, 3, into, 2, b"\nc");
+    assert_read(&rt, session, Kind::GetTextRange, 4, -1, into, 2, b"\nd");
+    assert_read(&rt, session, Kind::GetTextRange, 2, 2, into, 0, b"");
+    assert_read(&rt, session, Kind::GetText, 0, 0, into, 6, b"a\ncb\nd");
+    assert_read(&rt, session, Kind::GetLine, 1, 0, into, 3, b"cb\n");
+    assert_read(&rt, session, Kind::GetCurLine, 0, 0, into, 0, b"a\n");
+    assert_read(&rt, session, Kind::GetSelText, 0, 0, into, 0, b"");
+    assert_read(&rt, session, Kind::GetTargetText, 0, 0, into, 0, b"");
+    assert_read(&rt, session, Kind::GetLine, 2, 0, into, 1, b"d");
+    // What is refused, hands out nothing or is another message leaves the buffer.
+    assert_unread(&rt, session, 1, Kind::GetTextRange, 3, 2, into, b"d");
+    assert_unread(&rt, session, 1, Kind::GetTextRange, 0, 7, into, b"d");
+    assert_unread(&rt, session, 1, Kind::GetLine, 3, 0, into, b"d");
+    assert_unread(&rt, session, 1, Kind::GetLength, 0, 0, into, b"d");
+    assert_unread(&rt, session, 2, Kind::GetText, 0, 0, into, b"d");
+}
