@@ -1,10 +1,13 @@
 #!/usr/bin/env python3
-"""Tries wrong bodies: wrong_bodies.py [--rules] [CRATE..]
+"""Tries wrong bodies: wrong_bodies.py [--rules] [--beside FILE] [CRATE..]
 
 Those of crates/CRATE/must-fail/rules.md, and without --rules also those of more.md, which the gate leaves out; of all crates where none is
 named. It takes the libraries that `rt ci` has proved and built. `rt` itself tries the .edit files of must-fail/, one by one and each over
 the whole crate; here as many bodies as stand in functions of their own are put into one copy of the crate, and those functions alone are
-proved: each has to be refused. A body that this does not refuse is tried once more by itself, over the whole crate, as `rt` does."""
+proved: each has to be refused. A body that this does not refuse is tried once more by itself, over the whole crate, as `rt` does.
+
+With --beside, `rt ci` is still at work, and what it prints goes into the file: a crate's bodies are tried once the file says that the
+crate is proved."""
 import concurrent.futures
 import os
 import re
@@ -12,6 +15,7 @@ import shutil
 import subprocess
 import sys
 import tempfile
+import time
 
 import kit
 
@@ -20,6 +24,9 @@ HEAD = re.compile(r"^( *)(?:pub(?:\(\w+\))? )?(?:const |unsafe |extern \"C\" )*f
 IMPL = re.compile(r"^impl\b.*", re.M)
 REFUSED = re.compile(r"^fn (\S+): (?:not proved|no proof)", re.M)
 TOLD = re.compile(r"^(?:note: )?\S+:\d+:\d+: .*", re.M)
+# What `rt ci` prints of a crate, and last.
+PROVED = re.compile(r"^rt: (\w+) proved$", re.M)
+ENDED = re.compile(r"^\d+ passed, \d+ failed$", re.M)
 
 
 class Body:
@@ -142,38 +149,68 @@ def refused_alone(body):
     return status == 1 and bool(REFUSED.search(said)), told[0] if told else ""
 
 
-def try_crate(crate, pages):
-    """Tries a crate's bodies; returns how many were refused, and a line for each that was not."""
-    bodies = list(bodies_of(crate, pages))
-    names = {it.name for it in bodies}
-    assert len(names) == len(bodies), f"{crate}: two wrong bodies have one name"
-    refused = [it for group in batches(bodies) for it in refused_together(crate, *group)]
+def tried_together(crate, bodies, functions):
+    """Tries the bodies of a group: how many were refused, and a line for each that was not."""
+    refused = refused_together(crate, bodies, functions)
     wrong = []
     for body in bodies:
         if body not in refused:
             is_refused, told = refused_alone(body)
             if is_refused:
-                refused.append(body)
                 print(f"{crate}/{body.name}: refused over the whole crate: {told[:160]}", flush=True)
             else:
                 wrong.append(f"{crate}/{body.name}: NOT REFUSED: {told[:160]}")
-    print(f"{crate}: {len(refused)} of {len(bodies)} wrong bodies refused", flush=True)
-    return len(refused), wrong
+    print(f"{crate}: {len(bodies) - len(wrong)} of {len(bodies)} wrong bodies refused", flush=True)
+    return len(bodies) - len(wrong), wrong
+
+
+def groups_of(crate, pages):
+    """The bodies of a crate in the groups in which they are tried; those that stand in no function's body are tried alone."""
+    bodies = list(bodies_of(crate, pages))
+    names = {it.name for it in bodies}
+    assert len(names) == len(bodies), f"{crate}: two wrong bodies have one name"
+    groups = batches(bodies)
+    grouped = [it for group, _ in groups for it in group]
+    return groups + [([it], set()) for it in bodies if it not in grouped]
+
+
+def as_proved(crates, beside):
+    """The crates, each once `rt ci` has proved it, as the file says; at once where there is none. Ends where `rt ci` has ended."""
+    left = list(crates)
+    while beside and left:
+        with open(beside, encoding="utf-8", errors="replace") as it:
+            said = it.read()
+        proved = set(PROVED.findall(said))
+        yield from (it for it in left if it in proved)
+        left = [it for it in left if it not in proved]
+        if ENDED.search(said):
+            break
+        time.sleep(5)
+    if not beside:
+        yield from left
 
 
 def main(arguments):
     pages = ["rules.md"] if "--rules" in arguments else ["rules.md", "more.md"]
-    named = [it for it in arguments if not it.startswith("-")]
+    beside = arguments[arguments.index("--beside") + 1] if "--beside" in arguments[:-1] else None
+    named = [it for it in arguments if not it.startswith("-") and it != beside]
     listed = kit.crates()
-    if not set(named) <= set(listed) or not set(arguments) - set(named) <= {"--rules"}:
+    if not set(named) <= set(listed) or not set(arguments) - {*named, beside} <= {"--rules", "--beside"}:
         sys.exit(__doc__)
-    size = {it: sum(len(body.swaps) for body in bodies_of(it, pages)) for it in named or listed}
-    crates = sorted((it for it in size if size[it]), key=lambda it: -len(listed[it]))
+    groups = {it: groups_of(it, pages) for it in named or listed}
+    crates = sorted((it for it in groups if groups[it]), key=lambda it: -len(listed[it]))
+    begun = []
     with concurrent.futures.ThreadPoolExecutor(len(os.sched_getaffinity(0))) as pool:
-        tried = list(pool.map(lambda it: try_crate(it, pages), crates))
+        for crate in as_proved(crates, beside):
+            begun += [pool.submit(tried_together, crate, *group) for group in groups[crate]]
+    tried = [it.result() for it in begun]
     wrong = [line for _, lines in tried for line in lines]
+    count = sum(of for of, _ in tried)
+    wanted = sum(len(group) for it in crates for group, _ in groups[it])
+    if count + len(wrong) < wanted:
+        wrong.append(f"{wanted - count - len(wrong)} were not tried, since their crates were not proved")
     print(*wrong, sep="\n" if wrong else "")
-    print(f"{sum(count for count, _ in tried)} passed, {len(wrong)} failed")
+    print(f"{count} passed, {len(wrong)} failed")
     return 1 if wrong else 0
 
 

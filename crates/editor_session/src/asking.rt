@@ -12,9 +12,8 @@ ghost use Rattle.editor_session.specs.Asked.{value_to};
 use ed_types::{Kind, kinds_and_numbers};
 use message_plans::{Request, SentMessage, SessionState, question_of, value_of};
 
-/// The value of this plain question to the view of an id; `None` where the table refuses it. It stands apart, so that all other
-/// messages pay for the look at their number alone.
-#[inline(never)]
+/// The value of this plain question to the view of an id; `None` where the table refuses it.
+#[inline(always)]
 fn ask_as(state: &SessionState, view: u32, kind: Kind, number: u32, w: i64, l: i64) -> Option<i64>
     requires kept { IsKept state.now }
     requires question { question_of number ≡ Some kind }
