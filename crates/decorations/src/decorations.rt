@@ -96,7 +96,7 @@ impl<P: Place> Decorations<P> {
         ensures { result ≡ run_about (values_of self.now.values indicator) place }
     {
         match runs_in(&self.slots, indicator) {
-            Some(runs) => (runs.start_run(place), runs.end_run(place)),
+            Some(runs) => runs.run(place),
             None => (0, self.size),
         }
     }

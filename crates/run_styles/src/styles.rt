@@ -93,6 +93,17 @@ impl<P: Place, V: Copy + Eq, A: Allocator> RunStyles<P, V, A> {
         end_of(&self.starts, run_of(&self.starts, place))
     }
 
+    /// Returns where the run of one value begins that holds a place, and where it ends: the first place behind it. The run is
+    /// looked up once for both.
+    pub fn run(&self, place: usize) -> (usize, usize)
+        requires { place < length self.now.values }
+        ensures start { IsRunStart self.now.values place result.0 }
+        ensures end { IsRunEnd self.now.values place result.1 }
+    {
+        let run = run_of(&self.starts, place);
+        (self.starts.start_of(run), end_of(&self.starts, run))
+    }
+
     /// Returns how many runs there are: 1 where the list is empty.
     pub fn runs(&self) -> usize
         ensures { result ≡ run_count V.eq self.now.values }

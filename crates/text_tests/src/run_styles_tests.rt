@@ -177,6 +177,7 @@ fn long_list<P: Place, V: Copy + Eq>(
     assert!(rt; half < styles.length());
     assert_eq!(rt; styles.start_run(half), 1);
     assert_eq!(rt; styles.end_run(half), half + 1);
+    assert!(rt; styles.run(half) == (1, half + 1));
     take_out(rt, &mut styles, 2, half);
     assert_eq!(rt; styles.length(), size - half);
     assert_eq!(rt; styles.runs(), 3);

@@ -15,7 +15,7 @@ returns-in-Some g c =
     let values = values_are c.args.self.now d.size d.room d.ready d.slots.items k (Some runs) c.requires.indicator c.self.view_is c.in-Some.ensures.runs in
     let Q : Option (Runs ℕ) → Type 0 = IsKept d.size (d.room + for_fill d.ready k) in
     let kept = subst Q (sym c.in-Some.ensures.runs) (c.self.invariant.kept k) in
-    run_is runs.values c.args.place c.start_run.result c.end_run.result (omega (arith, kept.sized)) c.start_run.ensures c.end_run.ensures
+    run_is runs.values c.args.place c.run.result.0 c.run.result.1 (omega (arith, kept.sized)) c.run.ensures.start c.run.ensures.end
     ∙ sym (ap (λ (vs : List ℕ). run_about vs c.args.place) values)
 
 pub returns-in-None : goal.returns-in-None
