@@ -4,7 +4,8 @@
 Those of crates/CRATE/must-fail/rules.md, and without --rules also those of more.md, which the gate leaves out; of all crates where none is
 named. It takes the libraries that `rt ci` has proved and built. `rt` itself tries the .edit files of must-fail/, one by one and each over
 the whole crate; here as many bodies as stand in functions of their own are put into one copy of the crate, and those functions alone are
-proved: each has to be refused. A body that this does not refuse is tried once more by itself, over the whole crate, as `rt` does.
+proved: each has to be refused, and not for what it calls. A body that this does not refuse is tried once more by itself, over the whole
+crate, as `rt` does.
 
 With --beside, `rt ci` is still at work, and what it prints goes into the file: a crate's bodies are tried once the file says that the
 crate is proved."""
@@ -22,7 +23,9 @@ import kit
 BLOCK = re.compile(r"^## (\w+)\n\n```\n(.*?)\n```$", re.M | re.S)
 HEAD = re.compile(r"^( *)(?:pub(?:\(\w+\))? )?(?:const |unsafe |extern \"C\" )*fn (\w+)", re.M)
 IMPL = re.compile(r"^impl\b.*", re.M)
-REFUSED = re.compile(r"^fn (\S+): (?:not proved|no proof)", re.M)
+# What the prover says of a function that it refuses; and of one whose own proof it did not look at, since what it calls is refused.
+REFUSED = re.compile(r"^fn (\S+): (?:not proved|no proof(?!: it calls))", re.M)
+UNSEEN = re.compile(r"^fn (\S+): no proof: it calls", re.M)
 TOLD = re.compile(r"^(?:note: )?\S+:\d+:\d+: .*", re.M)
 # What `rt ci` prints of a crate, and last.
 PROVED = re.compile(r"^rt: (\w+) proved$", re.M)
@@ -135,11 +138,20 @@ def batches(bodies):
     return groups
 
 
+def standing_in(bodies, functions):
+    """Those of the bodies that stand in one of these functions, which a check names whole."""
+    return [it for it in bodies if any(name.endswith(f"::{of}") for name in functions for of in it.functions())]
+
+
 def refused_together(crate, bodies, functions):
-    """Those of the bodies whose functions the prover refuses when all stand in one copy."""
+    """Those of the bodies whose functions the prover refuses when all stand in one copy. Those that call a refused one are tried again
+    without it."""
     said, _ = checked(crate, bodies, functions)
-    refused = REFUSED.findall(said)
-    return [it for it in bodies if any(name.endswith(f"::{of}") for name in refused for of in it.functions())]
+    refused = standing_in(bodies, REFUSED.findall(said))
+    unseen = [it for it in standing_in(bodies, UNSEEN.findall(said)) if it not in refused]
+    if refused and unseen:
+        refused += refused_together(crate, unseen, set().union(*(it.functions() for it in unseen)))
+    return refused
 
 
 def refused_alone(body):
