@@ -17,7 +17,8 @@ use script_ends::shown::show_line;
 use script_ends::{
     ReaderSource, RunFault, TextSource, WriterSink, read_file, read_script, read_text, status_of,
 };
-use script_jobs::{do_job, run_quietly, step_commands};
+use script_jobs::{do_job, run_quietly};
+use script_walk::step_commands;
 use std::fs::File;
 use std::process::ExitCode;
 use std::{env, io};

@@ -1,11 +1,9 @@
-//! What is done with scripts, from any source of bytes to any sink: they are run and stepped through, and jobs are done as words ask for
-//! them. What is left to a program is to open files and to end with a status.
+//! What is done with scripts, from any source of bytes to any sink: they are run, and jobs are done as words ask for them. What is left
+//! to a program is to open files and to end with a status.
 #![tactic(auto)]
 
 mod quiet;
 mod running;
-mod stepping;
 
 pub use quiet::run_quietly;
 pub use running::{do_job, run_script};
-pub use stepping::step_commands;

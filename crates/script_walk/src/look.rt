@@ -1,8 +1,8 @@
 //! What is seen of each view: its text, its lines, and its history.
 
-use super::orders::Look;
-use super::say::say_changes;
-use super::walk::Walk;
+use crate::orders::Look;
+use crate::say::say_changes;
+use crate::walk::Walk;
 use ed_types::Kind;
 use script_ends::shown::{append_byte, append_bytes, shown_width};
 use std::alloc::AllocError;

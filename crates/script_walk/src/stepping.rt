@@ -2,18 +2,13 @@
 
 ghost use Rattle.std.specs.Prelude.{◌≡◌, false};
 
-mod look;
-mod orders;
-mod say;
-mod walk;
-
+use crate::look::say_views;
+use crate::orders::{Order, order_of, read_line};
+use crate::say::{say_command, say_outcome};
+use crate::walk::Walk;
 use ed_types::{Bytes, Command};
-use look::say_views;
-use orders::{Order, order_of, read_line};
-use say::{say_command, say_outcome};
 use script_ends::{RunFault, Sink, Source, write_all};
 use std::alloc::{AllocError, Global};
-use walk::Walk;
 
 /// What is told of a line that is no order.
 const ORDERS: &str =
