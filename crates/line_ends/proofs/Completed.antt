@@ -48,7 +48,7 @@ completed_is to text = fills to text false 0 [] refl
 
 -- Where CRLF is wanted, nothing is unwanted.
 
-none_unwanted : (text : List ℕ) (f : Bool) (p : ℕ) → unwanted_from p f CrLf text ≡ []
+pub none_unwanted : (text : List ℕ) (f : Bool) (p : ℕ) → unwanted_from p f CrLf text ≡ []
 none_unwanted [] f p = refl
 none_unwanted (b ∷ bs) f p =
     let none : is_unwanted f CrLf b bs ≡ false =

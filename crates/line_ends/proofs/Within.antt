@@ -1,6 +1,7 @@
 -- How long a text becomes by the steps of a conversion.
-use Rattle.std.proofs.Common.{◌≡◌, ℕ, zero, suc, ◌+◌, ◌-◌, ◌<◌, ◌≤◌, Bool, true, false, ◌==◌, ◌||◌, ◌&&◌, List, [], ◌∷◌, ◌++◌, length, refl, ap, ◌∙◌, sym, arith, length-append}
+use Rattle.std.proofs.Common.{◌≡◌, ℕ, zero, suc, ◌+◌, ◌-◌, ◌<◌, ◌≤◌, Bool, true, false, ◌==◌, ◌||◌, ◌&&◌, List, [], ◌∷◌, ◌++◌, length, min, refl, ap, ◌∙◌, sym, arith, length-append}
 use Rattle.std.specs.Prelude.{nat_le, nat_lt}
+use Rattle.std.proofs.Math.Nat.{min-le_left}
 use Rattle.std.proofs.lemmas.Bool.{leb-true, leb-false, le-leb, lt-leb, lt-ltb, ne_eqb, eq-eqb, or_left}
 use Rattle.ed_model.specs.declared.plan.LineEnd.{LineEnd}
 use Rattle.ed_model.specs.Steps.{Step, Insert, Delete}
@@ -136,9 +137,10 @@ steps_there to text = go (missing_from 0 false to text) (unwanted_from 0 false t
     go [] (s ∷ b) = sym (lt-ltb 0 (suc (length b)) (omega arith))
     go (s ∷ a) b = ap (λ x. x || nat_lt 0 (length b)) (sym (lt-ltb 0 (suc (length a)) (omega arith)))
 
-pub some_there : (to : LineEnd) (text : List ℕ) (n : ℕ) → n ≡ puts_of to text → 0 < n → nat_lt 0 n ≡ has_steps (conversion_steps to text)
-some_there to text n e h =
-    lt-ltb 0 n h ∙ sym (steps_there to text ∙ ap (λ x. x || nat_lt 0 (takes_of to text)) (ap (nat_lt 0) (sym e) ∙ lt-ltb 0 n h))
+pub some_there : (to : LineEnd) (text : List ℕ) (n most : ℕ) → n ≡ min (puts_of to text) most → 0 < n → nat_lt 0 n ≡ has_steps (conversion_steps to text)
+some_there to text n most e h =
+    let some : 0 < puts_of to text = omega (arith, e, min-le_left (puts_of to text) most) in
+    lt-ltb 0 n h ∙ sym (steps_there to text ∙ ap (λ x. x || nat_lt 0 (takes_of to text)) (lt-ltb 0 (puts_of to text) some))
 
 -- A sum within a limit, tested without the sum.
 

@@ -1,6 +1,6 @@
 //! How many steps a conversion has.
 
-ghost use Rattle.std.specs.Prelude.{◌≡◌, ◌==◌, ◌+◌, ◌<◌, ◌≤◌, ◌++◌, false, nat_le, length, count_by};
+ghost use Rattle.std.specs.Prelude.{◌≡◌, ◌==◌, ◌+◌, ◌<◌, ◌≤◌, ◌++◌, false, min, nat_le, nat_lt, length, count_by};
 ghost use Rattle.ed_model.specs.Edits.{has_steps, stays_within};
 ghost use Rattle.ed_model.specs.LineEnds.{conversion_steps, missing_from, unwanted_from};
 ghost use Rattle.line_ends.specs.Conversion.{completed};
@@ -8,18 +8,29 @@ ghost use Rattle.line_ends.specs.Conversion.{completed};
 use crate::finding::next_lone;
 use ed_model::LineEnd;
 
+// How many bytes a conversion to this kind of line end puts in, counted up to so many: the text is read no further.
+fn missing_up_to(first: &[u8], second: &[u8], to: LineEnd, most: usize) -> usize
+    ensures count { result ≡ min (length (missing_from 0 false to (first.now ++ second.now))) most }
+    ensures few { result ≤ length first.now + length second.now }
+{
+    let mut count = 0;
+    let mut place = 0;
+    'counting: while count < most {
+        let Some(found) = next_lone(first, second, place, to) else {
+            return count;
+        };
+        count += 1;
+        place = found + 1;
+    }
+    count
+}
+
 /// How many bytes a conversion to this kind of line end puts in.
 pub fn count_missing(first: &[u8], second: &[u8], to: LineEnd) -> usize
     ensures count { result ≡ length (missing_from 0 false to (first.now ++ second.now)) }
     ensures few { result ≤ length first.now + length second.now }
 {
-    let mut count = 0;
-    let mut place = 0;
-    'counting: while let Some(found) = next_lone(first, second, place, to) {
-        count += 1;
-        place = found + 1;
-    }
-    count
+    missing_up_to(first, second, to, usize::MAX)
 }
 
 // How often the byte stands in the slice.
@@ -46,7 +57,15 @@ pub fn count_unwanted(first: &[u8], second: &[u8], to: LineEnd) -> usize
 pub fn has_conversion(first: &[u8], second: &[u8], to: LineEnd) -> bool
     ensures { result ≡ has_steps (conversion_steps to (first.now ++ second.now)) }
 {
-    count_missing(first, second, to) > 0 || count_unwanted(first, second, to) > 0
+    missing_up_to(first, second, to, 1) > 0 || count_unwanted(first, second, to) > 0
+}
+
+/// Whether such a conversion has more than one step. Of a text with many line ends it reads the first ones alone.
+pub fn has_several(first: &[u8], second: &[u8], to: LineEnd) -> bool
+    ensures { result ≡ nat_lt 1 (length (conversion_steps to (first.now ++ second.now))) }
+{
+    let missing = missing_up_to(first, second, to, 2);
+    missing > 1 || missing + count_unwanted(first, second, to) > 1
 }
 
 // Whether a text of so many bytes keeps the limit with so many more.

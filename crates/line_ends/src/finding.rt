@@ -141,6 +141,10 @@ pub fn next_unwanted(first: &[u8], second: &[u8], from: usize, to: LineEnd) -> O
     requires { from ≤ length first.now + length second.now }
     ensures { MatchOption result (unwanted_in to (first.now ++ second.now) from ≡ []) (λ place. IsNextUnwanted to (first.now ++ second.now) from place) }
 {
+    // Where CRLF is wanted, neither of its bytes is unwanted.
+    if let LineEnd::CrLf = to {
+        return None;
+    }
     let mut place = next_end(first, second, from);
     'looking: while place < first.len() + second.len() {
         if is_spare(first, second, from, place, to) {

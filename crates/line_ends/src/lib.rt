@@ -18,6 +18,8 @@ mod finding;
 mod pasting;
 mod reading;
 
-pub use counting::{conversion_stays_within, count_missing, count_unwanted, has_conversion};
+pub use counting::{
+    conversion_stays_within, count_missing, count_unwanted, has_conversion, has_several,
+};
 pub use finding::{next_missing, next_unwanted};
 pub use pasting::{convert_into, converted_len};

@@ -17,7 +17,9 @@ use document::{Document, DocumentRoom, TextStep};
 use ed_model::LineEnd;
 use ed_view::View;
 use id_table::IdTable;
-use line_ends::{count_missing, count_unwanted, next_missing, next_unwanted};
+use line_ends::{
+    count_missing, count_unwanted, has_conversion, has_several, next_missing, next_unwanted,
+};
 use notify::NoteList;
 
 /// How much memory a conversion of line ends needs. An amount past the greatest `usize` is that one, which is never there.
@@ -118,20 +120,20 @@ fn notes_of_leaving(document: &Document, views: &IdTable<View>, to: LineEnd) -> 
     requires named { AreNamed views.now.entries }
     ensures { result ≡ (if nat_lt 0 (length (conversion_steps to (text_of document.now.document))) then leaving_count (watchers document.now.document views.now) document.now.document.history else 0) }
 {
-    if count_steps(document, to) > 0 {
+    let (first, second) = document.halves();
+    if has_conversion(first, second, to) {
         leaving_need(document, views)
     } else {
         0
     }
 }
 
-// How many steps there are.
-fn count_steps(document: &Document, to: LineEnd) -> usize
-    ensures { result ≡ length (conversion_steps to (text_of document.now.document)) }
+// Whether there is more than one step.
+fn is_several(document: &Document, to: LineEnd) -> bool
+    ensures { result ≡ nat_lt 1 (length (conversion_steps to (text_of document.now.document))) }
 {
-    let _ = document.len(); // it says that no count runs out of numbers
     let (first, second) = document.halves();
-    count_missing(first, second, to) + count_unwanted(first, second, to)
+    has_several(first, second, to)
 }
 
 /// Turns each line end of the document's text into this kind, as `SCI_CONVERTEOLS` does: what is missing is put in, then what is
@@ -149,7 +151,7 @@ pub fn convert(
     ensures watched { IsWatched document.new.document views.new }
     ensures next { views.new.next ≡ views.old.next }
 {
-    if count_steps(document, to) < 2 {
+    if !is_several(document, to) {
         return make_all(document, views, notes, to);
     }
     // The law that a seal does not change what the steps need.

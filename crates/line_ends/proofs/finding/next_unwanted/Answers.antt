@@ -1,6 +1,14 @@
-use Rattle.std.proofs.Common.{◌+◌, ◌++◌, ◌∙◌, sym, arith, length-append}
+use Rattle.std.proofs.Common.{◌+◌, ◌++◌, ◌∙◌, false, sym, ap, drop, arith, length-append}
+use Rattle.ed_model.specs.LineEnds.{unwanted_from}
+use Rattle.line_ends.proofs.Completed.{none_unwanted}
 use Rattle.line_ends.proofs.Unwanted.{unwanted_on, unwanted_along, unwanted_first, unwanted_end, next_spare}
 use Rattle.line_ends.proofs.finding.next_unwanted.Goals as goal
+
+pub returns-in-CrLf : goal.returns-in-CrLf
+returns-in-CrLf c =
+    let a = c.args in
+    let rest = drop a.from (a.first.now ++ a.second.now) in
+    ap (λ to. unwanted_from a.from false to rest) c.in-CrLf.is ∙ none_unwanted rest false a.from
 
 pub looking-init : goal.looking-init
 looking-init c =

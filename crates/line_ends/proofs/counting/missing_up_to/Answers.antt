@@ -1,6 +1,6 @@
 use Rattle.std.proofs.Common.{◌++◌, arith, length-append}
 use Rattle.line_ends.proofs.Missing.{one_more}
-use Rattle.line_ends.proofs.counting.count_missing.Goals as goal
+use Rattle.line_ends.proofs.counting.missing_up_to.Goals as goal
 
 pub counting-preserved : goal.counting-preserved
 counting-preserved c =
@@ -11,4 +11,5 @@ counting-preserved c =
     let more = one_more a.to (a.first.now ++ a.second.now) c.counting.place c.in-Some.found next in
     let few = c.counting.invariant.few in
     let counted = c.counting.invariant.counted in
-    record { few = omega arith; within = omega (arith, length-append a.first.now a.second.now); counted = omega arith }
+    let below = c.counting-test.true in
+    record { few = omega arith; within = omega (arith, length-append a.first.now a.second.now); most = omega arith; counted = omega arith }
