@@ -7,6 +7,7 @@ pub mod InsertedLines
 pub mod Keyed
 pub mod MarkedBytes
 pub mod MovedLines
+pub mod KeptLines
 pub mod NearBytes
 pub mod RoomLemmas
 pub mod FirstBytes

@@ -12,7 +12,7 @@ use Rattle.ed_model.specs.proved.Lines.{moved_start_test, some_line}
 use Rattle.ed_model.specs.proved.Steps.{length-inserted}
 use Rattle.line_index.specs.Index.{Index, index, bytes_near, starts_within}
 use Rattle.line_index.specs.RoomLaws.{lines_for_insertion, lines_for_deletion, InsertionAddsFewLines, DeletionAddsFewLines}
-use Rattle.line_index.proofs.StartLists.{starts_apart, one_start, no_starts, one_more}
+use Rattle.line_index.proofs.StartLists.{starts_apart, one_start, no_starts}
 use Rattle.line_index.proofs.StepLists.{Insertion, Deletion, deletion_is, range_about, counted_about, found_in, found_out}
 
 -- no more numbers pass a test than there are
@@ -143,20 +143,46 @@ few_deleted types place count text h =
 
 -- the lines of bytes, counted one start after another
 
--- none starts up to the first
-pub counted_none : (types : LineEndTypes) (bytes : List ℕ) (from next : ℕ) → ((k : ℕ) → from ≤ k → k < next → is_line_start types bytes k ≡ false) → 0 ≡ length (starts_within types bytes from next)
-counted_none types bytes from next none = sym (ap length (no_starts types bytes from next none))
+counted_none : (types : LineEndTypes) (bytes : List ℕ) (from next : ℕ) → ((k : ℕ) → from ≤ k → k < next → is_line_start types (bytes ++ []) k ≡ false) → 0 ≡ length (starts_within types bytes from next)
+counted_none types bytes from next none = sym (ap length (no_starts types bytes from next (λ k a b. rw (append-nil bytes) at (none k a b))))
 
+-- none starts at the place
+pub counted_nothing : (types : LineEndTypes) (bytes : List ℕ) (place : ℕ) (here : Bool) → here ≡ is_line_start types (bytes ++ []) place → here ≡ false → 0 ≡ length (starts_within types bytes place (place + 1))
+counted_nothing types bytes place here e off = counted_none types bytes place (place + 1) (λ k a b. let same : k ≡ place = omega arith in rw same (sym e ∙ off))
+
+-- none starts behind it up to the next
 pub counted_next :
-    (types : LineEndTypes) (bytes : List ℕ) (from place next lines : ℕ) → from ≤ place → place < next → is_line_start types bytes place ≡ true
-    → ((k : ℕ) → place + 1 ≤ k → k < next → is_line_start types bytes k ≡ false) → lines ≡ length (starts_within types bytes from place)
-    → lines + 1 ≡ length (starts_within types bytes from next)
-counted_next types bytes from place next lines a l here none e =
-    omega (arith, ap length (one_more types bytes from place next a l here none), length-append (starts_within types bytes from place) (place ∷ []))
+    (types : LineEndTypes) (bytes : List ℕ) (from place next lines more : ℕ) → from ≤ place → place < next → ((k : ℕ) → place < k → k < next → is_line_start types (bytes ++ []) k ≡ false)
+    → lines ≡ length (starts_within types bytes from place) → more ≡ length (starts_within types bytes place (place + 1)) → lines + more ≡ length (starts_within types bytes from next)
+counted_next types bytes from place next lines more a l none e f =
+    omega (
+      arith,
+      e,
+      f,
+      ap length (starts_apart types bytes from place next a (omega arith)),
+      length-append (starts_within types bytes from place) (starts_within types bytes place next),
+      ap length (starts_apart types bytes place (place + 1) next (omega arith) (omega arith)),
+      length-append (starts_within types bytes place (place + 1)) (starts_within types bytes (place + 1) next),
+      counted_none types bytes (place + 1) next (λ k b c. none k (omega arith) c),
+    )
 
--- the last half of a text may have no bytes
-pub counted_whole : (types : LineEndTypes) (bytes : List ℕ) (lines from place to : ℕ) → place ≡ to → lines ≡ length (starts_within types (bytes ++ []) from place) → lines ≡ length (starts_within types bytes from to)
-counted_whole types bytes lines from place to e h = h ∙ rw (append-nil bytes, e) refl
+-- none starts in front of the first
+pub counted_past :
+    (types : LineEndTypes) (bytes : List ℕ) (from first to lines : ℕ) → from ≤ first → first ≤ to → ((k : ℕ) → from ≤ k → k < first → is_line_start types (bytes ++ []) k ≡ false)
+    → lines ≡ length (starts_within types bytes first to) → lines ≡ length (starts_within types bytes from to)
+counted_past types bytes from first to lines a b none e =
+    omega (
+      arith,
+      e,
+      ap length (starts_apart types bytes from first to a b),
+      length-append (starts_within types bytes from first) (starts_within types bytes first to),
+      counted_none types bytes from first none,
+    )
+
+-- .. and nowhere
+pub counted_nowhere :
+    (types : LineEndTypes) (bytes : List ℕ) (from first to : ℕ) → first ≡ to → ((k : ℕ) → from ≤ k → k < first → is_line_start types (bytes ++ []) k ≡ false) → 0 ≡ length (starts_within types bytes from to)
+counted_nowhere types bytes from first to e none = counted_none types bytes from to (λ k a b. none k a (omega arith))
 
 -- those up to a place and those from there on are all
 pub counted_all : (types : LineEndTypes) (bytes : List ℕ) (lines more mid end : ℕ) → end ≡ length bytes + 1 → mid ≤ end → lines ≡ length (starts_within types bytes 0 mid) → more ≡ length (starts_within types bytes mid end) → lines + more ≡ line_count types bytes

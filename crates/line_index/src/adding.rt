@@ -10,6 +10,7 @@ use ed_model::LineEndTypes;
 use partitioning::{Partitioning, Place};
 
 /// Marks of the 64 places from `place` on, where they lie up to `to` and the bytes in front of them in one half.
+#[inline(always)]
 pub(crate) fn marks_near(
     types: LineEndTypes,
     before: &[u8],

@@ -29,12 +29,13 @@ impl Model for LineEdits {
 }
 
 impl LineEdits {
-    // No edits.
+    // No edits. What stands in the place of edits is all zeros, which is soon written.
+    #[inline(always)]
     fn none() -> Self
         ensures { result ≡ [] }
     {
         LineEdits {
-            edits: [LineEdit::Restart; MOST],
+            edits: [LineEdit::Come { line: 0, count: 0 }; MOST],
             count: 0,
         }
     }
@@ -154,10 +155,19 @@ impl LineChange {
         requires { SmallLines self.now.old_lines × SmallLines self.now.new_lines }
         ensures { result ≡ edits_of self.now }
     {
-        let mut edits = LineEdits::none();
         if self.is_quiet() {
-            return edits;
+            return LineEdits::none();
         }
+        self.edits_about()
+    }
+
+    // The same of lines that are not as they were. It stands apart, so that a quiet step makes ready only what it returns.
+    #[inline(never)]
+    fn edits_about(&self) -> LineEdits
+        requires { SmallLines self.now.old_lines × SmallLines self.now.new_lines }
+        ensures { result ≡ edits_of self.now }
+    {
+        let mut edits = LineEdits::none();
         if self.emptied {
             edits.push(LineEdit::Restart);
             return edits;

@@ -92,12 +92,12 @@ pub(crate) fn end_length(before: &[u8], after: &[u8], start: usize) -> usize
 // Up to how many bytes are looked at one by one: a search by vectors takes longer to begin.
 const FEW: usize = 16;
 
-// Whether the byte may be the last one of a line end.
+// Whether the byte may be the last one of a line end. Most bytes are greater than those two, as one comparison tells.
 fn may_be_last(types: LineEndTypes, byte: u8) -> bool
     ensures { result ≡ may_end types byte }
 {
     match types {
-        LineEndTypes::Default => matches!(byte, b'\n' | b'\r'),
+        LineEndTypes::Default => byte <= b'\r' && matches!(byte, b'\n' | b'\r'),
         LineEndTypes::Unicode => matches!(byte, b'\n' | b'\r' | 0x85 | 0xA8 | 0xA9),
     }
 }
@@ -137,14 +137,39 @@ fn quiet_one_by_one(types: LineEndTypes, bytes: &[u8]) -> usize
     bytes.len()
 }
 
-/// The first place behind `place`, up to `to`, where a line may start: none starts between.
-pub(crate) fn next_place(
-    types: LineEndTypes,
-    before: &[u8],
-    after: &[u8],
-    place: usize,
-    to: usize,
-) -> usize
+// The byte at the place.
+#[inline(always)]
+fn byte_at(before: &[u8], after: &[u8], place: usize) -> u8
+    requires { place < length before.now + length after.now }
+    ensures { result ≡ slice_index (before.now ++ after.now) place }
+{
+    let middle = before.len();
+    if place < middle {
+        before[place]
+    } else {
+        after[place - middle]
+    }
+}
+
+// The first place behind `place`, up to `to`, where a line may start, by a look at each byte.
+fn next_of_few(types: LineEndTypes, before: &[u8], after: &[u8], place: usize, to: usize) -> usize
+    requires { (place < to) × (to ≤ length before.now + length after.now + 1) }
+    ensures within { (place < result) × (result ≤ to) }
+    ensures none { (k : ℕ) → place < k → k < result → is_line_start types (before.now ++ after.now) k ≡ false }
+{
+    let mut at = place;
+    'looking: while at + 1 < to {
+        if may_be_last(types, byte_at(before, after, at)) {
+            return at + 1;
+        }
+        at += 1;
+    }
+    to
+}
+
+// The same, where many bytes lie between. It stands apart, so that a look at few saves no registers.
+#[inline(never)]
+fn next_of_many(types: LineEndTypes, before: &[u8], after: &[u8], place: usize, to: usize) -> usize
     requires { (place < to) × (to ≤ length before.now + length after.now + 1) }
     ensures within { (place < result) × (result ≤ to) }
     ensures none { (k : ℕ) → place < k → k < result → is_line_start types (before.now ++ after.now) k ≡ false }
@@ -164,6 +189,42 @@ pub(crate) fn next_place(
     place + quiet_bytes(types, &after[place - middle..last - middle]) + 1
 }
 
+/// The first place behind `place`, up to `to`, where a line may start: none starts between.
+pub(crate) fn next_place(
+    types: LineEndTypes,
+    before: &[u8],
+    after: &[u8],
+    place: usize,
+    to: usize,
+) -> usize
+    requires { (place < to) × (to ≤ length before.now + length after.now + 1) }
+    ensures within { (place < result) × (result ≤ to) }
+    ensures none { (k : ℕ) → place < k → k < result → is_line_start types (before.now ++ after.now) k ≡ false }
+{
+    if to - place <= FEW {
+        return next_of_few(types, before, after, place, to);
+    }
+    next_of_many(types, before, after, place, to)
+}
+
+/// The first place from `from` up to `to` where a line may start: none starts between.
+pub(crate) fn first_place(
+    types: LineEndTypes,
+    before: &[u8],
+    after: &[u8],
+    from: usize,
+    to: usize,
+) -> usize
+    requires { (from ≤ to) × (to ≤ length before.now + length after.now + 1) }
+    ensures within { (from ≤ result) × (result ≤ to) }
+    ensures none { (k : ℕ) → from ≤ k → k < result → is_line_start types (before.now ++ after.now) k ≡ false }
+{
+    if from == 0 {
+        return 0;
+    }
+    next_place(types, before, after, from - 1, to)
+}
+
 /// The first place from `from` up to `to` where a line starts, or `to`.
 pub(crate) fn next_start(
     types: LineEndTypes,
@@ -177,7 +238,7 @@ pub(crate) fn next_start(
     ensures none { (k : ℕ) → from ≤ k → k < result → is_line_start types (before.now ++ after.now) k ≡ false }
     ensures start { result < to → is_line_start types (before.now ++ after.now) result ≡ true }
 {
-    let mut place = from;
+    let mut place = first_place(types, before, after, from, to);
     'looking: while place < to {
         if starts_at(types, before, after, place) {
             return place;

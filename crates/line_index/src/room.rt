@@ -6,7 +6,7 @@ ghost use Rattle.ed_model.specs.Text.{carriage_return, line_feed};
 ghost use Rattle.line_index.specs.Index.{starts_within};
 ghost use Rattle.line_index.specs.RoomLaws.{DeletionAddsFewLines, FirstBytesHaveFewLines, InsertionAddsFewLines, lines_for_deletion, lines_for_insertion};
 
-use crate::halves::next_start;
+use crate::halves::{first_place, next_place, starts_at};
 use crate::unicode_blocks;
 use ed_model::LineEndTypes;
 
@@ -96,19 +96,46 @@ fn lines_behind_blocks(bytes: &[u8]) -> (usize, usize)
     (lines, place)
 }
 
-/// How many lines start from one place up to another, one after the other.
-pub(crate) fn count_starts(types: LineEndTypes, bytes: &[u8], from: usize, to: usize) -> usize
+// How many lines start at the place: 1 or 0.
+fn lines_at(types: LineEndTypes, bytes: &[u8], place: usize) -> usize
+    ensures lines { result ≡ length (starts_within types bytes.now place (place + 1)) }
+    ensures few { result ≤ 1 }
+{
+    if starts_at(types, bytes, &[], place) {
+        1
+    } else {
+        0
+    }
+}
+
+// How many lines start from one place up to another, one after the other. It stands apart, since mostly there is none.
+#[inline(never)]
+fn count_from(types: LineEndTypes, bytes: &[u8], from: usize, to: usize) -> usize
     requires { (from ≤ to) × (to ≤ length bytes.now + 1) }
     ensures lines { result ≡ length (starts_within types bytes.now from to) }
     ensures few { result ≤ to - from }
 {
     let mut lines = 0;
-    let mut place = next_start(types, bytes, &[], from, to);
+    let mut place = from;
     'counting: while place < to {
-        lines += 1;
-        place = next_start(types, bytes, &[], place + 1, to);
+        lines += lines_at(types, bytes, place);
+        place = next_place(types, bytes, &[], place, to);
     }
     lines
+}
+
+/// How many lines start from one place up to another.
+#[inline(always)]
+pub(crate) fn count_starts(types: LineEndTypes, bytes: &[u8], from: usize, to: usize) -> usize
+    requires { (from ≤ to) × (to ≤ length bytes.now + 1) }
+    ensures lines { result ≡ length (starts_within types bytes.now from to) }
+    ensures few { result ≤ to - from }
+{
+    let place = first_place(types, bytes, &[], from, to);
+    if place == to {
+        return 0;
+    }
+    count_from(types, bytes, place, to)
 }
 
 // How many lines start at the bytes' beginning and behind those of whole blocks, and how many bytes these have.

@@ -4,14 +4,14 @@ ghost use Rattle.std.specs.Prelude.{ℕ, ◌≡◌, ◌+◌, ◌-◌, ◌^◌, �
 ghost use Rattle.ed_model.specs.Lines.{line_of};
 ghost use Rattle.partitioning.specs.Partitions.{IsFloorLog, IsLastAtMost};
 ghost use Rattle.split_vector.specs.Split.{counted};
-ghost use Rattle.line_index.specs.Index.{CanAdd, starts_near};
+ghost use Rattle.line_index.specs.Index.{CanAdd, WereAdded, starts_near};
 ghost use Rattle.line_index.specs.Change.{near_lines};
 ghost use Rattle.line_index.specs.StepEdits.{SmallLines};
 ghost use Rattle.ed_model.specs.NeighbourLaws.{count_before};
 
 use crate::adding::{add_at, add_marked, marks_near, place_behind};
-use crate::change::NearLines;
-use crate::halves::{next_place, next_start};
+use crate::change::{LinesAbout, NearLines};
+use crate::halves::next_place;
 use ed_model::LineEndTypes;
 use partitioning::{Partitioning, Place, Probes};
 
@@ -98,19 +98,24 @@ pub(crate) fn lines_before<P: Place>(starts: &Partitioning<P>, place: usize, lin
     if place == 0 { 0 } else { line + 1 }
 }
 
-// The lines of a place and of the two behind it, of which the last is `last`, where this line holds all three.
+// The lines of a place and of the two behind it, of which the last is `last`, where this line holds all three and a place
+// in front of them.
+#[inline(always)]
 fn one_line<P: Place>(
     starts: &Partitioning<P>,
+    front: usize,
     place: usize,
     last: usize,
     line: usize,
 ) -> Option<NearLines>
-    requires { last ≡ min (place + 2) (2 ^ 64 - 1) }
+    requires order { front ≤ place }
+    requires last { last ≡ min (place + 2) (2 ^ 64 - 1) }
+    ensures front { IfSome result (λ lines. IsLastAtMost starts.now.starts front line) }
     ensures lines { IfSome result (λ lines. lines ≡ near_lines starts.now.starts place) }
     ensures within { IfSome result (λ lines. lines.two_behind < length starts.now.starts) }
 {
     let _ = starts.length(); // it says that no line starts past the greatest number
-    if line < starts.count() && starts.start_of(line) <= place && reaches(starts, line, last) {
+    if line < starts.count() && starts.start_of(line) <= front && reaches(starts, line, last) {
         return Some(NearLines {
             at: line,
             one_behind: line,
@@ -134,10 +139,14 @@ pub(crate) fn lines_near<P: Place>(
     let _ = starts.count(); // it says that the number of lines is small
     let _ = starts.length(); // it says that no line starts past the greatest number
     let last = place.saturating_add(2);
-    if let Some(lines) = one_line(starts, place, last, likely) {
-        return lines;
-    }
     let at = line_from(starts, place, likely);
+    if reaches(starts, at, last) {
+        return NearLines {
+            at,
+            one_behind: at,
+            two_behind: at,
+        };
+    }
     let one_behind = line_or_next(starts, at, place.saturating_add(1));
     let two_behind = line_or_next(starts, one_behind, last);
     NearLines {
@@ -145,6 +154,57 @@ pub(crate) fn lines_near<P: Place>(
         one_behind,
         two_behind,
     }
+}
+
+// The line of the byte in front of a step, and the lines near the end of what it takes away. Mostly they are one line,
+// which is likely this one.
+#[inline(always)]
+pub(crate) fn lines_at_step<P: Place>(
+    starts: &Partitioning<P>,
+    front: usize,
+    end: usize,
+    likely: usize,
+) -> (usize, NearLines)
+    requires { front ≤ end }
+    ensures line { result.0 ≡ line_of starts.now.starts front }
+    ensures at { result.0 < length starts.now.starts }
+    ensures lines { result.1 ≡ near_lines starts.now.starts end }
+    ensures within { result.1.two_behind < length starts.now.starts }
+    ensures small_lines { SmallLines result.1 }
+    ensures small { length starts.now.starts + starts.now.room < 2 ^ 63 }
+{
+    let _ = starts.count(); // it says that the number of lines is small
+    let last = end.saturating_add(2);
+    if let Some(lines) = one_line(starts, front, end, last, likely) {
+        return (likely, lines);
+    }
+    let line = likely_line(starts, front, likely);
+    (line, lines_near(starts, end, line))
+}
+
+// The lines near a step's end, after it, where there were so many lines. They stay, where they were one that began in front
+// of the step and there are as many lines as before. Of lines that came, the last is likely the one.
+#[inline(always)]
+pub(crate) fn lines_after_step<P: Place>(
+    starts: &Partitioning<P>,
+    end: usize,
+    about: &LinesAbout,
+    lines: usize,
+) -> NearLines
+    requires small { SmallLines about.now.old_lines }
+    requires within { about.now.old_lines.two_behind < lines }
+    requires kept { about.now.old_lines.two_behind + 1 ≡ about.now.before → length starts.now.starts ≡ lines → about.now.old_lines ≡ near_lines starts.now.starts end }
+    ensures lines { result ≡ near_lines starts.now.starts end }
+    ensures within { result.two_behind < length starts.now.starts }
+    ensures small_lines { SmallLines result }
+{
+    let count = starts.count();
+    if count == lines && about.old_lines.two_behind + 1 == about.before {
+        return about.old_lines;
+    }
+    let came = count.saturating_sub(lines);
+    let likely = about.before.saturating_sub(1).saturating_add(came);
+    lines_near(starts, end, likely)
 }
 
 // Takes the starts of the lines from `first` up to `last` away.
@@ -160,8 +220,42 @@ pub(crate) fn remove_starts<P: Place>(starts: &mut Partitioning<P>, first: usize
     }
 }
 
+// Puts the line starts from `from` up to `to` in before line `first`, and returns the line behind them. It stands apart,
+// since mostly there is none.
+#[inline(never)]
+fn add_from<P: Place>(
+    starts: &mut Partitioning<P>,
+    types: LineEndTypes,
+    before: &[u8],
+    after: &[u8],
+    base: usize,
+    first: usize,
+    from: usize,
+    to: usize,
+) -> usize
+    requires can { CanAdd types (before.now ++ after.now) base from to first starts.old }
+    requires near { (base < from) × (from ≤ to) × (to ≤ base + (length before.now + length after.now) + 1) }
+    ensures { WereAdded types (before.now ++ after.now) base from to first result starts.old starts.new }
+{
+    let mut place = from;
+    let mut line = first;
+    'adding: while place < to {
+        let at = place - base;
+        if let Some(marks) = marks_near(types, before, after, at, to - base) {
+            line = add_marked(starts, types, before, after, base, line, place, marks);
+            place = base + place_behind(types, before, after, at, to - base, marks);
+        } else {
+            line = add_at(starts, types, before, after, base, line, place);
+            place = base + next_place(types, before, after, at, to - base);
+        }
+    }
+    line
+}
+
 // Puts the line starts from `from` up to `to` in before line `first`, told by the bytes about those places alone, of which
-// the first stands at `base`. There is none there yet, and there must be room for them.
+// the first stands at `base`. There is none there yet, and there must be room for them. Mostly no line starts in all of it,
+// as one look at the bytes tells.
+#[inline(always)]
 pub(crate) fn add_starts<P: Place>(
     starts: &mut Partitioning<P>,
     types: LineEndTypes,
@@ -179,17 +273,9 @@ pub(crate) fn add_starts<P: Place>(
     ensures length { starts.new.length ≡ starts.old.length }
     ensures room { starts.new.room + length (starts_near types (before.now ++ after.now) base from to) ≡ starts.old.room }
 {
-    // Mostly no line starts in all of it, as one look at the bytes tells.
-    let mut place = base + next_place(types, before, after, from - base - 1, to - base);
-    let mut line = first;
-    'adding: while place < to {
-        let at = place - base;
-        if let Some(marks) = marks_near(types, before, after, at, to - base) {
-            line = add_marked(starts, types, before, after, base, line, place, marks);
-            place = base + place_behind(types, before, after, at, to - base, marks);
-        } else {
-            line = add_at(starts, types, before, after, base, line, place);
-            place = base + next_start(types, before, after, at + 1, to - base);
-        }
+    let place = base + next_place(types, before, after, from - base - 1, to - base);
+    if place == to {
+        return;
     }
+    add_from(starts, types, before, after, base, first, place, to);
 }

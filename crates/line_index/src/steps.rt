@@ -6,9 +6,9 @@ ghost use Rattle.line_index.specs.Index.{IsIndexOf, IsInsertion, IsDeletion, Was
 ghost use Rattle.line_index.specs.Change.{MovesLines, change_about, moved_on};
 ghost use Rattle.line_index.specs.StepEdits.{SmallLines};
 
-use crate::change::LineChange;
+use crate::change::{LineChange, LinesAbout};
 use crate::index::LineIndex;
-use crate::starts::{add_starts, likely_line, lines_before, lines_near, remove_starts};
+use crate::starts::{add_starts, lines_after_step, lines_at_step, lines_before, remove_starts};
 use ed_model::LineEndTypes;
 use partitioning::{Partitioning, Place};
 
@@ -41,9 +41,13 @@ fn put_in<P: Place>(
     ensures small { SmallLines result.old_lines × SmallLines result.new_lines }
 {
     let edited = starts.step_at();
-    let first = likely_line(starts, place.saturating_sub(1), edited) + 1;
-    let in_front = lines_before(starts, place, first - 1);
-    let old_lines = lines_near(starts, place, first - 1);
+    let lines = starts.count();
+    let (line, old_lines) = lines_at_step(starts, place.saturating_sub(1), place, edited);
+    let about = LinesAbout {
+        before: lines_before(starts, place, line),
+        old_lines,
+    };
+    let first = line + 1;
     remove_starts(starts, first, old_lines.two_behind + 1);
     starts.insert_text(first - 1, count);
     let end = place + count;
@@ -51,9 +55,9 @@ fn put_in<P: Place>(
     let to = look_to(end, long);
     let near = place.saturating_sub(3);
     add_starts(starts, types, before, after, near, first, place.max(1), to);
-    let new_lines = lines_near(starts, end, first - 1);
+    let new_lines = lines_after_step(starts, end, &about, lines);
     LineChange {
-        before: in_front,
+        before: about.before,
         old_lines,
         new_lines,
         emptied: starts.length() == 0,
@@ -81,18 +85,22 @@ fn take_out<P: Place>(
 {
     let _ = starts.length(); // it says that the text is not too long
     let edited = starts.step_at();
-    let first = likely_line(starts, place.saturating_sub(1), edited) + 1;
-    let in_front = lines_before(starts, place, first - 1);
-    let old_lines = lines_near(starts, place + count, first - 1);
+    let lines = starts.count();
+    let (line, old_lines) = lines_at_step(starts, place.saturating_sub(1), place + count, edited);
+    let about = LinesAbout {
+        before: lines_before(starts, place, line),
+        old_lines,
+    };
+    let first = line + 1;
     remove_starts(starts, first, old_lines.two_behind + 1);
     starts.delete_text(first - 1, count);
     let long = starts.length();
     let to = look_to(place, long);
     let near = place.saturating_sub(3);
     add_starts(starts, types, before, after, near, first, place.max(1), to);
-    let new_lines = lines_near(starts, place, first - 1);
+    let new_lines = lines_after_step(starts, place, &about, lines);
     LineChange {
-        before: in_front,
+        before: about.before,
         old_lines,
         new_lines,
         emptied: starts.length() == 0,

@@ -1,6 +1,6 @@
 use Rattle.std.proofs.Common.{◌-◌, ◌≤◌, ◌++◌}
 use Rattle.line_index.specs.Index.{WereAdded}
-use Rattle.line_index.proofs.starts.add_starts.Given as goal
+use Rattle.line_index.proofs.starts.add_from.Given as goal
 
 abbrev pub invariant-adding : goal.invariant-adding
 invariant-adding g l =

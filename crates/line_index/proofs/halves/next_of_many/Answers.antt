@@ -1,6 +1,6 @@
 use Rattle.std.proofs.Common.{◌-◌, length, arith}
 use Rattle.line_index.proofs.TextBytes.{none_in_first, none_in_second, none_across}
-use Rattle.line_index.proofs.halves.next_place.Goals as goal
+use Rattle.line_index.proofs.halves.next_of_many.Goals as goal
 
 pub returns-then-last-middle-clause-none : goal.returns-then-last-middle-clause-none
 returns-then-last-middle-clause-none c =
