@@ -11,8 +11,8 @@ use Rattle.ed_model.specs.History.{latest_text_step}
 use Rattle.document.specs.declared.undoing.Direction.{Direction}
 use Rattle.document.specs.Undoing.{changes_of}
 use Rattle.scene.specs.Scenes.{views_of}
-use Rattle.message_plans.specs.Requested.{documents_in}
-use Rattle.message_plans.specs.declared.state.SessionState.{SessionState}
+use Rattle.message_requests.specs.Requested.{documents_in}
+use Rattle.message_requests.specs.declared.state.SessionState.{SessionState}
 use Rattle.editor_session.specs.Doing.{scene_gone, Goes}
 use Rattle.ed_model.specs.Performing.{place_behind, with_caret, caret_behind}
 use Rattle.id_table.specs.Entries.{Entries}

@@ -9,8 +9,8 @@ use Rattle.ed_model.specs.Session.{Session, is_allowed}
 use Rattle.ed_model.specs.SoundLaws.{IsSound, MessageKeepsSound, OpeningKeepsSound, ClosingKeepsSound}
 use Rattle.ed_model.specs.Table.{table, opened, closed}
 use Rattle.scene.specs.Scenes.{AreNamed}
-use Rattle.message_plans.specs.Requested.{session_in}
-use Rattle.message_plans.specs.declared.state.SessionState.{SessionState}
+use Rattle.message_requests.specs.Requested.{session_in}
+use Rattle.message_requests.specs.declared.state.SessionState.{SessionState}
 use Rattle.session_changes.specs.Kept.{IsKept, DocumentsAreNamed}
 use Rattle.editor_session.specs.Opening.{with_view_on_new}
 

@@ -9,8 +9,8 @@ use Rattle.ed_model.specs.SoundLaws.{Rise, IsSoundView}
 use Rattle.id_table.specs.Entries.{Entry, Entries, entry, id_of, value_of, value_at, with_value_at}
 use Rattle.document.specs.Kept.{Kept}
 use Rattle.ed_view.specs.Kept.{KeptView}
-use Rattle.message_plans.specs.Requested.{documents_in, session_in}
-use Rattle.message_plans.specs.declared.state.SessionState.{SessionState}
+use Rattle.message_requests.specs.Requested.{documents_in, session_in}
+use Rattle.message_requests.specs.declared.state.SessionState.{SessionState}
 use Rattle.editor_session.specs.Lent.{lent_range, lent_from, lent_of, lent_if}
 use Rattle.editor_session.proofs.Finding.{view_in, id_of_view, document_in, id_of_document, found_some, found_none}
 use Rattle.session_changes.specs.Kept.{DocumentsAreNamed, IsKept}

@@ -15,3 +15,5 @@ pub mod Needing
 pub mod LendingLemmas
 pub mod WalkLemmas
 pub mod RunLemmas
+pub mod PlainEdits
+pub mod Going

@@ -18,7 +18,7 @@ use Rattle.document.specs.declared.undoing.Direction.TheVariants.{Undo, Redo}
 use Rattle.document_changes.specs.Needs.{needs_room, notes_of_change}
 use Rattle.scene.specs.Scenes.{scene_in}
 use Rattle.scene.specs.Undoing.{capped, capped_room, capped_notes}
-use Rattle.message_plans.specs.declared.state.SessionState.{SessionState}
+use Rattle.message_requests.specs.declared.state.SessionState.{SessionState}
 use Rattle.editor_session.specs.Plans.{takes_nothing_along}
 use Rattle.editor_session.specs.Edited.{IsPastedFor}
 use Rattle.editor_session.specs.Edits.{edit_steps}
@@ -97,7 +97,7 @@ attempt_needs r need e = rw e (record {
 
 -- Amounts that are capped.
 
-capped_enough : (n b : ℕ) (room : DocumentRoom) → IsCounted (record no_need { notes = capped_notes n b; document = capped_room room }) → IsEnoughFor n b room (record no_need { notes = capped_notes n b; document = capped_room room })
+pub capped_enough : (n b : ℕ) (room : DocumentRoom) → IsCounted (record no_need { notes = capped_notes n b; document = capped_room room }) → IsEnoughFor n b room (record no_need { notes = capped_notes n b; document = capped_room room })
 capped_enough n b room c = record {
   notes_there = less n c.notes;
   bytes_there = less b c.note_bytes;
@@ -165,7 +165,7 @@ styled_needs r start count need e = rw e (record {
 
 -- An edit.
 
-no_steps : (ss : List Step) → not (has_steps ss) ≡ true → ss ≡ []
+pub no_steps : (ss : List Step) → not (has_steps ss) ≡ true → ss ≡ []
 no_steps [] h = refl
 no_steps (s ∷ ss) h = absurd (cc)
 

@@ -14,8 +14,8 @@ use Rattle.document.specs.Kept.{Kept}
 use Rattle.ed_view.specs.Kept.{KeptView}
 use Rattle.document_table.specs.Leaving.{documents_in as entries_in, left_over_of, let_go, IsChangedAlike, LeavesTheLiving}
 use Rattle.scene.specs.Scenes.{views_of, AreNamed}
-use Rattle.message_plans.specs.Requested.{session_in, documents_in}
-use Rattle.message_plans.specs.declared.state.SessionState.{SessionState}
+use Rattle.message_requests.specs.Requested.{session_in, documents_in}
+use Rattle.message_requests.specs.declared.state.SessionState.{SessionState}
 use Rattle.session_changes.specs.Kept.{IsKept, DocumentsAreNamed}
 use Rattle.editor_session.specs.Opening.{document_for, with_view_on_new}
 use Rattle.editor_session.proofs.Finding.{view_in, id_of_view, id_of_document, found_some, found_none, still_named, id_of_view_at}

@@ -45,8 +45,8 @@ use Rattle.ed_view.specs.Kept.{KeptView}
 use Rattle.scene.specs.Scenes.{views_of, scene_in, watchers, StandsIfOn, IsWatched}
 use Rattle.scene.specs.Conversion.{notes_for, bytes_for, room_of_steps}
 use Rattle.scene.specs.Undoing.{bits_of, notes_of_history, bytes_of_changes, room_of_changes}
-use Rattle.message_plans.specs.Requested.{session_in}
-use Rattle.message_plans.specs.declared.state.SessionState.{SessionState}
+use Rattle.message_requests.specs.Requested.{session_in}
+use Rattle.message_requests.specs.declared.state.SessionState.{SessionState}
 use Rattle.session_changes.specs.Kept.{IsKept}
 use Rattle.editor_session.specs.declared.find.Task.{Task}
 use Rattle.editor_session.specs.Tasks.{IsTask, IsAskedBy, IsPlanned, recording, first_note}

@@ -16,8 +16,8 @@ use Rattle.ed_model.specs.Session.{watching}
 use Rattle.document.specs.Kept.{Kept, HasRoom}
 use Rattle.document.specs.declared.room.DocumentRoom.{DocumentRoom}
 use Rattle.id_table.specs.Entries.{value_at}
-use Rattle.message_plans.specs.Requested.{session_in}
-use Rattle.message_plans.specs.declared.state.SessionState.{SessionState}
+use Rattle.message_requests.specs.Requested.{session_in}
+use Rattle.message_requests.specs.declared.state.SessionState.{SessionState}
 use Rattle.session_changes.specs.Kept.{IsKept, DocumentsAreNamed}
 use Rattle.editor_session.specs.declared.find.Task.{Task}
 use Rattle.editor_session.specs.declared.need.Need.{Need}
@@ -34,7 +34,7 @@ use Rattle.ed_model.specs.SoundLaws.{IsSound}
 use Rattle.scene.specs.Scenes.{AreNamed}
 use Rattle.std.specs.declared.alloc.AllocError.{AllocError}
 
-less_room : (k : Kept) (a b : DocumentRoom) → HasRoom k a → IsAtLeast a b → HasRoom k b
+pub less_room : (k : Kept) (a b : DocumentRoom) → HasRoom k a → IsAtLeast a b → HasRoom k b
 less_room k a b h l = (
   (less b.text a.text k.room.text l.text h.0.0, less b.lines a.lines k.room.lines l.lines h.0.1, less b.insertions a.insertions k.room.insertions l.insertions h.0.2),
   λ on. (less b.steps a.steps k.room.steps l.steps (h.1 on).0, less b.bytes a.bytes k.room.bytes l.bytes (h.1 on).1),

@@ -15,7 +15,7 @@ use Rattle.notify.specs.Gathered.{Gathered}
 use Rattle.document.specs.Kept.{Kept}
 use Rattle.ed_view.specs.Kept.{KeptView}
 use Rattle.scene.specs.Scenes.{scene_in}
-use Rattle.message_plans.specs.Requested.{documents_in}
+use Rattle.message_requests.specs.Requested.{documents_in}
 use Rattle.session_changes.specs.Kept.{DocumentsAreNamed}
 use Rattle.editor_session.specs.Edited.{Becomes}
 use Rattle.editor_session.proofs.Finding.{document_in, id_of_document, found_some, replaced, still_named, id_of_document_at}

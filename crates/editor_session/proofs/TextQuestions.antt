@@ -16,8 +16,9 @@ use Rattle.ed_model.specs.Session.{Session, View, Document, view_at, document_at
 use Rattle.ed_model.specs.Performing.{response}
 use Rattle.ed_model.specs.PlansFit.{PlansFit, IsSoundRequest, IsFitPlanned}
 use Rattle.ed_model.specs.Table.{table, record_note, table_from_view, table_from_kind, table_from_document, answered, request, plan_of}
-use Rattle.message_plans.specs.declared.answers.HandedOut.{HandedOut}
-use Rattle.message_plans.specs.Asking.{text_questions, text_question_of, is_text_question, handed_out, handed_planned, handed_asked}
+use Rattle.message_requests.specs.declared.answers.HandedOut.{HandedOut}
+use Rattle.message_requests.specs.HandingOut.{handed_out}
+use Rattle.message_plans.specs.Asking.{text_questions, text_question_of, is_text_question, handed_planned, handed_asked}
 use Rattle.editor_session.specs.Answers.{message_with}
 use Rattle.editor_session.specs.Asked.{reply_handing, reply_from_document, reply_from_view, reply_from_kind, reply_to}
 use Rattle.editor_session.proofs.Questions.{IsPlain, plain, found_plain, unheard}

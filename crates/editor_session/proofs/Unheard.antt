@@ -25,8 +25,8 @@ use Rattle.document_changes.specs.Needs.{needs_room, notes_of_change}
 use Rattle.ed_view.specs.Folding.{fold_need, HasFoldRoom}
 use Rattle.ed_view.specs.Kept.{KeptView}
 use Rattle.scene.specs.Scenes.{watchers, IsWatched}
-use Rattle.message_plans.specs.Requested.{session_in}
-use Rattle.message_plans.specs.declared.state.SessionState.{SessionState}
+use Rattle.message_requests.specs.Requested.{session_in}
+use Rattle.message_requests.specs.declared.state.SessionState.{SessionState}
 use Rattle.session_changes.specs.Asked.{IsAsked, CanChangeView}
 use Rattle.session_changes.specs.Folding.{takes_fold_room, HasFoldRoomAt}
 use Rattle.session_changes.specs.Kept.{IsKept}

@@ -7,7 +7,7 @@ use Rattle.ed_model.specs.Session.{Session, View, Document, view_at, document_at
 use Rattle.ed_model.specs.Performing.{response}
 use Rattle.ed_model.specs.Table.{request}
 use Rattle.message_plans.specs.Asking.{question_of, value_asked, text_question_of, handed_asked}
-use Rattle.message_plans.specs.declared.answers.HandedOut.{HandedOut}
+use Rattle.message_requests.specs.declared.answers.HandedOut.{HandedOut}
 
 abbrev pub value_from_document : Session → View → Kind → Message → Option Document → Option ℤ
 value_from_document s v kind m None = None

@@ -21,8 +21,8 @@ use Rattle.document.specs.Undoing.{changes_of, history_behind}
 use Rattle.ed_view.specs.Kept.{KeptView}
 use Rattle.scene.specs.Scenes.{views_of, scene_in, watchers, IsWatched}
 use Rattle.scene.specs.Undoing.{bits_of, notes_of_history, bytes_of_changes, room_of_changes}
-use Rattle.message_plans.specs.Requested.{documents_in, session_in}
-use Rattle.message_plans.specs.declared.state.SessionState.{SessionState}
+use Rattle.message_requests.specs.Requested.{documents_in, session_in}
+use Rattle.message_requests.specs.declared.state.SessionState.{SessionState}
 
 -- the plan is done: the session is that after it, the value and the bytes are the reply's, and its notes were put behind those before
 pub record IsDone (r : Request) (what : Plan) (s : SessionState) (before after : List Notice) (value : ℤ) (bytes : List ℕ) : Type 0 where
@@ -38,6 +38,10 @@ pub record CanGo (direction : Direction) (views : Entries KeptView) (notes : Gat
   pub watched : IsWatched k.document views
   pub note_room : notes_of_history (watchers k.document views) (bits_of direction) (changes_of direction k.document.history) ≤ notes.note_room
   pub text_room : bytes_of_changes (watchers k.document views) (bits_of direction) (changes_of direction k.document.history) ≤ notes.text_room
+
+-- the steps fit the text, and the views stand well on it
+abbrev pub CanGoOnceThereIsRoom : Direction → Entries KeptView → Kept → Type 0
+CanGoOnceThereIsRoom direction views k = AreStepsOf (text_of k.document) (text_steps (changes_of direction k.document.history)) × IsWatched k.document views
 
 abbrev pub scene_gone : Direction → Entries KeptView → Gathered → Kept → Scene
 scene_gone direction views notes k = transaction_performed (bits_of direction) (changes_of direction k.document.history) (history_behind direction k.document.history) (scene_in k.document views.entries notes.notes)

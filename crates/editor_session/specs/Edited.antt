@@ -18,7 +18,7 @@ use Rattle.notify.specs.Gathered.{Gathered}
 use Rattle.document.specs.Kept.{Kept, HasRoom}
 use Rattle.ed_view.specs.Kept.{KeptView}
 use Rattle.scene.specs.Scenes.{views_of, scene_in, IsWatched}
-use Rattle.message_plans.specs.Requested.{documents_in}
+use Rattle.message_requests.specs.Requested.{documents_in}
 use Rattle.scene.specs.Conversion.{room_of_steps, notes_for, bytes_for}
 
 -- the bytes of a source lie in a text of the length

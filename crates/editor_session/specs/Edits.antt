@@ -13,8 +13,8 @@ use Rattle.id_table.specs.Entries.{Entries}
 use Rattle.ed_view.specs.Kept.{KeptView}
 use Rattle.scene.specs.Scenes.{scene_in}
 use Rattle.scene.specs.Conversion.{CanMakeSteps}
-use Rattle.message_plans.specs.Requested.{session_in}
-use Rattle.message_plans.specs.declared.state.SessionState.{SessionState}
+use Rattle.message_requests.specs.Requested.{session_in}
+use Rattle.message_requests.specs.declared.state.SessionState.{SessionState}
 use Rattle.editor_session.specs.Edited.{IsEditWithin, stored_bytes, CanTake}
 
 -- the steps of an edit of the document

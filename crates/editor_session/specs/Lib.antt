@@ -13,3 +13,4 @@ pub mod Edits
 pub mod Opening
 pub mod PartLends
 pub mod Unheard
+pub mod PlainEdits

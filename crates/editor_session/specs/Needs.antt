@@ -18,8 +18,8 @@ use Rattle.scene.specs.Needs.{note_room}
 use Rattle.scene.specs.Conversion.{room_of_steps, notes_for, bytes_for}
 use Rattle.scene.specs.Undoing.{bits_of, notes_of_history, bytes_of_changes, room_of_changes}
 use Rattle.document_changes.specs.Needs.{notes_of_change}
-use Rattle.message_plans.specs.Requested.{session_in}
-use Rattle.message_plans.specs.declared.state.SessionState.{SessionState}
+use Rattle.message_requests.specs.Requested.{session_in}
+use Rattle.message_requests.specs.declared.state.SessionState.{SessionState}
 use Rattle.editor_session.specs.declared.need.Need.{Need}
 use Rattle.editor_session.specs.Plans.{needs_no_memory}
 

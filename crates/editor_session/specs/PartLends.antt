@@ -5,8 +5,8 @@ use mathlib.Core.Option.{none}
 use Rattle.id_table.specs.Entries.{Entries}
 use Rattle.document.specs.Kept.{Kept}
 use Rattle.document_table.specs.contracts.table.DocumentTable.{the_row as table_row}
-use Rattle.message_plans.specs.declared.state.SessionState.{SessionState}
-use Rattle.message_plans.specs.contracts.state.SessionState.{the_row as state_row}
+use Rattle.message_requests.specs.declared.state.SessionState.{SessionState}
+use Rattle.message_requests.specs.contracts.state.SessionState.{the_row as state_row}
 
 -- all documents are as they were
 abbrev pub documents_back : MutBor (Entries Kept) → Fml

@@ -13,7 +13,7 @@ use Rattle.document.specs.declared.room.DocumentRoom.{DocumentRoom}
 use Rattle.document_changes.specs.Needs.{needs_room, IsReady as IsChangeReady}
 use Rattle.session_changes.specs.Folding.{takes_fold_room, HasFoldRoomAt}
 use Rattle.session_changes.specs.Ready.{takes_memory, IsReady as IsSessionReady}
-use Rattle.message_plans.specs.declared.state.SessionState.{SessionState}
+use Rattle.message_requests.specs.declared.state.SessionState.{SessionState}
 use Rattle.editor_session.specs.declared.find.Task.{Task}
 use Rattle.editor_session.specs.declared.need.Need.{Need}
 use Rattle.editor_session.specs.declared.prepare.Prepared.{Prepared}

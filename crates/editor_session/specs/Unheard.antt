@@ -1,8 +1,11 @@
--- Changes of which no view hears, by messages that are not recorded.
+-- What is done at once, by messages that are not recorded: changes of which no view hears, undo and redo.
 use Rattle.std.specs.Prelude.{◌≡◌, ℕ, ℤ, false, List, []}
 use Rattle.ed_types.specs.declared.message.Message.{Message}
 use Rattle.ed_model.specs.declared.plan.Plan.{Plan}
+use Rattle.ed_model.specs.declared.plan.Plan.TheVariants as plan
 use Rattle.ed_model.specs.Session.{Session}
+use Rattle.document.specs.declared.undoing.Direction.{Direction}
+use Rattle.document.specs.declared.undoing.Direction.TheVariants.{Undo, Redo}
 use Rattle.notify.specs.Gathered.{Gathered, gathered}
 use Rattle.editor_session.specs.declared.find.Task.{Task}
 use Rattle.editor_session.specs.Tasks.{IsTask}
@@ -25,3 +28,8 @@ pub record IsSent (s : Session) (document view : ℕ) (what : ℤ → Plan) : Ty
 pub record IsSentWith (s : Session) (document view : ℕ) (text : List ℕ) (what : ℤ → Plan) : Type 0 where
   pub sent : IsSent s document view what
   pub text_is : sent.message.text ≡ text
+
+-- the plan of undo or redo
+abbrev pub going : Direction → Plan
+going Undo = plan.Undo
+going Redo = plan.Redo

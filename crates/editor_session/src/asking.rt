@@ -4,13 +4,14 @@ ghost use Rattle.std.specs.Prelude.{◌≡◌, ℕ, List, [], Ok, Some, IfSome};
 ghost use Rattle.ed_model.specs.Performing.{quiet};
 ghost use Rattle.ed_model.specs.Table.{table};
 ghost use Rattle.message_plans.specs.Asking.{question_of};
-ghost use Rattle.message_plans.specs.Requested.{session_in};
+ghost use Rattle.message_requests.specs.Requested.{session_in};
 ghost use Rattle.session_changes.specs.Kept.{IsKept};
 ghost use Rattle.editor_session.specs.Answers.{message_with};
 ghost use Rattle.editor_session.specs.Asked.{value_to};
 
 use ed_types::{Kind, kinds_and_numbers};
-use message_plans::{Request, SentMessage, SessionState, question_of, value_of};
+use message_plans::{question_of, value_of};
+use message_requests::{Request, SentMessage, SessionState};
 
 /// The value of this plain question to the view of an id; `None` where the table refuses it.
 #[inline(always)]

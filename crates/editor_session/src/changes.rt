@@ -6,7 +6,7 @@ ghost use Rattle.ed_model.specs.Changes.{session_changed};
 ghost use Rattle.id_table.specs.Entries.{value_at};
 ghost use Rattle.document_changes.specs.Needs.{IsReady};
 ghost use Rattle.scene.specs.Scenes.{AreNamed};
-ghost use Rattle.message_plans.specs.Requested.{session_in};
+ghost use Rattle.message_requests.specs.Requested.{session_in};
 ghost use Rattle.session_changes.specs.Kept.{IsKept, DocumentsAreNamed};
 ghost use Rattle.session_changes.specs.Asked.{IsAsked, CanChangeSession};
 ghost use Rattle.editor_session.specs.Doing.{CanTell, IsChangedIn, Changes};
@@ -18,7 +18,7 @@ use document_table::DocumentTable;
 use ed_model::{DocumentChange, SessionChange};
 use ed_view::View;
 use id_table::IdTable;
-use message_plans::SessionState;
+use message_requests::SessionState;
 use notify::NoteList;
 
 /// Changes the document of an id, which is ready for it, and tells of it.

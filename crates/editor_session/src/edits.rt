@@ -22,7 +22,7 @@ use document_table::DocumentTable;
 use ed_model::{Edit, Follow, LineEnd, Source};
 use ed_view::{Target, View};
 use id_table::IdTable;
-use message_plans::SessionState;
+use message_requests::SessionState;
 use notify::NoteList;
 use scene::{convert, make_step, needs_are_enough};
 use selection::Selection;
@@ -89,7 +89,7 @@ fn replace_some(
 
 /// Replaces the `count` bytes from `start` on by these: a deletion, then an insertion, without the one that has no bytes. There
 /// must be room for them.
-fn replace_bytes(
+pub(crate) fn replace_bytes(
     document: &mut Document,
     views: &mut IdTable<View>,
     notes: &mut NoteList,
@@ -240,7 +240,7 @@ pub(crate) fn set_caret(views: &mut IdTable<View>, view: u32, place: usize)
 }
 
 /// Sets the target of the view of an id.
-fn set_target(views: &mut IdTable<View>, view: u32, start: usize, end: usize)
+pub(crate) fn set_target(views: &mut IdTable<View>, view: u32, start: usize, end: usize)
     requires named { AreNamed views.old.entries }
     requires rise { ViewsRise views.old }
     ensures views { views_of views.new.entries ≡ followed_views view (follow_target start end) (views_of views.old.entries) }

@@ -3,14 +3,14 @@
 ghost use Rattle.std.specs.Prelude.{◌≡◌, ◌≢◌, Err, IfOk, IfErr};
 ghost use Rattle.ed_types.specs.declared.refusal.Refusal.TheVariants.{OutOfMemory};
 ghost use Rattle.ed_model.specs.Table.{table};
-ghost use Rattle.message_plans.specs.Requested.{session_in};
+ghost use Rattle.message_requests.specs.Requested.{session_in};
 ghost use Rattle.editor_session.specs.Answers.{message_with};
 ghost use Rattle.session_changes.specs.Kept.{IsKept};
 ghost use Rattle.editor_session.specs.Tasks.{IsFound};
 
 use ed_model::Plan;
 use ed_types::{Kind, Refusal};
-use message_plans::{Request, SentMessage, SessionState};
+use message_requests::{Request, SentMessage, SessionState};
 
 /// What is to be done for a message.
 #[derive(Clone, Copy, Debug)]

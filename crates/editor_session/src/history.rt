@@ -1,23 +1,38 @@
-//! Undo and redo in a document of the session.
+//! Undo and redo in a document of the session: with the room that a task made, or at once.
 
-ghost use Rattle.std.specs.Prelude.{◌≡◌, IfSome, IsSomeAnd, reverse};
+ghost use Rattle.std.specs.Prelude.{◌≡◌, map, Ok, OnOk, OnErr, IfOk, IfErr, IfSome, IsSomeAnd, reverse};
+ghost use Rattle.ed_types.specs.declared.message.Message.{Message};
+ghost use Rattle.ed_types.specs.declared.refusal.Refusal.TheVariants.{OutOfMemory};
 ghost use Rattle.ed_model.specs.History.{latest_text_step};
+ghost use Rattle.ed_model.specs.Performing.{transaction_performed};
+ghost use Rattle.ed_model.specs.Session.{Document as ModelDocument, text_of};
+ghost use Rattle.ed_model.specs.SoundLaws.{AreStepsOf, Rise};
+ghost use Rattle.ed_model.specs.Table.{table};
+ghost use Rattle.ed_model.specs.UndoPlans.{text_steps};
 ghost use Rattle.id_table.specs.Entries.{value_at};
-ghost use Rattle.document.specs.Undoing.{changes_of};
-ghost use Rattle.scene.specs.Scenes.{AreNamed};
-ghost use Rattle.scene.specs.Undoing.{place_behind_any};
+ghost use Rattle.document.specs.Undoing.{changes_of, history_behind};
+ghost use Rattle.scene.specs.Scenes.{scene_in, AreNamed, IsWatched};
+ghost use Rattle.scene.specs.Undoing.{bits_of, place_behind_any};
+ghost use Rattle.message_requests.specs.Requested.{session_in, documents_in};
 ghost use Rattle.session_changes.specs.Kept.{IsKept, DocumentsAreNamed, ViewsRise};
 ghost use Rattle.editor_session.specs.Edited.{Becomes};
-ghost use Rattle.editor_session.specs.Doing.{CanGo, Goes, scene_gone};
+ghost use Rattle.editor_session.specs.Doing.{CanGo, CanGoOnceThereIsRoom, Goes, scene_gone};
+ghost use Rattle.editor_session.specs.Tasks.{IsTask};
+ghost use Rattle.editor_session.specs.Unheard.{unrecorded, going, IsSent};
 
 use crate::edits::set_caret;
-use document::Direction;
+use crate::need::history;
+use crate::ready::reserve;
+use document::{Direction, Document};
 use document_table::DocumentTable;
+use ed_model::{plans_are_fit, soundness_is_kept};
+use ed_types::{Bytes, Refusal, Reply};
 use ed_view::View;
 use id_table::IdTable;
-use message_plans::SessionState;
+use message_requests::SessionState;
 use notify::NoteList;
 use scene::{caret_after, perform_history};
+use std::alloc::{AllocError, Global};
 
 /// Performs undo or redo in the document of an id, and returns where that leaves the caret, if it makes a step of the text.
 fn go_in(
@@ -67,5 +82,139 @@ pub(crate) fn go(
     } = state;
     if let Some(place) = go_in(documents, views, notes, document, direction) {
         set_caret(views, view, place);
+    }
+}
+
+/// Makes room in a document and for notes for undo or redo, and performs it; returns where that leaves the caret, if it makes a
+/// step of the text.
+///
+/// # Errors
+///
+/// `AllocError` where memory is refused. The document and the views are as they were, here too.
+fn go_with_room(
+    document: &mut Document,
+    views: &mut IdTable<View>,
+    notes: &mut NoteList,
+    direction: Direction,
+) -> Result<Option<usize>, AllocError>
+    requires steps { AreStepsOf (text_of document.old.document) (text_steps (changes_of direction document.old.document.history)) }
+    requires watched { IsWatched document.old.document views.old }
+    ensures scene { OnOk result (scene_in document.new.document views.new.entries notes.new.notes ≡ transaction_performed (bits_of direction) (changes_of direction document.old.document.history) (history_behind direction document.old.document.history) (scene_in document.old.document views.old.entries notes.old.notes)) }
+    ensures place { IfOk result (λ place. place ≡ place_behind_any (latest_text_step (reverse (changes_of direction document.old.document.history)))) }
+    ensures same { OnErr result (document.new.document ≡ document.old.document) }
+    ensures same_views { OnErr result (views.new ≡ views.old) }
+    ensures id { document.new.document.id ≡ document.old.document.id }
+    ensures watched { IsWatched document.new.document views.new }
+    ensures next { views.new.next ≡ views.old.next }
+{
+    let need = history(document, views, direction);
+    if !need.is_counted() {
+        return Err(AllocError);
+    }
+    let Ok(()) = notes.reserve(need.notes.notes, need.notes.bytes) else {
+        return Err(AllocError);
+    };
+    let Ok(()) = reserve(document, need.document) else {
+        return Err(AllocError);
+    };
+    let place = caret_after(document, direction);
+    perform_history(document, views, notes, direction);
+    Ok(place)
+}
+
+/// The same in the document of an id, which is looked up once for all of it.
+///
+/// # Errors
+///
+/// `AllocError` where memory is refused. All documents and views are as they were, here too.
+fn go_with_room_in(
+    documents: &mut DocumentTable,
+    views: &mut IdTable<View>,
+    notes: &mut NoteList,
+    document: u32,
+    direction: Direction,
+) -> Result<Option<usize>, AllocError>
+    requires can { IsSomeAnd (value_at documents.old.entries document) (CanGoOnceThereIsRoom direction views.old) }
+    requires named { DocumentsAreNamed documents.old.entries }
+    requires rise { Rise 0 documents.old.next (map (λ (d : ModelDocument). d.id) (documents_in documents.old)) }
+    ensures gone { OnOk result (IfSome (value_at documents.old.entries document) (λ k. Becomes (scene_gone direction views.old notes.old k) documents.old documents.new views.new notes.new)) }
+    ensures place { IfOk result (λ place. IfSome (value_at documents.old.entries document) (λ k. place ≡ place_behind_any (latest_text_step (reverse (changes_of direction k.document.history))))) }
+    ensures same { OnErr result (documents_in documents.new ≡ documents_in documents.old) }
+    ensures same_views { OnErr result (views.new ≡ views.old) }
+    ensures documents { DocumentsAreNamed documents.new.entries }
+    ensures views { AreNamed views.new.entries }
+    ensures rise { ViewsRise views.new }
+    ensures next_document { documents.new.next ≡ documents.old.next }
+    ensures next_view { views.new.next ≡ views.old.next }
+{
+    let Some(document) = documents.get_mut(document) else {
+        unreachable!()
+    };
+    go_with_room(document, views, notes, direction)
+}
+
+/// The same, after which the caret of the view of an id stands where that leaves it.
+///
+/// # Errors
+///
+/// `AllocError` where memory is refused. The session is as it was, here too.
+fn go_making_room(
+    state: &mut SessionState,
+    document: u32,
+    view: u32,
+    direction: Direction,
+    notes: &mut NoteList,
+) -> Result<(), AllocError>
+    requires kept { IsKept state.old }
+    requires can { IsSomeAnd (value_at state.old.documents.entries document) (CanGoOnceThereIsRoom direction state.old.views) }
+    ensures gone { OnOk result (IfSome (value_at state.old.documents.entries document) (λ k. Goes view direction state.old notes.old k state.new notes.new)) }
+    ensures same { OnErr result (session_in state.new ≡ session_in state.old) }
+    ensures documents { DocumentsAreNamed state.new.documents.entries }
+    ensures views { AreNamed state.new.views.entries }
+    ensures limits { state.new.limits ≡ state.old.limits }
+{
+    let SessionState {
+        documents,
+        views,
+        ..
+    } = state;
+    match go_with_room_in(documents, views, notes, document, direction) {
+        Ok(Some(place)) => {
+            set_caret(views, view, place);
+            Ok(())
+        }
+        Ok(None) => Ok(()),
+        Err(error) => Err(error),
+    }
+}
+
+/// Answers UNDO or REDO to the view of an id, on the document of that id, where it is not recorded: room is made and all is done
+/// at once, without a task.
+///
+/// # Errors
+///
+/// `OutOfMemory` where memory is refused. The session is as it was, here too.
+#[inline(never)]
+pub(crate) fn go_at_once(
+    alloc: Global,
+    state: &mut SessionState,
+    document: u32,
+    view: u32,
+    direction: Direction,
+) -> Result<Reply, Refusal>
+    requires kept { IsKept state.old }
+    requires sent { IsSent (session_in state.old) document view (λ value. going direction) }
+    ensures answer { IfOk result (λ reply. (m : Message) → IsTask (session_in state.old) view m (unrecorded document view (going direction)) → table (session_in state.old) view m ≡ Ok (session_in state.new, reply)) }
+    ensures same { OnErr result (session_in state.new ≡ session_in state.old) }
+    ensures refused { IfErr result (λ refusal. refusal ≡ OutOfMemory) }
+    ensures kept { IsKept state.new }
+{
+    // The laws that the steps of undo and redo fit the text, and that the session stays sound.
+    plans_are_fit();
+    soundness_is_kept();
+    let mut notes = NoteList::new(alloc);
+    match go_making_room(state, document, view, direction, &mut notes) {
+        Ok(()) => Ok(notes.finish(0, Bytes::empty(alloc))),
+        Err(_) => Err(Refusal::OutOfMemory),
     }
 }

@@ -6,14 +6,14 @@ ghost use Rattle.ed_types.specs.declared.refusal.Refusal.TheVariants.{NoSuchView
 ghost use Rattle.id_table.specs.Entries.{value_at};
 ghost use Rattle.ed_model.specs.Session.{Document as ModelDocument, text_of};
 ghost use Rattle.ed_model.specs.SoundLaws.{Rise};
-ghost use Rattle.message_plans.specs.Requested.{session_in, documents_in};
+ghost use Rattle.message_requests.specs.Requested.{session_in, documents_in};
 ghost use Rattle.session_changes.specs.Kept.{IsKept, DocumentsAreNamed};
 ghost use Rattle.editor_session.specs.Lent.{lent_range};
 ghost use Rattle.editor_session.specs.PartLends.{documents_back, state_back};
 
 use document_table::DocumentTable;
 use ed_types::Refusal;
-use message_plans::SessionState;
+use message_requests::SessionState;
 
 /// The id of the document of a view, where so many bytes lie in its text from `start` on. Takes no memory.
 ///

@@ -2,7 +2,8 @@
 //!
 //! A message goes one way. Its view and document are found and its number is decoded; a plan is made, which carries every
 //! refusal but want of memory; what the plan needs is told, and reserved in one pass; and then the plan is performed, which
-//! cannot fail. A plain question is answered before a plan is made, and a change of which nobody hears is made at once.
+//! cannot fail. A plain question is answered before a plan is made, and a change of which nobody hears is made at once, as
+//! plain replacements of bytes, undo and redo are that are not recorded.
 #![tactic(auto)]
 
 mod asking;
@@ -16,6 +17,7 @@ mod lending;
 mod need;
 mod opening;
 mod perform;
+mod plain_edits;
 mod prepare;
 mod quietly;
 mod reading;

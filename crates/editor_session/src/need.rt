@@ -11,7 +11,7 @@ ghost use Rattle.ed_model.specs.LineEnds.{conversion_steps};
 ghost use Rattle.document.specs.Undoing.{changes_of};
 ghost use Rattle.scene.specs.Scenes.{watchers};
 ghost use Rattle.scene.specs.Undoing.{bits_of, notes_of_history, bytes_of_changes, room_of_changes, capped_room, capped_notes};
-ghost use Rattle.message_plans.specs.Requested.{session_in};
+ghost use Rattle.message_requests.specs.Requested.{session_in};
 ghost use Rattle.session_changes.specs.Kept.{IsKept};
 ghost use Rattle.editor_session.specs.Tasks.{IsAskedBy, IsPlanned};
 ghost use Rattle.editor_session.specs.Needs.{no_need, need_sum, clipboard_need, IsCounted, IsAbout, NeedsSteps, NeedsEdit, NeedsTask};
@@ -26,7 +26,7 @@ use document_changes::change_note_need;
 use ed_model::{Edit, Follow, LineEnd, Plan};
 use ed_view::View;
 use id_table::IdTable;
-use message_plans::SessionState;
+use message_requests::SessionState;
 use scene::{NoteRoom, conversion_need, history_need, leaving_need, note_need};
 
 /// How much memory a message needs. An amount that is the greatest `usize` is never there.
@@ -107,7 +107,7 @@ fn step_need(document: &Document, views: &IdTable<View>, step: TextStep) -> Need
 }
 
 /// What the steps of an edit need that replaces the `count` bytes from `start` on by these.
-fn replacement_need(
+pub(crate) fn replacement_need(
     document: &Document,
     views: &IdTable<View>,
     start: usize,
@@ -156,7 +156,7 @@ fn conversion(document: &Document, views: &IdTable<View>, to: LineEnd) -> Need
 }
 
 /// What undo or redo needs.
-fn history(document: &Document, views: &IdTable<View>, direction: Direction) -> Need
+pub(crate) fn history(document: &Document, views: &IdTable<View>, direction: Direction) -> Need
     requires named { AreNamed views.now.entries }
     ensures { let changes = changes_of direction document.now.document.history in let vs = watchers document.now.document views.now in
         result ≡ record no_need { notes = capped_notes (notes_of_history vs (bits_of direction) changes) (bytes_of_changes vs (bits_of direction) changes); document = capped_room (room_of_changes document.now.document.line_end_types changes) } }

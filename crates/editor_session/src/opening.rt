@@ -3,7 +3,7 @@
 ghost use Rattle.std.specs.Prelude.{◌≡◌, ◌<◌, ◌+◌, ◌^◌, Ok, Err, OnOk, OnErr, IfOk, IfErr, true};
 ghost use Rattle.ed_model.specs.Session.{view_at, new_document, new_view};
 ghost use Rattle.ed_model.specs.Table.{opened, closed};
-ghost use Rattle.message_plans.specs.Requested.{session_in};
+ghost use Rattle.message_requests.specs.Requested.{session_in};
 ghost use Rattle.scene.specs.Scenes.{AreNamed};
 ghost use Rattle.session_changes.specs.Kept.{IsKept, DocumentsAreNamed};
 ghost use Rattle.editor_session.specs.Opening.{document_for, with_view_on_new};
@@ -12,7 +12,7 @@ use document::Document;
 use document_table::the_living_are_left;
 use ed_types::Refusal;
 use ed_view::View;
-use message_plans::SessionState;
+use message_requests::SessionState;
 use std::alloc::{AllocError, Global};
 
 /// A new document of this id without text, to which the view of that id is attached, and that view.

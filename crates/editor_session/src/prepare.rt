@@ -5,7 +5,7 @@ ghost use Rattle.ed_model.specs.Requests.{Request};
 ghost use Rattle.ed_model.specs.LineEnds.{converted};
 ghost use Rattle.id_table.specs.Entries.{value_at};
 ghost use Rattle.scene.specs.Scenes.{AreNamed};
-ghost use Rattle.message_plans.specs.Requested.{session_in};
+ghost use Rattle.message_requests.specs.Requested.{session_in};
 ghost use Rattle.session_changes.specs.Kept.{IsKept, DocumentsAreNamed};
 ghost use Rattle.editor_session.specs.Plans.{needs_no_memory};
 ghost use Rattle.editor_session.specs.Tasks.{IsAskedBy, IsPlanned};
@@ -18,7 +18,7 @@ use crate::need::{Need, task_need};
 use crate::ready::{Ready, make_ready};
 use ed_model::{Edit, Plan, Source};
 use line_ends::{convert_into, converted_len};
-use message_plans::SessionState;
+use message_requests::SessionState;
 use notify::NoteList;
 use std::alloc::{AllocError, Global};
 

@@ -5,7 +5,7 @@ ghost use Rattle.ed_model.specs.Performing.{response};
 ghost use Rattle.ed_model.specs.Session.{text_of};
 ghost use Rattle.ed_model.specs.Table.{table};
 ghost use Rattle.message_plans.specs.Asking.{text_question_of};
-ghost use Rattle.message_plans.specs.Requested.{session_in};
+ghost use Rattle.message_requests.specs.Requested.{session_in};
 ghost use Rattle.session_changes.specs.Kept.{IsKept};
 ghost use Rattle.editor_session.specs.Answers.{message_with};
 ghost use Rattle.editor_session.specs.Asked.{reply_to};
@@ -13,7 +13,8 @@ ghost use Rattle.editor_session.specs.Asked.{reply_to};
 use document::Document;
 use ed_model::plans_are_fit;
 use ed_types::{Kind, kinds_and_numbers};
-use message_plans::{Request, SentMessage, SessionState, handed_of, text_question_of};
+use message_plans::{handed_of, text_question_of};
+use message_requests::{Request, SentMessage, SessionState};
 use std::alloc::{AllocError, Global};
 
 /// Empties a buffer that has room for `count` bytes. One that has not becomes another, which has so much more room that texts which

@@ -8,7 +8,7 @@ ghost use Rattle.document.specs.Kept.{HasRoom, no_room};
 ghost use Rattle.document_changes.specs.Fit.{IsFitChange};
 ghost use Rattle.document_changes.specs.Needs.{needs_room, IsReady};
 ghost use Rattle.scene.specs.Scenes.{AreNamed};
-ghost use Rattle.message_plans.specs.Requested.{session_in, documents_in};
+ghost use Rattle.message_requests.specs.Requested.{session_in, documents_in};
 ghost use Rattle.session_changes.specs.Kept.{IsKept, DocumentsAreNamed};
 ghost use Rattle.editor_session.specs.Tasks.{IsPlanned};
 ghost use Rattle.editor_session.specs.Prepared.{HasRoomAt, IsReadyFor, IsReadyForChange, IsReadyForSession, takes_nothing};
@@ -20,7 +20,7 @@ use document::{Document, DocumentRoom};
 use document_changes::{ChangeReady, reserve_change};
 use document_table::DocumentTable;
 use ed_model::{DocumentChange, Plan, SessionChange, ViewChange};
-use message_plans::SessionState;
+use message_requests::SessionState;
 use session_changes::{SessionReady, prepare_session_change, reserve_view_change};
 use std::alloc::{AllocError, Global};
 
@@ -41,7 +41,7 @@ pub(crate) enum Ready {
 ///
 /// `AllocError` where memory is refused, or the document's places are too narrow for so long a text. Its text and all that is
 /// kept of it are as they were, here too.
-fn reserve(document: &mut Document, need: DocumentRoom) -> Result<(), AllocError>
+pub(crate) fn reserve(document: &mut Document, need: DocumentRoom) -> Result<(), AllocError>
     ensures same { document.new.document ≡ document.old.document }
     ensures ok { OnOk result (HasRoom document.new need) }
     ensures free { need ≡ no_room → IsOk result }

@@ -7,7 +7,7 @@ ghost use Rattle.ed_model.specs.declared.plan.Plan.TheVariants as plan;
 ghost use Rattle.ed_model.specs.Performing.{quiet, response};
 ghost use Rattle.ed_model.specs.Session.{text_of};
 ghost use Rattle.ed_model.specs.Table.{table};
-ghost use Rattle.message_plans.specs.Requested.{session_in};
+ghost use Rattle.message_requests.specs.Requested.{session_in};
 ghost use Rattle.session_changes.specs.Kept.{IsKept};
 ghost use Rattle.editor_session.specs.Answers.{AnswersBy, message_with};
 ghost use Rattle.editor_session.specs.Plans.{is_free};
@@ -16,13 +16,17 @@ ghost use Rattle.editor_session.specs.Unheard.{unrecorded};
 
 use crate::asking::ask;
 use crate::find::{Task, find};
+use crate::history::go_at_once;
 use crate::perform::perform;
+use crate::plain_edits::edit_at_once;
 use crate::prepare::prepare;
 use crate::quietly::{change_lightly, change_unheard, is_light, is_unheard};
-use document::Document;
-use ed_model::{DocumentChange, Plan, plans_are_fit, soundness_is_kept};
+use document::{Direction, Document};
+use ed_model::{DocumentChange, Edit, Follow, Plan, plans_are_fit, soundness_is_kept};
 use ed_types::{Bytes, Kind, Refusal, Reply};
-use message_plans::{Request, SessionState, plan_of};
+use message_plans::plan_of;
+use message_requests::{Request, SessionState};
+use notify::NoteList;
 use std::alloc::Global;
 
 /// The reply of a value alone. Takes no memory.
@@ -102,6 +106,81 @@ fn answer_change(
         is_recorded: false,
     };
     carry_out(alloc, state, &task, number, w, l, text)
+}
+
+/// Answers a message that is not recorded and edits a document, by its task. It stands apart from plain replacements.
+///
+/// # Errors
+///
+/// `OutOfMemory` where memory is refused. The session is then as it was.
+#[inline(never)]
+fn edit_by_task(
+    alloc: Global,
+    state: &mut SessionState,
+    document: u32,
+    view: u32,
+    number: u32,
+    w: i64,
+    l: i64,
+    text: &[u8],
+    edit: Edit,
+    value: i64,
+    follow: Follow,
+) -> Result<Reply, Refusal>
+    requires kept { IsKept state.old }
+    requires task { IsTask (session_in state.old) view (message_with number w l text.now) (unrecorded document view (plan.Edit edit value follow)) }
+    ensures answer { AnswersBy (table (session_in state.old) view (message_with number w l text.now)) (session_in state.old) (session_in state.new) result }
+    ensures refused { IfErr result (λ refusal. refusal ≡ OutOfMemory) }
+    ensures kept { IsKept state.new }
+    ensures free { is_free (session_in state.old) view (message_with number w l text.now) ≡ true → IsOk result }
+{
+    let task = Task {
+        view,
+        document,
+        plan: Plan::Edit {
+            edit,
+            value,
+            follow,
+        },
+        is_recorded: false,
+    };
+    carry_out(alloc, state, &task, number, w, l, text)
+}
+
+/// Answers a message that is not recorded and edits a document: at once where it is a plain replacement, else by its task.
+///
+/// # Errors
+///
+/// `OutOfMemory` where memory is refused. The session is then as it was.
+#[inline(never)]
+fn answer_edit(
+    alloc: Global,
+    state: &mut SessionState,
+    document: u32,
+    view: u32,
+    number: u32,
+    w: i64,
+    l: i64,
+    text: &[u8],
+    edit: Edit,
+    value: i64,
+    follow: Follow,
+) -> Result<Reply, Refusal>
+    requires kept { IsKept state.old }
+    requires task { IsTask (session_in state.old) view (message_with number w l text.now) (unrecorded document view (plan.Edit edit value follow)) }
+    ensures answer { AnswersBy (table (session_in state.old) view (message_with number w l text.now)) (session_in state.old) (session_in state.new) result }
+    ensures refused { IfErr result (λ refusal. refusal ≡ OutOfMemory) }
+    ensures kept { IsKept state.new }
+    ensures free { is_free (session_in state.old) view (message_with number w l text.now) ≡ true → IsOk result }
+{
+    let mut notes = NoteList::new(alloc);
+    match edit_at_once(state, document, view, text, edit, follow, &mut notes) {
+        Ok(true) => Ok(notes.finish(value, Bytes::empty(alloc))),
+        Ok(false) => edit_by_task(
+            alloc, state, document, view, number, w, l, text, edit, value, follow,
+        ),
+        Err(refusal) => Err(refusal),
+    }
 }
 
 /// Hands out the `count` bytes of a document from `start` on, with a value. It takes memory for these bytes alone.
@@ -186,6 +265,23 @@ pub(crate) fn answer_by_plan(
             return answer_change(
                 alloc, state, document, view, number, w, l, text, change, value,
             );
+        }
+        Ok(
+            Plan::Edit {
+                edit,
+                value,
+                follow,
+            },
+        ) if !is_recorded => {
+            return answer_edit(
+                alloc, state, document, view, number, w, l, text, edit, value, follow,
+            );
+        }
+        Ok(Plan::Undo) if !is_recorded => {
+            return go_at_once(alloc, state, document, view, Direction::Undo);
+        }
+        Ok(Plan::Redo) if !is_recorded => {
+            return go_at_once(alloc, state, document, view, Direction::Redo);
         }
         Ok(plan) => plan,
         Err(refusal) => return Err(refusal),

@@ -19,7 +19,7 @@ use document_table::DocumentTable;
 use ed_model::soundness_is_kept;
 use ed_types::{Limits, Message, Refusal, Reply};
 use id_table::IdTable;
-use message_plans::SessionState;
+use message_requests::SessionState;
 use std::alloc::Global;
 use std::marker::Model;
 
@@ -32,7 +32,7 @@ pub struct Session {
 
 impl Model for Session {
     ghost use Rattle.ed_model.specs.Session.{Session};
-    ghost use Rattle.message_plans.specs.Requested.{session_in};
+    ghost use Rattle.message_requests.specs.Requested.{session_in};
     ghost use Rattle.session_changes.specs.Kept.{IsKept};
 
     ghost Value = { Session };

@@ -1,11 +1,1 @@
-pub mod Handles
-pub mod Lines
-pub mod Masks
-pub mod Named
 pub mod Plain
-pub mod Ranges
-pub mod Replacements
-pub mod Runs
-pub mod Searching
-pub mod Standing
-pub mod Undoing

@@ -1,8 +1,9 @@
 -- The value of a plan that only answers one, and what a plan hands out.
 use Rattle.std.proofs.Common.{◌≡◌, ℤ, Option, Some, None, refl, subst}
-use Rattle.message_plans.specs.declared.answers.HandedOut.{HandedOut}
+use Rattle.message_requests.specs.declared.answers.HandedOut.{HandedOut}
 use Rattle.ed_model.specs.Requests.{Planned, answer, with_argument}
-use Rattle.message_plans.specs.Asking.{value_planned, handed_out, handed_or_zero, handed_planned}
+use Rattle.message_requests.specs.HandingOut.{handed_out, handed_or_zero}
+use Rattle.message_plans.specs.Asking.{value_planned, handed_planned}
 
 pub planned_so : (value : ℤ) (p : Planned) → answer value ≡ p → value_planned p ≡ Some value
 planned_so value p is = subst (λ p. value_planned p ≡ Some value) is refl

@@ -1,12 +1,12 @@
 -- Plain questions: messages that are answered by a number of the document or of the view; and text questions, which are answered by bytes of the document. They change nothing, are not recorded, and read no text of the message.
-use Rattle.std.specs.Prelude.{ℕ, ℤ, pos, if◌then◌else◌, Bool, List, [], ◌∷◌, Ok, Option, Some, None, is_some}
+use Rattle.std.specs.Prelude.{ℕ, ℤ, if◌then◌else◌, Bool, List, [], ◌∷◌, Ok, Option, Some, None, is_some}
 use Rattle.ed_types.specs.declared.kind.Kind.{Kind}
 use Rattle.ed_types.specs.declared.kind.Kind.TheVariants as kinds
 use Rattle.ed_types.specs.Messages.{number_of, kind_among}
 use Rattle.ed_model.specs.declared.plan.Plan.TheVariants as plan
-use Rattle.ed_model.specs.Requests.{Request, Planned, answer}
+use Rattle.ed_model.specs.Requests.{Request, Planned}
 use Rattle.ed_model.specs.Table.{plan_of}
-use Rattle.message_plans.specs.declared.answers.HandedOut.{HandedOut}
+use Rattle.message_requests.specs.declared.answers.HandedOut.{HandedOut}
 
 -- by rising numbers
 abbrev pub questions : List Kind
@@ -38,14 +38,6 @@ text_question_of number = kind_among text_questions number
 
 abbrev pub is_text_question : Kind → Bool
 is_text_question kind = is_some (text_question_of (number_of kind))
-
--- the plan that hands this out; where there is none, 0 may be answered
-abbrev pub handed_out : HandedOut → Planned
-handed_out h = Ok (plan.HandOut h.value h.start h.count)
-
-abbrev pub handed_or_zero : Option HandedOut → Planned
-handed_or_zero None = answer (pos 0)
-handed_or_zero (Some h) = handed_out h
 
 -- what a plan that hands out bytes does, and it does nothing else
 abbrev pub handed_planned : Planned → Option HandedOut

@@ -5,12 +5,11 @@ ghost use Rattle.std.specs.Prelude.{◌≡◌};
 ghost use Rattle.ed_model.specs.PlansFit.{IsSoundRequest};
 ghost use Rattle.message_plans.specs.Asking.{handed_asked, question_of, text_question_of, value_asked};
 
-use crate::answers::HandedOut;
-use crate::request::Request;
-use crate::{
-    folding_plans, line_plans, selection_plans, style_plans, target_plans, text_plans, undo_plans,
-};
 use ed_types::Kind;
+use message_requests::Request;
+use message_requests::answers::HandedOut;
+use state_plans::{folding_plans, line_plans, style_plans, undo_plans};
+use text_plans::{selection_plans, target_plans, texts};
 
 /// The plain question with this number, if it is one.
 pub fn question_of(number: u32) -> Option<Kind>
@@ -64,8 +63,8 @@ pub fn value_of(kind: Kind, r: &Request) -> Option<i64>
     ensures { result ≡ value_asked kind r.now }
 {
     match kind {
-        Kind::GetLength | Kind::GetTextLength => Some(text_plans::get_length(r)),
-        Kind::GetCharAt => Some(text_plans::get_char_at(r)),
+        Kind::GetLength | Kind::GetTextLength => Some(texts::get_length(r)),
+        Kind::GetCharAt => Some(texts::get_char_at(r)),
         Kind::GetCurrentPos => Some(selection_plans::get_current_pos(r)),
         Kind::GetAnchor => Some(selection_plans::get_anchor(r)),
         Kind::GetStyleAt => Some(style_plans::get_style_at(r)),
@@ -75,14 +74,14 @@ pub fn value_of(kind: Kind, r: &Request) -> Option<i64>
         Kind::MarkerNext => Some(line_plans::marker_next(r)),
         Kind::MarkerPrevious => Some(line_plans::marker_previous(r)),
         Kind::GetLineState => Some(line_plans::get_line_state(r)),
-        Kind::GetLineEndPosition => Some(text_plans::get_line_end_position(r)),
+        Kind::GetLineEndPosition => Some(texts::get_line_end_position(r)),
         Kind::GetReadOnly => Some(undo_plans::get_read_only(r)),
         Kind::GetSelectionStart => Some(selection_plans::get_selection_start(r)),
         Kind::GetSelectionEnd => Some(selection_plans::get_selection_end(r)),
-        Kind::GetLineCount => Some(text_plans::get_line_count(r)),
+        Kind::GetLineCount => Some(texts::get_line_count(r)),
         Kind::GetModify => Some(undo_plans::get_modify(r)),
-        Kind::LineFromPosition => Some(text_plans::line_from_position(r)),
-        Kind::PositionFromLine => Some(text_plans::position_from_line(r)),
+        Kind::LineFromPosition => Some(texts::line_from_position(r)),
+        Kind::PositionFromLine => Some(texts::position_from_line(r)),
         Kind::CanUndo => Some(undo_plans::get_can_undo(r)),
         Kind::GetTargetStart => Some(target_plans::get_target_start(r)),
         Kind::GetTargetEnd => Some(target_plans::get_target_end(r)),
@@ -92,9 +91,9 @@ pub fn value_of(kind: Kind, r: &Request) -> Option<i64>
         Kind::GetFoldParent => Some(folding_plans::get_fold_parent(r)),
         Kind::GetLineVisible => Some(folding_plans::get_line_visible(r)),
         Kind::GetFoldExpanded => Some(folding_plans::get_fold_expanded(r)),
-        Kind::LineLength => Some(text_plans::line_length(r)),
-        Kind::PositionBefore => Some(text_plans::position_before(r)),
-        Kind::PositionAfter => Some(text_plans::position_after(r)),
+        Kind::LineLength => Some(texts::line_length(r)),
+        Kind::PositionBefore => Some(texts::position_before(r)),
+        Kind::PositionAfter => Some(texts::position_after(r)),
         Kind::IndicatorValueAt => style_plans::indicator_value_at(r),
         Kind::IndicatorStart => style_plans::indicator_start(r),
         Kind::IndicatorEnd => style_plans::indicator_end(r),
@@ -125,11 +124,11 @@ pub fn handed_of(kind: Kind, r: &Request) -> Option<HandedOut>
     ensures { result ≡ handed_asked kind r.now }
 {
     match kind {
-        Kind::GetCurLine => Some(text_plans::get_cur_line(r)),
-        Kind::GetLine => text_plans::get_line(r),
+        Kind::GetCurLine => Some(texts::get_cur_line(r)),
+        Kind::GetLine => texts::get_line(r),
         Kind::GetSelText => Some(selection_plans::get_sel_text(r)),
-        Kind::GetTextRange => text_plans::get_text_range(r),
-        Kind::GetText => Some(text_plans::get_text(r)),
+        Kind::GetTextRange => texts::get_text_range(r),
+        Kind::GetText => Some(texts::get_text(r)),
         Kind::GetTargetText => Some(target_plans::get_target_text(r)),
         _ => None,
     }

@@ -4,14 +4,12 @@ ghost use Rattle.std.specs.Prelude.{◌≡◌};
 ghost use Rattle.ed_model.specs.PlansFit.{IsSoundRequest};
 ghost use Rattle.ed_model.specs.Table.{plan_of};
 
-use crate::answers::{answer, answer_some, hand_out, hand_out_or_zero, hand_out_some};
-use crate::request::Request;
-use crate::{
-    folding_plans, key_plans, line_plans, selection_plans, session_plans, style_plans,
-    target_plans, text_plans, undo_plans,
-};
 use ed_model::Planned;
 use ed_types::Kind;
+use message_requests::Request;
+use message_requests::answers::{answer, answer_some, hand_out, hand_out_or_zero, hand_out_some};
+use state_plans::{folding_plans, line_plans, session_plans, style_plans, undo_plans};
+use text_plans::{key_plans, selection_plans, target_plans, texts};
 
 /// The plan of a message: what it is going to do. It takes no memory, and nothing changes.
 ///
@@ -23,25 +21,25 @@ pub fn plan_of(kind: Kind, r: &Request) -> Planned
     ensures { result ≡ plan_of kind r.now }
 {
     match kind {
-        Kind::InsertText => text_plans::insert_text(r),
-        Kind::DeleteRange => text_plans::delete_range(r),
-        Kind::GetLength | Kind::GetTextLength => answer(text_plans::get_length(r)),
-        Kind::GetCharAt => answer(text_plans::get_char_at(r)),
-        Kind::GetText => hand_out(text_plans::get_text(r)),
-        Kind::GetTextRange => hand_out_some(text_plans::get_text_range(r)),
-        Kind::GetLineCount => answer(text_plans::get_line_count(r)),
-        Kind::GetLine => hand_out_or_zero(text_plans::get_line(r)),
-        Kind::GetCurLine => hand_out(text_plans::get_cur_line(r)),
-        Kind::LineLength => answer(text_plans::line_length(r)),
-        Kind::GetLineEndPosition => answer(text_plans::get_line_end_position(r)),
-        Kind::LineFromPosition => answer(text_plans::line_from_position(r)),
-        Kind::PositionFromLine => answer(text_plans::position_from_line(r)),
-        Kind::AddText => text_plans::add_text(r),
-        Kind::AppendText => text_plans::append_text(r),
-        Kind::SetText => text_plans::set_text(r),
-        Kind::ClearAll => text_plans::clear_all(r),
-        Kind::PositionBefore => answer(text_plans::position_before(r)),
-        Kind::PositionAfter => answer(text_plans::position_after(r)),
+        Kind::InsertText => texts::insert_text(r),
+        Kind::DeleteRange => texts::delete_range(r),
+        Kind::GetLength | Kind::GetTextLength => answer(texts::get_length(r)),
+        Kind::GetCharAt => answer(texts::get_char_at(r)),
+        Kind::GetText => hand_out(texts::get_text(r)),
+        Kind::GetTextRange => hand_out_some(texts::get_text_range(r)),
+        Kind::GetLineCount => answer(texts::get_line_count(r)),
+        Kind::GetLine => hand_out_or_zero(texts::get_line(r)),
+        Kind::GetCurLine => hand_out(texts::get_cur_line(r)),
+        Kind::LineLength => answer(texts::line_length(r)),
+        Kind::GetLineEndPosition => answer(texts::get_line_end_position(r)),
+        Kind::LineFromPosition => answer(texts::line_from_position(r)),
+        Kind::PositionFromLine => answer(texts::position_from_line(r)),
+        Kind::AddText => texts::add_text(r),
+        Kind::AppendText => texts::append_text(r),
+        Kind::SetText => texts::set_text(r),
+        Kind::ClearAll => texts::clear_all(r),
+        Kind::PositionBefore => answer(texts::position_before(r)),
+        Kind::PositionAfter => answer(texts::position_after(r)),
         Kind::SetUndoCollection => undo_plans::set_undo_collection(r),
         Kind::GetUndoCollection => undo_plans::get_undo_collection(r),
         Kind::Undo => undo_plans::undo(r),

@@ -12,8 +12,8 @@ use Rattle.ed_view.specs.Kept.{KeptView}
 use Rattle.document.specs.Kept.{Kept}
 use Rattle.id_table.specs.Entries.{Entries, value_at}
 use Rattle.scene.specs.Scenes.{views_of}
-use Rattle.message_plans.specs.Requested.{session_in}
-use Rattle.message_plans.specs.declared.state.SessionState.{SessionState}
+use Rattle.message_requests.specs.Requested.{session_in}
+use Rattle.message_requests.specs.declared.state.SessionState.{SessionState}
 use Rattle.session_changes.specs.Kept.{IsKept}
 use Rattle.session_changes.specs.Asked.{IsAsked, CanChangeView}
 use Rattle.session_changes.specs.Folding.{HasFoldRoomAt, levels_of, changed_at, CanChange}

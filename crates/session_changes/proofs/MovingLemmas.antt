@@ -10,7 +10,7 @@ use Rattle.ed_model.specs.Changes.{attached_last}
 use Rattle.id_table.specs.Entries.{Rise as IdsRise, Entry, Entries, id_of, value_of, value_at, with_value_at, without_id}
 use Rattle.document.specs.Kept.{Kept}
 use Rattle.document_table.specs.Leaving.{documents_in as entries_in, left_over_of, let_go, IsChangedAlike, LeavesTheLiving}
-use Rattle.message_plans.specs.Requested.{documents_in}
+use Rattle.message_requests.specs.Requested.{documents_in}
 use Rattle.session_changes.specs.Kept.{DocumentsAreNamed}
 use Rattle.session_changes.specs.Moving.{CanMove, with_last}
 use Rattle.session_changes.proofs.Finding.{id_of_document, still_named}

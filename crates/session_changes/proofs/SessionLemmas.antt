@@ -27,8 +27,8 @@ use Rattle.ed_view.specs.Kept.{KeptView}
 use Rattle.ed_view.specs.declared.folding.FoldNeed.{FoldNeed}
 use Rattle.id_table.specs.Entries.{Entry, Entries, entry, value_at, with_value_at}
 use Rattle.scene.specs.Scenes.{views_of}
-use Rattle.message_plans.specs.Requested.{session_in, documents_in}
-use Rattle.message_plans.specs.declared.state.SessionState.{SessionState}
+use Rattle.message_requests.specs.Requested.{session_in, documents_in}
+use Rattle.message_requests.specs.declared.state.SessionState.{SessionState}
 use Rattle.session_changes.specs.Kept.{IsKept, DocumentsAreNamed}
 use Rattle.session_changes.specs.Asked.{IsAsked, CanChangeSession}
 use Rattle.session_changes.specs.Clipboard.{copied, CanCopy}

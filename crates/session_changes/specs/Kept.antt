@@ -7,8 +7,8 @@ use Rattle.id_table.specs.Entries.{Entry, Entries}
 use Rattle.document.specs.Kept.{Kept}
 use Rattle.ed_view.specs.Kept.{KeptView}
 use Rattle.scene.specs.Scenes.{views_of, AreNamed}
-use Rattle.message_plans.specs.Requested.{session_in}
-use Rattle.message_plans.specs.declared.state.SessionState.{SessionState}
+use Rattle.message_requests.specs.Requested.{session_in}
+use Rattle.message_requests.specs.declared.state.SessionState.{SessionState}
 
 -- each document is kept under its own id
 abbrev pub DocumentsAreNamed : List (Entry Kept) → Type 0

@@ -5,7 +5,7 @@ use Rattle.ed_model.specs.Session.{Document, references, left_by}
 use Rattle.ed_model.specs.SoundLaws.{Rise}
 use Rattle.id_table.specs.Entries.{Entries, value_at}
 use Rattle.document.specs.Kept.{Kept}
-use Rattle.message_plans.specs.Requested.{documents_in}
+use Rattle.message_requests.specs.Requested.{documents_in}
 use Rattle.session_changes.specs.Kept.{DocumentsAreNamed}
 
 -- the documents are kept under their own ids, which rise

@@ -5,7 +5,7 @@ ghost use Rattle.ed_model.specs.Session.{living, attached_to};
 ghost use Rattle.ed_model.specs.Changes.{attached_last};
 ghost use Rattle.id_table.specs.Entries.{value_at};
 ghost use Rattle.scene.specs.Scenes.{views_of, AreNamed};
-ghost use Rattle.message_plans.specs.Requested.{documents_in};
+ghost use Rattle.message_requests.specs.Requested.{documents_in};
 ghost use Rattle.session_changes.specs.Kept.{DocumentsAreNamed, ViewsRise};
 ghost use Rattle.session_changes.specs.Folding.{changed_at};
 ghost use Rattle.session_changes.specs.Moving.{CanMove, DocumentsRise, with_last};
@@ -14,7 +14,7 @@ use document::Document;
 use document_table::{DocumentTable, the_living_are_left};
 use ed_view::View;
 use id_table::IdTable;
-use message_plans::SessionState;
+use message_requests::SessionState;
 
 /// Attaches a view behind those of the document of an id, which has a place for it.
 fn put_last(documents: &mut DocumentTable, document: u32, view: u32)

@@ -2,7 +2,7 @@
 
 ghost use Rattle.std.specs.Prelude.{◌≡◌, ◌≤◌, max, false, IsOk, IfOk, OnOk};
 ghost use Rattle.scene.specs.Scenes.{AreNamed};
-ghost use Rattle.message_plans.specs.Requested.{session_in, documents_in};
+ghost use Rattle.message_requests.specs.Requested.{session_in, documents_in};
 ghost use Rattle.session_changes.specs.Kept.{IsKept, DocumentsAreNamed};
 ghost use Rattle.session_changes.specs.Moving.{DocumentsRise};
 ghost use Rattle.session_changes.specs.Ready.{IsReady, IsThere, IsRoomAtMost, IsClipboardFor, IsDocument, IsNewDocument, AwaitsView, IsHeld, HasPlace, ArePlacesAtMost, takes_memory};
@@ -10,7 +10,7 @@ ghost use Rattle.session_changes.specs.Ready.{IsReady, IsThere, IsRoomAtMost, Is
 use document::Document;
 use document_table::DocumentTable;
 use ed_model::SessionChange;
-use message_plans::SessionState;
+use message_requests::SessionState;
 use std::alloc::{AllocError, Global};
 
 /// What was made for a change of a session.

@@ -6,7 +6,7 @@ ghost use Rattle.ed_model.specs.Requests.{Request};
 ghost use Rattle.ed_model.specs.Changes.{session_changed, held_more, held_less};
 ghost use Rattle.id_table.specs.Entries.{value_at};
 ghost use Rattle.scene.specs.Scenes.{AreNamed};
-ghost use Rattle.message_plans.specs.Requested.{session_in, documents_in};
+ghost use Rattle.message_requests.specs.Requested.{session_in, documents_in};
 ghost use Rattle.session_changes.specs.Kept.{IsKept, DocumentsAreNamed};
 ghost use Rattle.session_changes.specs.Asked.{IsAsked, CanChangeSession, CanChangeDocuments};
 ghost use Rattle.session_changes.specs.Clipboard.{copied, CanCopy};
@@ -19,7 +19,7 @@ use crate::ready::SessionReady;
 use document::Document;
 use document_table::{DocumentTable, the_living_are_left};
 use ed_model::SessionChange;
-use message_plans::SessionState;
+use message_requests::SessionState;
 
 /// Copies what goes to the clipboard, for which there is room: bytes of the document of an id, or of the message's text.
 fn copy(

@@ -6,7 +6,7 @@ ghost use Rattle.ed_model.specs.Requests.{Request};
 ghost use Rattle.ed_model.specs.Changes.{changed_view, view_change_performed};
 ghost use Rattle.id_table.specs.Entries.{value_at};
 ghost use Rattle.scene.specs.Scenes.{views_of, AreNamed};
-ghost use Rattle.message_plans.specs.Requested.{session_in};
+ghost use Rattle.message_requests.specs.Requested.{session_in};
 ghost use Rattle.session_changes.specs.Kept.{IsKept, ViewsRise};
 ghost use Rattle.session_changes.specs.Asked.{IsAsked, CanChangeView};
 ghost use Rattle.session_changes.specs.Folding.{takes_fold_room, HasFoldRoomAt, IsRoomAtMostAt, levels_of, changed_at, CanChange};
@@ -16,7 +16,7 @@ use document::Document;
 use ed_model::ViewChange;
 use ed_view::{View, fit_changes_are_within};
 use id_table::IdTable;
-use message_plans::SessionState;
+use message_requests::SessionState;
 use std::alloc::AllocError;
 
 /// Makes room in the view of an id for a change of it. Only a change that hides or contracts lines needs any.

@@ -3,7 +3,7 @@ use Rattle.std.specs.Prelude.{IfSome}
 use Rattle.ed_model.specs.Performing.{quiet}
 use Rattle.ed_model.specs.Table.{table}
 use Rattle.message_plans.specs.Asking.{question_of}
-use Rattle.message_plans.specs.Requested.{session_in}
+use Rattle.message_requests.specs.Requested.{session_in}
 use Rattle.editor_session.specs.Answers.{message_with}
 use Rattle.editor_session.specs.Asked.{value_to}
 use Rattle.editor_session.proofs.Questions.{no_question}

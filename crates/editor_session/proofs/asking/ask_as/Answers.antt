@@ -3,7 +3,7 @@ use Rattle.std.specs.Prelude.{option_copied}
 use Rattle.ed_model.specs.PlansFit.{IsSoundRequest}
 use Rattle.ed_model.specs.Session.{view_at, document_at}
 use Rattle.ed_model.specs.Table.{request}
-use Rattle.message_plans.specs.Requested.{session_in}
+use Rattle.message_requests.specs.Requested.{session_in}
 use Rattle.message_plans.specs.Asking.{question_of, value_asked}
 use Rattle.editor_session.specs.Answers.{message_with}
 use Rattle.editor_session.specs.Asked.{value_to}

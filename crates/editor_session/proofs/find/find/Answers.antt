@@ -2,7 +2,7 @@ use Rattle.std.proofs.Common.{rules, ◌≡◌, to_z, of_z, w64, sym, ap, subst,
 use Rattle.std.specs.Prelude.{option_copied}
 use Rattle.ed_model.specs.Session.{document_at}
 use Rattle.ed_model.specs.Table.{request}
-use Rattle.message_plans.specs.Requested.{session_in}
+use Rattle.message_requests.specs.Requested.{session_in}
 use Rattle.editor_session.specs.Answers.{message_with}
 use Rattle.editor_session.specs.Tasks.{IsFound}
 use Rattle.editor_session.proofs.Finding.{found_some, found_none, view_in, id_of_view, document_in, id_of_document}

@@ -2,7 +2,7 @@ use Rattle.std.proofs.Common.{◌≡◌, ◌+◌, ◌<◌, ◌≤◌, length, ar
 use Rattle.std.specs.Prelude.{option_copied}
 use Rattle.ed_model.specs.Session.{text_of}
 use Rattle.id_table.specs.Entries.{value_at}
-use Rattle.message_plans.specs.Requested.{session_in}
+use Rattle.message_requests.specs.Requested.{session_in}
 use Rattle.editor_session.specs.Lent.{lent_range}
 use Rattle.editor_session.proofs.LendingLemmas.{no_view_lends, document_is_there, past_end, range_lent}
 use Rattle.editor_session.proofs.lending.document_with.Goals as goal

@@ -15,7 +15,7 @@ use Rattle.editor_session.specs.Doing.{IsDone, CanGo, Goes, CanTell, Changes}
 use Rattle.editor_session.proofs.Performing.{kept_at, for_document, for_kept, of_kept, of_room, answered, handed_out, handed_out_styled, attempted, attempt_room, can_edit, edited, can_go, gone, can_tell, changed, view_changed, session_is_changed, can_change_view, can_change_session, change_fits, read_change}
 use Rattle.ed_types.specs.Notices.{Notice}
 use Rattle.ed_model.specs.declared.plan.Plan.{Plan}
-use Rattle.message_plans.specs.declared.state.SessionState.{SessionState}
+use Rattle.message_requests.specs.declared.state.SessionState.{SessionState}
 use Rattle.editor_session.proofs.perform.act.Goals as goal
 
 -- a value of 64 bits is answered as it is

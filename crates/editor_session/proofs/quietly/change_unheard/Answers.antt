@@ -1,6 +1,6 @@
 use Rattle.std.proofs.Common.{refl}
 use Rattle.ed_model.specs.Performing.{quiet}
-use Rattle.message_plans.specs.declared.state.SessionState.{SessionState}
+use Rattle.message_requests.specs.declared.state.SessionState.{SessionState}
 use Rattle.editor_session.proofs.Keeping.{kept_after_message}
 use Rattle.editor_session.proofs.Unheard.{unheard_can, unheard_answer}
 use Rattle.editor_session.proofs.quietly.change_unheard.Goals as goal

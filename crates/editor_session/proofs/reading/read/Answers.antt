@@ -1,6 +1,6 @@
 use Rattle.std.proofs.Common.{rules, ◌≡◌, ◌≤◌, to_z, of_z, w64, [], length, subst}
 use Rattle.std.specs.Prelude.{IfSome, IsSome, vec_capacity}
-use Rattle.message_plans.specs.Requested.{session_in}
+use Rattle.message_requests.specs.Requested.{session_in}
 use Rattle.editor_session.specs.Answers.{message_with}
 use Rattle.editor_session.specs.Asked.{reply_to}
 use Rattle.editor_session.proofs.reading.read.Goals as goal

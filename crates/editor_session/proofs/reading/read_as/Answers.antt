@@ -4,7 +4,7 @@ use Rattle.ed_types.specs.Notices.{Response}
 use Rattle.ed_model.specs.Performing.{response}
 use Rattle.ed_model.specs.Session.{view_at, document_at, text_of}
 use Rattle.ed_model.specs.Table.{request}
-use Rattle.message_plans.specs.Requested.{session_in}
+use Rattle.message_requests.specs.Requested.{session_in}
 use Rattle.message_plans.specs.Asking.{handed_asked}
 use Rattle.editor_session.specs.Answers.{message_with}
 use Rattle.editor_session.specs.Asked.{reply_to, reply_handing}

@@ -1,7 +1,7 @@
 use Rattle.std.proofs.Common.{rules, ◌≡◌, false, true, Ok, refl, sym, ap, subst, ◌∙◌, to_z, of_z, w64}
 use Rattle.ed_model.specs.declared.plan.Plan.TheVariants.{ChangeDocument}
 use Rattle.ed_model.specs.Table.{table}
-use Rattle.message_plans.specs.Requested.{session_in}
+use Rattle.message_requests.specs.Requested.{session_in}
 use Rattle.editor_session.specs.Answers.{AnswersBy, message_with}
 use Rattle.editor_session.specs.Plans.{is_free}
 use Rattle.editor_session.specs.Tasks.{IsFound}

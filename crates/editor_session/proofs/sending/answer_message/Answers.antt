@@ -2,7 +2,7 @@ use Rattle.std.proofs.Common.{rules, ◌≡◌, true, Ok, Err, sym, ap, subst, �
 use Rattle.std.specs.Prelude.{◌≢◌, IfErr}
 use Rattle.ed_types.specs.declared.refusal.Refusal.TheVariants.{OutOfMemory}
 use Rattle.ed_model.specs.Table.{table}
-use Rattle.message_plans.specs.Requested.{session_in}
+use Rattle.message_requests.specs.Requested.{session_in}
 use Rattle.editor_session.specs.Answers.{AnswersBy, message_with}
 use Rattle.editor_session.specs.Plans.{is_free}
 use Rattle.editor_session.proofs.sending.answer_message.Goals as goal

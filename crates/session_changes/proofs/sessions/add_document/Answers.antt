@@ -3,7 +3,7 @@ use Rattle.ed_model.specs.Session.{Document, living, attached_to}
 use Rattle.ed_model.specs.Changes.{session_changed, attached_last}
 use Rattle.id_table.specs.Entries.{value_at}
 use Rattle.scene.specs.Scenes.{views_of}
-use Rattle.message_plans.specs.Requested.{documents_in}
+use Rattle.message_requests.specs.Requested.{documents_in}
 use Rattle.session_changes.specs.Folding.{changed_at}
 use Rattle.session_changes.specs.Moving.{CanMove}
 use Rattle.session_changes.specs.Ready.{IsReady, AwaitsView, IsHeld}

@@ -2,7 +2,7 @@ use Rattle.std.proofs.Common.{rules, ◌≡◌, Ok, false, length, ap, sym, subs
 use Rattle.std.specs.Prelude.{nat_le, nat_lt}
 use Rattle.std.proofs.lemmas.List.{length-map}
 use Rattle.ed_model.specs.Table.{opened}
-use Rattle.message_plans.specs.Requested.{session_in}
+use Rattle.message_requests.specs.Requested.{session_in}
 use Rattle.id_table.specs.Entries.{Entry}
 use Rattle.ed_view.specs.Kept.{KeptView}
 use Rattle.editor_session.proofs.Keeping.{kept_after_opening, opened_is}

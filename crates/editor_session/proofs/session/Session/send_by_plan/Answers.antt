@@ -3,7 +3,7 @@ use Rattle.ed_types.specs.declared.refusal.Refusal.TheVariants.{OutOfMemory}
 use Rattle.std.specs.Prelude.{◌≢◌}
 use Rattle.ed_model.specs.Session.{Session}
 use Rattle.ed_model.specs.Table.{table}
-use Rattle.message_plans.specs.Requested.{session_in}
+use Rattle.message_requests.specs.Requested.{session_in}
 use Rattle.editor_session.specs.Answers.{AnswersBy, message_with}
 use Rattle.editor_session.specs.Plans.{is_free}
 use Rattle.editor_session.proofs.session.Session.send_by_plan.Goals as goal

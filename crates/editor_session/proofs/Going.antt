@@ -1,0 +1,88 @@
+-- Undo and redo at once.
+use Rattle.std.proofs.Common.{◌≡◌, ℕ, true, false, pos, [], refl, ap, sym, subst, Ok, Err, OnOk, OnErr, IfOk, IfErr, IfSome, IsSomeAnd}
+use Rattle.std.specs.Prelude.{Result}
+use Rattle.ed_types.specs.declared.kind.Kind.{Kind}
+use Rattle.ed_types.specs.declared.message.Message.{Message}
+use Rattle.ed_types.specs.declared.refusal.Refusal.{Refusal}
+use Rattle.ed_types.specs.declared.refusal.Refusal.TheVariants.{OutOfMemory}
+use Rattle.ed_types.specs.Notices.{Response}
+use Rattle.ed_model.specs.declared.plan.Plan.{Plan}
+use Rattle.ed_model.specs.Performing.{history_performed, response}
+use Rattle.ed_model.specs.PlansFit.{UndoStepsFit, RedoStepsFit, IsSoundRequest}
+use Rattle.ed_model.specs.Requests.{Request, text}
+use Rattle.ed_model.specs.Session.{Session, text_of}
+use Rattle.ed_model.specs.SoundLaws.{AreStepsOf}
+use Rattle.ed_model.specs.Table.{table, plan_of, performed}
+use Rattle.ed_model.specs.UndoPlans.{text_steps}
+use Rattle.document.specs.Undoing.{changes_of, history_behind}
+use Rattle.document.specs.declared.undoing.Direction.{Direction}
+use Rattle.document.specs.declared.undoing.Direction.TheVariants.{Undo, Redo}
+use Rattle.id_table.specs.Entries.{value_at}
+use Rattle.notify.specs.Gathered.{Gathered}
+use Rattle.scene.specs.Undoing.{bits_of}
+use Rattle.message_requests.specs.Requested.{session_in}
+use Rattle.message_requests.specs.declared.state.SessionState.{SessionState}
+use Rattle.session_changes.specs.Kept.{IsKept}
+use Rattle.editor_session.specs.Answers.{AnswersBy}
+use Rattle.editor_session.specs.Doing.{CanGoOnceThereIsRoom, Goes}
+use Rattle.editor_session.specs.Plans.{is_free, planned_without_memory}
+use Rattle.editor_session.specs.Tasks.{IsFound, IsTask}
+use Rattle.editor_session.specs.Unheard.{unrecorded, going, no_notes, IsSent}
+use Rattle.editor_session.proofs.Performing.{asked_by, answered_so, kept_at, of_kept, for_kept, watched_here, gone}
+use Rattle.editor_session.proofs.TableWay.{free_found, carried_so}
+
+pub on_ok : {A E : Type 0} (r : Result A E) (P Q : Type 0) → OnOk r P → (P → Q) → OnOk r Q
+on_ok (Ok a) P Q h f = f h
+on_ok (Err e) P Q h f = tt
+
+pub if_ok : {A E : Type 0} (r : Result A E) (P Q : A → Type 0) → IfOk r P → ((a : A) → P a → Q a) → IfOk r Q
+if_ok (Ok a) P Q h f = f a h
+if_ok (Err e) P Q h f = tt
+
+pub on_err : {A E : Type 0} (r : Result A E) (P Q : Type 0) → OnErr r P → (P → Q) → OnErr r Q
+on_err (Ok a) P Q h f = tt
+on_err (Err e) P Q h f = f h
+
+steps_fit : UndoStepsFit → RedoStepsFit → (direction : Direction) (r : Request) → IsSoundRequest r → AreStepsOf (text r) (text_steps (changes_of direction r.document.history))
+steps_fit undo redo Undo r sound = undo r sound
+steps_fit undo redo Redo r sound = redo r sound
+
+going_is : (direction : Direction) (r : Request) → performed r (going direction) ≡ history_performed r (bits_of direction) (changes_of direction r.document.history) (history_behind direction r.document.history)
+going_is Undo r = refl
+going_is Redo r = refl
+
+module _ (s : SessionState) (kept : IsKept s) (document view : ℕ) (direction : Direction) where
+  pub can_go_once : UndoStepsFit → RedoStepsFit → IsSent (session_in s) document view (λ value. going direction) → IsSomeAnd (value_at s.documents.entries document) (CanGoOnceThereIsRoom direction s.views)
+  can_go_once undo redo sent =
+      let t = sent.task in
+      let r = t.request in
+      let task = unrecorded document view (going direction) in
+      let by = asked_by s view sent.message task t in
+      let at = kept_at s task sent.message.text kept r by in
+      for_kept s task sent.message.text kept r by (CanGoOnceThereIsRoom direction s.views)
+      (subst (λ d. AreStepsOf (text_of d) (text_steps (changes_of direction d.history))) (sym at.is) (steps_fit undo redo direction r by.asked.sound), watched_here s task sent.message.text kept r by)
+
+  pub gone_at_once : (s' : SessionState) (notes notes' : Gathered) → notes ≡ no_notes → IfSome (value_at s.documents.entries document) (λ k. Goes view direction s notes k s' notes')
+      → (m : Message) → IsTask (session_in s) view m (unrecorded document view (going direction)) → table (session_in s) view m ≡ Ok (session_in s', response (pos 0) [] notes'.notes)
+  gone_at_once s' notes notes' none done m t =
+      let task = unrecorded document view (going direction) in
+      let by = asked_by s view m task t in
+      let here = of_kept s task m.text kept t.request by (λ k. Goes view direction s notes k s' notes') done in
+      answered_so s view m task t s' notes.notes notes'.notes (pos 0) [] (ap (λ (g : Gathered). g.notes) none)
+      (gone s task m.text kept t.request by direction (going direction) (going_is direction t.request) s' notes notes' here)
+
+-- The answer to a message whose plan it is.
+
+pub went_so : (s s' : Session) (document view : ℕ) (m m' : Message) (what : Plan) (result : Result Response Refusal) → m ≡ m' → IsTask s view m (unrecorded document view what)
+    → IfOk result (λ reply. (m : Message) → IsTask s view m (unrecorded document view what) → table s view m ≡ Ok (s', reply)) → OnErr result (s' ≡ s) → IfErr result (λ e. e ≡ OutOfMemory) → AnswersBy (table s view m') s s' result
+went_so s s' document view m m' what result same t ok stays err =
+    subst (λ x. AnswersBy (table s view x) s s' result) same (carried_so (table s view m) s s' result (if_ok result _ (λ reply. table s view m ≡ Ok (s', reply)) ok (λ reply h. h m t)) stays err)
+
+needs_some : (direction : Direction) (r : Request) → planned_without_memory r (Ok (going direction)) ≡ true → false ≡ true
+needs_some Undo r h = h
+needs_some Redo r h = h
+
+-- it always needs memory
+pub never_free : (s : Session) (view : ℕ) (m m' : Message) (kind : Kind) (r : Request) (direction : Direction) → m ≡ m' → IsFound s view m kind r → plan_of kind r ≡ Ok (going direction) → is_free s view m' ≡ true → false ≡ true
+never_free s view m m' kind r direction same found planned free =
+    needs_some direction r (subst (λ p. planned_without_memory r p ≡ true) planned (free_found s view m kind r found (subst (λ x. is_free s view x ≡ true) (sym same) free)).0)

@@ -1,0 +1,54 @@
+use Rattle.std.proofs.Common.{◌≡◌, [], sym, ap, ◌∙◌, refl, subst, IfSome, IsOk}
+use Rattle.std.specs.Option.{option_copied_mut}
+use Rattle.ed_model.specs.Performing.{edit_made}
+use Rattle.ed_model.specs.Session.{text_of}
+use Rattle.ed_model.specs.Steps.{replacement}
+use Rattle.id_table.specs.Entries.{with_value_at}
+use Rattle.scene.specs.Scenes.{scene_in}
+use Rattle.editor_session.specs.Edited.{stored_bytes}
+use Rattle.editor_session.proofs.Finding.{document_in, id_of_document, found_some, id_of_document_at, still_named}
+use Rattle.editor_session.proofs.Needing.{roomier}
+use Rattle.editor_session.proofs.Replacing.{becomes_so, edit_keeps_id}
+use Rattle.editor_session.proofs.Going.{on_ok, on_err}
+use Rattle.editor_session.proofs.plain_edits.replace_with_room_in.Goals as goal
+
+pub returns-clause-made : goal.returns-clause-made
+returns-clause-made c =
+    let a = c.args in
+    let documents = a.documents.now in
+    let views = a.views.now.entries in
+    let n = c.replace_with_room.new in
+    let old = c.in-Some.document.now in
+    let at = sym c.get_mut.ensures.value ∙ ap option_copied_mut c.in-Some.is in
+    let bytes : c.source_bytes-bytes.result.now ≡ stored_bytes a.source a.text.now a.clipboard.now [] old.document.line_end =
+    c.source_bytes-bytes.ensures ∙ ap (stored_bytes a.source a.text.now a.clipboard.now []) c.typed_line_end-line_end.ensures in
+    let steps = replacement a.start a.count (stored_bytes a.source a.text.now a.clipboard.now [] old.document.line_end) (text_of old.document) in
+    on_ok c.replace_with_room.result _ _ c.replace_with_room.ensures.scene
+    (λ made. becomes_so documents (record documents { entries = with_value_at a.document n.document documents.entries }) n.views n.notes a.document old n.document
+    (λ x. edit_made (replacement a.start a.count (stored_bytes a.source a.text.now a.clipboard.now [] x.document.line_end) (text_of x.document)) (scene_in x.document views [])) c.requires.named at refl
+    (made ∙ ap (λ xs. edit_made (replacement a.start a.count xs (text_of old.document)) (scene_in old.document views [])) bytes)
+    (edit_keeps_id steps (scene_in old.document views [])))
+
+pub returns-clause-same : goal.returns-clause-same
+returns-clause-same c =
+    let at = sym c.get_mut.ensures.value ∙ ap option_copied_mut c.in-Some.is in
+    on_err c.replace_with_room.result _ _ c.replace_with_room.ensures.same
+    (λ same. roomier c.args.documents.now.entries c.args.document c.args.documents.now.next c.in-Some.document.now c.replace_with_room.new.document c.requires.named c.requires.rise at same)
+
+pub returns-clause-documents : goal.returns-clause-documents
+returns-clause-documents c =
+    let documents = c.args.documents.now in
+    let old = c.in-Some.document.now in
+    let at = sym c.get_mut.ensures.value ∙ ap option_copied_mut c.in-Some.is in
+    still_named document_in id_of_document documents.entries c.args.document c.replace_with_room.new.document
+    (c.replace_with_room.ensures.id ∙ id_of_document_at _ c.args.document old.document (found_some document_in id_of_document documents.entries c.args.document old c.requires.named at)) c.requires.named
+
+pub returns-clause-free : goal.returns-clause-free
+returns-clause-free c =
+    let a = c.args in
+    let old = c.in-Some.document.now in
+    let at = sym c.get_mut.ensures.value ∙ ap option_copied_mut c.in-Some.is in
+    let bytes : c.source_bytes-bytes.result.now ≡ stored_bytes a.source a.text.now a.clipboard.now [] old.document.line_end =
+    c.source_bytes-bytes.ensures ∙ ap (stored_bytes a.source a.text.now a.clipboard.now []) c.typed_line_end-line_end.ensures in
+    subst (λ o. IfSome o (λ k. replacement a.start a.count (stored_bytes a.source a.text.now a.clipboard.now [] k.document.line_end) (text_of k.document) ≡ [] → IsOk c.replace_with_room.result)) (sym at)
+    (λ none. c.replace_with_room.ensures.free (ap (λ xs. replacement a.start a.count xs (text_of old.document)) bytes ∙ none))

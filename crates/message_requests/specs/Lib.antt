@@ -1,0 +1,5 @@
+-- Definitions that the contracts cite.
+pub mod HandingOut
+pub mod Replacing
+pub mod Requested
+pub mod proved

@@ -1,0 +1,5 @@
+pub mod Handles
+pub mod Masks
+pub mod Ranges
+pub mod Runs
+pub mod Undoing

@@ -1,0 +1,10 @@
+use Rattle.std.proofs.Common.{◌<◌, arith}
+use Rattle.ed_model.specs.Requests.{line_total}
+use Rattle.state_plans.proofs.Ranges.{header_within}
+use Rattle.state_plans.proofs.folding_plans.fold_at.Goals as goal
+
+pub fold_by-requires-clause-header : goal.fold_by-requires-clause-header
+fold_by-requires-clause-header c =
+    let r = c.args.r.now in
+    let among : c.in-Some.line < line_total r = omega (arith, c.in-Some.ensures.among, c.line_total.ensures.lines) in
+    header_within c.levels.result c.in-Some.line (line_total r) c.fold_header.result among c.fold_header.ensures

@@ -1,0 +1,14 @@
+use Rattle.std.proofs.Common.{◌≡◌, ◌∙◌, ap, rules}
+use Rattle.ed_model.specs.declared.plan.Plan.TheVariants.{Redo}
+use Rattle.ed_model.specs.History.{can_redo}
+use Rattle.state_plans.specs.Acting.{act_if}
+use Rattle.state_plans.proofs.Undoing.{redo_planned}
+use Rattle.state_plans.proofs.undo_plans.redo.Goals as goal
+
+pub returns : goal.returns
+returns c =
+    let r = c.args.r.now in
+    let can : c.can_redo.result ≡ can_redo r.document.history = search rules in
+    let read_only : c.is_read_only.result ≡ r.document.read_only = search rules in
+    c.act_if.ensures ∙ ap (λ b. act_if b c.is_read_only.result Redo) can ∙ ap (λ b. act_if (can_redo r.document.history) b Redo) read_only
+    ∙ redo_planned c.undo_and_redo_are_never_too_long.ensures.redo r c.requires

@@ -1,0 +1,246 @@
+//! Plans of the messages on folding and visibility.
+
+ghost use Rattle.std.specs.Prelude.{◌≡◌, ◌≤◌, ◌<◌, ◌^◌, IfSome};
+ghost use Rattle.ed_model.specs.PlansFit.{IsSoundRequest};
+ghost use Rattle.ed_model.specs.Requests.{answer, line_total};
+ghost use Rattle.ed_model.specs.FoldingPlans.{doc_line_from_visible, ensure_visible, fold_at, fold_by, fold_line, get_all_lines_visible, get_fold_expanded, get_fold_level, get_fold_parent, get_last_child, get_line_visible, hide_lines, line_shown_at, past_line, set_fold_expanded, set_fold_level, show_lines, toggle_fold, visible_from_doc_line};
+
+use contraction::folds::{fold_header, fold_parent, last_child_at};
+use ed_model::{DocumentChange, Planned, ViewChange};
+use ed_types::Refusal;
+use message_requests::Request;
+use message_requests::answers::{
+    answer, answer_flag, answer_number, change_document, change_view, flag, line_or_none,
+};
+use message_requests::arguments::{clamped, is_on, line_among, some_or_all, within};
+
+// The level of a line that was given none, `SC_FOLDLEVELBASE`.
+const BASE_LEVEL: i64 = 0x400;
+
+// The bits of a level that are its number, `SC_FOLDLEVELNUMBERMASK`.
+const LEVEL_NUMBER: u32 = 0xFFF;
+
+// What FOLDLINE does to a header: `SC_FOLDACTION_CONTRACT`, and `SC_FOLDACTION_TOGGLE`. Any other action expands it.
+const CONTRACT: usize = 0;
+
+const TOGGLE: usize = 2;
+
+/// SETFOLDLEVEL: line `w` has level `l`.
+pub fn set_fold_level(r: &Request) -> Planned
+    ensures { result ≡ set_fold_level r.now }
+{
+    let Some(level) = within(0, i32::MAX as usize, r.message.l) else {
+        return Err(Refusal::BadArgument);
+    };
+    match line_among(r.line_total(), r.message.w) {
+        Some(line) => change_document(DocumentChange::SetLevel {
+            line,
+            level: level as u32,
+        }),
+        None => answer(0),
+    }
+}
+
+/// GETLASTCHILD: the line before the next one, behind line `w`, whose number is at most that of level `l`, or of the line's own
+/// level for -1; or else the last line.
+pub fn get_last_child(r: &Request) -> Planned
+    ensures { result ≡ get_last_child r.now }
+{
+    let Some(level) = some_or_all(i32::MAX as u32, r.message.l) else {
+        return Err(Refusal::BadArgument);
+    };
+    let Some(line) = line_among(r.line_total(), r.message.w) else {
+        return answer(-1);
+    };
+    let level = level.unwrap_or(r.document.rows().level(line));
+    answer_number(last_child_at(&r.levels(), line, level & LEVEL_NUMBER))
+}
+
+/// GETFOLDPARENT: the nearest header before line `w` whose number is smaller.
+pub fn get_fold_parent(r: &Request) -> i64
+    ensures { answer result ≡ get_fold_parent r.now }
+{
+    match line_among(r.line_total(), r.message.w) {
+        Some(line) => line_or_none(fold_parent(&r.levels(), line)),
+        None => -1,
+    }
+}
+
+/// Contracts, expands or toggles a header.
+#[tactic(auto, using(message_requests::specs::proved::Standing::flags_of_lines))]
+fn fold_by(r: &Request, action: usize, header: Option<usize>) -> Planned
+    requires sound { IsSoundRequest r.now }
+    requires header { IfSome header (λ line. line < line_total r.now) }
+    ensures { result ≡ fold_by r.now action header }
+{
+    let Some(header) = header else {
+        return answer(0);
+    };
+    if action == CONTRACT || (action == TOGGLE && r.view.lines().expanded(header)) {
+        change_view(ViewChange::Contract { line: header })
+    } else {
+        change_view(ViewChange::Expand { line: header })
+    }
+}
+
+/// Contracts, expands or toggles line `w` if it is a header, or else its fold parent.
+#[tactic(auto, using(crate::proofs::Ranges::header_within))]
+fn fold_at(r: &Request, action: usize) -> Planned
+    requires { IsSoundRequest r.now }
+    ensures { result ≡ fold_at r.now action }
+{
+    match line_among(r.line_total(), r.message.w) {
+        Some(line) => fold_by(r, action, fold_header(&r.levels(), line)),
+        None => answer(0),
+    }
+}
+
+/// FOLDLINE: contracts (`l` is 0), expands (1) or toggles (2) the header of line `w`.
+pub fn fold_line(r: &Request) -> Planned
+    requires { IsSoundRequest r.now }
+    ensures { result ≡ fold_line r.now }
+{
+    match within(0, 2, r.message.l) {
+        Some(action) => fold_at(r, action),
+        None => Err(Refusal::BadArgument),
+    }
+}
+
+/// TOGGLEFOLD: contracts the header of line `w`, or expands it if it is contracted.
+pub fn toggle_fold(r: &Request) -> Planned
+    requires { IsSoundRequest r.now }
+    ensures { result ≡ toggle_fold r.now }
+{
+    fold_at(r, TOGGLE)
+}
+
+/// VISIBLEFROMDOCLINE: the display line of line `w`, and for a hidden one that of the visible line before it.
+#[tactic(auto, using(message_requests::specs::proved::Standing::flags_of_lines, crate::proofs::Ranges::display_bounded))]
+pub fn visible_from_doc_line(r: &Request) -> i64
+    requires { IsSoundRequest r.now }
+    ensures { answer result ≡ visible_from_doc_line r.now }
+{
+    match line_among(r.line_total(), r.message.w) {
+        Some(line) => r.view.lines().display_of(line) as i64,
+        None => -1,
+    }
+}
+
+/// The line that is shown at a display line, of which those below 0 are the first.
+fn line_shown_at(r: &Request, argument: i64) -> usize
+    ensures { result ≡ line_shown_at r.now argument }
+{
+    if argument <= 0 {
+        0
+    } else {
+        r.view.lines().doc_of(argument as usize)
+    }
+}
+
+/// DOCLINEFROMVISIBLE: the line that is shown at display line `w`, or how many lines there are for one past the last.
+#[tactic(auto, using(message_requests::specs::proved::Standing::flags_of_lines, crate::proofs::Ranges::shown_bounded))]
+pub fn doc_line_from_visible(r: &Request) -> i64
+    requires { IsSoundRequest r.now }
+    ensures { answer result ≡ doc_line_from_visible r.now }
+{
+    prove!(r.view.lines().count() == r.line_total());
+    line_shown_at(r, r.message.w) as i64
+}
+
+/// Past which of so many lines a range ends whose last line is the argument.
+fn past_line(lines: usize, argument: i64) -> usize
+    requires { lines < 2 ^ 63 }
+    ensures { result ≡ past_line lines argument }
+{
+    if argument < 0 {
+        0
+    } else {
+        lines.min(argument as usize + 1)
+    }
+}
+
+/// SHOWLINES: the lines from `w` to `l` are visible.
+pub fn show_lines(r: &Request) -> Planned
+    ensures { result ≡ show_lines r.now }
+{
+    let lines = r.line_total();
+    change_view(ViewChange::ShowLines {
+        first: clamped(lines, r.message.w),
+        past: past_line(lines, r.message.l),
+    })
+}
+
+/// HIDELINES: the lines from `w` to `l` are hidden, but line 0.
+pub fn hide_lines(r: &Request) -> Planned
+    ensures { result ≡ hide_lines r.now }
+{
+    let lines = r.line_total();
+    change_view(ViewChange::HideLines {
+        first: clamped(lines, r.message.w),
+        past: past_line(lines, r.message.l),
+    })
+}
+
+/// SETFOLDEXPANDED: whether line `w` counts as expanded.
+pub fn set_fold_expanded(r: &Request) -> Planned
+    ensures { result ≡ set_fold_expanded r.now }
+{
+    match line_among(r.line_total(), r.message.w) {
+        Some(line) => change_view(ViewChange::SetExpanded {
+            line,
+            on: is_on(r.message.l),
+        }),
+        None => answer(0),
+    }
+}
+
+/// ENSUREVISIBLE: line `w` is made visible, and the headers above it expanded.
+pub fn ensure_visible(r: &Request) -> Planned
+    ensures { result ≡ ensure_visible r.now }
+{
+    match line_among(r.line_total(), r.message.w) {
+        Some(line) => change_view(ViewChange::EnsureVisible { line }),
+        None => answer(0),
+    }
+}
+
+/// GETFOLDLEVEL: the level of line `w`.
+pub fn get_fold_level(r: &Request) -> i64
+    ensures { answer result ≡ get_fold_level r.now }
+{
+    match line_among(r.line_total(), r.message.w) {
+        Some(line) => i64::from(r.document.rows().level(line)),
+        None => BASE_LEVEL,
+    }
+}
+
+/// GETLINEVISIBLE: whether line `w` is visible.
+#[tactic(auto, using(message_requests::specs::proved::Standing::flags_of_lines))]
+pub fn get_line_visible(r: &Request) -> i64
+    requires { IsSoundRequest r.now }
+    ensures { answer result ≡ get_line_visible r.now }
+{
+    match line_among(r.line_total(), r.message.w) {
+        Some(line) => flag(r.view.lines().visible(line)),
+        None => 0,
+    }
+}
+
+/// GETALLLINESVISIBLE: whether no line is hidden.
+pub fn get_all_lines_visible(r: &Request) -> Planned
+    ensures { result ≡ get_all_lines_visible r.now }
+{
+    answer_flag(r.view.lines().is_all_visible())
+}
+
+/// GETFOLDEXPANDED: whether line `w` counts as expanded.
+#[tactic(auto, using(message_requests::specs::proved::Standing::flags_of_lines))]
+pub fn get_fold_expanded(r: &Request) -> i64
+    requires { IsSoundRequest r.now }
+    ensures { answer result ≡ get_fold_expanded r.now }
+{
+    match line_among(r.line_total(), r.message.w) {
+        Some(line) => flag(r.view.lines().expanded(line)),
+        None => 0,
+    }
+}

@@ -1,0 +1,240 @@
+//! Plans of the messages on line ends, markers and line states.
+
+ghost use Rattle.std.specs.Prelude.{◌≡◌, ◌≤◌, ◌<◌, ◌^◌, length, IfSome};
+ghost use Rattle.ed_model.specs.PlansFit.{IsSoundRequest};
+ghost use Rattle.ed_model.specs.Requests.{answer};
+ghost use Rattle.ed_model.specs.LinePlans.{convert_eols, get_eol_mode, get_line_state, has_handles, line_end_kind, line_end_number, line_of_handle, marker_add, marker_add_set, marker_delete, marker_delete_all, marker_delete_handle, marker_get, marker_line_from_handle, marker_next, marker_previous, numbers_in, set_eol_mode, set_line_state};
+
+use ed_model::{DocumentChange, LineEnd, Plan, Planned};
+use ed_types::Refusal;
+use message_requests::Request;
+use message_requests::answers::{answer, answer_number, change_document, line_or_none};
+use message_requests::arguments::{at_least_zero, line_among, low_bits, some_or_all, within};
+use message_requests::edits::conversion_plan;
+
+/// The number of a kind of line end.
+fn line_end_number(kind: LineEnd) -> usize
+    ensures { result ≡ line_end_number kind }
+{
+    match kind {
+        LineEnd::CrLf => 0,
+        LineEnd::Cr => 1,
+        LineEnd::Lf => 2,
+    }
+}
+
+/// The kind of line end of a number.
+fn line_end_kind(mode: usize) -> LineEnd
+    ensures { result ≡ line_end_kind mode }
+{
+    if mode == 0 {
+        LineEnd::CrLf
+    } else if mode == 1 {
+        LineEnd::Cr
+    } else {
+        LineEnd::Lf
+    }
+}
+
+/// GETEOLMODE: the line end that typing makes.
+pub fn get_eol_mode(r: &Request) -> Planned
+    ensures { result ≡ get_eol_mode r.now }
+{
+    answer_number(line_end_number(r.document.typed_line_end()))
+}
+
+/// SETEOLMODE: the line end that typing makes from now on.
+pub fn set_eol_mode(r: &Request) -> Planned
+    ensures { result ≡ set_eol_mode r.now }
+{
+    match within(0, 2, r.message.w) {
+        Some(mode) => change_document(DocumentChange::SetLineEnd {
+            to: line_end_kind(mode),
+        }),
+        None => Err(Refusal::BadArgument),
+    }
+}
+
+/// CONVERTEOLS: all line ends of the text are turned into the kind that `w` names.
+pub fn convert_eols(r: &Request) -> Planned
+    ensures { result ≡ convert_eols r.now }
+{
+    match within(0, 2, r.message.w) {
+        Some(mode) => conversion_plan(r, line_end_kind(mode)),
+        None => Err(Refusal::BadArgument),
+    }
+}
+
+/// Whether so many handles of markers are left.
+fn has_handles(r: &Request, count: u32) -> bool
+    ensures { result ≡ has_handles r.now count }
+{
+    let next = u64::from(r.document.rows().next_handle()) + u64::from(count);
+    next.saturating_sub(1) <= r.session.limits.handles
+}
+
+/// MARKERADD: a marker with number `l` on line `w`. Answers its handle.
+pub fn marker_add(r: &Request) -> Planned
+    ensures { result ≡ marker_add r.now }
+{
+    let Some(number) = within(0, 31, r.message.l) else {
+        return Err(Refusal::BadArgument);
+    };
+    let Some(line) = line_among(r.line_total(), r.message.w) else {
+        return answer(-1);
+    };
+    if !has_handles(r, 1) {
+        return Err(Refusal::TooMany);
+    }
+    Ok(Plan::ChangeDocument {
+        change: DocumentChange::AddMarker {
+            line,
+            number: number as u32,
+        },
+        value: i64::from(r.document.rows().next_handle()),
+    })
+}
+
+/// How many numbers of markers a mask has a bit of.
+#[tactic(auto, using(crate::proofs::Masks::ones_are_numbers))]
+fn count_numbers(mask: u32) -> u32
+    ensures { result ≡ length (numbers_in mask) }
+{
+    mask.count_ones()
+}
+
+/// Whether a handle is left for each number of a mask.
+fn has_handles_for(r: &Request, mask: u32) -> bool
+    ensures { result ≡ has_handles r.now (length (numbers_in mask)) }
+{
+    has_handles(r, count_numbers(mask))
+}
+
+/// MARKERADDSET: a marker on line `w` for each bit of `l`.
+pub fn marker_add_set(r: &Request) -> Planned
+    ensures { result ≡ marker_add_set r.now }
+{
+    let Some(mask) = within(0, u32::MAX as usize, r.message.l) else {
+        return Err(Refusal::BadArgument);
+    };
+    let Some(line) = line_among(r.line_total(), r.message.w) else {
+        return answer(0);
+    };
+    let mask = mask as u32;
+    if has_handles_for(r, mask) {
+        change_document(DocumentChange::AddMarkers { line, mask })
+    } else {
+        Err(Refusal::TooMany)
+    }
+}
+
+/// MARKERDELETE: the first marker with number `l` on line `w` goes, or all of the line for -1.
+pub fn marker_delete(r: &Request) -> Planned
+    ensures { result ≡ marker_delete r.now }
+{
+    let Some(number) = some_or_all(31, r.message.l) else {
+        return Err(Refusal::BadArgument);
+    };
+    match line_among(r.line_total(), r.message.w) {
+        Some(line) => change_document(DocumentChange::DeleteMarker { line, number }),
+        None => answer(0),
+    }
+}
+
+/// MARKERDELETEALL: all markers with number `w` go, or all markers for -1.
+pub fn marker_delete_all(r: &Request) -> Planned
+    ensures { result ≡ marker_delete_all r.now }
+{
+    match some_or_all(31, r.message.w) {
+        Some(number) => change_document(DocumentChange::DeleteMarkers { number }),
+        None => Err(Refusal::BadArgument),
+    }
+}
+
+/// MARKERGET: the mask of line `w`, with a bit for each number that a marker there has.
+pub fn marker_get(r: &Request) -> i64
+    ensures { answer result ≡ marker_get r.now }
+{
+    match line_among(r.line_total(), r.message.w) {
+        Some(line) => i64::from(r.document.rows().mask(line)),
+        None => 0,
+    }
+}
+
+/// MARKERNEXT: the first line, from `w` on, whose mask has a bit in common with the low 32 bits of `l`.
+#[tactic(auto, using(crate::proofs::Ranges::next_bounded))]
+pub fn marker_next(r: &Request) -> i64
+    ensures { answer result ≡ marker_next r.now }
+{
+    let from = at_least_zero(r.message.w);
+    line_or_none(r.rows().next(from, low_bits(r.message.l)))
+}
+
+/// MARKERPREVIOUS: the last such line, up to and with `w`.
+#[tactic(auto, using(crate::proofs::Ranges::previous_bounded))]
+pub fn marker_previous(r: &Request) -> i64
+    ensures { answer result ≡ marker_previous r.now }
+{
+    if r.message.w < 0 {
+        return -1;
+    }
+    let from = r.message.w as usize;
+    line_or_none(r.rows().previous(from, low_bits(r.message.l)))
+}
+
+/// The line of the marker with the handle in `w`.
+#[tactic(auto, using(crate::proofs::Handles::no_handle, crate::proofs::Ranges::next_bounded))]
+fn line_of_handle(r: &Request) -> Option<usize>
+    requires { IsSoundRequest r.now }
+    ensures line { result ≡ line_of_handle r.now }
+    ensures bounded { IfSome result (λ line. line < 2 ^ 63) }
+{
+    let rows = r.rows();
+    // A marker's handle is below the next one.
+    let handle = within(0, rows.next_handle() as usize, r.message.w)?;
+    rows.line_of_handle(handle as u32)
+}
+
+/// MARKERLINEFROMHANDLE: the line of the marker with handle `w`.
+pub fn marker_line_from_handle(r: &Request) -> Planned
+    requires { IsSoundRequest r.now }
+    ensures { result ≡ marker_line_from_handle r.now }
+{
+    answer(line_or_none(line_of_handle(r)))
+}
+
+/// MARKERDELETEHANDLE: the marker with handle `w` goes.
+pub fn marker_delete_handle(r: &Request) -> Planned
+    requires { IsSoundRequest r.now }
+    ensures { result ≡ marker_delete_handle r.now }
+{
+    let handle = at_least_zero(r.message.w) as u64;
+    match line_of_handle(r) {
+        Some(_) => change_document(DocumentChange::DeleteHandle { handle }),
+        None => answer(0),
+    }
+}
+
+/// SETLINESTATE: line `w` has state `l`, a number of 32 bits.
+pub fn set_line_state(r: &Request) -> Planned
+    ensures { result ≡ set_line_state r.now }
+{
+    let state = r.message.l;
+    if state < -0x8000_0000 || state > 0x7FFF_FFFF {
+        return Err(Refusal::BadArgument);
+    }
+    match line_among(r.line_total(), r.message.w) {
+        Some(line) => change_document(DocumentChange::SetState { line, state }),
+        None => answer(0),
+    }
+}
+
+/// GETLINESTATE: the state of line `w`.
+pub fn get_line_state(r: &Request) -> i64
+    ensures { answer result ≡ get_line_state r.now }
+{
+    match line_among(r.line_total(), r.message.w) {
+        Some(line) => i64::from(r.document.rows().state(line)),
+        None => 0,
+    }
+}

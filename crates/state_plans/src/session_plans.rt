@@ -1,0 +1,193 @@
+//! Plans of the messages on documents, masks and recording.
+
+ghost use Rattle.std.specs.Prelude.{◌≡◌, ℕ, Err, IfOk, IfErr};
+ghost use Rattle.ed_model.specs.PlansFit.{IsSoundRequest};
+ghost use Rattle.ed_model.specs.declared.plan.SessionChange.{SessionChange};
+ghost use Rattle.ed_model.specs.declared.plan.ViewChange.TheVariants.{SetRecording};
+ghost use Rattle.ed_model.specs.Requests.{change_session, change_view};
+ghost use Rattle.ed_model.specs.SessionPlans.{add_ref_document, create_document, document_named, document_options, get_doc_pointer, get_document_options, get_line_end_types, get_mod_event_mask, has_document_ids, release_document, set_doc_pointer, set_line_end_types_allowed, set_mod_event_mask, types_number, with_reference};
+
+use ed_model::{DocumentChange, LineEndTypes, Plan, Planned, SessionChange, ViewChange};
+use ed_types::Refusal;
+use message_requests::Request;
+use message_requests::answers::{
+    answer, answer_number, change_document, change_session, change_view,
+};
+use message_requests::arguments::within;
+
+// All kinds of change that a mask can name.
+const WHOLE_MASK: usize = 0x7F_FFFF;
+
+/// GETDOCPOINTER: the id of the view's document.
+pub fn get_doc_pointer(r: &Request) -> Planned
+    ensures { result ≡ get_doc_pointer r.now }
+{
+    answer(i64::from(r.view.document()))
+}
+
+/// Whether one more document can be made.
+fn has_document_ids(r: &Request) -> bool
+    ensures { result ≡ has_document_ids r.now.session }
+{
+    u64::from(r.session.documents.next()) <= r.session.limits.ids
+}
+
+/// The id of the document that `l` names, to which one more reference is made.
+///
+/// # Errors
+///
+/// `NoSuchDocument` where there is none, `TooMany` where it has as many references as it may.
+fn to_be_referred_to(r: &Request) -> Result<u32, Refusal>
+    requires { IsSoundRequest r.now }
+    ensures id { IfOk result (λ id. (change : ℕ → SessionChange) → with_reference r.now (document_named r.now.session r.now.message.l) change ≡ change_session (change id)) }
+    ensures refused { IfErr result (λ refusal. (change : ℕ → SessionChange) → with_reference r.now (document_named r.now.session r.now.message.l) change ≡ Err refusal) }
+{
+    let Some(document) = r.document_named(r.message.l) else {
+        return Err(Refusal::NoSuchDocument);
+    };
+    let references = document.views().len() as u64 + u64::from(document.held_by_callers());
+    if references < r.session.limits.refs {
+        Ok(document.id())
+    } else {
+        Err(Refusal::TooMany)
+    }
+}
+
+/// SETDOCPOINTER: the view attaches to the document with id `l`, or to a new one for 0.
+pub fn set_doc_pointer(r: &Request) -> Planned
+    requires { IsSoundRequest r.now }
+    ensures { result ≡ set_doc_pointer r.now }
+{
+    if r.message.l != 0 {
+        let document = to_be_referred_to(r)?;
+        return change_session(SessionChange::Attach { document });
+    }
+    if has_document_ids(r) {
+        change_session(SessionChange::AttachNew)
+    } else {
+        Err(Refusal::TooMany)
+    }
+}
+
+/// The argument as options of a document: that it keeps no styles (0x1), and that it is for large texts (0x100).
+fn document_options(argument: i64) -> Option<u32>
+    ensures { result ≡ document_options argument }
+{
+    let options = within(0, 0x101, argument)?;
+    if options == 0 || options == 0x1 || options == 0x100 || options == 0x101 {
+        Some(options as u32)
+    } else {
+        None
+    }
+}
+
+/// CREATEDOCUMENT: a new document with options `l`, which the caller holds. `w` is not read, but not negative. Answers its id.
+pub fn create_document(r: &Request) -> Planned
+    ensures { result ≡ create_document r.now }
+{
+    if r.message.w < 0 {
+        return Err(Refusal::BadArgument);
+    }
+    let Some(options) = document_options(r.message.l) else {
+        return Err(Refusal::BadArgument);
+    };
+    if !has_document_ids(r) {
+        return Err(Refusal::TooMany);
+    }
+    Ok(Plan::ChangeSession {
+        change: SessionChange::Create { options },
+        value: i64::from(r.session.documents.next()),
+    })
+}
+
+/// ADDREFDOCUMENT: the caller holds one more reference to the document with id `l`.
+pub fn add_ref_document(r: &Request) -> Planned
+    requires { IsSoundRequest r.now }
+    ensures { result ≡ add_ref_document r.now }
+{
+    let document = to_be_referred_to(r)?;
+    change_session(SessionChange::AddReference { document })
+}
+
+/// RELEASEDOCUMENT: the caller gives back a reference of its own to the document with id `l`.
+pub fn release_document(r: &Request) -> Planned
+    requires { IsSoundRequest r.now }
+    ensures { result ≡ release_document r.now }
+{
+    let Some(document) = r.document_named(r.message.l) else {
+        return Err(Refusal::NoSuchDocument);
+    };
+    if document.held_by_callers() > 0 {
+        change_session(SessionChange::Release {
+            document: document.id(),
+        })
+    } else {
+        Err(Refusal::NoSuchDocument)
+    }
+}
+
+/// GETDOCUMENTOPTIONS: the options that the document was made with.
+pub fn get_document_options(r: &Request) -> Planned
+    ensures { result ≡ get_document_options r.now }
+{
+    answer(i64::from(r.document.options()))
+}
+
+/// The number of the line ends that a document knows.
+fn types_number(types: LineEndTypes) -> usize
+    ensures { result ≡ types_number types }
+{
+    match types {
+        LineEndTypes::Default => 0,
+        LineEndTypes::Unicode => 1,
+    }
+}
+
+/// SETLINEENDTYPESALLOWED: which line ends the document knows from now on.
+pub fn set_line_end_types_allowed(r: &Request) -> Planned
+    ensures { result ≡ set_line_end_types_allowed r.now }
+{
+    let Some(types) = within(0, 1, r.message.w) else {
+        return Err(Refusal::BadArgument);
+    };
+    if types == types_number(r.document.line_end_types()) {
+        return answer(0);
+    }
+    let to = if types == 0 {
+        LineEndTypes::Default
+    } else {
+        LineEndTypes::Unicode
+    };
+    change_document(DocumentChange::SetLineEndTypes { to })
+}
+
+/// GETLINEENDTYPESALLOWED and GETLINEENDTYPESACTIVE: which line ends the document knows.
+pub fn get_line_end_types(r: &Request) -> Planned
+    ensures { result ≡ get_line_end_types r.now }
+{
+    answer_number(types_number(r.document.line_end_types()))
+}
+
+/// SETMODEVENTMASK: which kinds of change the view hears of.
+pub fn set_mod_event_mask(r: &Request) -> Planned
+    ensures { result ≡ set_mod_event_mask r.now }
+{
+    match within(0, WHOLE_MASK, r.message.w) {
+        Some(mask) => change_view(ViewChange::SetMask { mask: mask as u32 }),
+        None => Err(Refusal::BadArgument),
+    }
+}
+
+/// GETMODEVENTMASK: which kinds of change the view hears of.
+pub fn get_mod_event_mask(r: &Request) -> Planned
+    ensures { result ≡ get_mod_event_mask r.now }
+{
+    answer(i64::from(r.view.mask()))
+}
+
+/// STARTRECORD and STOPRECORD: whether the view records what it is sent.
+pub fn set_recording(on: bool) -> Planned
+    ensures { result ≡ change_view (SetRecording on) }
+{
+    change_view(ViewChange::SetRecording { on })
+}

@@ -1,0 +1,265 @@
+//! Plans of the messages on styles and indicators.
+
+ghost use Rattle.std.specs.Prelude.{◌≡◌, ◌<◌, ◌^◌};
+ghost use Rattle.ed_model.specs.PlansFit.{IsSoundRequest};
+ghost use Rattle.ed_model.specs.Requests.{answer, with_argument};
+ghost use Rattle.ed_model.specs.StylePlans.{colourise, fill_indicator, get_end_styled, get_indicator_current, get_indicator_value, get_style_at, get_styled_text, indicator_all_on_for, indicator_clear_range, indicator_end, indicator_fill_range, indicator_start, indicator_value_at, run_end_at, run_past, run_start, set_indicator_current, set_indicator_value, set_styling, set_styling_ex, start_styling, styles, unstyled, values_of};
+ghost use Rattle.ed_model.specs.TextPlans.{at_place};
+
+use ed_model::{DocumentChange, Plan, Planned, ViewChange};
+use ed_types::Refusal;
+use message_requests::answers::{answer, change_document, change_view};
+use message_requests::arguments::within;
+use message_requests::{Request, past_argument};
+
+/// The style of the byte at a place that may be outside the text; 0 there.
+fn style_at(r: &Request, argument: i64) -> u8
+    ensures { result ≡ at_place (styles r.now) argument }
+{
+    if argument < 0 {
+        return 0;
+    }
+    let place = argument as usize;
+    if place < r.size() {
+        r.document.style(place)
+    } else {
+        0
+    }
+}
+
+/// GETSTYLEAT: the style of the byte at `w`.
+pub fn get_style_at(r: &Request) -> i64
+    ensures { answer result ≡ get_style_at r.now }
+{
+    i64::from(style_at(r, r.message.w))
+}
+
+/// GETSTYLEDTEXT: the bytes from `w` up to `l`, each with its style behind it.
+pub fn get_styled_text(r: &Request) -> Planned
+    ensures { result ≡ get_styled_text r.now }
+{
+    let Some(start) = within(0, r.size(), r.message.w) else {
+        return Err(Refusal::BadArgument);
+    };
+    match past_argument(r, start) {
+        Some(past) => Ok(Plan::HandOutStyled {
+            start,
+            count: past - start,
+        }),
+        None => Err(Refusal::BadArgument),
+    }
+}
+
+/// GETENDSTYLED: up to where the text is styled.
+pub fn get_end_styled(r: &Request) -> i64
+    requires { IsSoundRequest r.now }
+    ensures { answer result ≡ get_end_styled r.now }
+{
+    r.end_styled() as i64
+}
+
+/// STARTSTYLING: the text counts as styled up to `w`.
+pub fn start_styling(r: &Request) -> Planned
+    ensures { result ≡ start_styling r.now }
+{
+    match within(0, r.size(), r.message.w) {
+        Some(place) => change_document(DocumentChange::SetEndStyled { place }),
+        None => Err(Refusal::BadArgument),
+    }
+}
+
+/// How many bytes stand behind the end of what is styled.
+fn unstyled(r: &Request) -> usize
+    requires { IsSoundRequest r.now }
+    ensures { result ≡ unstyled r.now }
+{
+    r.size() - r.end_styled()
+}
+
+/// SETSTYLING: the next `w` bytes have style `l`.
+pub fn set_styling(r: &Request) -> Planned
+    requires { IsSoundRequest r.now }
+    ensures { result ≡ set_styling r.now }
+{
+    let Some(style) = within(0, 255, r.message.l) else {
+        return Err(Refusal::BadArgument);
+    };
+    match within(0, unstyled(r), r.message.w) {
+        Some(count) => change_document(DocumentChange::StyleRun {
+            count,
+            style: style as u32,
+        }),
+        None => Err(Refusal::BadArgument),
+    }
+}
+
+/// SETSTYLINGEX: the next `w` bytes have the styles that the message's text has.
+pub fn set_styling_ex(r: &Request) -> Planned
+    requires { IsSoundRequest r.now }
+    ensures { result ≡ set_styling_ex r.now }
+{
+    match within(0, r.message.text.len(), r.message.w) {
+        Some(count) if count <= unstyled(r) => {
+            change_document(DocumentChange::StyleBytes { count })
+        }
+        _ => Err(Refusal::BadArgument),
+    }
+}
+
+/// COLOURISE: the text from `w` up to `l` is to be styled.
+pub fn colourise(r: &Request) -> Planned
+    ensures { result ≡ colourise r.now }
+{
+    let Some(start) = within(0, r.size(), r.message.w) else {
+        return Err(Refusal::BadArgument);
+    };
+    match past_argument(r, start) {
+        Some(end) => change_document(DocumentChange::NeedStyle { start, end }),
+        None => Err(Refusal::BadArgument),
+    }
+}
+
+/// SETINDICATORCURRENT: the view fills indicator `w` from now on.
+pub fn set_indicator_current(r: &Request) -> Planned
+    ensures { result ≡ set_indicator_current r.now }
+{
+    match within(0, 31, r.message.w) {
+        Some(indicator) => change_view(ViewChange::SetIndicator {
+            indicator: indicator as u32,
+        }),
+        None => Err(Refusal::BadArgument),
+    }
+}
+
+/// GETINDICATORCURRENT: which indicator the view fills.
+pub fn get_indicator_current(r: &Request) -> Planned
+    ensures { result ≡ get_indicator_current r.now }
+{
+    answer(i64::from(r.view.indicator()))
+}
+
+/// SETINDICATORVALUE: the view fills with `w` from now on, or with 1 for 0.
+pub fn set_indicator_value(r: &Request) -> Planned
+    ensures { result ≡ set_indicator_value r.now }
+{
+    match within(0, i32::MAX as usize, r.message.w) {
+        Some(value) => change_view(ViewChange::SetIndicatorValue {
+            value: (value as u32).max(1),
+        }),
+        None => Err(Refusal::BadArgument),
+    }
+}
+
+/// GETINDICATORVALUE: what the view fills with.
+pub fn get_indicator_value(r: &Request) -> Planned
+    ensures { result ≡ get_indicator_value r.now }
+{
+    answer(i64::from(r.view.indicator_value()))
+}
+
+/// The view's indicator has this value on `l` bytes from `w` on.
+fn fill_indicator(r: &Request, value: u32) -> Planned
+    ensures { result ≡ fill_indicator r.now value }
+{
+    let size = r.size();
+    let Some(start) = within(0, size, r.message.w) else {
+        return Err(Refusal::BadArgument);
+    };
+    match within(0, size - start, r.message.l) {
+        Some(count) => change_document(DocumentChange::FillIndicator {
+            indicator: r.view.indicator(),
+            start,
+            count,
+            value,
+        }),
+        None => Err(Refusal::BadArgument),
+    }
+}
+
+/// INDICATORFILLRANGE: fills with the view's value.
+pub fn indicator_fill_range(r: &Request) -> Planned
+    ensures { result ≡ indicator_fill_range r.now }
+{
+    fill_indicator(r, r.view.indicator_value())
+}
+
+/// INDICATORCLEARRANGE: fills with 0.
+pub fn indicator_clear_range(r: &Request) -> Planned
+    ensures { result ≡ indicator_clear_range r.now }
+{
+    fill_indicator(r, 0)
+}
+
+/// INDICATORALLONFOR: bit `k` for each indicator `k` that is not 0 at place `w`.
+#[tactic(auto, using(crate::proofs::Runs::none_outside, crate::proofs::Runs::all_on))]
+pub fn indicator_all_on_for(r: &Request) -> Planned
+    ensures { result ≡ indicator_all_on_for r.now }
+{
+    if r.message.w < 0 {
+        return answer(0);
+    }
+    let place = r.message.w as usize;
+    answer(i64::from(r.document.indicators().mask_at(place)))
+}
+
+/// The value of an indicator at a place that may be outside the text; 0 there.
+fn value_at(r: &Request, indicator: usize, argument: i64) -> u32
+    requires { indicator < 32 }
+    ensures { result ≡ at_place (values_of r.now indicator) argument }
+{
+    if argument < 0 {
+        return 0;
+    }
+    r.document.indicators().value(indicator, argument as usize)
+}
+
+/// INDICATORVALUEAT: the value of indicator `w` at place `l`; none where there is no such indicator, which is refused.
+pub fn indicator_value_at(r: &Request) -> Option<i64>
+    ensures { with_argument result answer ≡ indicator_value_at r.now }
+{
+    match within(0, 31, r.message.w) {
+        Some(indicator) => Some(i64::from(value_at(r, indicator, r.message.l))),
+        None => None,
+    }
+}
+
+/// Where the longest range of one value of an indicator starts that holds a place, and where it is past; both 0 for a place
+/// outside the text.
+fn run_at(r: &Request, indicator: usize, argument: i64) -> (usize, usize)
+    requires { indicator < 32 }
+    ensures start { result.0 ≡ run_end_at run_start (values_of r.now indicator) argument }
+    ensures past { result.1 ≡ run_end_at run_past (values_of r.now indicator) argument }
+    ensures bounded { (result.0 < 2 ^ 63) × (result.1 < 2 ^ 63) }
+{
+    if argument < 0 {
+        return (0, 0);
+    }
+    let place = argument as usize;
+    let indicators = r.document.indicators();
+    prove!(indicators.length() == r.size());
+    if place < r.size() {
+        indicators.run(indicator, place)
+    } else {
+        (0, 0)
+    }
+}
+
+/// INDICATORSTART: where the range of one value of indicator `w` starts that holds place `l`.
+pub fn indicator_start(r: &Request) -> Option<i64>
+    ensures { with_argument result answer ≡ indicator_start r.now }
+{
+    match within(0, 31, r.message.w) {
+        Some(indicator) => Some(run_at(r, indicator, r.message.l).0 as i64),
+        None => None,
+    }
+}
+
+/// INDICATOREND: where that range is past.
+pub fn indicator_end(r: &Request) -> Option<i64>
+    ensures { with_argument result answer ≡ indicator_end r.now }
+{
+    match within(0, 31, r.message.w) {
+        Some(indicator) => Some(run_at(r, indicator, r.message.l).1 as i64),
+        None => None,
+    }
+}

@@ -1,0 +1,149 @@
+//! Plans of the messages on undo and redo, and on whether the text can be edited at all.
+
+ghost use Rattle.std.specs.Prelude.{◌≡◌};
+ghost use Rattle.ed_model.specs.Requests.{answer};
+ghost use Rattle.ed_model.specs.UndoPlans.{add_undo_action, begin_undo_action, empty_undo_buffer, end_undo_action, get_can_redo, get_can_undo, get_modify, get_read_only, get_undo_collection, redo, set_read_only, set_save_point, set_undo_collection, undo};
+ghost use Rattle.state_plans.specs.Acting.{act_if};
+ghost use Rattle.ed_model.specs.PlansFit.{IsSoundRequest};
+
+use ed_model::{DocumentChange, Plan, Planned, undo_and_redo_are_never_too_long};
+use ed_types::Refusal;
+use message_requests::Request;
+use message_requests::answers::{answer, answer_flag, change_document, flag};
+use message_requests::arguments::{is_on, within};
+
+/// SETUNDOCOLLECTION: whether steps are kept in the history from now on. To collect while already collecting changes nothing.
+pub fn set_undo_collection(r: &Request) -> Planned
+    ensures { result ≡ set_undo_collection r.now }
+{
+    let on = is_on(r.message.w);
+    if on && r.document.history().is_collecting() {
+        return answer(0);
+    }
+    change_document(DocumentChange::CollectUndo { on })
+}
+
+/// GETUNDOCOLLECTION: whether steps are kept in the history.
+pub fn get_undo_collection(r: &Request) -> Planned
+    ensures { result ≡ get_undo_collection r.now }
+{
+    answer_flag(r.document.history().is_collecting())
+}
+
+/// Undo or redo, where there is something to act on; in a read-only document it is only attempted.
+fn act_if(can: bool, read_only: bool, act: Plan) -> Planned
+    ensures { result ≡ act_if can read_only act }
+{
+    if !can {
+        return answer(0);
+    }
+    Ok(if read_only { Plan::Attempt } else { act })
+}
+
+/// UNDO: undoes the last transaction. No step of it passes the limit, since the text was there before.
+pub fn undo(r: &Request) -> Planned
+    requires { IsSoundRequest r.now }
+    ensures { result ≡ undo r.now }
+{
+    undo_and_redo_are_never_too_long();
+    act_if(
+        r.document.history().can_undo(),
+        r.document.is_read_only(),
+        Plan::Undo,
+    )
+}
+
+/// REDO: makes the next transaction again. No step of it passes the limit, since the text was there before.
+pub fn redo(r: &Request) -> Planned
+    requires { IsSoundRequest r.now }
+    ensures { result ≡ redo r.now }
+{
+    undo_and_redo_are_never_too_long();
+    act_if(
+        r.document.history().can_redo(),
+        r.document.is_read_only(),
+        Plan::Redo,
+    )
+}
+
+/// CANUNDO: whether there is something to undo, in a document that can be edited.
+pub fn get_can_undo(r: &Request) -> i64
+    ensures { answer result ≡ get_can_undo r.now }
+{
+    flag(r.document.history().can_undo() && !r.document.is_read_only())
+}
+
+/// CANREDO: whether there is something to redo, in a document that can be edited.
+pub fn get_can_redo(r: &Request) -> i64
+    ensures { answer result ≡ get_can_redo r.now }
+{
+    flag(r.document.history().can_redo() && !r.document.is_read_only())
+}
+
+/// GETREADONLY: whether the document is read-only.
+pub fn get_read_only(r: &Request) -> i64
+    ensures { answer result ≡ get_read_only r.now }
+{
+    flag(r.document.is_read_only())
+}
+
+/// SETREADONLY: whether the document is read-only from now on.
+pub fn set_read_only(r: &Request) -> Planned
+    ensures { result ≡ set_read_only r.now }
+{
+    change_document(DocumentChange::SetReadOnly {
+        on: is_on(r.message.w),
+    })
+}
+
+/// GETMODIFY: whether the document is away from its save point.
+pub fn get_modify(r: &Request) -> i64
+    ensures { answer result ≡ get_modify r.now }
+{
+    flag(!r.document.history().is_at_save_point())
+}
+
+/// SETSAVEPOINT: the document counts as unmodified where it is now.
+pub fn set_save_point(r: &Request) -> Planned
+    ensures { result ≡ set_save_point r.now }
+{
+    change_document(DocumentChange::SetSavePoint)
+}
+
+/// BEGINUNDOACTION: a group begins, if the groups are not too deep.
+pub fn begin_undo_action(r: &Request) -> Planned
+    ensures { result ≡ begin_undo_action r.now }
+{
+    if r.document.history().depth() < r.session.limits.depth {
+        change_document(DocumentChange::BeginGroup)
+    } else {
+        Err(Refusal::TooMany)
+    }
+}
+
+/// ENDUNDOACTION: a group ends.
+pub fn end_undo_action(r: &Request) -> Planned
+    ensures { result ≡ end_undo_action r.now }
+{
+    change_document(DocumentChange::EndGroup)
+}
+
+/// EMPTYUNDOBUFFER: the history is forgotten.
+pub fn empty_undo_buffer(r: &Request) -> Planned
+    ensures { result ≡ empty_undo_buffer r.now }
+{
+    change_document(DocumentChange::ForgetHistory)
+}
+
+/// ADDUNDOACTION: a step of the container's own, with the token in `w`, that coalesces where `l` is 1.
+pub fn add_undo_action(r: &Request) -> Planned
+    ensures { result ≡ add_undo_action r.now }
+{
+    match within(0, 1, r.message.l) {
+        Some(flags) => change_document(DocumentChange::AppendContainer {
+            token: r.message.w,
+            coalesce: flags == 1,
+        }),
+        None => Err(Refusal::BadArgument),
+    }
+}

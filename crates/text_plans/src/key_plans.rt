@@ -1,0 +1,109 @@
+//! Plans of the keys.
+
+ghost use Rattle.std.specs.Prelude.{◌≡◌, ◌≤◌};
+ghost use Rattle.ed_model.specs.KeyPlans.{char_left, char_right, delete_back, extend_to, new_line, place_home, place_left, place_line_end, place_right};
+ghost use Rattle.ed_model.specs.PlansFit.{IsSoundRequest};
+ghost use Rattle.ed_model.specs.Requests.{size};
+
+use crate::selection_plans::{go_to, select, selected};
+use ed_model::{LineEnd, Planned, Source};
+use message_requests::Request;
+use message_requests::edits::{Replacement, replace_and_go, replace_plan};
+
+/// The cut before the caret.
+pub fn place_left(r: &Request) -> usize
+    requires { IsSoundRequest r.now }
+    ensures place { result ≡ place_left r.now }
+    ensures within { result ≤ r.now.view.caret }
+{
+    r.cut_before(r.caret())
+}
+
+/// The cut behind the caret.
+pub fn place_right(r: &Request) -> usize
+    requires { IsSoundRequest r.now }
+    ensures { result ≡ place_right r.now }
+{
+    r.cut_after(r.caret())
+}
+
+/// The start of the caret's line.
+pub fn place_home(r: &Request) -> usize
+    requires { IsSoundRequest r.now }
+    ensures { result ≡ place_home r.now }
+{
+    r.line_start(r.line_at(r.caret()))
+}
+
+/// Where the end of the caret's line begins.
+pub fn place_line_end(r: &Request) -> usize
+    requires { IsSoundRequest r.now }
+    ensures { result ≡ place_line_end r.now }
+{
+    r.line_end(r.line_at(r.caret()))
+}
+
+/// The caret goes there, and the anchor stays.
+pub fn extend_to(r: &Request, place: usize) -> Planned
+    ensures { result ≡ extend_to r.now place }
+{
+    select(r.view.selection().anchor, place)
+}
+
+/// CHARLEFT: goes one character to the left, or to the start of what is selected.
+pub fn char_left(r: &Request) -> Planned
+    requires { IsSoundRequest r.now }
+    ensures { result ≡ char_left r.now }
+{
+    if selected(r) == 0 {
+        go_to(place_left(r))
+    } else {
+        go_to(r.selection_start())
+    }
+}
+
+/// CHARRIGHT: goes one character to the right, or to the end of what is selected.
+pub fn char_right(r: &Request) -> Planned
+    requires { IsSoundRequest r.now }
+    ensures { result ≡ char_right r.now }
+{
+    if selected(r) == 0 {
+        go_to(place_right(r))
+    } else {
+        go_to(r.selection_end())
+    }
+}
+
+/// DELETEBACK: deletes the selection, or else the character before the caret.
+pub fn delete_back(r: &Request) -> Planned
+    requires { IsSoundRequest r.now }
+    ensures { result ≡ delete_back r.now }
+{
+    let count = selected(r);
+    if count == 0 {
+        let caret = r.caret();
+        let start = place_left(r);
+        return replace_plan(r, Replacement::deletion(start, caret - start));
+    }
+    replace_plan(r, Replacement::deletion(r.selection_start(), count))
+}
+
+/// NEWLINE: the document's line end in the place of the selection.
+pub fn new_line(r: &Request) -> Planned
+    requires { IsSoundRequest r.now }
+    ensures { result ≡ new_line r.now }
+{
+    let added = match r.document.typed_line_end() {
+        LineEnd::CrLf => 2,
+        LineEnd::Cr | LineEnd::Lf => 1,
+    };
+    replace_and_go(
+        r,
+        Replacement {
+            start: r.selection_start(),
+            count: selected(r),
+            source: Source::LineEnd,
+            added,
+        },
+    )
+}

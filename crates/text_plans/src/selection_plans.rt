@@ -1,0 +1,298 @@
+//! Plans of the messages on the selection and the clipboard.
+
+ghost use Rattle.std.specs.Prelude.{◌≡◌, ◌≤◌, ◌+◌, length};
+ghost use Rattle.ed_model.specs.declared.plan.Source.TheVariants.{Clipboard};
+ghost use Rattle.ed_model.specs.Edits.{source_bytes};
+ghost use Rattle.ed_model.specs.Requests.{answer, selection_start, size};
+ghost use Rattle.ed_model.specs.PlansFit.{IsSoundRequest};
+ghost use Rattle.message_requests.specs.HandingOut.{handed_out};
+ghost use Rattle.ed_model.specs.SelectionPlans.{can_paste, clear, copy, copy_range, copy_text, cut, get_anchor, get_current_pos, get_paste_convert_endings, get_sel_text, get_selection_empty, get_selection_end, get_selection_start, go_to, go_to_line, go_to_pos, paste, replace_sel, select, select_all, selected, set_anchor, set_current_pos, set_paste_convert_endings, set_sel, set_selection_end, set_selection_start};
+
+use ed_model::{Follow, Planned, SessionChange, Source, ViewChange};
+use ed_types::Refusal;
+use line_ends::converted_len;
+use message_requests::answers::{
+    HandedOut, answer, answer_flag, bytes_between, change_session, change_view, flag,
+};
+use message_requests::arguments::{clamped, is_on, within};
+use message_requests::edits::{Replacement, edit_plan, replace_and_go, replace_plan};
+use message_requests::{Request, past_argument};
+
+/// Puts anchor and caret there.
+pub fn select(anchor: usize, caret: usize) -> Planned
+    ensures { result ≡ select anchor caret }
+{
+    change_view(ViewChange::Select { anchor, caret })
+}
+
+/// Puts both ends of the selection there.
+pub fn go_to(place: usize) -> Planned
+    ensures { result ≡ go_to place }
+{
+    select(place, place)
+}
+
+/// GETCURRENTPOS: the caret's place.
+pub fn get_current_pos(r: &Request) -> i64
+    requires { IsSoundRequest r.now }
+    ensures { answer result ≡ get_current_pos r.now }
+{
+    r.caret() as i64
+}
+
+/// GETANCHOR: the anchor's place.
+pub fn get_anchor(r: &Request) -> i64
+    requires { IsSoundRequest r.now }
+    ensures { answer result ≡ get_anchor r.now }
+{
+    r.anchor() as i64
+}
+
+/// GETSELECTIONSTART: the lesser end of the selection.
+pub fn get_selection_start(r: &Request) -> i64
+    requires { IsSoundRequest r.now }
+    ensures { answer result ≡ get_selection_start r.now }
+{
+    r.selection_start() as i64
+}
+
+/// GETSELECTIONEND: the greater end of the selection.
+pub fn get_selection_end(r: &Request) -> i64
+    requires { IsSoundRequest r.now }
+    ensures { answer result ≡ get_selection_end r.now }
+{
+    r.selection_end() as i64
+}
+
+/// GETSELECTIONEMPTY: whether nothing is selected.
+pub fn get_selection_empty(r: &Request) -> i64
+    ensures { answer result ≡ get_selection_empty r.now }
+{
+    flag(r.view.selection().is_empty())
+}
+
+/// SELECTALL: selects the whole text.
+pub fn select_all(r: &Request) -> Planned
+    ensures { result ≡ select_all r.now }
+{
+    select(0, r.size())
+}
+
+/// GOTOLINE: goes to the start of line `w`, brought into the lines that there are.
+pub fn go_to_line(r: &Request) -> Planned
+    ensures { result ≡ go_to_line r.now }
+{
+    go_to(r.line_start(clamped(r.line_total() - 1, r.message.w)))
+}
+
+/// GOTOPOS and SETEMPTYSELECTION: goes to `w`, brought into the text.
+pub fn go_to_pos(r: &Request) -> Planned
+    ensures { result ≡ go_to_pos r.now }
+{
+    go_to(clamped(r.size(), r.message.w))
+}
+
+/// SETANCHOR: moves the anchor alone.
+pub fn set_anchor(r: &Request) -> Planned
+    ensures { result ≡ set_anchor r.now }
+{
+    select(clamped(r.size(), r.message.w), r.view.selection().caret)
+}
+
+/// SETCURRENTPOS: moves the caret alone.
+pub fn set_current_pos(r: &Request) -> Planned
+    ensures { result ≡ set_current_pos r.now }
+{
+    select(r.view.selection().anchor, clamped(r.size(), r.message.w))
+}
+
+/// SETSELECTIONSTART: the anchor goes to `w`, and the caret not before it.
+pub fn set_selection_start(r: &Request) -> Planned
+    ensures { result ≡ set_selection_start r.now }
+{
+    let place = clamped(r.size(), r.message.w);
+    select(place, place.max(r.view.selection().caret))
+}
+
+/// SETSELECTIONEND: the caret goes to `w`, and the anchor not behind it.
+pub fn set_selection_end(r: &Request) -> Planned
+    ensures { result ≡ set_selection_end r.now }
+{
+    let place = clamped(r.size(), r.message.w);
+    select(place.min(r.view.selection().anchor), place)
+}
+
+/// SETSEL: the caret goes to `l`, or to the end for a negative one; the anchor to `w`, or to the caret for a negative one.
+pub fn set_sel(r: &Request) -> Planned
+    ensures { result ≡ set_sel r.now }
+{
+    let size = r.size();
+    let caret = if r.message.l < 0 {
+        size
+    } else {
+        clamped(size, r.message.l)
+    };
+    if r.message.w < 0 {
+        go_to(caret)
+    } else {
+        select(clamped(size, r.message.w), caret)
+    }
+}
+
+/// GETSELTEXT: the selected bytes.
+pub fn get_sel_text(r: &Request) -> HandedOut
+    requires { IsSoundRequest r.now }
+    ensures { handed_out result ≡ get_sel_text r.now }
+{
+    bytes_between(r.selection_start(), r.selection_end())
+}
+
+/// How many bytes are selected.
+pub fn selected(r: &Request) -> usize
+    requires { IsSoundRequest r.now }
+    ensures selected { result ≡ selected r.now }
+    ensures within { selection_start r.now + result ≤ size r.now }
+{
+    r.selection_end() - r.selection_start()
+}
+
+/// REPLACESEL: the message's text in the place of the selection.
+pub fn replace_sel(r: &Request) -> Planned
+    requires { IsSoundRequest r.now }
+    ensures { result ≡ replace_sel r.now }
+{
+    let count = r.message.text.len();
+    replace_and_go(
+        r,
+        Replacement {
+            start: r.selection_start(),
+            count: selected(r),
+            source: Source::MessageText { count },
+            added: count,
+        },
+    )
+}
+
+/// CANPASTE: whether the document can be edited.
+pub fn can_paste(r: &Request) -> Planned
+    ensures { result ≡ can_paste r.now }
+{
+    answer_flag(!r.document.is_read_only())
+}
+
+/// CUT: a selection that is not empty is taken to the clipboard and deleted.
+pub fn cut(r: &Request) -> Planned
+    requires { IsSoundRequest r.now }
+    ensures { result ≡ cut r.now }
+{
+    let start = r.selection_start();
+    let count = selected(r);
+    if count == 0 {
+        return answer(0);
+    }
+    edit_plan(
+        r,
+        Replacement::deletion(start, count),
+        0,
+        Follow::Clipboard { start, count },
+    )
+}
+
+/// COPY: a selection that is not empty is taken to the clipboard.
+pub fn copy(r: &Request) -> Planned
+    requires { IsSoundRequest r.now }
+    ensures { result ≡ copy r.now }
+{
+    let start = r.selection_start();
+    let count = selected(r);
+    if count == 0 {
+        return answer(0);
+    }
+    change_session(SessionChange::Copy { start, count })
+}
+
+/// How many bytes the clipboard pastes, where line ends are turned into those of the document or are not.
+fn pasted_length(r: &Request, convert: bool) -> usize
+    ensures { result ≡ length (source_bytes r.now (Clipboard convert)) }
+{
+    let clipboard = &r.session.clipboard;
+    if convert {
+        converted_len(clipboard, r.document.typed_line_end())
+    } else {
+        clipboard.len()
+    }
+}
+
+/// PASTE: what the clipboard has in the place of the selection, with the document's line ends where the view turns them.
+pub fn paste(r: &Request) -> Planned
+    requires { IsSoundRequest r.now }
+    ensures { result ≡ paste r.now }
+{
+    if r.session.clipboard.is_empty() {
+        return answer(0);
+    }
+    let convert = r.view.converts_pastes();
+    let replacement = Replacement {
+        start: r.selection_start(),
+        count: selected(r),
+        source: Source::Clipboard { convert },
+        added: pasted_length(r, convert),
+    };
+    replace_and_go(r, replacement)
+}
+
+/// CLEAR: deletes the selection, or else from the caret up to the next cut between characters.
+pub fn clear(r: &Request) -> Planned
+    requires { IsSoundRequest r.now }
+    ensures { result ≡ clear r.now }
+{
+    let count = selected(r);
+    if count == 0 {
+        let caret = r.caret();
+        let past = r.cut_after(caret);
+        return replace_plan(r, Replacement::deletion(caret, past.saturating_sub(caret)));
+    }
+    replace_plan(r, Replacement::deletion(r.selection_start(), count))
+}
+
+/// COPYRANGE: the bytes from `w` up to `l` are taken to the clipboard, where -1 is the end of the text.
+pub fn copy_range(r: &Request) -> Planned
+    ensures { result ≡ copy_range r.now }
+{
+    let Some(start) = within(0, r.size(), r.message.w) else {
+        return Err(Refusal::BadArgument);
+    };
+    match past_argument(r, start) {
+        Some(past) => change_session(SessionChange::Copy {
+            start,
+            count: past - start,
+        }),
+        None => Err(Refusal::BadArgument),
+    }
+}
+
+/// COPYTEXT: the first `w` bytes of the message's text are taken to the clipboard.
+pub fn copy_text(r: &Request) -> Planned
+    ensures { result ≡ copy_text r.now }
+{
+    match within(0, r.message.text.len(), r.message.w) {
+        Some(count) => change_session(SessionChange::CopyText { count }),
+        None => Err(Refusal::BadArgument),
+    }
+}
+
+/// SETPASTECONVERTENDINGS: whether what is pasted takes the document's line ends.
+pub fn set_paste_convert_endings(r: &Request) -> Planned
+    ensures { result ≡ set_paste_convert_endings r.now }
+{
+    change_view(ViewChange::SetPasteConversion {
+        on: is_on(r.message.w),
+    })
+}
+
+/// GETPASTECONVERTENDINGS: whether what is pasted takes the document's line ends.
+pub fn get_paste_convert_endings(r: &Request) -> Planned
+    ensures { result ≡ get_paste_convert_endings r.now }
+{
+    answer_flag(r.view.converts_pastes())
+}

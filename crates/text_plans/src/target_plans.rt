@@ -1,0 +1,192 @@
+//! Plans of the messages on the target.
+
+ghost use Rattle.std.specs.Prelude.{◌≡◌, ◌≤◌, ◌<◌, ◌+◌, ◌^◌, length, IfSome};
+ghost use Rattle.ed_model.specs.PlansFit.{IsSoundRequest};
+ghost use Rattle.message_requests.specs.HandingOut.{handed_out};
+ghost use Rattle.ed_model.specs.Requests.{answer, text};
+ghost use Rattle.ed_model.specs.Matches.{match_in};
+ghost use Rattle.ed_model.specs.TargetPlans.{found_target, get_search_flags, get_target_end, get_target_start, get_target_text, replace_target, replacement_length, search_flags, search_in_target, set_search_flags, set_target, set_target_end, set_target_range, set_target_start, target_from_selection, target_whole_document};
+
+use ed_model::{Follow, Plan, Planned, Source, ViewChange};
+use ed_types::Refusal;
+use message_requests::Request;
+use message_requests::answers::{HandedOut, answer, bytes_between, change_view};
+use message_requests::arguments::{clamped, is_minus_one, within};
+use message_requests::edits::{Replacement, edit_plan};
+use target_search::SearchFlags;
+
+// All flags that a search may have.
+const SEARCH_FLAGS: u32 = SearchFlags::WHOLE_WORD
+    | SearchFlags::MATCH_CASE
+    | SearchFlags::WORD_START;
+
+/// The target goes from there to there.
+fn set_target(start: usize, end: usize) -> Planned
+    ensures { result ≡ set_target start end }
+{
+    change_view(ViewChange::SetTarget { start, end })
+}
+
+/// SETTARGETSTART: the target starts at `w`, brought into the text.
+pub fn set_target_start(r: &Request) -> Planned
+    ensures { result ≡ set_target_start r.now }
+{
+    set_target(clamped(r.size(), r.message.w), r.view.target().end)
+}
+
+/// SETTARGETEND: the target ends at `w`, brought into the text.
+pub fn set_target_end(r: &Request) -> Planned
+    ensures { result ≡ set_target_end r.now }
+{
+    set_target(r.view.target().start, clamped(r.size(), r.message.w))
+}
+
+/// SETTARGETRANGE: the target goes from `w` to `l`, both brought into the text.
+pub fn set_target_range(r: &Request) -> Planned
+    ensures { result ≡ set_target_range r.now }
+{
+    let size = r.size();
+    set_target(clamped(size, r.message.w), clamped(size, r.message.l))
+}
+
+/// GETTARGETSTART: where the target starts.
+pub fn get_target_start(r: &Request) -> i64
+    requires { IsSoundRequest r.now }
+    ensures { answer result ≡ get_target_start r.now }
+{
+    r.target_start() as i64
+}
+
+/// GETTARGETEND: where the target ends.
+pub fn get_target_end(r: &Request) -> i64
+    requires { IsSoundRequest r.now }
+    ensures { answer result ≡ get_target_end r.now }
+{
+    r.target_end() as i64
+}
+
+/// TARGETFROMSELECTION: the target is the selection.
+pub fn target_from_selection(r: &Request) -> Planned
+    requires { IsSoundRequest r.now }
+    ensures { result ≡ target_from_selection r.now }
+{
+    set_target(r.selection_start(), r.selection_end())
+}
+
+/// TARGETWHOLEDOCUMENT: the target is the whole text.
+pub fn target_whole_document(r: &Request) -> Planned
+    ensures { result ≡ target_whole_document r.now }
+{
+    set_target(0, r.size())
+}
+
+/// GETTARGETTEXT: the bytes of the target.
+pub fn get_target_text(r: &Request) -> HandedOut
+    requires { IsSoundRequest r.now }
+    ensures { handed_out result ≡ get_target_text r.now }
+{
+    bytes_between(r.target_least(), r.target_greatest())
+}
+
+/// The argument as flags of a search, if it is made of whole word, match case and word start.
+#[tactic(auto, using(crate::proofs::Searching::flags_among))]
+fn search_flags(argument: i64) -> Option<u32>
+    ensures { result ≡ search_flags argument }
+{
+    let flags = within(0, SEARCH_FLAGS as usize, argument)? as u32;
+    if flags & SEARCH_FLAGS == flags {
+        Some(flags)
+    } else {
+        None
+    }
+}
+
+/// SETSEARCHFLAGS: how the target is searched from now on.
+pub fn set_search_flags(r: &Request) -> Planned
+    ensures { result ≡ set_search_flags r.now }
+{
+    match search_flags(r.message.w) {
+        Some(flags) => change_view(ViewChange::SetSearchFlags { flags }),
+        None => Err(Refusal::BadArgument),
+    }
+}
+
+/// Where a pattern stands in the target, as the view searches.
+#[tactic(auto, using(message_requests::specs::proved::Standing::length_text))]
+fn find_in_target(r: &Request, pattern: &[u8]) -> Option<usize>
+    requires { IsSoundRequest r.now }
+    ensures place { result ≡ match_in r.now.view.search_flags (text r.now) pattern.now r.now.view.target_start r.now.view.target_end }
+    ensures bounded { IfSome result (λ place. place + length pattern.now < 2 ^ 62) }
+{
+    let (first, second) = r.document.halves();
+    let flags = SearchFlags::new(r.view.search_flags());
+    let (start, end) = (r.target_start(), r.target_end());
+    target_search::find(flags, first, second, pattern, start, end)
+}
+
+/// The target becomes a match of `count` bytes, where one is found. Answers where it starts, or -1.
+fn found_target(count: usize, found: Option<usize>) -> Planned
+    requires { IfSome found (λ place. place + count < 2 ^ 63) }
+    ensures { result ≡ found_target count found }
+{
+    match found {
+        Some(start) => Ok(Plan::ChangeView {
+            change: ViewChange::SetTarget {
+                start,
+                end: start + count,
+            },
+            value: start as i64,
+        }),
+        None => answer(-1),
+    }
+}
+
+/// SEARCHINTARGET: the target becomes the match of the first `w` bytes of the message's text in it. Answers where it starts, or -1
+/// where there is none.
+pub fn search_in_target(r: &Request) -> Planned
+    requires { IsSoundRequest r.now }
+    ensures { result ≡ search_in_target r.now }
+{
+    match within(0, r.message.text.len(), r.message.w) {
+        Some(count) => found_target(count, find_in_target(r, &r.message.text[..count])),
+        None => Err(Refusal::BadArgument),
+    }
+}
+
+/// GETSEARCHFLAGS: how the target is searched.
+pub fn get_search_flags(r: &Request) -> Planned
+    ensures { result ≡ get_search_flags r.now }
+{
+    answer(i64::from(r.view.search_flags()))
+}
+
+/// How many bytes of a text of `size` replace the target: all of them for -1.
+fn replacement_length(size: usize, argument: i64) -> Option<usize>
+    ensures length { result ≡ replacement_length size argument }
+    ensures within { IfSome result (λ count. count ≤ size) }
+{
+    if is_minus_one(argument) {
+        Some(size)
+    } else {
+        within(0, size, argument)
+    }
+}
+
+/// REPLACETARGET: the first `w` bytes of the message's text in the place of the target, which goes from there behind them.
+pub fn replace_target(r: &Request) -> Planned
+    requires { IsSoundRequest r.now }
+    ensures { result ≡ replace_target r.now }
+{
+    let Some(count) = replacement_length(r.message.text.len(), r.message.w) else {
+        return Err(Refusal::BadArgument);
+    };
+    let start = r.target_least();
+    let replacement = Replacement {
+        start,
+        count: r.target_greatest() - start,
+        source: Source::MessageText { count },
+        added: count,
+    };
+    let end = start + count;
+    edit_plan(r, replacement, count as i64, Follow::Target { start, end })
+}

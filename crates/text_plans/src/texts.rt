@@ -1,0 +1,237 @@
+//! Plans of the messages on text and lines.
+
+ghost use Rattle.std.specs.Prelude.{◌≡◌, ◌≤◌, ◌<◌, ◌^◌, IfSome};
+ghost use Rattle.ed_model.specs.Numbers.{within};
+ghost use Rattle.ed_model.specs.PlansFit.{IsSoundRequest};
+ghost use Rattle.ed_model.specs.Requests.{answer, end_or_size, size, text, with_argument};
+ghost use Rattle.message_requests.specs.HandingOut.{handed_or_zero, handed_out};
+ghost use Rattle.ed_model.specs.TextPlans.{add_text, append_text, at_place, clear_all, delete_range, get_char_at, get_cur_line, get_length, get_line, get_line_count, get_line_end_position, get_text, get_text_range, insert_text, insertion_place, line_from_position, line_length, position_after, position_before, position_from_line, set_text};
+
+use ed_model::{Planned, Source};
+use ed_types::Refusal;
+use message_requests::answers::{HandedOut, bytes_between};
+use message_requests::arguments::{clamped, is_minus_one, line_among, within};
+use message_requests::edits::{Replacement, replace_and_go, replace_plan};
+use message_requests::{Request, past_argument};
+
+/// Where INSERTTEXT inserts: -1 is the caret.
+fn insertion_place(r: &Request, argument: i64) -> Option<usize>
+    requires { IsSoundRequest r.now }
+    ensures place { result ≡ insertion_place r.now argument }
+    ensures within { IfSome result (λ place. place ≤ size r.now) }
+{
+    if is_minus_one(argument) {
+        Some(r.caret())
+    } else {
+        within(0, r.size(), argument)
+    }
+}
+
+/// INSERTTEXT: puts the message's text in at `w`.
+pub fn insert_text(r: &Request) -> Planned
+    requires { IsSoundRequest r.now }
+    ensures { result ≡ insert_text r.now }
+{
+    let Some(start) = insertion_place(r, r.message.w) else {
+        return Err(Refusal::BadArgument);
+    };
+    let count = r.message.text.len();
+    replace_plan(r, Replacement::insertion(start, count))
+}
+
+/// ADDTEXT: puts the first `w` bytes of the message's text in at the caret, and goes behind them.
+pub fn add_text(r: &Request) -> Planned
+    requires { IsSoundRequest r.now }
+    ensures { result ≡ add_text r.now }
+{
+    match within(0, r.message.text.len(), r.message.w) {
+        Some(count) => replace_and_go(r, Replacement::insertion(r.caret(), count)),
+        None => Err(Refusal::BadArgument),
+    }
+}
+
+/// APPENDTEXT: puts the first `w` bytes of the message's text in at the end.
+pub fn append_text(r: &Request) -> Planned
+    ensures { result ≡ append_text r.now }
+{
+    match within(0, r.message.text.len(), r.message.w) {
+        Some(count) => replace_plan(r, Replacement::insertion(r.size(), count)),
+        None => Err(Refusal::BadArgument),
+    }
+}
+
+/// SETTEXT: the message's text in the place of the whole text.
+pub fn set_text(r: &Request) -> Planned
+    ensures { result ≡ set_text r.now }
+{
+    let added = r.message.text.len();
+    replace_plan(
+        r,
+        Replacement {
+            start: 0,
+            count: r.size(),
+            source: Source::MessageText { count: added },
+            added,
+        },
+    )
+}
+
+/// CLEARALL: deletes the whole text.
+pub fn clear_all(r: &Request) -> Planned
+    ensures { result ≡ clear_all r.now }
+{
+    replace_plan(r, Replacement::deletion(0, r.size()))
+}
+
+/// DELETERANGE: deletes `l` bytes from `w` on.
+pub fn delete_range(r: &Request) -> Planned
+    ensures { result ≡ delete_range r.now }
+{
+    let size = r.size();
+    let Some(start) = within(0, size, r.message.w) else {
+        return Err(Refusal::BadArgument);
+    };
+    let Some(count) = within(0, size - start, r.message.l) else {
+        return Err(Refusal::BadArgument);
+    };
+    replace_plan(r, Replacement::deletion(start, count))
+}
+
+/// GETLENGTH and GETTEXTLENGTH: the length of the text.
+pub fn get_length(r: &Request) -> i64
+    ensures { answer result ≡ get_length r.now }
+{
+    r.size() as i64
+}
+
+/// The byte at a place that may be outside the text; 0 there.
+fn byte_at(r: &Request, argument: i64) -> u8
+    ensures { result ≡ at_place (text r.now) argument }
+{
+    if argument < 0 {
+        return 0;
+    }
+    let place = argument as usize;
+    if place < r.size() { r.byte(place) } else { 0 }
+}
+
+/// GETCHARAT: the byte at `w`.
+pub fn get_char_at(r: &Request) -> i64
+    ensures { answer result ≡ get_char_at r.now }
+{
+    i64::from(byte_at(r, r.message.w))
+}
+
+/// GETTEXT: the whole text.
+pub fn get_text(r: &Request) -> HandedOut
+    ensures { handed_out result ≡ get_text r.now }
+{
+    bytes_between(0, r.size())
+}
+
+/// GETTEXTRANGE: the bytes from `w` up to `l`, where -1 is the end of the text; none where there is no such range, which is refused.
+pub fn get_text_range(r: &Request) -> Option<HandedOut>
+    ensures { with_argument result handed_out ≡ get_text_range r.now }
+{
+    let Some(start) = within(0, r.size(), r.message.w) else {
+        return None;
+    };
+    match past_argument(r, start) {
+        Some(past) => Some(bytes_between(start, past)),
+        None => None,
+    }
+}
+
+/// GETLINECOUNT: how many lines there are.
+pub fn get_line_count(r: &Request) -> i64
+    ensures { answer result ≡ get_line_count r.now }
+{
+    r.line_total() as i64
+}
+
+/// GETLINE: the bytes of line `w`, its end with them; none where there is no such line, for which 0 is answered.
+pub fn get_line(r: &Request) -> Option<HandedOut>
+    ensures { handed_or_zero result ≡ get_line r.now }
+{
+    match line_among(r.line_total(), r.message.w) {
+        Some(line) => Some(bytes_between(r.line_start(line), r.line_past(line))),
+        None => None,
+    }
+}
+
+/// GETCURLINE: the caret's line, and where in it the caret stands.
+pub fn get_cur_line(r: &Request) -> HandedOut
+    requires { IsSoundRequest r.now }
+    ensures { handed_out result ≡ get_cur_line r.now }
+{
+    let caret = r.caret();
+    let line = r.line_at(caret);
+    let start = r.line_start(line);
+    HandedOut {
+        value: caret.saturating_sub(start) as i64,
+        start,
+        count: r.line_past(line).saturating_sub(start),
+    }
+}
+
+/// LINELENGTH: how many bytes line `w` has, its end with them.
+pub fn line_length(r: &Request) -> i64
+    ensures { answer result ≡ line_length r.now }
+{
+    match line_among(r.line_total(), r.message.w) {
+        Some(line) => r.line_past(line).saturating_sub(r.line_start(line)) as i64,
+        None => 0,
+    }
+}
+
+/// GETLINEENDPOSITION: where the end of line `w` begins; the end of the text for the last line and all behind it.
+pub fn get_line_end_position(r: &Request) -> i64
+    ensures { answer result ≡ get_line_end_position r.now }
+{
+    if r.message.w < 0 {
+        return -1;
+    }
+    r.line_end(r.message.w as usize) as i64
+}
+
+/// LINEFROMPOSITION: the line that holds `w`, brought into the text.
+pub fn line_from_position(r: &Request) -> i64
+    ensures { answer result ≡ line_from_position r.now }
+{
+    r.line_at(clamped(r.size(), r.message.w)) as i64
+}
+
+/// POSITIONFROMLINE: the start of line `w`; of the selection's line for a negative one; the end of the text just behind the last
+/// line; -1 for what is further behind.
+pub fn position_from_line(r: &Request) -> i64
+    requires { IsSoundRequest r.now }
+    ensures { answer result ≡ position_from_line r.now }
+{
+    if r.message.w < 0 {
+        let line = r.line_at(r.selection_start());
+        return r.line_start(line) as i64;
+    }
+    let line = r.message.w as usize;
+    let count = r.line_total();
+    if line < count {
+        r.line_start(line) as i64
+    } else if line == count {
+        r.size() as i64
+    } else {
+        -1
+    }
+}
+
+/// POSITIONBEFORE: the cut between characters before `w`, brought into the text.
+pub fn position_before(r: &Request) -> i64
+    ensures { answer result ≡ position_before r.now }
+{
+    r.cut_before(clamped(r.size(), r.message.w)) as i64
+}
+
+/// POSITIONAFTER: the cut between characters behind `w`, brought into the text.
+pub fn position_after(r: &Request) -> i64
+    ensures { answer result ≡ position_after r.now }
+{
+    r.cut_after(clamped(r.size(), r.message.w)) as i64
+}
