@@ -27,9 +27,9 @@ IMPL = re.compile(r"^impl\b.*", re.M)
 REFUSED = re.compile(r"^fn (\S+): (?:not proved|no proof(?!: it calls))", re.M)
 UNSEEN = re.compile(r"^fn (\S+): no proof: it calls", re.M)
 TOLD = re.compile(r"^(?:note: )?\S+:\d+:\d+: .*", re.M)
-# What `rt ci` prints of a crate, and last.
-PROVED = re.compile(r"^rt: (\w+) proved$", re.M)
-ENDED = re.compile(r"^\d+ passed, \d+ failed$", re.M)
+# What `rt ci` prints of a crate that it proves, of one that an earlier run on this machine proved, and last.
+PROVED = re.compile(r"^rt: (\w+) (?:proved$|is kept: )", re.M)
+ENDED = re.compile(r"^\d+ passed, (\d+) failed$", re.M)
 
 
 class Body:
@@ -187,15 +187,17 @@ def groups_of(crate, pages):
 
 
 def as_proved(crates, beside):
-    """The crates, each once `rt ci` has proved it, as the file says; at once where there is none. Ends where `rt ci` has ended."""
+    """The crates, each once `rt ci` has proved it, as the file says; at once where there is none. Where `rt ci` has ended, the others too if
+    it has passed, else none of them."""
     left = list(crates)
     while beside and left:
         with open(beside, encoding="utf-8", errors="replace") as it:
             said = it.read()
-        proved = set(PROVED.findall(said))
+        ended = ENDED.search(said)
+        proved = set(left if ended and ended[1] == "0" else PROVED.findall(said))
         yield from (it for it in left if it in proved)
         left = [it for it in left if it not in proved]
-        if ENDED.search(said):
+        if ended:
             break
         time.sleep(5)
     if not beside:
