@@ -1,6 +1,6 @@
 //! `NoteList`.
 
-ghost use Rattle.std.specs.Prelude.{◌≡◌, List, ℕ, ◌+◌, ◌-◌, ◌<◌, ◌≤◌, [], ◌∷◌, ◌++◌, length, max, OnOk, OnErr, IsOk, vec_len, vec_capacity};
+ghost use Rattle.std.specs.Prelude.{◌≡◌, ◌==◌, List, ℕ, ◌+◌, ◌-◌, ◌<◌, ◌≤◌, [], ◌∷◌, ◌++◌, length, max, OnOk, OnErr, IsOk, vec_len, vec_capacity};
 ghost use Rattle.ed_model.specs.Notes.{blank};
 ghost use Rattle.ed_types.specs.Heard.{with_text};
 ghost use Rattle.notify.specs.Gathered.{gathered};
@@ -77,6 +77,13 @@ impl NoteList {
         self.note_room = self.note_room.max(notes);
         self.text_room = self.text_room.max(bytes);
         Ok(())
+    }
+
+    /// Returns whether there is room for no note more: then nobody is to hear of what is told, and no note has to be set up.
+    pub fn is_full(&self) -> bool
+        ensures { result ≡ (self.now.note_room == 0) }
+    {
+        self.note_room == 0
     }
 
     /// Shares a text among the notes to come, in place of the one that was shared. It comes in two halves, as a gap buffer lends it.
