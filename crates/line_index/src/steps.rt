@@ -65,15 +65,15 @@ fn put_in<P: Place>(
         old_lines,
     };
     let first = line + 1;
-    let last = last_near(types, &old_lines);
-    remove_starts(starts, first, last + 1);
+    let behind = last_near(types, &old_lines) + 1;
+    remove_starts(starts, first, behind);
     starts.insert_text(first - 1, count);
     let end = place + count;
     let long = starts.length();
     let to = look_to(types, end, long);
     let near = place.saturating_sub(3);
     add_starts(starts, types, before, after, near, first, place.max(1), to);
-    let new_lines = lines_after_step(starts, end, &about, lines);
+    let new_lines = lines_after_step(starts, end, &about, behind - first, lines);
     LineChange {
         before: about.before,
         old_lines,
@@ -110,14 +110,14 @@ fn take_out<P: Place>(
         old_lines,
     };
     let first = line + 1;
-    let last = last_near(types, &old_lines);
-    remove_starts(starts, first, last + 1);
+    let behind = last_near(types, &old_lines) + 1;
+    remove_starts(starts, first, behind);
     starts.delete_text(first - 1, count);
     let long = starts.length();
     let to = look_to(types, place, long);
     let near = place.saturating_sub(3);
     add_starts(starts, types, before, after, near, first, place.max(1), to);
-    let new_lines = lines_after_step(starts, place, &about, lines);
+    let new_lines = lines_after_step(starts, place, &about, behind - first, lines);
     LineChange {
         before: about.before,
         old_lines,
