@@ -310,7 +310,7 @@ fn add_from<P: Place>(
 
 // Puts the line starts from `from` up to `to` in before line `first`, told by the bytes about those places alone, of which
 // the first stands at `base`. There is none there yet, and there must be room for them. Mostly no line starts in all of it,
-// as one look at the bytes tells.
+// as one look at the bytes tells, or behind the last of them alone, as where a line end was typed.
 #[inline(always)]
 pub(crate) fn add_starts<P: Place>(
     starts: &mut Partitioning<P>,
@@ -331,6 +331,10 @@ pub(crate) fn add_starts<P: Place>(
 {
     let place = base + next_place(types, before, after, from - base - 1, to - base);
     if place == to {
+        return;
+    }
+    if place + 1 == to {
+        let _ = add_at(starts, types, before, after, base, first, place);
         return;
     }
     add_from(starts, types, before, after, base, first, place, to);
