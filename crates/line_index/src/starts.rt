@@ -259,6 +259,9 @@ pub(crate) fn lines_after_step<P: Place>(
     }
     let came = count.saturating_sub(lines);
     let likely = about.before.saturating_sub(1).saturating_add(came);
+    if let Some(lines) = few_lines(starts, end, end, end.saturating_add(2), likely) {
+        return lines;
+    }
     lines_near(starts, end, likely)
 }
 
