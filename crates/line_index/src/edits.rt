@@ -206,6 +206,12 @@ impl LineChange {
         }
         let old = &self.old_lines;
         let new = &self.new_lines;
+        // one new line holds all three places, as where a line end was typed inside a line
+        if new.one_behind == new.at && new.two_behind == new.at {
+            let count = (old.two_behind + 1).saturating_sub(self.before);
+            settle(&mut edits, self.before, new.at, count);
+            return edits;
+        }
         let first = last_line_at(old, new);
         let second = last_line_one_behind(old, new);
         settle(
