@@ -109,12 +109,13 @@ fn delete_from<P: Place>(slot: &mut Slot<P>, place: usize, count: usize)
     requires { IfSome slot.old (λ runs. place + count ≤ length runs.values) }
     ensures { GaveAway place count slot.old slot.new }
 {
-    let Some(mut runs) = slot.take() else {
+    let Some(runs) = slot else {
         return;
     };
     runs.delete_range(place, count);
-    if !runs.is_all(0) {
-        *slot = Some(runs);
+    let is_clear = runs.is_all(0);
+    if is_clear {
+        *slot = None;
     }
 }
 

@@ -1,47 +1,65 @@
 -- A step that takes no line start away and brings none leaves the lines near its end as they were.
-use Rattle.std.proofs.Common.{◌≡◌, ℕ, ◌+◌, ◌≤◌, List, length, refl, sym, ap, ◌∙◌, arith}
+use Rattle.std.proofs.Common.{◌≡◌, ℕ, ◌+◌, ◌-◌, ◌<◌, ◌≤◌, min, max, List, [], ◌++◌, length, take, drop, map, refl, sym, ap, ◌∙◌, arith, append-nil}
+use Rattle.std.proofs.lemmas.Bool.Decides.{nat_tests}
+use Rattle.std.proofs.lemmas.List.{nil_from_length}
 use Rattle.ed_model.specs.declared.plan.LineEndTypes.{LineEndTypes}
 use Rattle.ed_model.specs.Lines.{line_starts, line_of}
-use Rattle.ed_model.specs.NeighbourLaws.{count_before}
 use Rattle.line_index.specs.declared.change.NearLines.{NearLines}
 use Rattle.line_index.specs.Change.{near_lines}
-use Rattle.line_index.specs.Index.{index}
-use Rattle.line_index.proofs.Finding.{near_at}
-use Rattle.line_index.proofs.MovedLines.{about_in, about_out}
-use Rattle.line_index.proofs.StepLists.{Insertion, Deletion}
+use Rattle.line_index.specs.Index.{index, last_touched, starts_within}
+use Rattle.line_index.proofs.StepLists.{Insertion, Deletion, range_about, counted_about, stays_about}
+use Rattle.line_index.proofs.TouchedStarts.{touched_near, touched_in, touched_out}
 
-three : {i j k i' j' k' : ℕ} → i ≡ i' → j ≡ j' → k ≡ k' → near_at i j k ≡ near_at i' j' k'
-three {i} {j} {k} {i'} {j'} {k'} e f g = rw (e, f, g) refl
+-- where nothing was taken away and there are as many starts as before, none was found
+none_found :
+    (f : ℕ → ℕ) (starts found new : List ℕ) (i j : ℕ) → i ≤ j → j ≤ length starts → i ≡ j → length new ≡ length starts
+    → take i starts ++ found ++ map f (drop j starts) ≡ new → new ≡ take i starts ++ map f (drop j starts)
+none_found f starts found new i j a b same size law =
+    let none : found ≡ [] = nil_from_length found (omega (arith, counted_about f starts found new i j a b law)) in
+    sym law ∙ rw (none, append-nil (take i starts)) refl
 
--- of lines about a step of which the old ones are one that began in front of it, with as many lines as before
-one_stays :
-    (before a b c a' b' c' lines news : ℕ) → a ≤ b → b ≤ c → a' ≤ b' → b' ≤ c' → before ≤ a + 1 → before ≤ a' + 1 → lines + c' ≡ news + c → news ≡ lines → c + 1 ≡ before → near_at a b c ≡ near_at a' b' c'
-one_stays before a b c a' b' c' lines news e f g h i j others same one = three (omega arith) (omega arith) (omega arith)
+near_is : {i j k i' j' k' : ℕ} → i ≡ i' → j ≡ j' → k ≡ k' → (let near : NearLines = record { at = i; one_behind = j; two_behind = k } in near) ≡ record { at = i'; one_behind = j'; two_behind = k' }
+near_is {i} {j} {k} {i'} {j'} {k'} e f g = rw (e, f, g) refl
 
-module _ (types : LineEndTypes) (place count end room : ℕ) (text starts : List ℕ) (w : Insertion place count text (index types starts end room)) where
-  pub stay_in : (news : List ℕ) (lines : NearLines) (before : ℕ) → news ≡ line_starts types text → length news ≡ length starts → lines ≡ near_lines starts place → before ≡ count_before place starts → lines.two_behind + 1 ≡ before → lines ≡ near_lines news (place + count)
-  stay_in news lines before e same l b one =
-      let olds : List ℕ = line_starts types w.old in
-      let texts : List ℕ = line_starts types text in
-      let was : starts ≡ olds = w.index.starts in
-      let about = about_in types place count end room text starts w 0 in
-      l ∙ ap (λ xs. near_lines xs place) was
-      ∙ one_stays (count_before place olds) (line_of olds place) (line_of olds (place + 1)) (line_of olds (place + 2)) (line_of texts (place + count)) (line_of texts (place + count + 1)) (line_of texts (place + count + 2)) (length olds) (length texts)
-      about.old_one about.old_two about.new_one about.new_two about.before_old about.before_new about.others
-      (ap length (sym e) ∙ same ∙ ap length was)
-      (ap (λ xs. line_of xs (place + 2) + 1) (sym was) ∙ ap (λ (n : NearLines). n.two_behind + 1) (sym l) ∙ one ∙ b ∙ ap (count_before place) was)
-      ∙ ap (λ xs. near_lines xs (place + count)) (sym e)
+module _ (types : LineEndTypes) (place count end room : ℕ) (text starts : List ℕ) (w : Insertion place count text (index types starts end room))
+    (i j : ℕ) (a : i ≡ line_of starts (place - 1) + 1) (b : j ≡ line_of starts (last_touched types place) + 1) (same : i ≡ j)
+    (news : List ℕ) (is : news ≡ line_starts types text) (size : length news ≡ length starts) where
+  new_in : news ≡ take i starts ++ map (λ s. s + count) (drop j starts)
+  new_in =
+      let range = range_about types w.old starts place place (last_touched types place) i j w.index.starts (omega arith) (omega (arith, touched_near types place)) a b in
+      let from : ℕ = max place 1 in
+      let to : ℕ = min (last_touched types (place + count) + 1) (length text + 1) in
+      none_found (λ s. s + count) starts (starts_within types text from to) news i j (omega (arith, range)) (omega (arith, range)) same size
+      (touched_in types place count end room text starts w i j from to a b refl refl ∙ sym is)
 
-module _ (types : LineEndTypes) (place count end room : ℕ) (text starts : List ℕ) (w : Deletion place count text (index types starts end room)) where
-  pub stay_out : (news : List ℕ) (lines : NearLines) (before : ℕ) → news ≡ line_starts types text → length news ≡ length starts → lines ≡ near_lines starts (place + count) → before ≡ count_before place starts → lines.two_behind + 1 ≡ before → lines ≡ near_lines news place
-  stay_out news lines before e same l b one =
-      let olds : List ℕ = line_starts types w.old in
-      let texts : List ℕ = line_starts types text in
-      let was : starts ≡ olds = w.index.starts in
-      let about = about_out types place count end room text starts w 0 in
-      l ∙ ap (λ xs. near_lines xs (place + count)) was
-      ∙ one_stays (count_before place olds) (line_of olds (place + count)) (line_of olds (place + count + 1)) (line_of olds (place + count + 2)) (line_of texts place) (line_of texts (place + 1)) (line_of texts (place + 2)) (length olds) (length texts)
-      about.old_one about.old_two about.new_one about.new_two about.before_old about.before_new about.others
-      (ap length (sym e) ∙ same ∙ ap length was)
-      (ap (λ xs. line_of xs (place + count + 2) + 1) (sym was) ∙ ap (λ (n : NearLines). n.two_behind + 1) (sym l) ∙ one ∙ b ∙ ap (count_before place) was)
-      ∙ ap (λ xs. near_lines xs place) (sym e)
+  line_in : (m x x' : ℕ) → x ≡ place + m → x' ≡ place + count + m → line_of starts x ≡ line_of news x'
+  line_in m x x' e f =
+      sym (ap (λ xs. line_of xs x') new_in
+      ∙ stays_about types w.old starts (λ s. s + count) place place (last_touched types place) i j x x' w.index.starts (omega arith) (omega (arith, touched_near types place)) a b same
+      (omega arith) (omega arith) (λ s l. grind (arith, nat_tests)))
+
+  pub stay_in : (lines : NearLines) → lines ≡ near_lines starts place → lines ≡ near_lines news (place + count)
+  stay_in lines l =
+      l ∙ near_is (line_in 0 place (place + count) (omega arith) (omega arith)) (line_in 1 (place + 1) (place + count + 1) refl refl) (line_in 2 (place + 2) (place + count + 2) refl refl)
+
+module _ (types : LineEndTypes) (place count end room : ℕ) (text starts : List ℕ) (w : Deletion place count text (index types starts end room))
+    (i j : ℕ) (a : i ≡ line_of starts (place - 1) + 1) (b : j ≡ line_of starts (last_touched types (place + count)) + 1) (same : i ≡ j)
+    (news : List ℕ) (is : news ≡ line_starts types text) (size : length news ≡ length starts) where
+  new_out : news ≡ take i starts ++ map (λ s. s - count) (drop j starts)
+  new_out =
+      let range = range_about types w.old starts place (place + count) (last_touched types (place + count)) i j w.index.starts (omega arith) (omega (arith, touched_near types (place + count))) a b in
+      let from : ℕ = max place 1 in
+      let to : ℕ = min (last_touched types place + 1) (length text + 1) in
+      none_found (λ s. s - count) starts (starts_within types text from to) news i j (omega (arith, range)) (omega (arith, range)) same size
+      (touched_out types place count end room text starts w i j from to a b refl refl ∙ sym is)
+
+  line_out : (m x x' : ℕ) → x ≡ place + count + m → x' ≡ place + m → line_of starts x ≡ line_of news x'
+  line_out m x x' e f =
+      let past = touched_near types (place + count) in
+      sym (ap (λ xs. line_of xs x') new_out
+      ∙ stays_about types w.old starts (λ s. s - count) place (place + count) (last_touched types (place + count)) i j x x' w.index.starts (omega arith) (omega (arith, past)) a b same
+      (omega arith) (omega arith) (λ s l. let behind : place + count < s = omega (arith, past) in grind (arith, nat_tests)))
+
+  pub stay_out : (lines : NearLines) → lines ≡ near_lines starts (place + count) → lines ≡ near_lines news place
+  stay_out lines l =
+      l ∙ near_is (line_out 0 (place + count) place (omega arith) (omega arith)) (line_out 1 (place + count + 1) (place + 1) refl refl) (line_out 2 (place + count + 2) (place + 2) refl refl)

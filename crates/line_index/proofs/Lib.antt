@@ -18,3 +18,4 @@ pub mod StartLists
 pub mod StepCarries
 pub mod StepLists
 pub mod TextBytes
+pub mod TouchedStarts

@@ -55,7 +55,7 @@ module _ (types : LineEndTypes) (old new : List ℕ) (p e e' i j from to : ℕ) 
   front = take i olds ++ starts_within types new from to
 
   within : (0 < i) × (i ≤ j) × (j ≤ length olds)
-  within = range types old p e i j o a b
+  within = range types old p e (e + 2) i j o (omega arith) a b
 
   front_kept : length (take i olds) ≡ i
   front_kept = length-take-le i olds (omega (arith, within))

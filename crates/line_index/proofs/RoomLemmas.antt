@@ -114,7 +114,7 @@ few_inserted types place bytes text h =
     let j : ℕ = line_of starts (place + 2) + 1 in
     let from : ℕ = max place 1 in
     let to : ℕ = min (place + length bytes + 3) (length new + 1) in
-    let within = range_about types text starts place place i j refl (omega arith) refl refl in
+    let within = range_about types text starts place place (place + 2) i j refl (omega arith) (omega arith) refl refl in
     let found = found_in types place (length bytes) (length text) 0 new starts w i j from to refl refl refl refl in
     omega (
       arith,
@@ -133,7 +133,7 @@ few_deleted types place count text h =
     let j : ℕ = line_of starts (place + count + 2) + 1 in
     let from : ℕ = max place 1 in
     let to : ℕ = min (place + 3) (length new + 1) in
-    let within = range_about types text starts place (place + count) i j refl (omega arith) refl refl in
+    let within = range_about types text starts place (place + count) (place + count + 2) i j refl (omega arith) (omega arith) refl refl in
     let found = found_out types place count (length text) (line_count types new) new starts w i j from to refl refl refl refl in
     omega (
       arith,

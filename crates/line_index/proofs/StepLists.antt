@@ -1,8 +1,8 @@
 -- Line starts about a step: which stay, which are taken away, and that the ones found in the new text are those that were
 -- missing.
-use Rattle.std.proofs.Common.{◌≡◌, ℕ, zero, suc, ◌+◌, ◌-◌, ◌<◌, ◌≤◌, min, max, List, [], ◌∷◌, ◌++◌, length, get_or, take, drop, slice_range, map, filter, ltb, refl, sym, ap, subst, ◌∙◌, inl, inr, arith, append_assoc, length-append, length-drop, append-nil}
+use Rattle.std.proofs.Common.{◌≡◌, ℕ, zero, suc, ◌+◌, ◌-◌, ◌<◌, ◌≤◌, min, max, List, [], ◌∷◌, ◌++◌, length, get_or, take, drop, slice_range, map, filter, count_by, leb, ltb, Bool, refl, sym, ap, subst, ◌∙◌, inl, inr, arith, append_assoc, length-append, length-drop, append-nil}
 use Rattle.std.specs.List.{range_with_len}
-use Rattle.std.proofs.lemmas.Bool.{cases_lt, cases_eq, le-ltb}
+use Rattle.std.proofs.lemmas.Bool.{cases_lt, cases_eq, le-leb, le-ltb}
 use Rattle.std.proofs.lemmas.List.{length-take, length-take-le, length-map, get_or-take, get_or-drop, get_or-map, get_or-append-add}
 use Rattle.std.proofs.Math.ListN.{get_or-append}
 use Rattle.ed_model.specs.declared.plan.LineEndTypes.{LineEndTypes}
@@ -54,16 +54,25 @@ map_same : (xs : List ℕ) → map (λ s. s) xs ≡ xs
 map_same [] = refl
 map_same (x ∷ xs) = ap (λ l. x ∷ l) (map_same xs)
 
+-- as many numbers pass, where each passes as the one of the other list does
+counts_agree : (xs ys : List ℕ) (r t : ℕ → Bool) → length xs ≡ length ys → ((k : ℕ) → k < length xs → r (get_or xs k 0) ≡ t (get_or ys k 0)) → count_by r xs ≡ count_by t ys
+counts_agree [] [] r t e same = refl
+counts_agree [] (y ∷ ys) r t e same = absurd (omega arith)
+counts_agree (x ∷ xs) [] r t e same = absurd (omega arith)
+counts_agree (x ∷ xs) (y ∷ ys) r t e same =
+    let first : r x ≡ t y = same 0 (omega arith) in
+    rw (count-cons r x xs, count-cons t y ys, first, counts_agree xs ys r t (omega arith) (λ k l. same (suc k) (omega arith))) refl
+
 -- About a step that ends at e, in the old text: i is the line behind that of the byte before the step, and j the line behind
--- that of the third byte behind it.
-module _ (types : LineEndTypes) (text : List ℕ) (p e i j : ℕ) (o : p ≤ e)
-    (a : i ≡ line_of (line_starts types text) (p - 1) + 1) (b : j ≡ line_of (line_starts types text) (e + 2) + 1) where
+-- that of a place q at its end or behind it, up to which line starts may hang on what the step did.
+module _ (types : LineEndTypes) (text : List ℕ) (p e q i j : ℕ) (o : p ≤ e) (past : e ≤ q)
+    (a : i ≡ line_of (line_starts types text) (p - 1) + 1) (b : j ≡ line_of (line_starts types text) q + 1) where
   abbrev starts : List ℕ
   starts = line_starts types text
 
   pub range : (0 < i) × (i ≤ j) × (j ≤ length starts)
   range =
-      (omega arith, omega (arith, line_of_monotone starts (p - 1) (e + 2) (omega arith)), omega (arith, line_of_lt starts (e + 2) (some_line types text)))
+      (omega arith, omega (arith, line_of_monotone starts (p - 1) q (omega arith)), omega (arith, line_of_lt starts q (some_line types text)))
 
   -- the starts that stay, and those that move by f
   abbrev kept : (ℕ → ℕ) → List ℕ
@@ -84,7 +93,7 @@ module _ (types : LineEndTypes) (text : List ℕ) (p e i j : ℕ) (o : p ≤ e)
       rw (at, get_or-append-add (take i starts) (map f (drop j starts)) n 0, get_or-map f (drop j starts) n 0 0 m, get_or-drop j starts n 0) refl
 
   -- so the places between are free
-  free : (f : ℕ → ℕ) (from to end : ℕ) → ((s : ℕ) → e + 3 ≤ s → to ≤ f s) → from ≡ max p 1 → from ≤ to → to ≤ end + 1 → IsFree (kept f) end from to i
+  free : (f : ℕ → ℕ) (from to end : ℕ) → ((s : ℕ) → q + 1 ≤ s → to ≤ f s) → from ≡ max p 1 → from ≤ to → to ≤ end + 1 → IsFree (kept f) end from to i
   free f from to end moves c d g =
       let size = length-append (take i starts) (map f (drop j starts)) in
       let moved = length-map (drop j starts) f in
@@ -97,7 +106,7 @@ module _ (types : LineEndTypes) (text : List ℕ) (p e i j : ℕ) (o : p ≤ e)
             let n : ℕ = k - i in
             let at : k ≡ i + n = omega arith in
             let w : j + n < length starts = omega (arith, size, moved, rest, front_size, range) in
-            rw (at, kept_back f n w) (moves (get_or starts (j + n) 0) (omega (arith, behind types text (e + 2) (j + n) w (omega arith))));
+            rw (at, kept_back f n w) (moves (get_or starts (j + n) 0) (omega (arith, behind types text q (j + n) w (omega arith))));
         order = d;
         to_end = g;
       }
@@ -115,11 +124,29 @@ module _ (types : LineEndTypes) (text : List ℕ) (p e i j : ℕ) (o : p ≤ e)
       record {
         before_next = λ l.
             let w : j + 0 < length starts = omega (arith, size, rest, front_size, range) in
-            let next : e + 2 < get_or (take i starts ++ drop j starts) (i + 0) 0 =
-            rw (← (map_same (drop j starts)), kept_back same 0 w) (behind types text (e + 2) (j + 0) w (omega arith)) in
+            let next : q < get_or (take i starts ++ drop j starts) (i + 0) 0 =
+            rw (← (map_same (drop j starts)), kept_back same 0 w) (behind types text q (j + 0) w (omega arith)) in
             rw first (omega (arith, next, here));
         before_end = omega (arith, here);
       }
+
+  -- where none is taken away, a place behind the step is on the line on which it was, if the starts move as it does
+  stays : (f : ℕ → ℕ) (x x' : ℕ) → i ≡ j → p ≤ x → p ≤ x' → ((s : ℕ) → q < s → leb (f s) x' ≡ leb s x) → line_of (kept f) x' ≡ line_of starts x
+  stays f x x' same g h moves =
+      let size : length (kept f) ≡ length starts = omega (arith, length-append (take i starts) (map f (drop j starts)), length-map (drop j starts) f, length-drop j starts, front_size, range) in
+      let each : (k : ℕ) → k < length (kept f) → leb (get_or (kept f) k 0) x' ≡ leb (get_or starts k 0) x =
+      λ k l. elim (cases_lt k i) [
+        | inl front ↦
+            let near : get_or starts k 0 ≤ p = omega (arith, at_most types text (p - 1) k (omega (arith, range)) (omega arith)) in
+            rw (kept_front f k front) (le-leb (get_or starts k 0) x' (omega arith) ∙ sym (le-leb (get_or starts k 0) x (omega arith)))
+        | inr back ↦
+            let n : ℕ = k - i in
+            let at : k ≡ i + n = omega arith in
+            let there : i + n ≡ j + n = omega arith in
+            let w : j + n < length starts = omega arith in
+            rw (at, kept_back f n w, there) (moves (get_or starts (j + n) 0) (behind types text q (j + n) w (omega arith)))
+      ] in
+      ap (λ n. n - 1) (counts_agree (kept f) starts (λ s. leb s x') (λ s. leb s x) size each)
 
 pub none_below_zero : (xs : List ℕ) → count_before 0 xs ≡ 0
 none_below_zero [] = refl
@@ -180,20 +207,26 @@ found_all types step text new mid f n i j from to law about a b c d g =
 -- The same for a list that is that of the old text's line starts.
 
 pub range_about :
-    (types : LineEndTypes) (text starts : List ℕ) (p e i j : ℕ) → starts ≡ line_starts types text → p ≤ e
-    → i ≡ line_of starts (p - 1) + 1 → j ≡ line_of starts (e + 2) + 1 → (0 < i) × (i ≤ j) × (j ≤ length starts)
-range_about types text starts p e i j s o a b = rw s (range types text p e i j o (rw s at a) (rw s at b))
+    (types : LineEndTypes) (text starts : List ℕ) (p e q i j : ℕ) → starts ≡ line_starts types text → p ≤ e → e ≤ q
+    → i ≡ line_of starts (p - 1) + 1 → j ≡ line_of starts q + 1 → (0 < i) × (i ≤ j) × (j ≤ length starts)
+range_about types text starts p e q i j s o past a b = rw s (range types text p e q i j o past (rw s at a) (rw s at b))
 
 pub free_about :
-    (types : LineEndTypes) (text starts : List ℕ) (f : ℕ → ℕ) (p e i j from to end : ℕ) → starts ≡ line_starts types text → p ≤ e
-    → i ≡ line_of starts (p - 1) + 1 → j ≡ line_of starts (e + 2) + 1 → ((s : ℕ) → e + 3 ≤ s → to ≤ f s)
+    (types : LineEndTypes) (text starts : List ℕ) (f : ℕ → ℕ) (p e q i j from to end : ℕ) → starts ≡ line_starts types text → p ≤ e → e ≤ q
+    → i ≡ line_of starts (p - 1) + 1 → j ≡ line_of starts q + 1 → ((s : ℕ) → q + 1 ≤ s → to ≤ f s)
     → from ≡ max p 1 → from ≤ to → to ≤ end + 1 → IsFree (take i starts ++ map f (drop j starts)) end from to i
-free_about types text starts f p e i j from to end s o a b = rw s (free types text p e i j o (rw s at a) (rw s at b) f from to end)
+free_about types text starts f p e q i j from to end s o past a b = rw s (free types text p e q i j o past (rw s at a) (rw s at b) f from to end)
 
 pub loses_about :
-    (types : LineEndTypes) (text starts : List ℕ) (p e i j count end : ℕ) → starts ≡ line_starts types text → p ≤ e
-    → i ≡ line_of starts (p - 1) + 1 → j ≡ line_of starts (e + 2) + 1 → p + count ≡ e → e ≤ end → CanLose (take i starts ++ drop j starts) end (i - 1) count
-loses_about types text starts p e i j count end s o a b = rw s (loses types text p e i j o (rw s at a) (rw s at b) count end)
+    (types : LineEndTypes) (text starts : List ℕ) (p e q i j count end : ℕ) → starts ≡ line_starts types text → p ≤ e → e ≤ q
+    → i ≡ line_of starts (p - 1) + 1 → j ≡ line_of starts q + 1 → p + count ≡ e → e ≤ end → CanLose (take i starts ++ drop j starts) end (i - 1) count
+loses_about types text starts p e q i j count end s o past a b = rw s (loses types text p e q i j o past (rw s at a) (rw s at b) count end)
+
+pub stays_about :
+    (types : LineEndTypes) (text starts : List ℕ) (f : ℕ → ℕ) (p e q i j x x' : ℕ) → starts ≡ line_starts types text → p ≤ e → e ≤ q
+    → i ≡ line_of starts (p - 1) + 1 → j ≡ line_of starts q + 1 → i ≡ j → p ≤ x → p ≤ x' → ((s : ℕ) → q < s → leb (f s) x' ≡ leb s x)
+    → line_of (take i starts ++ map f (drop j starts)) x' ≡ line_of starts x
+stays_about types text starts f p e q i j x x' s o past a b = rw s (stays types text p e q i j o past (rw s at a) (rw s at b) f x x')
 
 pub counted_about : (f : ℕ → ℕ) (starts found new : List ℕ) (i j : ℕ) → i ≤ j → j ≤ length starts → take i starts ++ found ++ map f (drop j starts) ≡ new → length new + (j - i) ≡ length starts + length found
 counted_about f starts found new i j a b e =

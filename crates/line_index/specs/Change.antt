@@ -1,5 +1,7 @@
 -- What a step does to lines: which new line each old one comes to.
 use Rattle.std.specs.Prelude.{◌≡◌, ℕ, ◌+◌, ◌-◌, ◌<◌, ◌==◌, nat_lt, nat_le, if◌then◌else◌, List, length, slice_index}
+use Rattle.ed_model.specs.declared.plan.LineEndTypes.{LineEndTypes}
+use Rattle.ed_model.specs.declared.plan.LineEndTypes.TheVariants.{Default, Unicode}
 use Rattle.ed_model.specs.Lines.{line_of}
 use Rattle.ed_model.specs.NeighbourLaws.{count_before}
 use Rattle.line_index.specs.declared.change.NearLines.{NearLines}
@@ -10,6 +12,11 @@ use Rattle.line_index.specs.declared.change.LineChange.{LineChange}
 abbrev pub near_lines : List ℕ → ℕ → NearLines
 near_lines starts place =
     record { at = line_of starts place; one_behind = line_of starts (place + 1); two_behind = line_of starts (place + 2) }
+
+-- of these lines, that of the last place at which a line start may hang on the step
+abbrev pub last_line : LineEndTypes → NearLines → ℕ
+last_line Default lines = lines.at
+last_line Unicode lines = lines.two_behind
 
 -- the lines about a step, before it: how many start in front of its place, and those at the end of what it takes away
 abbrev pub lines_about : ℕ → ℕ → List ℕ → LinesAbout

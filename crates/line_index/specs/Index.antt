@@ -3,6 +3,7 @@ use Rattle.std.specs.Prelude.{◌≡◌, ℕ, ◌+◌, ◌-◌, ◌<◌, ◌≤�
 use Rattle.std.specs.List.{range_with_len}
 use Rattle.std.specs.Int.{bit_at}
 use Rattle.ed_model.specs.declared.plan.LineEndTypes.{LineEndTypes}
+use Rattle.ed_model.specs.declared.plan.LineEndTypes.TheVariants.{Default, Unicode}
 use Rattle.ed_model.specs.Lines.{is_line_start, line_starts, line_count}
 use Rattle.ed_model.specs.Steps.{Insert, edited}
 use Rattle.partitioning.specs.Partitions.{Partitions}
@@ -88,3 +89,9 @@ pub record WereAdded (types : LineEndTypes) (near : List ℕ) (base from to at n
 -- of the 64 places from one on, a line can start at those alone whose bit is set
 abbrev pub MarkStarts : LineEndTypes → List ℕ → ℕ → ℕ → Type 0
 MarkStarts types text place marks = (k : ℕ) → k < 64 → bit_at marks k ≡ 0 → is_line_start types text (place + k) ≡ false
+
+-- The last place at which a line start may hang on a step that ends at `end`: whether one stands at a place is told by the byte
+-- in front of it and the one behind it, and where line ends of Unicode count, by three in front.
+abbrev pub last_touched : LineEndTypes → ℕ → ℕ
+last_touched Default end = end
+last_touched Unicode end = end + 2

@@ -10,14 +10,14 @@ use std::marker::Model;
 // How many edits there are at most: two for each of three places.
 const MOST: usize = 6;
 
-/// The edits of a step, in the order in which they are made.
+// A few edits, in the order in which they are made.
 #[derive(Drop)]
-pub struct LineEdits {
+struct FewEdits {
     edits: [LineEdit; MOST],
     count: usize,
 }
 
-impl Model for LineEdits {
+impl Model for FewEdits {
     ghost use Rattle.std.specs.Prelude.{◌≤◌, List, take};
     ghost use Rattle.line_index.specs.declared.edit.LineEdit.{LineEdit};
 
@@ -28,13 +28,13 @@ impl Model for LineEdits {
     ghost invariant = { λ e. e.count ≤ 6 };
 }
 
-impl LineEdits {
+impl FewEdits {
     // No edits. What stands in the place of edits is all zeros, which is soon written.
     #[inline(always)]
     fn none() -> Self
         ensures { result ≡ [] }
     {
-        LineEdits {
+        FewEdits {
             edits: [LineEdit::Come { line: 0, count: 0 }; MOST],
             count: 0,
         }
@@ -49,16 +49,45 @@ impl LineEdits {
         self.count += 1;
     }
 
-    /// The edits, the first one first.
-    pub fn as_slice(&self) -> &[LineEdit]
+    // The edits, the first one first.
+    fn as_slice(&self) -> &[LineEdit]
         ensures { result.now ≡ self.now }
     {
         &self.edits[..self.count]
     }
 }
 
+/// The edits of a step, in the order in which they are made.
+#[derive(Drop)]
+pub struct LineEdits {
+    // Nothing where there is none, as after a step inside a line: that is written at once.
+    few: Option<FewEdits>,
+}
+
+impl Model for LineEdits {
+    ghost use Rattle.std.specs.Prelude.{List, [], unwrap_or};
+    ghost use Rattle.line_index.specs.declared.edit.LineEdit.{LineEdit};
+
+    ghost Value = { List LineEdit };
+
+    ghost view = { λ e. unwrap_or e.few [] };
+}
+
+impl LineEdits {
+    /// The edits, the first one first.
+    #[inline]
+    pub fn as_slice(&self) -> &[LineEdit]
+        ensures { result.now ≡ self.now }
+    {
+        match &self.few {
+            Some(few) => few.as_slice(),
+            None => &[],
+        }
+    }
+}
+
 // The `count` lines behind the line are joined to it, if there are some.
-fn join(edits: &mut LineEdits, line: usize, count: usize)
+fn join(edits: &mut FewEdits, line: usize, count: usize)
     requires { length edits.old < 6 }
     ensures edits { edits.new ≡ edits.old ++ joined line count }
     ensures few { length edits.new ≤ length edits.old + 1 }
@@ -69,7 +98,7 @@ fn join(edits: &mut LineEdits, line: usize, count: usize)
 }
 
 // Fresh lines come before the line, if there are some.
-fn come(edits: &mut LineEdits, line: usize, count: usize)
+fn come(edits: &mut FewEdits, line: usize, count: usize)
     requires { length edits.old < 6 }
     ensures edits { edits.new ≡ edits.old ++ came line count }
     ensures few { length edits.new ≤ length edits.old + 1 }
@@ -80,7 +109,7 @@ fn come(edits: &mut LineEdits, line: usize, count: usize)
 }
 
 // The next `count` old lines settle on a new line, where those in front of `next` are settled.
-fn settle(edits: &mut LineEdits, next: usize, line: usize, count: usize)
+fn settle(edits: &mut FewEdits, next: usize, line: usize, count: usize)
     requires room { length edits.old ≤ 4 }
     requires small { line < 2 ^ 63 }
     ensures edits { edits.new ≡ edits.old ++ settled next line count }
@@ -151,29 +180,38 @@ impl LineChange {
 
     /// The edits that make of what was kept of each old line what is to be kept of each new one. An ordinary step inside
     /// a line has none.
+    #[inline]
     pub fn edits(&self) -> LineEdits
         requires { SmallLines self.now.old_lines × SmallLines self.now.new_lines }
         ensures { result ≡ edits_of self.now }
     {
         if self.is_quiet() {
-            return LineEdits::none();
+            return LineEdits { few: None };
         }
-        self.edits_about()
+        LineEdits {
+            few: Some(self.edits_about()),
+        }
     }
 
     // The same of lines that are not as they were. It stands apart, so that a quiet step makes ready only what it returns.
     #[inline(never)]
-    fn edits_about(&self) -> LineEdits
+    fn edits_about(&self) -> FewEdits
         requires { SmallLines self.now.old_lines × SmallLines self.now.new_lines }
         ensures { result ≡ edits_of self.now }
     {
-        let mut edits = LineEdits::none();
+        let mut edits = FewEdits::none();
         if self.emptied {
             edits.push(LineEdit::Restart);
             return edits;
         }
         let old = &self.old_lines;
         let new = &self.new_lines;
+        // one new line holds all three places, as where a line end was typed inside a line
+        if new.one_behind == new.at && new.two_behind == new.at {
+            let count = (old.two_behind + 1).saturating_sub(self.before);
+            settle(&mut edits, self.before, new.at, count);
+            return edits;
+        }
         let first = last_line_at(old, new);
         let second = last_line_one_behind(old, new);
         settle(

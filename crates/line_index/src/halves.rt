@@ -151,6 +151,16 @@ fn byte_at(before: &[u8], after: &[u8], place: usize) -> u8
     }
 }
 
+// Whether a line may start behind the byte at the place: it may be the last one of a line end, and is no CR of a CR LF.
+#[inline(always)]
+fn may_start_behind(types: LineEndTypes, before: &[u8], after: &[u8], place: usize) -> bool
+    requires { place < length before.now + length after.now }
+    ensures { result ≡ false → is_line_start types (before.now ++ after.now) (place + 1) ≡ false }
+{
+    let byte = byte_at(before, after, place);
+    may_be_last(types, byte) && (byte != b'\r' || !is_at(b'\n', before, after, place + 1))
+}
+
 // The first place behind `place`, up to `to`, where a line may start, by a look at each byte.
 fn next_of_few(types: LineEndTypes, before: &[u8], after: &[u8], place: usize, to: usize) -> usize
     requires { (place < to) × (to ≤ length before.now + length after.now + 1) }
@@ -159,7 +169,7 @@ fn next_of_few(types: LineEndTypes, before: &[u8], after: &[u8], place: usize, t
 {
     let mut at = place;
     'looking: while at + 1 < to {
-        if may_be_last(types, byte_at(before, after, at)) {
+        if may_start_behind(types, before, after, at) {
             return at + 1;
         }
         at += 1;

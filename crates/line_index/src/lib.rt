@@ -5,9 +5,10 @@
 //! starts   0       3    5    7        length 8
 //! ```
 //!
-//! Whether a line starts at a place is told by the three bytes in front of it and the one behind it. So a step asks only
-//! about the places from where it is to three bytes behind it; the starts in front stay, and those behind move with the
-//! text. The text itself is kept elsewhere, and handed in as two slices, as a gap buffer has it.
+//! Whether a line starts at a place is told by the three bytes in front of it and the one behind it, or by one on each side
+//! where line ends of Unicode do not count. So a step asks only about the places from where it is to two bytes behind its
+//! end, or to its end; the starts in front stay, and those behind move with the text. The text itself is kept elsewhere, and
+//! handed in as two slices, as a gap buffer has it.
 //!
 //! Contracts see the kind of line ends, the starts, the length, and for how many more lines there is room. What the
 //! starts have to be is said by `ed_model`: `line_starts` of the text.

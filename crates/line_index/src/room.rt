@@ -135,15 +135,23 @@ pub(crate) fn count_starts(types: LineEndTypes, bytes: &[u8], from: usize, to: u
     if place == to {
         return 0;
     }
+    if place + 1 == to {
+        return lines_at(types, bytes, place);
+    }
     count_from(types, bytes, place, to)
 }
 
-// How many lines start at the bytes' beginning and behind those of whole blocks, and how many bytes these have.
+// How many lines start at the bytes' beginning and behind those of whole blocks, and how many bytes these have. Mostly they
+// are few and no block, and no call is made.
+#[inline(always)]
 fn lines_seen(types: LineEndTypes, bytes: &[u8]) -> (usize, usize)
     ensures lines { result.0 ≡ length (starts_within types bytes.now 0 (result.1 + 1)) }
     ensures few { result.0 ≤ result.1 + 1 }
     ensures within { result.1 ≤ length bytes.now }
 {
+    if bytes.len() <= BLOCK {
+        return (1, 0);
+    }
     match types {
         LineEndTypes::Default => lines_behind_blocks(bytes),
         LineEndTypes::Unicode => unicode_blocks::lines_behind_blocks(bytes),

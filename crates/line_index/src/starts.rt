@@ -98,10 +98,24 @@ pub(crate) fn lines_before<P: Place>(starts: &Partitioning<P>, place: usize, lin
     if place == 0 { 0 } else { line + 1 }
 }
 
-// The lines of a place and of the two behind it, of which the last is `last`, where this line holds all three and a place
-// in front of them.
+// The line that holds the place, which is this line or the next, where that starts at `next`.
 #[inline(always)]
-fn one_line<P: Place>(
+#[tactic(auto, using(crate::proofs::Finding::next_behind, crate::proofs::Finding::next_holds))]
+fn line_up_to<P: Place>(starts: &Partitioning<P>, line: usize, next: usize, place: usize) -> usize
+    requires line { line + 1 < length starts.now.starts }
+    requires next { next ≡ slice_index starts.now.starts (line + 1) }
+    requires low { slice_index starts.now.starts line ≤ place }
+    requires high { (k : ℕ) → line + 1 < k → k < length starts.now.starts → place < slice_index starts.now.starts k }
+    ensures { IsLastAtMost starts.now.starts place result }
+{
+    let _ = starts.count(); // it says that the starts rise
+    if place < next { line } else { line + 1 }
+}
+
+// The lines of a place and of the two behind it, of which the last is `last`, where this line holds a place in front of
+// them, and this line and the next hold all three. Each start is read once.
+#[inline(always)]
+fn few_lines<P: Place>(
     starts: &Partitioning<P>,
     front: usize,
     place: usize,
@@ -115,14 +129,33 @@ fn one_line<P: Place>(
     ensures within { IfSome result (λ lines. lines.two_behind < length starts.now.starts) }
 {
     let _ = starts.length(); // it says that no line starts past the greatest number
-    if line < starts.count() && starts.start_of(line) <= front && reaches(starts, line, last) {
+    let count = starts.count();
+    if line >= count || starts.start_of(line) > front {
+        return None;
+    }
+    if line + 1 == count {
         return Some(NearLines {
             at: line,
             one_behind: line,
             two_behind: line,
         });
     }
-    None
+    let next = starts.start_of(line + 1);
+    if last < next {
+        return Some(NearLines {
+            at: line,
+            one_behind: line,
+            two_behind: line,
+        });
+    }
+    if next <= front || !reaches(starts, line + 1, last) {
+        return None;
+    }
+    Some(NearLines {
+        at: line_up_to(starts, line, next, place),
+        one_behind: line_up_to(starts, line, next, place.saturating_add(1)),
+        two_behind: line_up_to(starts, line, next, last),
+    })
 }
 
 // The lines of a place and of the two behind it, of which the first is likely this line or the next.
@@ -156,8 +189,26 @@ pub(crate) fn lines_near<P: Place>(
     }
 }
 
+// The line of the byte in front of a step, and the lines near the end of what it takes away, wherever they are. It stands
+// apart, since mostly they are near the last step's.
+#[inline(never)]
+fn lines_anywhere<P: Place>(
+    starts: &Partitioning<P>,
+    front: usize,
+    end: usize,
+    likely: usize,
+) -> (usize, NearLines)
+    ensures line { result.0 ≡ line_of starts.now.starts front }
+    ensures at { result.0 < length starts.now.starts }
+    ensures lines { result.1 ≡ near_lines starts.now.starts end }
+    ensures within { result.1.two_behind < length starts.now.starts }
+{
+    let line = likely_line(starts, front, likely);
+    (line, lines_near(starts, end, line))
+}
+
 // The line of the byte in front of a step, and the lines near the end of what it takes away. Mostly they are one line,
-// which is likely this one.
+// which is likely this one, or the step is at a line's end, of this one or the next.
 #[inline(always)]
 pub(crate) fn lines_at_step<P: Place>(
     starts: &Partitioning<P>,
@@ -175,39 +226,47 @@ pub(crate) fn lines_at_step<P: Place>(
 {
     let _ = starts.count(); // it says that the number of lines is small
     let last = end.saturating_add(2);
-    if let Some(lines) = one_line(starts, front, end, last, likely) {
+    if let Some(lines) = few_lines(starts, front, end, last, likely) {
         return (likely, lines);
     }
-    let line = likely_line(starts, front, likely);
-    (line, lines_near(starts, end, line))
+    let next = likely.saturating_add(1);
+    if let Some(lines) = few_lines(starts, front, end, last, next) {
+        return (next, lines);
+    }
+    lines_anywhere(starts, front, end, likely)
 }
 
-// The lines near a step's end, after it, where there were so many lines. They stay, where they were one that began in front
-// of the step and there are as many lines as before. Of lines that came, the last is likely the one.
+// The lines near a step's end, after it, where there were so many lines, of which so many starts were taken away. They stay,
+// where none was and there are as many lines as before. Of lines that came, the last is likely the one.
 #[inline(always)]
 pub(crate) fn lines_after_step<P: Place>(
     starts: &Partitioning<P>,
     end: usize,
     about: &LinesAbout,
+    went: usize,
     lines: usize,
 ) -> NearLines
     requires small { SmallLines about.now.old_lines }
     requires within { about.now.old_lines.two_behind < lines }
-    requires kept { about.now.old_lines.two_behind + 1 ≡ about.now.before → length starts.now.starts ≡ lines → about.now.old_lines ≡ near_lines starts.now.starts end }
+    requires kept { went ≡ 0 → length starts.now.starts ≡ lines → about.now.old_lines ≡ near_lines starts.now.starts end }
     ensures lines { result ≡ near_lines starts.now.starts end }
     ensures within { result.two_behind < length starts.now.starts }
     ensures small_lines { SmallLines result }
 {
     let count = starts.count();
-    if count == lines && about.old_lines.two_behind + 1 == about.before {
+    if went == 0 && count == lines {
         return about.old_lines;
     }
     let came = count.saturating_sub(lines);
     let likely = about.before.saturating_sub(1).saturating_add(came);
+    if let Some(lines) = few_lines(starts, end, end, end.saturating_add(2), likely) {
+        return lines;
+    }
     lines_near(starts, end, likely)
 }
 
 // Takes the starts of the lines from `first` up to `last` away.
+#[inline(always)]
 #[tactic(auto, using(crate::proofs::StartLists::removed_next))]
 pub(crate) fn remove_starts<P: Place>(starts: &mut Partitioning<P>, first: usize, last: usize)
     requires range { (0 < first) × (first ≤ last) × (last ≤ length starts.old.starts) }
@@ -254,7 +313,7 @@ fn add_from<P: Place>(
 
 // Puts the line starts from `from` up to `to` in before line `first`, told by the bytes about those places alone, of which
 // the first stands at `base`. There is none there yet, and there must be room for them. Mostly no line starts in all of it,
-// as one look at the bytes tells.
+// as one look at the bytes tells, or behind the last of them alone, as where a line end was typed.
 #[inline(always)]
 pub(crate) fn add_starts<P: Place>(
     starts: &mut Partitioning<P>,
@@ -275,6 +334,10 @@ pub(crate) fn add_starts<P: Place>(
 {
     let place = base + next_place(types, before, after, from - base - 1, to - base);
     if place == to {
+        return;
+    }
+    if place + 1 == to {
+        let _ = add_at(starts, types, before, after, base, first, place);
         return;
     }
     add_from(starts, types, before, after, base, first, place, to);

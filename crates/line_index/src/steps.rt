@@ -2,22 +2,39 @@
 
 ghost use Rattle.std.specs.Prelude.{◌≡◌, ℕ, ◌+◌, ◌-◌, ◌^◌, ◌≤◌, ◌<◌, ◌++◌, List, min, length, take, drop};
 ghost use Rattle.ed_model.specs.Steps.{Insert, edited, moved_back};
-ghost use Rattle.line_index.specs.Index.{IsIndexOf, IsInsertion, IsDeletion, WasInserted, WasDeleted, index};
-ghost use Rattle.line_index.specs.Change.{MovesLines, change_about, moved_on};
+ghost use Rattle.line_index.specs.Index.{IsIndexOf, IsInsertion, IsDeletion, WasInserted, WasDeleted, index, last_touched};
+ghost use Rattle.line_index.specs.Change.{MovesLines, change_about, last_line, moved_on};
 ghost use Rattle.line_index.specs.StepEdits.{SmallLines};
 
-use crate::change::{LineChange, LinesAbout};
+use crate::change::{LineChange, LinesAbout, NearLines};
 use crate::index::LineIndex;
 use crate::starts::{add_starts, lines_after_step, lines_at_step, lines_before, remove_starts};
 use ed_model::LineEndTypes;
 use partitioning::{Partitioning, Place};
 
-// The place up to which a step is looked at: three bytes behind its end, or the one past the text's end.
-fn look_to(end: usize, length: usize) -> usize
+// The place up to which a step is looked at: the one behind the last at which a line start may hang on it, or past the
+// text's end. Where line ends of Unicode do not count, starts behind the step's end only move, as one does behind an LF
+// in front of which a CR is put.
+#[inline(always)]
+fn look_to(types: LineEndTypes, end: usize, length: usize) -> usize
     requires { (end ≤ length) × (length < 2 ^ 63) }
-    ensures { result ≡ min (end + 3) (length + 1) }
+    ensures { result ≡ min (last_touched types end + 1) (length + 1) }
 {
-    (end + 3).min(length + 1)
+    match types {
+        LineEndTypes::Default => end + 1,
+        LineEndTypes::Unicode => (end + 3).min(length + 1),
+    }
+}
+
+// The last of the lines whose starts may hang on a step.
+#[inline(always)]
+fn last_near(types: LineEndTypes, lines: &NearLines) -> usize
+    ensures { result ≡ last_line types lines.now }
+{
+    match types {
+        LineEndTypes::Default => lines.at,
+        LineEndTypes::Unicode => lines.two_behind,
+    }
 }
 
 // Puts `count` bytes into the text at `place`, and the line starts about them in the place of those that were there. The
@@ -48,14 +65,15 @@ fn put_in<P: Place>(
         old_lines,
     };
     let first = line + 1;
-    remove_starts(starts, first, old_lines.two_behind + 1);
+    let behind = last_near(types, &old_lines) + 1;
+    remove_starts(starts, first, behind);
     starts.insert_text(first - 1, count);
     let end = place + count;
     let long = starts.length();
-    let to = look_to(end, long);
+    let to = look_to(types, end, long);
     let near = place.saturating_sub(3);
     add_starts(starts, types, before, after, near, first, place.max(1), to);
-    let new_lines = lines_after_step(starts, end, &about, lines);
+    let new_lines = lines_after_step(starts, end, &about, behind - first, lines);
     LineChange {
         before: about.before,
         old_lines,
@@ -92,13 +110,14 @@ fn take_out<P: Place>(
         old_lines,
     };
     let first = line + 1;
-    remove_starts(starts, first, old_lines.two_behind + 1);
+    let behind = last_near(types, &old_lines) + 1;
+    remove_starts(starts, first, behind);
     starts.delete_text(first - 1, count);
     let long = starts.length();
-    let to = look_to(place, long);
+    let to = look_to(types, place, long);
     let near = place.saturating_sub(3);
     add_starts(starts, types, before, after, near, first, place.max(1), to);
-    let new_lines = lines_after_step(starts, place, &about, lines);
+    let new_lines = lines_after_step(starts, place, &about, behind - first, lines);
     LineChange {
         before: about.before,
         old_lines,

@@ -170,6 +170,7 @@ impl LineRows {
 
     /// Carries the rows through edits of lines. There must be room for the fresh lines. Markers of lines that go give
     /// their room back.
+    #[inline]
     pub fn carry(&mut self, edits: &[LineEdit])
         requires lines { FitLines (length self.old.rows) edits.now }
         requires fits { length self.old.rows + fresh_lines edits.now ≤ 2 ^ 62 }
@@ -182,6 +183,9 @@ impl LineRows {
         ensures marker_room { self.old.room.markers ≤ self.new.room.markers }
         ensures blocks { self.new.blocks ≡ record self.old.blocks { stored_levels = stored_after edits.now self.old.blocks.stored_levels; stored_states = stored_after edits.now self.old.blocks.stored_states; state_lines = self.old.blocks.state_lines - fresh_lines edits.now } }
     {
+        if edits.is_empty() {
+            return;
+        }
         carry_markers(&mut self.markers, edits);
         self.levels.carry(edits);
         self.states.carry(edits);

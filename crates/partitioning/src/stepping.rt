@@ -1,5 +1,5 @@
 //! How the step moves.
-ghost use Rattle.std.specs.Prelude.{◌≡◌, ◌≤◌, length, map};
+ghost use Rattle.std.specs.Prelude.{◌≡◌, ◌≤◌, ◌<◌, ◌+◌, length, map};
 ghost use Rattle.partitioning.specs.Stored.{AreWithin, IsTurned, near_count};
 ghost use Rattle.split_vector.specs.Split.{counted, apart};
 
@@ -29,7 +29,46 @@ fn turn<P: Place, A: Allocator>(body: &mut SplitVector<P, A>, low: usize, high: 
 }
 
 impl<P: Place, A: Allocator> Partitioning<P, A> {
-    // Moves the step to the partition at `index`, and counts the starts that this changes.
+    // Moves the step to the partition behind it, and counts the start that this changes.
+    fn step_on(&mut self)
+        requires { self.old.step_at + 1 < length self.old.starts }
+        ensures starts { self.new.starts ≡ self.old.starts }
+        ensures length { self.new.length ≡ self.old.length }
+        ensures room { self.new.room ≡ self.old.room }
+        ensures step_at { self.new.step_at ≡ self.old.step_at + 1 }
+        ensures stepped { self.new.stepped ≡ counted self.old.stepped 1 }
+    {
+        let _ = self.count(); // it says that the number of starts is small
+        let index = self.step_at + 1;
+        turn(&mut self.body, index, index + 1, self.end);
+        self.step_at = index;
+        self.stepped = self.stepped.saturating_add(1);
+    }
+
+    // Moves the step to the partition at `index`, which may be far away, and counts the starts that this changes.
+    #[inline(never)]
+    fn step_far(&mut self, index: usize)
+        requires { index ≤ length self.old.starts }
+        ensures starts { self.new.starts ≡ self.old.starts }
+        ensures length { self.new.length ≡ self.old.length }
+        ensures room { self.new.room ≡ self.old.room }
+        ensures step_at { self.new.step_at ≡ index }
+        ensures counted { self.old.stepped ≤ self.new.stepped }
+        ensures stepped { let count = length self.old.starts in self.new.stepped ≡ counted self.old.stepped (apart (near_count index count) (near_count self.old.step_at count)) }
+    {
+        let count = self.count();
+        let near = near_starts(self.step_at, count);
+        let wanted = near_starts(index, count);
+        let low = near.min(wanted);
+        let high = near.max(wanted);
+        turn(&mut self.body, low, high, self.end);
+        self.step_at = index;
+        self.stepped = self.stepped.saturating_add((high - low) as u64);
+    }
+
+    // Moves the step to the partition at `index`, and counts the starts that this changes. Mostly it stands there, or one
+    // partition in front of it.
+    #[inline(always)]
     pub(crate) fn step_to(&mut self, index: usize)
         requires { index ≤ length self.old.starts }
         ensures starts { self.new.starts ≡ self.old.starts }
@@ -43,12 +82,10 @@ impl<P: Place, A: Allocator> Partitioning<P, A> {
             return;
         }
         let count = self.count();
-        let near = near_starts(self.step_at, count);
-        let wanted = near_starts(index, count);
-        let low = near.min(wanted);
-        let high = near.max(wanted);
-        turn(&mut self.body, low, high, self.end);
-        self.step_at = index;
-        self.stepped = self.stepped.saturating_add((high - low) as u64);
+        if index == self.step_at + 1 && index < count {
+            self.step_on();
+            return;
+        }
+        self.step_far(index);
     }
 }

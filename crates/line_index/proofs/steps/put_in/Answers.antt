@@ -1,16 +1,17 @@
 use Rattle.std.proofs.Common.{◌≡◌, ℕ, ◌+◌, ◌++◌, ◌==◌, List, ap, min, length, take, drop, ◌∙◌, arith, length-append}
 use Rattle.ed_model.specs.Steps.{Insert, edited}
-use Rattle.line_index.specs.Index.{index, starts_near, starts_within}
+use Rattle.line_index.specs.Index.{index, last_touched, starts_near, starts_within}
 use Rattle.line_index.proofs.NearBytes.{found_near, near_reaches}
 use Rattle.line_index.proofs.StepLists.{insertion_is, longer}
-use Rattle.line_index.proofs.InsertedLines.{first_is, last_is, change_is, range_in, free_in, fits_in, starts_in, left_in}
+use Rattle.line_index.proofs.InsertedLines.{first_is, change_is, range_in, free_in, fits_in, starts_in, left_in}
 use Rattle.line_index.proofs.KeptLines.{stay_in}
 use Rattle.line_index.proofs.MovedLines.{moves_in}
+use Rattle.line_index.proofs.TouchedStarts.{last_line_is, touched_near}
 use Rattle.line_index.proofs.steps.put_in.Goals as goal
 
 pub remove_starts-requires : goal.remove_starts-requires
 remove_starts-requires g c =
-    record { range = range_in c.args.types c.args.place c.args.count c.args.starts.now.length c.args.starts.now.room (edited (Insert c.args.place c.requires.was.bytes) c.requires.was.old) c.args.starts.now.starts (insertion_is c.args.place c.args.count (c.args.before.now ++ c.args.after.now) c.requires.was.old c.requires.was.bytes (index c.args.types c.args.starts.now.starts c.args.starts.now.length c.args.starts.now.room) c.requires.was.is) (c.lines_at_step-line.result.0 + 1) (c.lines_at_step-line.result.1.two_behind + 1) (first_is c.args.starts.now.starts c.args.place c.saturating_sub.result c.lines_at_step-line.result.0 c.lines_at_step-line.ensures.line c.saturating_sub.ensures) (last_is c.args.starts.now.starts c.args.place c.lines_at_step-line.result.1 c.lines_at_step-line.ensures.lines) }
+    record { range = range_in c.args.types c.args.place c.args.count c.args.starts.now.length c.args.starts.now.room (edited (Insert c.args.place c.requires.was.bytes) c.requires.was.old) c.args.starts.now.starts (insertion_is c.args.place c.args.count (c.args.before.now ++ c.args.after.now) c.requires.was.old c.requires.was.bytes (index c.args.types c.args.starts.now.starts c.args.starts.now.length c.args.starts.now.room) c.requires.was.is) (c.lines_at_step-line.result.0 + 1) (c.last_near-behind.result + 1) (first_is c.args.starts.now.starts c.args.place c.saturating_sub.result c.lines_at_step-line.result.0 c.lines_at_step-line.ensures.line c.saturating_sub.ensures) (ap (λ n. n + 1) c.last_near-behind.ensures ∙ last_line_is c.args.types c.args.starts.now.starts c.args.place c.lines_at_step-line.result.1 c.lines_at_step-line.ensures.lines) }
 
 pub look_to-to-requires : goal.look_to-to-requires
 look_to-to-requires g c =
@@ -20,43 +21,43 @@ look_to-to-requires g c =
 pub add_starts-requires-clause-can : goal.add_starts-requires-clause-can
 add_starts-requires-clause-can g c =
     let size = longer c.args.types c.args.place c.args.count c.args.starts.now.length c.args.starts.now.room (edited (Insert c.args.place c.requires.was.bytes) c.requires.was.old) c.args.starts.now.starts (insertion_is c.args.place c.args.count (c.args.before.now ++ c.args.after.now) c.requires.was.old c.requires.was.bytes (index c.args.types c.args.starts.now.starts c.args.starts.now.length c.args.starts.now.room) c.requires.was.is) in
-    let to : c.look_to-to.result ≡ min (c.args.place + c.args.count + 3) (length (edited (Insert c.args.place c.requires.was.bytes) c.requires.was.old) + 1) = omega (arith, size, c.look_to-to.ensures, c.length-long.ensures.length, c.insert_text.ensures.length, c.remove_starts.ensures.length) in
+    let to : c.look_to-to.result ≡ min (last_touched c.args.types (c.args.place + c.args.count) + 1) (length (edited (Insert c.args.place c.requires.was.bytes) c.requires.was.old) + 1) = omega (arith, size, c.look_to-to.ensures, c.length-long.ensures.length, c.insert_text.ensures.length, c.remove_starts.ensures.length) in
     let found : starts_near c.args.types (c.args.before.now ++ c.args.after.now) c.saturating_sub-near.result c.max.result c.look_to-to.result ≡ starts_within c.args.types (edited (Insert c.args.place c.requires.was.bytes) c.requires.was.old) c.max.result c.look_to-to.result =
-    found_near c.args.types c.args.place c.args.count (c.args.before.now ++ c.args.after.now) (edited (Insert c.args.place c.requires.was.bytes) c.requires.was.old) c.requires.was.is.reads c.saturating_sub-near.result c.max.result c.look_to-to.result c.saturating_sub-near.ensures c.max.ensures (omega arith) in
+    found_near c.args.types c.args.place c.args.count (c.args.before.now ++ c.args.after.now) (edited (Insert c.args.place c.requires.was.bytes) c.requires.was.old) c.requires.was.is.reads c.saturating_sub-near.result c.max.result c.look_to-to.result c.saturating_sub-near.ensures c.max.ensures (omega (arith, to, touched_near c.args.types (c.args.place + c.args.count))) in
     record {
-      free = free_in c.args.types c.args.place c.args.count c.args.starts.now.length c.args.starts.now.room (edited (Insert c.args.place c.requires.was.bytes) c.requires.was.old) c.args.starts.now.starts (insertion_is c.args.place c.args.count (c.args.before.now ++ c.args.after.now) c.requires.was.old c.requires.was.bytes (index c.args.types c.args.starts.now.starts c.args.starts.now.length c.args.starts.now.room) c.requires.was.is) (c.lines_at_step-line.result.0 + 1) (c.lines_at_step-line.result.1.two_behind + 1) (first_is c.args.starts.now.starts c.args.place c.saturating_sub.result c.lines_at_step-line.result.0 c.lines_at_step-line.ensures.line c.saturating_sub.ensures) (last_is c.args.starts.now.starts c.args.place c.lines_at_step-line.result.1 c.lines_at_step-line.ensures.lines) c.remove_starts.new.starts.starts c.insert_text.new.self.starts c.remove_starts.ensures.starts c.insert_text.ensures.starts c.max.result c.look_to-to.result c.insert_text.new.self.length c.max.ensures to (omega (arith, c.insert_text.ensures.length, c.remove_starts.ensures.length));
-      room = rw found (fits_in c.args.types c.args.place c.args.count c.args.starts.now.length c.args.starts.now.room (edited (Insert c.args.place c.requires.was.bytes) c.requires.was.old) c.args.starts.now.starts (insertion_is c.args.place c.args.count (c.args.before.now ++ c.args.after.now) c.requires.was.old c.requires.was.bytes (index c.args.types c.args.starts.now.starts c.args.starts.now.length c.args.starts.now.room) c.requires.was.is) (c.lines_at_step-line.result.0 + 1) (c.lines_at_step-line.result.1.two_behind + 1) (first_is c.args.starts.now.starts c.args.place c.saturating_sub.result c.lines_at_step-line.result.0 c.lines_at_step-line.ensures.line c.saturating_sub.ensures) (last_is c.args.starts.now.starts c.args.place c.lines_at_step-line.result.1 c.lines_at_step-line.ensures.lines) c.remove_starts.new.starts.starts c.insert_text.new.self.starts c.remove_starts.ensures.starts c.insert_text.ensures.starts c.max.result c.look_to-to.result c.max.ensures to c.insert_text.new.self.room c.requires.was.is.room (c.insert_text.ensures.room ∙ c.remove_starts.ensures.room));
+      free = free_in c.args.types c.args.place c.args.count c.args.starts.now.length c.args.starts.now.room (edited (Insert c.args.place c.requires.was.bytes) c.requires.was.old) c.args.starts.now.starts (insertion_is c.args.place c.args.count (c.args.before.now ++ c.args.after.now) c.requires.was.old c.requires.was.bytes (index c.args.types c.args.starts.now.starts c.args.starts.now.length c.args.starts.now.room) c.requires.was.is) (c.lines_at_step-line.result.0 + 1) (c.last_near-behind.result + 1) (first_is c.args.starts.now.starts c.args.place c.saturating_sub.result c.lines_at_step-line.result.0 c.lines_at_step-line.ensures.line c.saturating_sub.ensures) (ap (λ n. n + 1) c.last_near-behind.ensures ∙ last_line_is c.args.types c.args.starts.now.starts c.args.place c.lines_at_step-line.result.1 c.lines_at_step-line.ensures.lines) c.remove_starts.new.starts.starts c.insert_text.new.self.starts c.remove_starts.ensures.starts c.insert_text.ensures.starts c.max.result c.look_to-to.result c.insert_text.new.self.length c.max.ensures to (omega (arith, c.insert_text.ensures.length, c.remove_starts.ensures.length));
+      room = rw found (fits_in c.args.types c.args.place c.args.count c.args.starts.now.length c.args.starts.now.room (edited (Insert c.args.place c.requires.was.bytes) c.requires.was.old) c.args.starts.now.starts (insertion_is c.args.place c.args.count (c.args.before.now ++ c.args.after.now) c.requires.was.old c.requires.was.bytes (index c.args.types c.args.starts.now.starts c.args.starts.now.length c.args.starts.now.room) c.requires.was.is) (c.lines_at_step-line.result.0 + 1) (c.last_near-behind.result + 1) (first_is c.args.starts.now.starts c.args.place c.saturating_sub.result c.lines_at_step-line.result.0 c.lines_at_step-line.ensures.line c.saturating_sub.ensures) (ap (λ n. n + 1) c.last_near-behind.ensures ∙ last_line_is c.args.types c.args.starts.now.starts c.args.place c.lines_at_step-line.result.1 c.lines_at_step-line.ensures.lines) c.remove_starts.new.starts.starts c.insert_text.new.self.starts c.remove_starts.ensures.starts c.insert_text.ensures.starts c.max.result c.look_to-to.result c.max.ensures to c.insert_text.new.self.room c.requires.was.is.room (c.insert_text.ensures.room ∙ c.remove_starts.ensures.room));
     }
 
 pub add_starts-requires-clause-near : goal.add_starts-requires-clause-near
 add_starts-requires-clause-near g c =
     let size = longer c.args.types c.args.place c.args.count c.args.starts.now.length c.args.starts.now.room (edited (Insert c.args.place c.requires.was.bytes) c.requires.was.old) c.args.starts.now.starts (insertion_is c.args.place c.args.count (c.args.before.now ++ c.args.after.now) c.requires.was.old c.requires.was.bytes (index c.args.types c.args.starts.now.starts c.args.starts.now.length c.args.starts.now.room) c.requires.was.is) in
-    let to : c.look_to-to.result ≡ min (c.args.place + c.args.count + 3) (length (edited (Insert c.args.place c.requires.was.bytes) c.requires.was.old) + 1) = omega (arith, size, c.look_to-to.ensures, c.length-long.ensures.length, c.insert_text.ensures.length, c.remove_starts.ensures.length) in
-    let reach = near_reaches c.args.types c.args.place c.args.count (c.args.before.now ++ c.args.after.now) (edited (Insert c.args.place c.requires.was.bytes) c.requires.was.old) c.requires.was.is.reads c.look_to-to.result (omega arith) (omega arith) (omega (arith, size, c.requires.was.is.within, c.requires.was.is.index.length)) in
+    let to : c.look_to-to.result ≡ min (last_touched c.args.types (c.args.place + c.args.count) + 1) (length (edited (Insert c.args.place c.requires.was.bytes) c.requires.was.old) + 1) = omega (arith, size, c.look_to-to.ensures, c.length-long.ensures.length, c.insert_text.ensures.length, c.remove_starts.ensures.length) in
+    let reach = near_reaches c.args.types c.args.place c.args.count (c.args.before.now ++ c.args.after.now) (edited (Insert c.args.place c.requires.was.bytes) c.requires.was.old) c.requires.was.is.reads c.look_to-to.result (omega (arith, to, touched_near c.args.types (c.args.place + c.args.count))) (omega arith) (omega (arith, size, c.requires.was.is.within, c.requires.was.is.index.length)) in
     let whole = length-append c.args.before.now c.args.after.now in
-    (omega (arith, c.saturating_sub-near.ensures, c.max.ensures), omega (arith, size, to, c.max.ensures, c.requires.was.is.within, c.requires.was.is.index.length), omega (arith, reach, whole, c.saturating_sub-near.ensures))
+    (omega (arith, c.saturating_sub-near.ensures, c.max.ensures), omega (arith, size, to, touched_near c.args.types (c.args.place + c.args.count), c.max.ensures, c.requires.was.is.within, c.requires.was.is.index.length), omega (arith, reach, whole, c.saturating_sub-near.ensures))
 
 pub returns-clause-index : goal.returns-clause-index
 returns-clause-index g c =
     λ old bytes is.
     let size = longer c.args.types c.args.place c.args.count c.args.starts.now.length c.args.starts.now.room (edited (Insert c.args.place bytes) old) c.args.starts.now.starts (insertion_is c.args.place c.args.count (c.args.before.now ++ c.args.after.now) old bytes (index c.args.types c.args.starts.now.starts c.args.starts.now.length c.args.starts.now.room) is) in
-    let to : c.look_to-to.result ≡ min (c.args.place + c.args.count + 3) (length (edited (Insert c.args.place bytes) old) + 1) = omega (arith, size, c.look_to-to.ensures, c.length-long.ensures.length, c.insert_text.ensures.length, c.remove_starts.ensures.length) in
+    let to : c.look_to-to.result ≡ min (last_touched c.args.types (c.args.place + c.args.count) + 1) (length (edited (Insert c.args.place bytes) old) + 1) = omega (arith, size, c.look_to-to.ensures, c.length-long.ensures.length, c.insert_text.ensures.length, c.remove_starts.ensures.length) in
     let found : starts_near c.args.types (c.args.before.now ++ c.args.after.now) c.saturating_sub-near.result c.max.result c.look_to-to.result ≡ starts_within c.args.types (edited (Insert c.args.place bytes) old) c.max.result c.look_to-to.result =
-    found_near c.args.types c.args.place c.args.count (c.args.before.now ++ c.args.after.now) (edited (Insert c.args.place bytes) old) is.reads c.saturating_sub-near.result c.max.result c.look_to-to.result c.saturating_sub-near.ensures c.max.ensures (omega arith) in
+    found_near c.args.types c.args.place c.args.count (c.args.before.now ++ c.args.after.now) (edited (Insert c.args.place bytes) old) is.reads c.saturating_sub-near.result c.max.result c.look_to-to.result c.saturating_sub-near.ensures c.max.ensures (omega (arith, to, touched_near c.args.types (c.args.place + c.args.count))) in
     let added = c.add_starts.ensures.starts ∙ ap (λ (xs : List ℕ). take (c.lines_at_step-line.result.0 + 1) c.insert_text.new.self.starts ++ xs ++ drop (c.lines_at_step-line.result.0 + 1) c.insert_text.new.self.starts) found in
     record {
-      starts = starts_in c.args.types c.args.place c.args.count c.args.starts.now.length c.args.starts.now.room (edited (Insert c.args.place bytes) old) c.args.starts.now.starts (insertion_is c.args.place c.args.count (c.args.before.now ++ c.args.after.now) old bytes (index c.args.types c.args.starts.now.starts c.args.starts.now.length c.args.starts.now.room) is) (c.lines_at_step-line.result.0 + 1) (c.lines_at_step-line.result.1.two_behind + 1) (first_is c.args.starts.now.starts c.args.place c.saturating_sub.result c.lines_at_step-line.result.0 c.lines_at_step-line.ensures.line c.saturating_sub.ensures) (last_is c.args.starts.now.starts c.args.place c.lines_at_step-line.result.1 c.lines_at_step-line.ensures.lines) c.remove_starts.new.starts.starts c.insert_text.new.self.starts c.remove_starts.ensures.starts c.insert_text.ensures.starts c.max.result c.look_to-to.result c.max.ensures to c.add_starts.new.starts.starts added;
+      starts = starts_in c.args.types c.args.place c.args.count c.args.starts.now.length c.args.starts.now.room (edited (Insert c.args.place bytes) old) c.args.starts.now.starts (insertion_is c.args.place c.args.count (c.args.before.now ++ c.args.after.now) old bytes (index c.args.types c.args.starts.now.starts c.args.starts.now.length c.args.starts.now.room) is) (c.lines_at_step-line.result.0 + 1) (c.last_near-behind.result + 1) (first_is c.args.starts.now.starts c.args.place c.saturating_sub.result c.lines_at_step-line.result.0 c.lines_at_step-line.ensures.line c.saturating_sub.ensures) (ap (λ n. n + 1) c.last_near-behind.ensures ∙ last_line_is c.args.types c.args.starts.now.starts c.args.place c.lines_at_step-line.result.1 c.lines_at_step-line.ensures.lines) c.remove_starts.new.starts.starts c.insert_text.new.self.starts c.remove_starts.ensures.starts c.insert_text.ensures.starts c.max.result c.look_to-to.result c.max.ensures to c.add_starts.new.starts.starts added;
       length = omega (arith, size, c.add_starts.ensures.length, c.insert_text.ensures.length, c.remove_starts.ensures.length);
     }
 
 pub returns-clause-room : goal.returns-clause-room
 returns-clause-room g c =
     let size = longer c.args.types c.args.place c.args.count c.args.starts.now.length c.args.starts.now.room (edited (Insert c.args.place c.requires.was.bytes) c.requires.was.old) c.args.starts.now.starts (insertion_is c.args.place c.args.count (c.args.before.now ++ c.args.after.now) c.requires.was.old c.requires.was.bytes (index c.args.types c.args.starts.now.starts c.args.starts.now.length c.args.starts.now.room) c.requires.was.is) in
-    let to : c.look_to-to.result ≡ min (c.args.place + c.args.count + 3) (length (edited (Insert c.args.place c.requires.was.bytes) c.requires.was.old) + 1) = omega (arith, size, c.look_to-to.ensures, c.length-long.ensures.length, c.insert_text.ensures.length, c.remove_starts.ensures.length) in
+    let to : c.look_to-to.result ≡ min (last_touched c.args.types (c.args.place + c.args.count) + 1) (length (edited (Insert c.args.place c.requires.was.bytes) c.requires.was.old) + 1) = omega (arith, size, c.look_to-to.ensures, c.length-long.ensures.length, c.insert_text.ensures.length, c.remove_starts.ensures.length) in
     let found : starts_near c.args.types (c.args.before.now ++ c.args.after.now) c.saturating_sub-near.result c.max.result c.look_to-to.result ≡ starts_within c.args.types (edited (Insert c.args.place c.requires.was.bytes) c.requires.was.old) c.max.result c.look_to-to.result =
-    found_near c.args.types c.args.place c.args.count (c.args.before.now ++ c.args.after.now) (edited (Insert c.args.place c.requires.was.bytes) c.requires.was.old) c.requires.was.is.reads c.saturating_sub-near.result c.max.result c.look_to-to.result c.saturating_sub-near.ensures c.max.ensures (omega arith) in
+    found_near c.args.types c.args.place c.args.count (c.args.before.now ++ c.args.after.now) (edited (Insert c.args.place c.requires.was.bytes) c.requires.was.old) c.requires.was.is.reads c.saturating_sub-near.result c.max.result c.look_to-to.result c.saturating_sub-near.ensures c.max.ensures (omega (arith, to, touched_near c.args.types (c.args.place + c.args.count))) in
     let added = c.add_starts.ensures.starts ∙ ap (λ (xs : List ℕ). take (c.lines_at_step-line.result.0 + 1) c.insert_text.new.self.starts ++ xs ++ drop (c.lines_at_step-line.result.0 + 1) c.insert_text.new.self.starts) found in
-    left_in c.args.types c.args.place c.args.count c.args.starts.now.length c.args.starts.now.room (edited (Insert c.args.place c.requires.was.bytes) c.requires.was.old) c.args.starts.now.starts (insertion_is c.args.place c.args.count (c.args.before.now ++ c.args.after.now) c.requires.was.old c.requires.was.bytes (index c.args.types c.args.starts.now.starts c.args.starts.now.length c.args.starts.now.room) c.requires.was.is) (c.lines_at_step-line.result.0 + 1) (c.lines_at_step-line.result.1.two_behind + 1) (first_is c.args.starts.now.starts c.args.place c.saturating_sub.result c.lines_at_step-line.result.0 c.lines_at_step-line.ensures.line c.saturating_sub.ensures) (last_is c.args.starts.now.starts c.args.place c.lines_at_step-line.result.1 c.lines_at_step-line.ensures.lines) c.remove_starts.new.starts.starts c.insert_text.new.self.starts c.remove_starts.ensures.starts c.insert_text.ensures.starts c.max.result c.look_to-to.result c.max.ensures to c.add_starts.new.starts.starts added c.insert_text.new.self.room c.add_starts.new.starts.room (c.insert_text.ensures.room ∙ c.remove_starts.ensures.room) (rw found at c.add_starts.ensures.room)
+    left_in c.args.types c.args.place c.args.count c.args.starts.now.length c.args.starts.now.room (edited (Insert c.args.place c.requires.was.bytes) c.requires.was.old) c.args.starts.now.starts (insertion_is c.args.place c.args.count (c.args.before.now ++ c.args.after.now) c.requires.was.old c.requires.was.bytes (index c.args.types c.args.starts.now.starts c.args.starts.now.length c.args.starts.now.room) c.requires.was.is) (c.lines_at_step-line.result.0 + 1) (c.last_near-behind.result + 1) (first_is c.args.starts.now.starts c.args.place c.saturating_sub.result c.lines_at_step-line.result.0 c.lines_at_step-line.ensures.line c.saturating_sub.ensures) (ap (λ n. n + 1) c.last_near-behind.ensures ∙ last_line_is c.args.types c.args.starts.now.starts c.args.place c.lines_at_step-line.result.1 c.lines_at_step-line.ensures.lines) c.remove_starts.new.starts.starts c.insert_text.new.self.starts c.remove_starts.ensures.starts c.insert_text.ensures.starts c.max.result c.look_to-to.result c.max.ensures to c.add_starts.new.starts.starts added c.insert_text.new.self.room c.add_starts.new.starts.room (c.insert_text.ensures.room ∙ c.remove_starts.ensures.room) (rw found at c.add_starts.ensures.room)
 
 pub returns-clause-change : goal.returns-clause-change
 returns-clause-change g c =
@@ -66,13 +67,13 @@ returns-clause-change g c =
 pub returns-clause-moves : goal.returns-clause-moves
 returns-clause-moves g c =
     let size = longer c.args.types c.args.place c.args.count c.args.starts.now.length c.args.starts.now.room (edited (Insert c.args.place c.requires.was.bytes) c.requires.was.old) c.args.starts.now.starts (insertion_is c.args.place c.args.count (c.args.before.now ++ c.args.after.now) c.requires.was.old c.requires.was.bytes (index c.args.types c.args.starts.now.starts c.args.starts.now.length c.args.starts.now.room) c.requires.was.is) in
-    let to : c.look_to-to.result ≡ min (c.args.place + c.args.count + 3) (length (edited (Insert c.args.place c.requires.was.bytes) c.requires.was.old) + 1) = omega (arith, size, c.look_to-to.ensures, c.length-long.ensures.length, c.insert_text.ensures.length, c.remove_starts.ensures.length) in
+    let to : c.look_to-to.result ≡ min (last_touched c.args.types (c.args.place + c.args.count) + 1) (length (edited (Insert c.args.place c.requires.was.bytes) c.requires.was.old) + 1) = omega (arith, size, c.look_to-to.ensures, c.length-long.ensures.length, c.insert_text.ensures.length, c.remove_starts.ensures.length) in
     let found : starts_near c.args.types (c.args.before.now ++ c.args.after.now) c.saturating_sub-near.result c.max.result c.look_to-to.result ≡ starts_within c.args.types (edited (Insert c.args.place c.requires.was.bytes) c.requires.was.old) c.max.result c.look_to-to.result =
-    found_near c.args.types c.args.place c.args.count (c.args.before.now ++ c.args.after.now) (edited (Insert c.args.place c.requires.was.bytes) c.requires.was.old) c.requires.was.is.reads c.saturating_sub-near.result c.max.result c.look_to-to.result c.saturating_sub-near.ensures c.max.ensures (omega arith) in
+    found_near c.args.types c.args.place c.args.count (c.args.before.now ++ c.args.after.now) (edited (Insert c.args.place c.requires.was.bytes) c.requires.was.old) c.requires.was.is.reads c.saturating_sub-near.result c.max.result c.look_to-to.result c.saturating_sub-near.ensures c.max.ensures (omega (arith, to, touched_near c.args.types (c.args.place + c.args.count))) in
     let added = c.add_starts.ensures.starts ∙ ap (λ (xs : List ℕ). take (c.lines_at_step-line.result.0 + 1) c.insert_text.new.self.starts ++ xs ++ drop (c.lines_at_step-line.result.0 + 1) c.insert_text.new.self.starts) found in
     moves_in c.args.types c.args.place c.args.count c.args.starts.now.length c.args.starts.now.room (edited (Insert c.args.place c.requires.was.bytes) c.requires.was.old) c.args.starts.now.starts (insertion_is c.args.place c.args.count (c.args.before.now ++ c.args.after.now) c.requires.was.old c.requires.was.bytes (index c.args.types c.args.starts.now.starts c.args.starts.now.length c.args.starts.now.room) c.requires.was.is) c.add_starts.new.starts.starts c.add_starts.new.starts.length
     record { before = c.lines_before.result; old_lines = c.lines_at_step-line.result.1; new_lines = c.lines_after_step-new_lines.result; emptied = c.length.result == 0 }
-    (starts_in c.args.types c.args.place c.args.count c.args.starts.now.length c.args.starts.now.room (edited (Insert c.args.place c.requires.was.bytes) c.requires.was.old) c.args.starts.now.starts (insertion_is c.args.place c.args.count (c.args.before.now ++ c.args.after.now) c.requires.was.old c.requires.was.bytes (index c.args.types c.args.starts.now.starts c.args.starts.now.length c.args.starts.now.room) c.requires.was.is) (c.lines_at_step-line.result.0 + 1) (c.lines_at_step-line.result.1.two_behind + 1) (first_is c.args.starts.now.starts c.args.place c.saturating_sub.result c.lines_at_step-line.result.0 c.lines_at_step-line.ensures.line c.saturating_sub.ensures) (last_is c.args.starts.now.starts c.args.place c.lines_at_step-line.result.1 c.lines_at_step-line.ensures.lines) c.remove_starts.new.starts.starts c.insert_text.new.self.starts c.remove_starts.ensures.starts c.insert_text.ensures.starts c.max.result c.look_to-to.result c.max.ensures to c.add_starts.new.starts.starts added)
+    (starts_in c.args.types c.args.place c.args.count c.args.starts.now.length c.args.starts.now.room (edited (Insert c.args.place c.requires.was.bytes) c.requires.was.old) c.args.starts.now.starts (insertion_is c.args.place c.args.count (c.args.before.now ++ c.args.after.now) c.requires.was.old c.requires.was.bytes (index c.args.types c.args.starts.now.starts c.args.starts.now.length c.args.starts.now.room) c.requires.was.is) (c.lines_at_step-line.result.0 + 1) (c.last_near-behind.result + 1) (first_is c.args.starts.now.starts c.args.place c.saturating_sub.result c.lines_at_step-line.result.0 c.lines_at_step-line.ensures.line c.saturating_sub.ensures) (ap (λ n. n + 1) c.last_near-behind.ensures ∙ last_line_is c.args.types c.args.starts.now.starts c.args.place c.lines_at_step-line.result.1 c.lines_at_step-line.ensures.lines) c.remove_starts.new.starts.starts c.insert_text.new.self.starts c.remove_starts.ensures.starts c.insert_text.ensures.starts c.max.result c.look_to-to.result c.max.ensures to c.add_starts.new.starts.starts added)
     (change_is c.args.place c.args.place (c.args.place + c.args.count) c.lines_before.result c.args.starts.now.starts c.add_starts.new.starts.starts c.lines_at_step-line.result.1 c.lines_after_step-new_lines.result c.add_starts.new.starts.length (c.length.result == 0)
     c.lines_before.ensures c.lines_at_step-line.ensures.lines c.lines_after_step-new_lines.ensures.lines (ap (λ n. n == 0) c.length.ensures.length))
 
@@ -84,12 +85,16 @@ pub add_starts-requires-clause-behind : goal.add_starts-requires-clause-behind
 add_starts-requires-clause-behind g c = omega (arith, c.saturating_sub-near.ensures, c.max.ensures)
 
 pub lines_after_step-new_lines-requires-clause-kept : goal.lines_after_step-new_lines-requires-clause-kept
-lines_after_step-new_lines-requires-clause-kept g c = λ one same.
+lines_after_step-new_lines-requires-clause-kept g c = λ none same.
     let size = longer c.args.types c.args.place c.args.count c.args.starts.now.length c.args.starts.now.room (edited (Insert c.args.place c.requires.was.bytes) c.requires.was.old) c.args.starts.now.starts (insertion_is c.args.place c.args.count (c.args.before.now ++ c.args.after.now) c.requires.was.old c.requires.was.bytes (index c.args.types c.args.starts.now.starts c.args.starts.now.length c.args.starts.now.room) c.requires.was.is) in
-    let to : c.look_to-to.result ≡ min (c.args.place + c.args.count + 3) (length (edited (Insert c.args.place c.requires.was.bytes) c.requires.was.old) + 1) = omega (arith, size, c.look_to-to.ensures, c.length-long.ensures.length, c.insert_text.ensures.length, c.remove_starts.ensures.length) in
+    let to : c.look_to-to.result ≡ min (last_touched c.args.types (c.args.place + c.args.count) + 1) (length (edited (Insert c.args.place c.requires.was.bytes) c.requires.was.old) + 1) = omega (arith, size, c.look_to-to.ensures, c.length-long.ensures.length, c.insert_text.ensures.length, c.remove_starts.ensures.length) in
     let found : starts_near c.args.types (c.args.before.now ++ c.args.after.now) c.saturating_sub-near.result c.max.result c.look_to-to.result ≡ starts_within c.args.types (edited (Insert c.args.place c.requires.was.bytes) c.requires.was.old) c.max.result c.look_to-to.result =
-    found_near c.args.types c.args.place c.args.count (c.args.before.now ++ c.args.after.now) (edited (Insert c.args.place c.requires.was.bytes) c.requires.was.old) c.requires.was.is.reads c.saturating_sub-near.result c.max.result c.look_to-to.result c.saturating_sub-near.ensures c.max.ensures (omega arith) in
+    found_near c.args.types c.args.place c.args.count (c.args.before.now ++ c.args.after.now) (edited (Insert c.args.place c.requires.was.bytes) c.requires.was.old) c.requires.was.is.reads c.saturating_sub-near.result c.max.result c.look_to-to.result c.saturating_sub-near.ensures c.max.ensures (omega (arith, to, touched_near c.args.types (c.args.place + c.args.count))) in
     let added = c.add_starts.ensures.starts ∙ ap (λ (xs : List ℕ). take (c.lines_at_step-line.result.0 + 1) c.insert_text.new.self.starts ++ xs ++ drop (c.lines_at_step-line.result.0 + 1) c.insert_text.new.self.starts) found in
-    stay_in c.args.types c.args.place c.args.count c.args.starts.now.length c.args.starts.now.room (edited (Insert c.args.place c.requires.was.bytes) c.requires.was.old) c.args.starts.now.starts (insertion_is c.args.place c.args.count (c.args.before.now ++ c.args.after.now) c.requires.was.old c.requires.was.bytes (index c.args.types c.args.starts.now.starts c.args.starts.now.length c.args.starts.now.room) c.requires.was.is) c.add_starts.new.starts.starts c.lines_at_step-line.result.1 c.lines_before.result
-    (starts_in c.args.types c.args.place c.args.count c.args.starts.now.length c.args.starts.now.room (edited (Insert c.args.place c.requires.was.bytes) c.requires.was.old) c.args.starts.now.starts (insertion_is c.args.place c.args.count (c.args.before.now ++ c.args.after.now) c.requires.was.old c.requires.was.bytes (index c.args.types c.args.starts.now.starts c.args.starts.now.length c.args.starts.now.room) c.requires.was.is) (c.lines_at_step-line.result.0 + 1) (c.lines_at_step-line.result.1.two_behind + 1) (first_is c.args.starts.now.starts c.args.place c.saturating_sub.result c.lines_at_step-line.result.0 c.lines_at_step-line.ensures.line c.saturating_sub.ensures) (last_is c.args.starts.now.starts c.args.place c.lines_at_step-line.result.1 c.lines_at_step-line.ensures.lines) c.remove_starts.new.starts.starts c.insert_text.new.self.starts c.remove_starts.ensures.starts c.insert_text.ensures.starts c.max.result c.look_to-to.result c.max.ensures to c.add_starts.new.starts.starts added)
-    (same ∙ c.count-lines.ensures.count) c.lines_at_step-line.ensures.lines c.lines_before.ensures one
+    stay_in c.args.types c.args.place c.args.count c.args.starts.now.length c.args.starts.now.room (edited (Insert c.args.place c.requires.was.bytes) c.requires.was.old) c.args.starts.now.starts (insertion_is c.args.place c.args.count (c.args.before.now ++ c.args.after.now) c.requires.was.old c.requires.was.bytes (index c.args.types c.args.starts.now.starts c.args.starts.now.length c.args.starts.now.room) c.requires.was.is) (c.lines_at_step-line.result.0 + 1) (c.last_near-behind.result + 1) (first_is c.args.starts.now.starts c.args.place c.saturating_sub.result c.lines_at_step-line.result.0 c.lines_at_step-line.ensures.line c.saturating_sub.ensures) (ap (λ n. n + 1) c.last_near-behind.ensures ∙ last_line_is c.args.types c.args.starts.now.starts c.args.place c.lines_at_step-line.result.1 c.lines_at_step-line.ensures.lines) (omega (arith, none, range_in c.args.types c.args.place c.args.count c.args.starts.now.length c.args.starts.now.room (edited (Insert c.args.place c.requires.was.bytes) c.requires.was.old) c.args.starts.now.starts (insertion_is c.args.place c.args.count (c.args.before.now ++ c.args.after.now) c.requires.was.old c.requires.was.bytes (index c.args.types c.args.starts.now.starts c.args.starts.now.length c.args.starts.now.room) c.requires.was.is) (c.lines_at_step-line.result.0 + 1) (c.last_near-behind.result + 1) (first_is c.args.starts.now.starts c.args.place c.saturating_sub.result c.lines_at_step-line.result.0 c.lines_at_step-line.ensures.line c.saturating_sub.ensures) (ap (λ n. n + 1) c.last_near-behind.ensures ∙ last_line_is c.args.types c.args.starts.now.starts c.args.place c.lines_at_step-line.result.1 c.lines_at_step-line.ensures.lines))) c.add_starts.new.starts.starts
+    (starts_in c.args.types c.args.place c.args.count c.args.starts.now.length c.args.starts.now.room (edited (Insert c.args.place c.requires.was.bytes) c.requires.was.old) c.args.starts.now.starts (insertion_is c.args.place c.args.count (c.args.before.now ++ c.args.after.now) c.requires.was.old c.requires.was.bytes (index c.args.types c.args.starts.now.starts c.args.starts.now.length c.args.starts.now.room) c.requires.was.is) (c.lines_at_step-line.result.0 + 1) (c.last_near-behind.result + 1) (first_is c.args.starts.now.starts c.args.place c.saturating_sub.result c.lines_at_step-line.result.0 c.lines_at_step-line.ensures.line c.saturating_sub.ensures) (ap (λ n. n + 1) c.last_near-behind.ensures ∙ last_line_is c.args.types c.args.starts.now.starts c.args.place c.lines_at_step-line.result.1 c.lines_at_step-line.ensures.lines) c.remove_starts.new.starts.starts c.insert_text.new.self.starts c.remove_starts.ensures.starts c.insert_text.ensures.starts c.max.result c.look_to-to.result c.max.ensures to c.add_starts.new.starts.starts added)
+    (same ∙ c.count-lines.ensures.count) c.lines_at_step-line.result.1 c.lines_at_step-line.ensures.lines
+
+pub overflow_sub-behind : goal.overflow_sub-behind
+overflow_sub-behind g c =
+    omega (arith, range_in c.args.types c.args.place c.args.count c.args.starts.now.length c.args.starts.now.room (edited (Insert c.args.place c.requires.was.bytes) c.requires.was.old) c.args.starts.now.starts (insertion_is c.args.place c.args.count (c.args.before.now ++ c.args.after.now) c.requires.was.old c.requires.was.bytes (index c.args.types c.args.starts.now.starts c.args.starts.now.length c.args.starts.now.room) c.requires.was.is) (c.lines_at_step-line.result.0 + 1) (c.last_near-behind.result + 1) (first_is c.args.starts.now.starts c.args.place c.saturating_sub.result c.lines_at_step-line.result.0 c.lines_at_step-line.ensures.line c.saturating_sub.ensures) (ap (λ n. n + 1) c.last_near-behind.ensures ∙ last_line_is c.args.types c.args.starts.now.starts c.args.place c.lines_at_step-line.result.1 c.lines_at_step-line.ensures.lines))

@@ -1,6 +1,6 @@
 use Rattle.std.proofs.Common.{◌≡◌, ◌≤◌, length, map, sym, ap, ◌∙◌, arith}
 use Rattle.partitioning.proofs.Steps.{length-starts_of, step_taken}
-use Rattle.partitioning.proofs.table.Partitioning.step_to.Goals as goal
+use Rattle.partitioning.proofs.table.Partitioning.step_far.Goals as goal
 
 pub invariant_of-self : goal.invariant_of-self
 invariant_of-self g c =
