@@ -36,7 +36,8 @@ impl<T: Copy> Model for LineValues<T> {
     ghost invariant = { λ v. record { fewer : length v.stored.items ≤ v.lines; for_lines : v.room ≤ v.stored.spare; for_values : v.reach + v.room ≤ length v.stored.items + v.stored.spare } };
 }
 
-// Appends defaults up to `len` values, where there are fewer.
+// Appends defaults up to `len` values, where there are fewer. It stands apart, since lines mostly get values one behind the other.
+#[inline(never)]
 fn pad<T: Copy>(stored: &mut SplitVector<T>, default: T, len: usize)
     requires { len ≤ length stored.old.items + stored.old.spare }
     ensures items { stored.new.items ≡ padded default len stored.old.items }
@@ -44,6 +45,19 @@ fn pad<T: Copy>(stored: &mut SplitVector<T>, default: T, len: usize)
 {
     let before = stored.len();
     stored.insert_fill_reserved(before, len.saturating_sub(before), default);
+}
+
+// Puts the value of a line behind those that are stored, and defaults between.
+fn put_behind<T: Copy>(stored: &mut SplitVector<T>, default: T, line: usize, value: T)
+    requires behind { length stored.old.items ≤ line }
+    requires room { line < length stored.old.items + stored.old.spare }
+    ensures items { stored.new.items ≡ slice_set (padded default (line + 1) stored.old.items) line value }
+    ensures all { length stored.new.items + stored.new.spare ≡ length stored.old.items + stored.old.spare }
+{
+    if line > stored.len() {
+        pad(stored, default, line);
+    }
+    stored.insert_reserved(line, value);
 }
 
 // Puts `count` fresh lines in before a line.
@@ -153,9 +167,11 @@ impl<T: Copy> LineValues<T> {
         requires room { line < self.old.reach }
         ensures { self.new ≡ record self.old { values = slice_set self.old.values line value; stored = max self.old.stored (line + 1) } }
     {
-        let reached = self.stored.len().max(line + 1);
-        pad(&mut self.stored, self.default, reached);
-        self.stored.set(line, value);
+        if line < self.stored.len() {
+            self.stored.set(line, value);
+        } else {
+            put_behind(&mut self.stored, self.default, line, value);
+        }
     }
 
     fn carry_one(&mut self, edit: LineEdit)
