@@ -9,7 +9,7 @@ ghost use Rattle.marker_store.specs.Entries.{entry, no_entry, placed, rows_of, r
 use crate::drops::Drops;
 use crate::entries::Entry;
 use crate::markers::Marker;
-use crate::stored::{entry_of, move_step, put_in, take_out};
+use crate::stored::{entry_of, make_room, move_step, put_in, take_out};
 use split_vector::SplitVector;
 use std::alloc::{AllocError, Allocator, Global};
 use std::marker::Model;
@@ -78,7 +78,7 @@ impl<A: Allocator> PlacedMarkers<A> {
         if count <= self.room {
             return Ok(());
         }
-        self.stored.reserve(count)?;
+        make_room(&mut self.stored, count)?;
         self.room = count;
         Ok(())
     }
