@@ -1,5 +1,5 @@
 -- What a contract sees of `Cells`.
-use Rattle.std.specs.Prelude.{◌≡◌, ◌≤◌, ◌<◌, ℕ, ◌+◌, ◌-◌, ◌⊎◌, Bool, true, false, List, [], ◌∷◌, ◌++◌, length, take, drop, Option, Some, None}
+use Rattle.std.specs.Prelude.{◌≡◌, ◌≤◌, ◌<◌, ℕ, ◌+◌, ◌-◌, ◌⊎◌, ◌==◌, if◌then◌else◌, Bool, true, false, List, [], ◌∷◌, ◌++◌, length, take, drop, Option, Some, None}
 use Rattle.ed_model.specs.Text.{Cell, plain_cells}
 
 -- The cells; whether their styles are stored, where they are all 0 if not; how many more cells are sure to fit in; and for the
@@ -36,6 +36,10 @@ cells_of false bs ss = plain_cells bs
 -- xs with the new items in place of those from the place on
 abbrev pub overwritten : List ℕ → ℕ → List ℕ → List ℕ
 overwritten xs place new = take place xs ++ new ++ drop (place + length new) xs
+
+-- the range from a place up to an end, if the end is not 0
+abbrev pub range_between : ℕ → ℕ → Option (ℕ × ℕ)
+range_between first end = if end == 0 then None else Some (first, end - first)
 
 -- a range with one more place behind it, if there is a range
 abbrev pub widened : ℕ → Option (ℕ × ℕ) → Option (ℕ × ℕ)

@@ -1,29 +1,46 @@
 //! Styles written over others, and which of them changed.
 ghost use Rattle.std.specs.Prelude.{◌≡◌, ◌<◌, ◌≤◌, ◌+◌, ◌==◌, if◌then◌else◌, length, replicate, slice_set, slice_index};
 ghost use Rattle.ed_model.specs.Indicators.{changed_range};
-ghost use Rattle.cell_buffer.specs.Buffer.{overwritten, widened};
+ghost use Rattle.cell_buffer.specs.Buffer.{overwritten, widened, range_between};
 
 use split_vector::SplitVector;
 
 /// A range by its start and its length, if there is one.
 pub type Range = Option<(usize, usize)>;
 
-// Puts `style` at `place`, behind all places of `changed`, and answers `changed` with that place, if another style was there.
-fn put(styles: &mut SplitVector<u8>, place: usize, style: u8, changed: Range) -> Range
+// Where the first place lies that changed, and the end of the last. Where none changed yet, the end is 0. Two numbers stay in
+// registers from one place to the next, where a `Range` would be written and read.
+type Ends = (usize, usize);
+
+// The range between them.
+fn between(ends: Ends) -> Range
+    ensures { result ≡ range_between ends.0 ends.1 }
+{
+    let (first, end) = ends;
+    if end == 0 {
+        return None;
+    }
+    Some((first, end.saturating_sub(first)))
+}
+
+// Puts `style` at `place`, behind all places that changed so far, and answers the ends with that place, if another style was there.
+#[inline(always)]
+fn put(styles: &mut SplitVector<u8>, place: usize, style: u8, ends: Ends) -> Ends
     requires { place < length styles.old.items }
     ensures styles { styles.new ≡ record styles.old { items = slice_set styles.old.items place style } }
-    ensures changed { result ≡ (if slice_index styles.old.items place == style then changed else widened place changed) }
+    ensures changed { range_between result.0 result.1 ≡ (if slice_index styles.old.items place == style then range_between ends.0 ends.1 else widened place (range_between ends.0 ends.1)) }
 {
     let _ = styles.len(); // it says that the place is small
     let was = styles.get(place);
     styles.set(place, style);
     if was == style {
-        return changed;
+        return ends;
     }
-    match changed {
-        None => Some((place, 1)),
-        Some((start, _)) => Some((start, (place + 1).saturating_sub(start))),
+    let (first, end) = ends;
+    if end == 0 {
+        return (place, place + 1);
     }
+    (first, place + 1)
 }
 
 /// Puts `new` in place of the styles from `start` on, and answers the smallest range with all that changed.
@@ -33,11 +50,11 @@ pub(crate) fn overwrite(styles: &mut SplitVector<u8>, start: usize, new: &[u8]) 
     ensures changed { result ≡ changed_range styles.old.items styles.new.items }
 {
     let _ = styles.len(); // it says that the places are small
-    let mut changed = None;
-    for (i, style) in new.iter().enumerate() {
-        changed = put(styles, start + i, *style, changed);
+    let mut ends = (0, 0);
+    for i in 0..new.len() {
+        ends = put(styles, start + i, new[i], ends);
     }
-    changed
+    between(ends)
 }
 
 /// Puts `style` in place of `count` styles from `start` on, and answers the smallest range with all that changed.
@@ -47,9 +64,9 @@ pub(crate) fn fill(styles: &mut SplitVector<u8>, start: usize, count: usize, sty
     ensures changed { result ≡ changed_range styles.old.items styles.new.items }
 {
     let _ = styles.len(); // it says that the places are small
-    let mut changed = None;
+    let mut ends = (0, 0);
     for i in 0..count {
-        changed = put(styles, start + i, style, changed);
+        ends = put(styles, start + i, style, ends);
     }
-    changed
+    between(ends)
 }

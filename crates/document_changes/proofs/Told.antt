@@ -1,20 +1,20 @@
 -- What is told.
-use Rattle.std.proofs.Common.{◌≡◌, ℕ, ◌+◌, ◌-◌, ◌<◌, ◌≤◌, Bool, true, false, cond, List, [], ◌∷◌, ◌++◌, map, length, refl, ap, sym, ◌∙◌, subst, arith}
-use Rattle.std.specs.Prelude.{ℤ, pos, ◌==◌, not, ◌&&◌, filter, bit_or, int_le}
+use Rattle.std.proofs.Common.{◌≡◌, ℕ, ◌-◌, ◌<◌, ◌≤◌, true, false, List, [], ◌∷◌, ◌++◌, length, refl, ap, sym, subst, arith}
+use Rattle.std.specs.Prelude.{◌==◌, filter, bit_or, Option, Some, None}
 use Rattle.std.proofs.lemmas.List.{append-nil, length-map}
-use Rattle.std.proofs.lemmas.Bool.{eqb-true, eqb-false, eq-eqb, ne_eqb}
+use Rattle.std.proofs.lemmas.Bool.{eqb-true}
 use Rattle.ed_types.specs.Notices.{Notice}
-use Rattle.ed_types.specs.Heard.{with_text}
-use Rattle.ed_types.specs.declared.reply.Note.{Note}
 use Rattle.ed_model.specs.declared.plan.DocumentChange.{DocumentChange}
 use Rattle.ed_model.specs.declared.plan.DocumentChange.TheVariants as change
 use Rattle.ed_model.specs.Session.{Document, View}
-use Rattle.ed_model.specs.Notes.{told, heard, blank}
-use Rattle.ed_model.specs.Changes.{changed_document, change_told}
+use Rattle.ed_model.specs.Notes.{told, heard, range_note, performed_user}
+use Rattle.ed_model.specs.Numbers.{meets}
+use Rattle.ed_model.specs.Changes.{changed_document, change_told, range_notes}
 use Rattle.id_table.specs.Entries.{Entries}
 use Rattle.notify.specs.Gathered.{Gathered}
 use Rattle.ed_view.specs.Kept.{KeptView}
 use Rattle.scene.specs.Scenes.{watchers, IsWatched}
+use Rattle.scene.specs.Hearing.{hearers}
 use Rattle.document_changes.specs.Changed.{AreTold, IsChanged}
 use Rattle.document_changes.specs.Needs.{is_quiet, is_of_types}
 use Rattle.document_changes.proofs.Unmoved.{is_changed}
@@ -22,6 +22,23 @@ use Rattle.document_changes.proofs.Unmoved.{is_changed}
 -- nothing is told
 pub told_nothing : (notes : Gathered) → AreTold [] notes notes
 told_nothing notes = record { notes = sym (append-nil notes.notes); note_room = omega arith; text_room = refl }
+
+none_of : (views : List View) → length views ≡ 0 → views ≡ []
+none_of [] h = refl
+none_of (v ∷ views) h = absurd (omega arith)
+
+-- nobody hears, where there is room for no note
+pub told_nobody : (views : List View) (n : Notice) (notes : Gathered) → hearers n.kind views ≤ notes.note_room → (notes.note_room == 0) ≡ true → AreTold (heard views n) notes notes
+told_nobody views n notes room full =
+    let none : notes.note_room ≡ 0 = eqb-true notes.note_room 0 full in
+    let nobody : filter (λ (v : View). meets v.mask n.kind) views ≡ [] = none_of (filter (λ (v : View). meets v.mask n.kind) views) (omega (arith, room, none)) in
+    subst (λ (vs : List View). AreTold (told vs n) notes notes) (sym nobody) (told_nothing notes)
+
+-- nor of a range
+pub told_no_range : (bits : ℕ) (changed : Option (ℕ × ℕ)) (views : List View) (notes : Gathered) → hearers (bit_or bits performed_user) views ≤ notes.note_room → (notes.note_room == 0) ≡ true
+    → AreTold (range_notes bits changed views) notes notes
+told_no_range bits None views notes room full = told_nothing notes
+told_no_range bits (Some range) views notes room full = told_nobody views (range_note (bit_or bits performed_user) range.0 range.1) notes room full
 
 -- a note for each of some views
 pub told_each : (views : List View) (n : Notice) (old new : Gathered)

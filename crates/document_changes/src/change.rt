@@ -24,7 +24,8 @@ use id_table::IdTable;
 use line_index::LineEdit;
 use notify::NoteList;
 
-// Makes a change, for which there is room with these edits.
+// Makes a change, for which there is room with these edits. What is rare, or sets up a note, stands in functions apart, so that the
+// frame of the others stays small.
 fn perform(
     document: &mut Document,
     views: &mut IdTable<View>,

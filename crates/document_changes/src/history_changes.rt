@@ -56,6 +56,7 @@ pub(crate) fn change_quietly(document: &mut Document, change: DocumentChange)
 }
 
 /// Makes this the save point, and tells each view so. There must be room for as many notes.
+#[inline(never)]
 pub(crate) fn set_save_point(document: &mut Document, views: &IdTable<View>, notes: &mut NoteList)
     requires watched { IsWatched document.old.document views.now }
     requires room { length (watchers document.old.document views.now) ≤ notes.old.note_room }
@@ -75,6 +76,7 @@ fn leaves_save_point(document: &Document) -> bool
 
 /// Appends a container's step to the history. If the document was at its save point, each view is told that it left it. There
 /// must be room in the history, and for the notes.
+#[inline(never)]
 pub(crate) fn append_container(
     document: &mut Document,
     views: &IdTable<View>,

@@ -18,8 +18,10 @@ use ed_view::View;
 use id_table::IdTable;
 use notify::NoteList;
 
-// Tells that the markers of a line changed.
-fn tell_markers(document: &Document, views: &IdTable<View>, notes: &mut NoteList, line: usize)
+// Tells that the markers of a line changed. It stands apart, so that where nobody hears no note is set up, and the line's start
+// is not looked up.
+#[inline(never)]
+fn tell_start(document: &Document, views: &IdTable<View>, notes: &mut NoteList, line: usize)
     requires line { line < lines_in document.now.document }
     requires named { AreNamed views.now.entries }
     requires room { hearers change_marker (watchers document.now.document views.now) ≤ notes.old.note_room }
@@ -31,7 +33,22 @@ fn tell_markers(document: &Document, views: &IdTable<View>, notes: &mut NoteList
     tell_heard(document, views, notes, &note);
 }
 
+// Tells that the markers of a line changed.
+#[inline]
+fn tell_markers(document: &Document, views: &IdTable<View>, notes: &mut NoteList, line: usize)
+    requires line { line < lines_in document.now.document }
+    requires named { AreNamed views.now.entries }
+    requires room { hearers change_marker (watchers document.now.document views.now) ≤ notes.old.note_room }
+    ensures { AreTold (heard (watchers document.now.document views.now) (marker_notice document.now.document line)) notes.old notes.new }
+{
+    if notes.is_full() {
+        return;
+    }
+    tell_start(document, views, notes, line);
+}
+
 /// Puts a marker with a number behind those of a line, and tells of it.
+#[inline]
 pub(crate) fn add_marker(
     document: &mut Document,
     views: &IdTable<View>,
@@ -54,6 +71,7 @@ pub(crate) fn add_marker(
 
 /// Puts a marker for each bit of a mask behind those of a line, and tells of all by one note for each view, or of none by
 /// none.
+#[inline(never)]
 pub(crate) fn add_markers(
     document: &mut Document,
     views: &IdTable<View>,
@@ -77,6 +95,7 @@ pub(crate) fn add_markers(
 
 /// Takes a line's first marker with a number away, or all of its markers where none is named, and tells of it if there was
 /// one.
+#[inline(never)]
 pub(crate) fn delete_marker(
     document: &mut Document,
     views: &IdTable<View>,
@@ -95,6 +114,7 @@ pub(crate) fn delete_marker(
 }
 
 /// Takes all markers with a number away, or all where none is named, and tells of it, by a note of no line, if there was one.
+#[inline(never)]
 pub(crate) fn delete_markers(
     document: &mut Document,
     views: &IdTable<View>,
@@ -113,6 +133,7 @@ pub(crate) fn delete_markers(
 }
 
 /// Takes the marker with a handle away, and tells of it if there was one.
+#[inline(never)]
 pub(crate) fn delete_handle(
     document: &mut Document,
     views: &IdTable<View>,

@@ -27,7 +27,9 @@ impl Model for ChangeReady {
     ghost view = { λ r. r.edits.items };
 }
 
-// Makes room for the lines that come where these line ends count, and returns what becomes of all lines.
+// Makes room for the lines that come where these line ends count, and returns what becomes of all lines. It stands apart, since
+// it is rare.
+#[inline(never)]
 fn reserve_types(
     alloc: Global,
     document: &mut Document,
@@ -85,6 +87,7 @@ fn reserve_other(document: &mut Document, change: DocumentChange) -> Result<(), 
 /// # Errors
 ///
 /// `AllocError` where memory is refused; the document is then as it was.
+#[inline]
 pub fn reserve_change(
     alloc: Global,
     document: &mut Document,

@@ -2,11 +2,13 @@
 
 ghost use Rattle.std.specs.Prelude.{◌≡◌, ◌≤◌, ◌<◌, ◌-◌, ◌^◌, true, pos, negsuc, int_le, List, ℕ};
 ghost use Rattle.ed_model.specs.declared.plan.DocumentChange.TheVariants as change;
-ghost use Rattle.ed_model.specs.Notes.{change_fold, change_line_state};
+ghost use Rattle.ed_model.specs.Changes.{line_note as note_of_line};
+ghost use Rattle.ed_model.specs.Notes.{heard, change_fold, change_line_state};
 ghost use Rattle.ed_model.specs.Session.{lines_in};
-ghost use Rattle.scene.specs.Scenes.{watchers, IsWatched};
+ghost use Rattle.scene.specs.Scenes.{watchers, AreNamed, IsWatched};
 ghost use Rattle.scene.specs.Hearing.{hearers};
-ghost use Rattle.document_changes.specs.Changed.{IsChanged};
+ghost use Rattle.document_changes.specs.Changed.{AreTold, IsChanged};
+ghost use Rattle.document_changes.specs.Lines.{level_notice};
 
 use crate::telling::{CHANGE_FOLD, CHANGE_LINE_STATE, line_note, tell_heard};
 use document::Document;
@@ -14,7 +16,29 @@ use ed_view::View;
 use id_table::IdTable;
 use notify::NoteList;
 
+// Tells of a line's fold level, and of the one before. It stands apart, so that where nobody hears no note is set up.
+#[inline(never)]
+fn tell_level(
+    document: &Document,
+    views: &IdTable<View>,
+    notes: &mut NoteList,
+    line: usize,
+    level: u32,
+    before: u32,
+)
+    requires line { line < 2 ^ 63 }
+    requires named { AreNamed views.now.entries }
+    requires room { hearers change_fold (watchers document.now.document views.now) ≤ notes.old.note_room }
+    ensures { AreTold (heard (watchers document.now.document views.now) (level_notice line level before)) notes.old notes.new }
+{
+    let mut note = line_note(CHANGE_FOLD, line);
+    note.now = level as i64;
+    note.prev = before as i64;
+    tell_heard(document, views, notes, &note);
+}
+
 /// Sets the fold level of a line, and tells of it if it was another.
+#[inline]
 pub(crate) fn set_level(
     document: &mut Document,
     views: &IdTable<View>,
@@ -30,12 +54,13 @@ pub(crate) fn set_level(
 {
     let _ = document.line_count(); // it says that lines are few
     let before = document.set_level(line, level);
-    if before != level {
-        let mut note = line_note(CHANGE_FOLD, line);
-        note.now = level as i64;
-        note.prev = before as i64;
-        tell_heard(document, views, notes, &note);
+    if before == level {
+        return;
     }
+    if notes.is_full() {
+        return;
+    }
+    tell_level(document, views, notes, line, level, before);
 }
 
 // A line's state as the number of 32 bits that it is.
@@ -46,7 +71,20 @@ fn narrowed(state: i64) -> i32
     state as i32
 }
 
+// Tells of a line's state, apart as `tell_level` is.
+#[inline(never)]
+fn tell_state(document: &Document, views: &IdTable<View>, notes: &mut NoteList, line: usize)
+    requires line { line < 2 ^ 63 }
+    requires named { AreNamed views.now.entries }
+    requires room { hearers change_line_state (watchers document.now.document views.now) ≤ notes.old.note_room }
+    ensures { AreTold (heard (watchers document.now.document views.now) (note_of_line change_line_state line)) notes.old notes.new }
+{
+    let note = line_note(CHANGE_LINE_STATE, line);
+    tell_heard(document, views, notes, &note);
+}
+
 /// Sets the state of a line, and tells of it if it was another.
+#[inline]
 pub(crate) fn set_state(
     document: &mut Document,
     views: &IdTable<View>,
@@ -64,8 +102,11 @@ pub(crate) fn set_state(
     let _ = document.line_count(); // it says that lines are few
     let state = narrowed(state);
     let before = document.set_state(line, state);
-    if before != state {
-        let note = line_note(CHANGE_LINE_STATE, line);
-        tell_heard(document, views, notes, &note);
+    if before == state {
+        return;
     }
+    if notes.is_full() {
+        return;
+    }
+    tell_state(document, views, notes, line);
 }

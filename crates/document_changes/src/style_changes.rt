@@ -15,8 +15,9 @@ use ed_view::View;
 use id_table::IdTable;
 use notify::NoteList;
 
-// Tells that a range of bytes changed, if there is one.
-fn tell_range(
+// Tells that a range of bytes changed, if there is one. It stands apart, so that where nobody hears no note is set up.
+#[inline(never)]
+fn tell_changed(
     document: &Document,
     views: &IdTable<View>,
     notes: &mut NoteList,
@@ -34,8 +35,29 @@ fn tell_range(
     }
 }
 
+// Tells that a range of bytes changed, if there is one.
+#[inline]
+fn tell_range(
+    document: &Document,
+    views: &IdTable<View>,
+    notes: &mut NoteList,
+    kind: u32,
+    changed: Option<(usize, usize)>,
+)
+    requires small { IfSome changed (λ range. (range.0 < 2 ^ 63) × (range.1 < 2 ^ 63)) }
+    requires named { AreNamed views.now.entries }
+    requires room { hearers kind (watchers document.now.document views.now) ≤ notes.old.note_room }
+    ensures { (bits : ℕ) → kind ≡ bit_or bits performed_user → AreTold (range_notes bits changed (watchers document.now.document views.now)) notes.old notes.new }
+{
+    if notes.is_full() {
+        return;
+    }
+    tell_changed(document, views, notes, kind, changed);
+}
+
 /// Puts one style on the bytes from where the document is styled up to, moves that behind them, and tells of the range with
 /// all changed styles.
+#[inline]
 pub(crate) fn style_run(
     document: &mut Document,
     views: &IdTable<View>,
@@ -76,6 +98,7 @@ pub(crate) fn style_bytes(
 }
 
 /// The document counts as styled up to `start` at most, and the sending view is asked to style it up to `end`.
+#[inline(never)]
 pub(crate) fn need_style(
     document: &mut Document,
     views: &IdTable<View>,

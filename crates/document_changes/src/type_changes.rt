@@ -18,6 +18,7 @@ use scene::regroup;
 
 /// Lets these line ends count from now on: the rows of the document and the flags of the views that watch it go with the
 /// lines, by the edits, which are what becomes of them. No view is told.
+#[inline(never)]
 pub(crate) fn set_line_end_types(
     document: &mut Document,
     views: &mut IdTable<View>,

@@ -1,6 +1,6 @@
 -- The stored values of the first lines, padded with the default, through edits of lines.
-use Rattle.std.proofs.Common.{◌≡◌, ◌≤◌, ◌<◌, ◌+◌, ◌-◌, ℕ, suc, List, [], ◌∷◌, ◌++◌, length, take, drop, replicate, get_or, set, min, refl, ap, sym, ◌∙◌, arith, append_assoc, inl, inr}
-use Rattle.std.proofs.lemmas.List.{length-append, length-take, length-take-le, length-drop, length-replicate, take-append-le, drop-append-le, take-replicate, drop-replicate, replicate-append-replicate, drop_all, append-nil, set-append_left, length-set, drop_more, take_more}
+use Rattle.std.proofs.Common.{◌≡◌, ◌≤◌, ◌<◌, ◌+◌, ◌-◌, ℕ, zero, suc, List, [], ◌∷◌, ◌++◌, length, take, drop, replicate, get_or, set, min, refl, ap, sym, ◌∙◌, arith, append_assoc, inl, inr}
+use Rattle.std.proofs.lemmas.List.{length-append, length-take, length-take-le, length-drop, length-replicate, take-append-le, drop-append-le, take-replicate, drop-replicate, replicate-append-replicate, drop_all, take_all, replicate_more, append-nil, set-append_left, length-set, drop_more, take_more}
 use Rattle.std.proofs.lemmas.Bool.{cases_lt}
 use Rattle.std.proofs.Math.Seq.{take-append-add, drop-append-add}
 use Rattle.std.specs.List.{slice_range}
@@ -9,6 +9,12 @@ use Rattle.line_index.specs.Edits.{with_fresh, with_joined}
 use Rattle.line_rows.specs.Values.{first_or, padded}
 
 module _ {V : Type 0} where
+  set_last : (d : V) (xs : List V) (n : ℕ) (x : V) → length xs ≡ n → set (xs ++ d ∷ []) n x ≡ xs ++ x ∷ []
+  set_last d [] zero x h = refl
+  set_last d [] (suc n) x h = absurd (omega arith)
+  set_last d (y ∷ ys) zero x h = absurd (omega arith)
+  set_last d (y ∷ ys) (suc n) x h = ap (λ t. y ∷ t) (set_last d ys n x (omega arith))
+
   pub padded_length : (d : V) (n : ℕ) (xs : List V) → length xs ≤ n → length (padded d n xs) ≡ n
   padded_length d n xs h = simp (length-append, length-replicate) (omega arith)
 
@@ -115,3 +121,30 @@ module _ {V : Type 0} where
       let split : padded d end xs ++ replicate (n - end) d ≡ padded d n xs =
       append_assoc xs (replicate (end - length xs) d) (replicate (n - end) d) ∙ ap (λ t. xs ++ t) (replicate-append-replicate {A = V} (end - length xs) (n - end) d ∙ ap (λ m. replicate m d) count) in
       rw left (sym (set-append_left (padded d end xs) (replicate (n - end) d) line x inside) ∙ ap (λ l. set l line x) split)
+
+  -- the line behind those that are stored gets its value
+  pub padded_put : (d : V) (xs : List V) (line : ℕ) (x : V) → length xs ≤ line → inserted (padded d line xs) line (x ∷ []) ≡ set (padded d (line + 1) xs) line x
+  padded_put d xs line x h =
+      let P = padded d line xs in
+      let long : length P ≡ line = padded_length d line xs h in
+      let count : line + 1 - length xs ≡ line - length xs + 1 = omega arith in
+      let more : padded d (line + 1) xs ≡ P ++ d ∷ [] =
+      ap (λ m. xs ++ replicate m d) count ∙ ap (λ t. xs ++ t) (sym (replicate_more (line - length xs) d)) ∙ sym (append_assoc xs (replicate (line - length xs) d) (d ∷ [])) in
+      let front : take line P ≡ P = take_all line P (omega arith) in
+      let back : drop line P ≡ [] = drop_all line P (omega arith) in
+      ap (λ t. t ++ x ∷ [] ++ drop line P) front
+      ∙ ap (λ t. P ++ x ∷ [] ++ t) back
+      ∙ append-nil (P ++ x ∷ [])
+      ∙ sym (ap (λ t. set t line x) more ∙ set_last d P line x long)
+
+  -- one that is stored gets another
+  pub padded_set_stored : (d : V) (xs : List V) (n line : ℕ) (x : V) → length xs ≤ n → line < length xs → padded d n (set xs line x) ≡ set (padded d n xs) line x
+  padded_set_stored d xs n line x h i =
+      let left : n - length (set xs line x) ≡ n - length xs = omega (arith, length-set xs line x) in
+      rw left (sym (set-append_left xs (replicate (n - length xs) d) line x i))
+
+  -- there is nothing to pad
+  pub padded_all : (d : V) (n : ℕ) (xs : List V) → n ≤ length xs → padded d n xs ≡ xs
+  padded_all d n xs h =
+      let none : n - length xs ≡ 0 = omega arith in
+      rw none (append-nil xs)

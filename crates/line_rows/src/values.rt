@@ -2,6 +2,7 @@
 ghost use Rattle.std.specs.Prelude.{◌≡◌, ◌≤◌, ◌<◌, ◌+◌, ◌-◌, ◌^◌, ℕ, ◌∷◌, [], length, max, slice_set, slice_index_or, OnOk, OnErr, IsOk};
 ghost use Rattle.line_index.specs.Edits.{with_fresh, with_joined, after_edit, after_edits, FitsLines, FitLines, fresh_by, fresh_lines};
 ghost use Rattle.line_index.specs.declared.edit.LineEdit.TheVariants.{Come, Join};
+ghost use Rattle.split_vector.specs.Split.{most_room};
 ghost use Rattle.line_rows.specs.Values.{valued, first_or, padded, padded_halves, most_block, stored_after_edit, stored_after};
 
 use line_index::LineEdit;
@@ -36,7 +37,21 @@ impl<T: Copy> Model for LineValues<T> {
     ghost invariant = { λ v. record { fewer : length v.stored.items ≤ v.lines; for_lines : v.room ≤ v.stored.spare; for_values : v.reach + v.room ≤ length v.stored.items + v.stored.spare } };
 }
 
-// Appends defaults up to `len` values, where there are fewer.
+// Makes room for `count` more values. Where it is there already, nothing is called.
+#[inline]
+fn make_room<T: Copy>(stored: &mut SplitVector<T>, count: usize) -> Result<(), AllocError>
+    ensures ok { OnOk result ((stored.new.items ≡ stored.old.items) × (count ≤ stored.new.spare)) }
+    ensures at_most { OnOk result (stored.new.spare ≤ most_room (length stored.old.items) stored.old.spare count) }
+    ensures err { OnErr result (stored.new ≡ stored.old) }
+{
+    if count <= stored.spare() {
+        return Ok(());
+    }
+    stored.reserve(count)
+}
+
+// Appends defaults up to `len` values, where there are fewer. It stands apart, since lines mostly get values one behind the other.
+#[inline(never)]
 fn pad<T: Copy>(stored: &mut SplitVector<T>, default: T, len: usize)
     requires { len ≤ length stored.old.items + stored.old.spare }
     ensures items { stored.new.items ≡ padded default len stored.old.items }
@@ -44,6 +59,19 @@ fn pad<T: Copy>(stored: &mut SplitVector<T>, default: T, len: usize)
 {
     let before = stored.len();
     stored.insert_fill_reserved(before, len.saturating_sub(before), default);
+}
+
+// Puts the value of a line behind those that are stored, and defaults between.
+fn put_behind<T: Copy>(stored: &mut SplitVector<T>, default: T, line: usize, value: T)
+    requires behind { length stored.old.items ≤ line }
+    requires room { line < length stored.old.items + stored.old.spare }
+    ensures items { stored.new.items ≡ slice_set (padded default (line + 1) stored.old.items) line value }
+    ensures all { length stored.new.items + stored.new.spare ≡ length stored.old.items + stored.old.spare }
+{
+    if line > stored.len() {
+        pad(stored, default, line);
+    }
+    stored.insert_reserved(line, value);
 }
 
 // Puts `count` fresh lines in before a line.
@@ -139,7 +167,7 @@ impl<T: Copy> LineValues<T> {
         let Some(wanted) = reach.saturating_sub(self.stored.len()).checked_add(room) else {
             return Err(AllocError);
         };
-        let Ok(()) = self.stored.reserve(wanted) else {
+        let Ok(()) = make_room(&mut self.stored, wanted) else {
             return Err(AllocError);
         };
         self.room = room;
@@ -153,9 +181,11 @@ impl<T: Copy> LineValues<T> {
         requires room { line < self.old.reach }
         ensures { self.new ≡ record self.old { values = slice_set self.old.values line value; stored = max self.old.stored (line + 1) } }
     {
-        let reached = self.stored.len().max(line + 1);
-        pad(&mut self.stored, self.default, reached);
-        self.stored.set(line, value);
+        if line < self.stored.len() {
+            self.stored.set(line, value);
+        } else {
+            put_behind(&mut self.stored, self.default, line, value);
+        }
     }
 
     fn carry_one(&mut self, edit: LineEdit)

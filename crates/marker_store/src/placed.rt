@@ -9,7 +9,7 @@ ghost use Rattle.marker_store.specs.Entries.{entry, no_entry, placed, rows_of, r
 use crate::drops::Drops;
 use crate::entries::Entry;
 use crate::markers::Marker;
-use crate::stored::{entry_of, move_step, put_in, take_out};
+use crate::stored::{entry_of, make_room, move_step, put_in, take_out};
 use split_vector::SplitVector;
 use std::alloc::{AllocError, Allocator, Global};
 use std::marker::Model;
@@ -78,7 +78,7 @@ impl<A: Allocator> PlacedMarkers<A> {
         if count <= self.room {
             return Ok(());
         }
-        self.stored.reserve(count)?;
+        make_room(&mut self.stored, count)?;
         self.room = count;
         Ok(())
     }
@@ -95,7 +95,9 @@ impl<A: Allocator> PlacedMarkers<A> {
         (entry.line(), entry.marker())
     }
 
-    /// Returns how many markers are on lines before the line.
+    /// Returns how many markers are on lines before the line. The search stands apart, since what is asked for is mostly found
+    /// without it.
+    #[inline(never)]
     pub(crate) fn cut(&self, line: usize) -> usize
         ensures { IsCut line self.now.entries result }
     {
@@ -155,6 +157,21 @@ impl<A: Allocator> PlacedMarkers<A> {
         self.cut_at_step(line + 1)
     }
 
+    // Returns how many markers are on the line and those before it, as `cut_behind` does. The last marker is looked at first:
+    // markers mostly come one line after the other, wherever the step is.
+    fn cut_from_end(&self, line: usize) -> usize
+        requires { line < self.now.count }
+        ensures { IsCut (line + 1) self.now.entries result }
+    {
+        let lines = self.count();
+        prove!(line < lines);
+        let all = self.len();
+        if self.is_cut(line + 1, all) {
+            return all;
+        }
+        self.cut_at_step(line + 1)
+    }
+
     /// Puts `count` lines in before the line.
     pub(crate) fn raise(&mut self, line: usize, count: usize)
         requires line { line ≤ self.old.count }
@@ -211,7 +228,7 @@ impl<A: Allocator> PlacedMarkers<A> {
         ensures room { self.new.room + 1 ≡ self.old.room }
         ensures block { self.new.block ≡ self.old.block }
     {
-        let index = self.cut_behind(line);
+        let index = self.cut_from_end(line);
         let entry = Entry::new(line, marker);
         self.step = put_in(&mut self.stored, self.lines, self.step, index, entry);
         self.room -= 1;

@@ -1,13 +1,13 @@
 use Rattle.std.proofs.Common.{◌≡◌, replicate}
 use Rattle.ed_model.specs.Indicators.{changed_range}
-use Rattle.cell_buffer.specs.Buffer.{overwritten}
+use Rattle.cell_buffer.specs.Buffer.{overwritten, range_between}
 use Rattle.cell_buffer.proofs.styling.fill.Given as goal
 
 -- `i` styles are written, what changed by them is known, and nothing moved
 abbrev pub invariant-loop-i : goal.invariant-loop-i
 invariant-loop-i l = record {
   items : l.styles.items ≡ overwritten l.initial.styles.items l.start (replicate l.i l.style);
-  changed : l.changed ≡ changed_range l.initial.styles.items l.styles.items;
+  changed : range_between l.ends.0 l.ends.1 ≡ changed_range l.initial.styles.items l.styles.items;
   spare : l.styles.spare ≡ l.initial.styles.spare;
   gap : l.styles.gap ≡ l.initial.styles.gap;
   moved : l.styles.moved ≡ l.initial.styles.moved;

@@ -1,7 +1,7 @@
-use Rattle.std.proofs.Common.{◌≡◌, ℕ, List, [], ◌∷◌, ◌++◌, ◌+◌, ◌∙◌, ap, sym, arith, set, take, get_or, length}
+use Rattle.std.proofs.Common.{◌≡◌, [], ◌∷◌, ◌++◌, ◌+◌, ◌∙◌, ap, sym, arith, set, take, get_or, length}
 use Rattle.std.proofs.lemmas.List.{take_more, length-take-le}
 use Rattle.ed_model.specs.Indicators.{changed_range}
-use Rattle.cell_buffer.specs.Buffer.{overwritten}
+use Rattle.cell_buffer.specs.Buffer.{overwritten, range_between}
 use Rattle.cell_buffer.proofs.Pairs.{overwritten_push, overwritten_none}
 use Rattle.cell_buffer.proofs.Changed.{range_put, range_of_none}
 use Rattle.cell_buffer.proofs.styling.overwrite.Goals as goal
@@ -23,14 +23,14 @@ loop-i-preserved c =
     let style = get_or c.args.new.now i 0 in
     let done = take i c.args.new.now in
     let count : length done ≡ i = (length-take-le i c.args.new.now (omega arith)) in
-    let now : c.put-changed.new.styles.items ≡ overwritten old start (done ++ style ∷ []) =
-    ap (λ s. s.items) c.put-changed.ensures.styles
+    let now : c.put-ends.new.styles.items ≡ overwritten old start (done ++ style ∷ []) =
+    ap (λ s. s.items) c.put-ends.ensures.styles
     ∙ ap (λ xs. set xs (start + i) style) c.loop-i.invariant.items
     ∙ overwritten_push old done start i style count (omega arith) in
     record {
       items = now ∙ ap (λ t. overwritten old start t) (sym (take_more c.args.new.now i 0 (omega arith)));
-      changed = c.put-changed.ensures.changed
-          ∙ range_put old done c.loop-i.styles.items c.loop-i.changed start i style c.loop-i.invariant.items c.loop-i.invariant.changed count (omega arith)
+      changed = c.put-ends.ensures.changed
+          ∙ range_put old done c.loop-i.styles.items (range_between c.loop-i.ends.0 c.loop-i.ends.1) start i style c.loop-i.invariant.items c.loop-i.invariant.changed count (omega arith)
           ∙ ap (λ t. changed_range old t) (sym now);
       spare = cc;
       gap = cc;

@@ -1,23 +1,10 @@
-use Rattle.std.proofs.Common.{◌≡◌, [], refl, ap, sym, ◌∙◌, subst, arith, w64}
-use Rattle.std.proofs.lemmas.Int.{ints}
-use mir.Val.{to_z}
-use Rattle.std.specs.Prelude.{pos, ℤ}
-use Rattle.ed_types.specs.Notices.{Notice}
-use Rattle.ed_types.specs.Heard.{with_text}
-use Rattle.ed_model.specs.Lines.{start_of_line}
-use Rattle.ed_model.specs.Notes.{heard}
-use Rattle.ed_model.specs.Session.{text_of}
+use Rattle.std.proofs.Common.{sym, ◌∙◌}
 use Rattle.scene.specs.Scenes.{watchers}
-use Rattle.document_changes.specs.Changed.{AreTold}
 use Rattle.document_changes.specs.Lines.{marker_notice}
+use Rattle.document_changes.proofs.Told.{told_nobody}
 use Rattle.document_changes.proofs.marker_changes.tell_markers.Goals as goal
 
-pub returns : goal.returns
-returns c =
+pub returns-then-is_full : goal.returns-then-is_full
+returns-then-is_full c =
     let d = c.args.document.now.document in
-    let place = start_of_line d.line_end_types (text_of d) c.args.line in
-    let p : to_z w64 c.line_start.result ≡ pos place = omega (arith, ints, c.line_start.ensures.start) in
-    let is : with_text (record c.line_note-note.result { position = to_z w64 c.line_start.result }) [] ≡ marker_notice d c.args.line =
-    ap (λ (z : ℤ). with_text (record c.line_note-note.result { position = z }) []) p
-    ∙ ap (λ (n : Notice). record n { position = pos place }) (c.line_note-note.ensures.note []) in
-    subst (λ (n : Notice). AreTold (heard (watchers d c.args.views.now) n) c.args.notes.now c.tell_heard.new.notes) is c.tell_heard.ensures
+    told_nobody (watchers d c.args.views.now) (marker_notice d c.args.line) c.args.notes.now c.requires.room (sym c.is_full.ensures ∙ c.if-is_full.true)

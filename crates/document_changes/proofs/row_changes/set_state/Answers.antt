@@ -1,8 +1,7 @@
-use Rattle.std.proofs.Common.{◌≡◌, List, [], refl, sym, ap, ◌∙◌, subst, w32, w64}
+use Rattle.std.proofs.Common.{List, [], refl, sym, ap, ◌∙◌, subst, w32, w64}
 use Rattle.std.proofs.lemmas.Int.{to_z-of_z}
 use mir.Val.{to_z, of_z}
 use Rattle.std.specs.Prelude.{ℤ}
-use Rattle.ed_types.specs.Heard.{with_text}
 use Rattle.ed_types.specs.Notices.{Notice}
 use Rattle.ed_model.specs.declared.plan.DocumentChange.TheVariants as change
 use Rattle.ed_model.specs.Changes.{changed_document, document_row, line_note, is_same}
@@ -12,7 +11,7 @@ use Rattle.scene.specs.Scenes.{watchers}
 use Rattle.document_changes.specs.Changed.{AreTold}
 use Rattle.document_changes.proofs.Counts.{choose_true, choose_false}
 use Rattle.document_changes.proofs.States.{same_state, other_state}
-use Rattle.document_changes.proofs.Told.{told_nothing}
+use Rattle.document_changes.proofs.Told.{told_nothing, told_nobody}
 use Rattle.document_changes.proofs.Unmoved.{is_changed}
 use Rattle.document_changes.proofs.row_changes.set_state.Goals as goal
 
@@ -25,15 +24,16 @@ returns-then-before-state c = λ text sender.
     let own = to_z-of_z w32 c.narrowed-state.result (record { sfits = c.narrowed-state.type_inv }) in
     let made = ap (λ (k : Kept). k.document) c.set_state-before.ensures.document
     ∙ ap (λ (z : ℤ). changed_document text (change.SetState c.args.line z) d) (own ∙ is) in
-    let other = other_state old c.args.state (λ e. c.if-before-state.true (ap (of_z w32) (c.set_state-before.ensures.before ∙ e ∙ sym is))) in
+    let before = to_z-of_z w32 c.set_state-before.result (record { sfits = c.set_state-before.type_inv }) in
+    let same = same_state old c.args.state (sym c.set_state-before.ensures.before ∙ sym before ∙ ap (to_z w32) c.if-before-state.true ∙ own ∙ is) in
     let n = line_note change_line_state c.args.line in
     is_changed text (change.SetState c.args.line c.args.state) sender d _ c.args.views.now c.args.notes.now _ refl c.requires.watched made
-    (λ v _. subst (λ (ts : List Notice). AreTold ts c.args.notes.now c.tell_heard.new.notes)
-    (ap (λ (m : Notice). heard views m) (c.line_note-note.ensures.note []) ∙ sym (choose_false (is_same old c.args.state) [] (heard views n) other))
-    (rw made at c.tell_heard.ensures))
+    (λ v _. subst (λ (ts : List Notice). AreTold ts c.args.notes.now c.args.notes.now)
+    (sym (choose_true (is_same old c.args.state) [] (heard views n) same))
+    (told_nothing c.args.notes.now))
 
-pub returns-else-before-state : goal.returns-else-before-state
-returns-else-before-state c = λ text sender.
+pub returns-then-is_full : goal.returns-then-is_full
+returns-then-is_full c = λ text sender.
     let d = c.args.document.now.document in
     let old = (document_row d c.args.line).state in
     let views = watchers d c.args.views.now in
@@ -41,10 +41,25 @@ returns-else-before-state c = λ text sender.
     let own = to_z-of_z w32 c.narrowed-state.result (record { sfits = c.narrowed-state.type_inv }) in
     let made = ap (λ (k : Kept). k.document) c.set_state-before.ensures.document
     ∙ ap (λ (z : ℤ). changed_document text (change.SetState c.args.line z) d) (own ∙ is) in
-    let before = to_z-of_z w32 c.set_state-before.result (record { sfits = c.set_state-before.type_inv }) in
-    let same = same_state old c.args.state (sym c.set_state-before.ensures.before ∙ sym before ∙ ap (to_z w32) c.if-before-state.false ∙ own ∙ is) in
+    let other = other_state old c.args.state (λ e. c.if-before-state.false (ap (of_z w32) (c.set_state-before.ensures.before ∙ e ∙ sym is))) in
     let n = line_note change_line_state c.args.line in
     is_changed text (change.SetState c.args.line c.args.state) sender d _ c.args.views.now c.args.notes.now _ refl c.requires.watched made
     (λ v _. subst (λ (ts : List Notice). AreTold ts c.args.notes.now c.args.notes.now)
-    (sym (choose_true (is_same old c.args.state) [] (heard views n) same))
-    (told_nothing c.args.notes.now))
+    (sym (choose_false (is_same old c.args.state) [] (heard views n) other))
+    (told_nobody views n c.args.notes.now c.requires.room (sym c.is_full.ensures ∙ c.if-is_full.true)))
+
+pub returns : goal.returns
+returns c = λ text sender.
+    let d = c.args.document.now.document in
+    let old = (document_row d c.args.line).state in
+    let views = watchers d c.args.views.now in
+    let is = c.narrowed-state.ensures ∙ to_z-of_z w64 c.args.state c.ranges.state in
+    let own = to_z-of_z w32 c.narrowed-state.result (record { sfits = c.narrowed-state.type_inv }) in
+    let made = ap (λ (k : Kept). k.document) c.set_state-before.ensures.document
+    ∙ ap (λ (z : ℤ). changed_document text (change.SetState c.args.line z) d) (own ∙ is) in
+    let other = other_state old c.args.state (λ e. c.if-before-state.false (ap (of_z w32) (c.set_state-before.ensures.before ∙ e ∙ sym is))) in
+    let n = line_note change_line_state c.args.line in
+    is_changed text (change.SetState c.args.line c.args.state) sender d _ c.args.views.now c.args.notes.now _ refl c.requires.watched made
+    (λ v _. subst (λ (ts : List Notice). AreTold ts c.args.notes.now c.tell_state.new.notes)
+    (sym (choose_false (is_same old c.args.state) [] (heard views n) other))
+    (rw made at c.tell_state.ensures))

@@ -1,15 +1,12 @@
-use Rattle.std.proofs.Common.{◌≡◌, List, [], refl, sym, ap, ◌∙◌, subst}
-use Rattle.std.specs.Prelude.{Option, Some, bit_or}
-use Rattle.ed_types.specs.Notices.{Notice}
-use Rattle.ed_model.specs.Changes.{range_notes}
-use Rattle.ed_model.specs.Notes.{heard, range_note, performed_user}
+use Rattle.std.proofs.Common.{◌≤◌, ℕ, sym, ◌∙◌, subst}
+use Rattle.scene.specs.Hearing.{hearers}
 use Rattle.scene.specs.Scenes.{watchers}
-use Rattle.document_changes.specs.Changed.{AreTold}
+use Rattle.document_changes.proofs.Told.{told_no_range}
 use Rattle.document_changes.proofs.style_changes.tell_range.Goals as goal
 
-pub returns-in-Some : goal.returns-in-Some
-returns-in-Some c = λ bits kind.
+pub returns-then-is_full : goal.returns-then-is_full
+returns-then-is_full c = λ bits kind.
     let views = watchers c.args.document.now.document c.args.views.now in
-    rw c.in-Some.is (subst (λ (ts : List Notice). AreTold ts c.args.notes.now c.tell_heard.new.notes)
-    (ap (λ (n : Notice). heard views n) (c.range_note-note.ensures.note [] ∙ ap (λ k. range_note k c.in-Some.start c.in-Some.count) kind))
-    c.tell_heard.ensures)
+    told_no_range bits c.args.changed views c.args.notes.now
+    (subst (λ (k : ℕ). hearers k views ≤ c.args.notes.now.note_room) kind c.requires.room)
+    (sym c.is_full.ensures ∙ c.if-is_full.true)

@@ -1,0 +1,10 @@
+use Rattle.std.proofs.Common.{[], subst}
+use Rattle.ed_types.specs.Notices.{Notice}
+use Rattle.ed_model.specs.Notes.{heard}
+use Rattle.scene.specs.Scenes.{watchers}
+use Rattle.document_changes.specs.Changed.{AreTold}
+use Rattle.document_changes.proofs.row_changes.tell_state.Goals as goal
+
+pub returns : goal.returns
+returns c =
+    subst (λ (n : Notice). AreTold (heard (watchers c.args.document.now.document c.args.views.now) n) c.args.notes.now c.tell_heard.new.notes) (c.line_note-note.ensures.note []) c.tell_heard.ensures
