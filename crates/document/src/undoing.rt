@@ -15,7 +15,7 @@ use crate::kept::Document;
 use crate::making::make_step;
 use crate::room::DocumentRoom;
 use crate::text_step::TextStep;
-use line_index::LineChange;
+use line_index::{LineChange, lines_for_deletion, lines_for_insertion};
 use undo_history::{ChangeKind, LentChange, StepKind, UndoHistory};
 
 /// Which of the two is performed.
@@ -155,6 +155,48 @@ impl Document {
                 ..self.step_need(step)
             },
             None => DocumentRoom::none(),
+        }
+    }
+
+    /// The change at `index` without its bytes, as `change_outline` answers it, and the room that it needs, as `change_need`
+    /// does: both by one look at the history.
+    pub fn change_with_need(
+        &self,
+        direction: Direction,
+        index: usize,
+    ) -> (ChangeOutline, DocumentRoom)
+        requires there { index < length (changes_of direction self.now.document.history) }
+        ensures outline { IsSomeAnd (slice_get (changes_of direction self.now.document.history) index) (λ change. result.0 ≡ outline_of change) }
+        ensures need { IsSomeAnd (slice_get (changes_of direction self.now.document.history) index) (λ change. result.1 ≡ room_of_change self.now.document.line_end_types change) }
+    {
+        let change = change_at(&self.history, direction, index);
+        let count = change.bytes.len();
+        match change.kind {
+            ChangeKind::Text {
+                kind: StepKind::Insert,
+                place,
+            } => {
+                let need = DocumentRoom {
+                    text: count,
+                    lines: lines_for_insertion(self.lines.types(), change.bytes),
+                    insertions: 1,
+                    ..DocumentRoom::none()
+                };
+                (ChangeOutline::Insert { place, count }, need)
+            }
+            ChangeKind::Text {
+                kind: StepKind::Delete,
+                place,
+            } => {
+                let need = DocumentRoom {
+                    lines: lines_for_deletion(),
+                    ..DocumentRoom::none()
+                };
+                (ChangeOutline::Delete { place, count }, need)
+            }
+            ChangeKind::Container { token, .. } => {
+                (ChangeOutline::Container { token }, DocumentRoom::none())
+            }
         }
     }
 

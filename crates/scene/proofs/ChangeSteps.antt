@@ -5,11 +5,12 @@ use Rattle.std.proofs.lemmas.List.{length-drop, length-take}
 use Rattle.std.proofs.lemmas.Option.{slice_get_within, get_or_from_slice_get}
 use Rattle.ed_model.specs.declared.plan.LineEndTypes.{LineEndTypes}
 use Rattle.ed_model.specs.Steps as model
-use Rattle.ed_model.specs.Steps.{Step, step_bytes, edited, edited_cells}
+use Rattle.ed_model.specs.Steps.{Step, place_of, step_bytes, edited, edited_cells}
 use Rattle.ed_model.specs.StepLaws.{CellsFollowBytes}
 use Rattle.ed_model.specs.History.{Change, TextStep as Text, ContainerStep}
 use Rattle.ed_model.specs.InverseLaws.{Fits}
-use Rattle.ed_model.specs.Session.{Document, text_of}
+use Rattle.ed_model.specs.MergeLaws.{end_of}
+use Rattle.ed_model.specs.Session.{Document, View, text_of}
 use Rattle.ed_model.specs.SoundLaws.{AreStepsOf}
 use Rattle.ed_model.specs.UndoPlans.{text_steps}
 use Rattle.ed_model.specs.Performing.{Scene, document_after, change_performed}
@@ -18,12 +19,15 @@ use Rattle.document.specs.declared.text_step.TextStep.TheVariants.{Insert, Delet
 use Rattle.document.specs.declared.room.DocumentRoom.{DocumentRoom}
 use Rattle.document.specs.TextSteps.{step_in, IsStepOn}
 use Rattle.document.specs.Kept.{TakesRoom, no_room}
-use Rattle.document.specs.Undoing.{room_of_step, room_of_change}
+use Rattle.document.specs.Undoing.{outline_of, room_of_step, room_of_change}
 use Rattle.line_index.specs.RoomLaws.{lines_for_step}
 use Rattle.selection.specs.Positions.{movement_of, count_of}
 use Rattle.scene.specs.StepNotes.{IsSmallStep}
-use Rattle.scene.specs.Undoing.{both_rooms, free_behind, freed_by, room_beside}
+use Rattle.scene.specs.Hearing.{hearers}
+use Rattle.scene.specs.Needs.{note_room}
+use Rattle.scene.specs.Undoing.{both_rooms, bytes_of_change, notes_of_change, free_behind, freed_by, outline_kinds, outline_movement, performed_kinds, room_beside}
 use Rattle.scene.specs.Turns.{ChangeFits}
+use Rattle.scene.proofs.NotesOfSteps.{length_slice}
 
 -- A step of a change.
 
@@ -48,6 +52,11 @@ deletes_within p bytes text fits =
     let w : p ≤ length text = fits.0 in
     omega arith
 
+-- it ends in the text
+pub ends_in_text : (s : Step) (text : List ℕ) → Fits s text → end_of s ≤ length text
+ends_in_text (model.Insert p bytes) text fits = fits
+ends_in_text (model.Delete p bytes) text fits = deletes_within p bytes text fits
+
 -- a step by its place and bytes, or by its place and their number, is the change's step
 pub insertion_is : (p p' : ℕ) (bytes bytes' text : List ℕ) → p ≡ p' → bytes ≡ bytes' → Fits (model.Insert p' bytes') text
     → (model.Insert p bytes ≡ model.Insert p' bytes') × (p ≤ length text)
@@ -59,6 +68,23 @@ deletion_is p p' n bytes' text a b fits =
     let within = deletes_within p' bytes' text fits in
     let e : slice_range text p (p + n) ≡ bytes' = rw (a, b) fits.1 in
     (rw e (ap (λ q. model.Delete q bytes') a), omega arith)
+
+-- The outline of a step: the kinds that it is told under, and what it does to positions.
+
+pub outline_kinds_are : (who : ℕ) (s : Step) → outline_kinds who (outline_of (Text s)) ≡ performed_kinds who s
+outline_kinds_are who (model.Insert p bytes) = refl
+outline_kinds_are who (model.Delete p bytes) = refl
+
+-- a change of which no view hears needs no note
+pub needs_no_note : (who : ℕ) (c : Change) (views : List View) → hearers (outline_kinds who (outline_of c)) views ≡ 0
+    → note_room 0 0 ≡ note_room (notes_of_change views who c) (bytes_of_change views who c)
+needs_no_note who (Text (model.Insert p bytes)) views none = rw none refl
+needs_no_note who (Text (model.Delete p bytes)) views none = rw none refl
+needs_no_note who (ContainerStep token coalesce) views none = rw none refl
+
+pub outline_movement_is : (s : Step) → outline_movement (outline_of (Text s)) ≡ movement_of s
+outline_movement_is (model.Insert p bytes) = refl
+outline_movement_is (model.Delete p bytes) = refl
 
 -- The changes that are left.
 
@@ -128,17 +154,24 @@ leaves_none old now free whole so =
 
 -- The numbers of a step that there is room for are small.
 
-pub small_change : (types : LineEndTypes) (step : TextStep) (s : Step) (text : List ℕ) (room : ℕ) → step_in step text ≡ s → IsStepOn step (length text)
-    → (room_of_step types s).text ≤ room → length text + room < 2 ^ 61 → IsSmallStep step
-small_change types (Insert p bytes) s text room e on put bound =
-    let n : length bytes.now ≤ room = subst (λ (x : Step). (room_of_step types x).text ≤ room) (sym e) put in
-    (omega arith, omega arith)
-small_change types (Delete p n) s text room e on put bound = (omega arith, omega arith)
-
 pub small_count : (types : LineEndTypes) (s : Step) (text : List ℕ) (room : ℕ) → Fits s text → (room_of_step types s).text ≤ room → length text + room < 2 ^ 61
     → length text + count_of (movement_of s) < 2 ^ 64
 small_count types (model.Insert p bytes) text room fits put bound = omega arith
 small_count types (model.Delete p bytes) text room fits put bound = let w = deletes_within p bytes text fits in omega arith
+
+pub small_fits : (types : LineEndTypes) (s : Step) (text : List ℕ) (room : ℕ) → Fits s text → (room_of_step types s).text ≤ room → length text + room < 2 ^ 61
+    → (place_of s < 2 ^ 63) × (length (step_bytes s) < 2 ^ 63)
+small_fits types (model.Insert p bytes) text room fits put bound = let within : p ≤ length text = fits in (omega arith, omega arith)
+small_fits types (model.Delete p bytes) text room fits put bound = let w = deletes_within p bytes text fits in (omega arith, omega arith)
+
+-- the lent step's numbers are those of the step that it is
+pub small_lent : (step : TextStep) (s : Step) (text : List ℕ) → step_in step text ≡ s → IsStepOn step (length text) → place_of s < 2 ^ 63
+    → length (step_bytes s) < 2 ^ 63 → IsSmallStep step
+small_lent (Insert p bytes) s text e on place count = (subst (λ (x : Step). place_of x < 2 ^ 63) (sym e) place, subst (λ (x : Step). length (step_bytes x) < 2 ^ 63) (sym e) count)
+small_lent (Delete p n) s text e on place count =
+    let l = length_slice text p n on in
+    let c : length (slice_range text p (p + n)) < 2 ^ 63 = subst (λ (x : Step). length (step_bytes x) < 2 ^ 63) (sym e) count in
+    (subst (λ (x : Step). place_of x < 2 ^ 63) (sym e) place, omega arith)
 
 pub lines_of_room : (types : LineEndTypes) (s : Step) → (room_of_step types s).lines ≡ lines_for_step types s
 lines_of_room types (model.Insert p bytes) = refl

@@ -1,6 +1,6 @@
 -- Kinds of notes, and who hears them.
-use Rattle.std.proofs.Common.{◌≡◌, ℕ, ◌<◌, ◌≤◌, Bool, true, false, cond, List, [], ◌∷◌, length, refl, ap, sym, ◌∙◌, subst, arith}
-use Rattle.std.specs.Prelude.{◌==◌, not, filter, bit_and, bit_or, nat_lt, zero, suc, ℤ}
+use Rattle.std.proofs.Common.{◌≡◌, ℕ, ◌+◌, ◌<◌, ◌≤◌, Bool, true, false, cond, List, [], ◌∷◌, length, refl, ap, sym, ◌∙◌, subst, arith}
+use Rattle.std.specs.Prelude.{◌==◌, ◌||◌, not, filter, bit_and, bit_or, nat_lt, zero, suc, ℤ}
 use Rattle.std.specs.Int.Bits.{and_zero_l}
 use Rattle.std.proofs.lemmas.Nat.{and_assoc, and_comm, and_or_self, and_or_apart, or_comm}
 use Rattle.std.proofs.lemmas.Bool.{eqb-true, eq-eqb, lt-ltb}
@@ -15,8 +15,9 @@ use Rattle.notify.specs.Gathered.{Gathered}
 use Rattle.ed_model.specs.Session.{View}
 use Rattle.scene.specs.declared.telling.Audience.TheVariants.{Hearers}
 use Rattle.scene.specs.declared.telling.NoteText.{NoteText}
-use Rattle.scene.specs.Hearing.{audience_of, with_note_text, hearers, before_kind, after_kind, step_kinds}
+use Rattle.scene.specs.Hearing.{audience_of, with_note_text, hearers, masks_from, masks_of, before_kind, after_kind, step_kinds}
 use Rattle.scene.specs.StepNotes.{CanTellMade}
+use Rattle.scene.proofs.ToldSoFar.{length_told}
 
 -- what meets a mask meets it with more bits too
 and_none : (m a b : ℕ) → bit_and m (bit_or b a) ≡ 0 → bit_and m a ≡ 0
@@ -77,6 +78,47 @@ told_as_heard views note t shared n kind text =
     ∙ empty_or_some (filter (λ (v : View). meets v.mask n.kind) views) (λ vs. told vs (with_note_text t note shared) ≡ told vs n) refl
     (λ some. ap (told (filter (λ (v : View). meets v.mask n.kind) views)) (text some))
 
+-- with one that is in it or not
+in_or_not : {X : Type 0} (b : Bool) (x : X) (xs : List X) → (length xs ≤ length (cond b (x ∷ xs) xs)) × (length (cond b (x ∷ xs) xs) ≤ length xs + 1)
+in_or_not true x xs = (omega arith, omega arith)
+in_or_not false x xs = (omega arith, omega arith)
+
+-- one that is in the list for both is in that for one of the two
+counted_either : {X : Type 0} (both x y : Bool) (v : X) (together first second : List X) → (both ≡ true → (x || y) ≡ true) → length together ≤ length first + length second
+    → length (cond both (v ∷ together) together) ≤ length (cond x (v ∷ first) first) + length (cond y (v ∷ second) second)
+counted_either both true y v together first second h le = let most = in_or_not both v together in let least = in_or_not y v second in omega arith
+counted_either both false true v together first second h le = let most = in_or_not both v together in omega arith
+counted_either false false false v together first second h le = le
+counted_either true false false v together first second h le = absurd (let wrong : false ≡ true = h refl in cc)
+
+-- who hears two kinds together hears one of them
+meets_one : (m a b : ℕ) → meets m (bit_or a b) ≡ true → (meets m a || meets m b) ≡ true
+meets_one m a b t = go (meets m a) refl
+  where
+    go : (x : Bool) → meets m a ≡ x → (x || meets m b) ≡ true
+    go true p = refl
+    go false p = meets_either m a b b (λ h. absurd (let wrong = sym p ∙ h in cc)) (λ h. h) t
+
+hearers_either : (a b : ℕ) (views : List View) → hearers (bit_or a b) views ≤ hearers a views + hearers b views
+hearers_either a b [] = omega arith
+hearers_either a b (v ∷ vs) =
+    counted_either (meets v.mask (bit_or a b)) (meets v.mask a) (meets v.mask b) v (filter (λ (v : View). meets v.mask (bit_or a b)) vs)
+    (filter (λ (v : View). meets v.mask a) vs) (filter (λ (v : View). meets v.mask b) vs) (meets_one v.mask a b) (hearers_either a b vs)
+
+-- where the masks together have no bit of the kinds, none hears one
+none_from_masks : (kinds masks : ℕ) (views : List View) → bit_and (masks_from masks views) kinds ≡ 0 → (bit_and masks kinds ≡ 0) × (hearers kinds views ≡ 0)
+none_from_masks kinds masks [] e = (e, refl)
+none_from_masks kinds masks (v ∷ vs) e =
+    let rest = none_from_masks kinds (bit_or masks v.mask) vs e in
+    let both : bit_and kinds (bit_or masks v.mask) ≡ 0 = and_comm kinds (bit_or masks v.mask) ∙ rest.0 in
+    let last : bit_and kinds v.mask ≡ 0 = and_none kinds v.mask masks both in
+    let first : bit_and kinds masks ≡ 0 = and_none kinds masks v.mask (ap (bit_and kinds) (or_comm v.mask masks) ∙ both) in
+    let quiet : (bit_and v.mask kinds == 0) ≡ true = eq-eqb (bit_and v.mask kinds) 0 (and_comm v.mask kinds ∙ last) in
+    (and_comm masks kinds ∙ first, rw quiet rest.1)
+
+pub none_by_masks : (kinds : ℕ) (views : List View) → bit_and (masks_of views) kinds ≡ 0 → hearers kinds views ≡ 0
+none_by_masks kinds views e = (none_from_masks kinds 0 views e).1
+
 -- The notes of a step.
 
 pub before_kind_is : (bits : ℕ) (s : Step) → (before_note bits s).kind ≡ before_kind bits s
@@ -106,6 +148,19 @@ pub unheard_after : (views : List View) (s : Step) (before all after : ℕ) (lin
 unheard_after views s before all after lines more none =
     unheard views (after_note after lines s) (step_kinds before all s)
     (λ m h. meets_right m (after_kind all s) (before_kind before s) (after_more after all s m (more m) (rw (after_kind_is after lines s) at h))) none
+
+-- Where no note is put before a step and none after it, no view hears of it.
+pub none_by_notes : (views : List View) (s : Step) (before after : ℕ) (lines : ℤ) → length (heard views (before_note before s)) ≡ 0
+    → length (heard views (after_note after lines s)) ≡ 0 → hearers (step_kinds before after s) views ≡ 0
+none_by_notes views s before after lines none_before none_after =
+    let b = before_note before s in
+    let a = after_note after lines s in
+    let first : hearers b.kind views ≡ 0 = sym (length_told (filter (λ (v : View). meets v.mask b.kind) views) b) ∙ none_before in
+    let second : hearers a.kind views ≡ 0 = sym (length_told (filter (λ (v : View). meets v.mask a.kind) views) a) ∙ none_after in
+    let first : hearers (before_kind before s) views ≡ 0 = ap (λ k. hearers k views) (sym (before_kind_is before s)) ∙ first in
+    let second : hearers (after_kind after s) views ≡ 0 = ap (λ k. hearers k views) (sym (after_kind_is after lines s)) ∙ second in
+    let either = hearers_either (before_kind before s) (after_kind after s) views in
+    omega arith
 
 -- Where it was counted how many hear.
 

@@ -1,11 +1,10 @@
 -- What was performed of undo or redo, and what is still to be performed.
 use Rattle.std.proofs.Common.{◌≡◌, ℕ, ◌+◌, ◌-◌, ◌<◌, ◌≤◌, Bool, true, false, List, [], ◌∷◌, ◌++◌, map, length, drop, get_or, refl, ap, sym, ◌∙◌, subst, arith}
-use Rattle.std.specs.Prelude.{◌==◌, nat_lt, slice_get, Some}
+use Rattle.std.specs.Prelude.{◌==◌, not, nat_lt, slice_get, Some}
 use Rattle.std.proofs.lemmas.List.{length-drop}
 use Rattle.std.proofs.lemmas.Bool.{eq-eqb, ne_eqb}
 use Rattle.std.proofs.lemmas.Option.{slice_get-get_or}
 use Rattle.ed_types.specs.Notices.{Notice}
-use mathlib.Core.Bool.{beq}
 use Rattle.ed_model.specs.Notes.{bit_if, multi_step, told, blank, save_point_reached, save_point_left}
 use Rattle.ed_model.specs.StepLaws.{CellsFollowBytes}
 use Rattle.ed_model.specs.History.{History, Change, TextStep, ContainerStep}
@@ -203,12 +202,10 @@ finished new d entries ns was is done e =
     ap (λ (s : Scene). with_history new (record s { notes = s.notes ++ save_point_change (watching s.views s.document) was is })) e
 
 -- it changed, and this is how
-pub reached : (views : List View) (was is : Bool) → beq was is ≡ false → is ≡ true → save_point_change views was is ≡ told views (blank save_point_reached)
-reached views true true h e = absurd (cc)
-reached views false true h e = refl
-reached views was false h e = absurd (cc)
+pub reached : (views : List View) (is : Bool) → is ≡ true → save_point_change views (not is) is ≡ told views (blank save_point_reached)
+reached views true h = refl
+reached views false h = absurd (cc)
 
-pub left : (views : List View) (was is : Bool) → beq was is ≡ false → is ≡ false → save_point_change views was is ≡ told views (blank save_point_left)
-left views true false h e = refl
-left views false false h e = absurd (cc)
-left views was true h e = absurd (cc)
+pub left : (views : List View) (is : Bool) → is ≡ false → save_point_change views (not is) is ≡ told views (blank save_point_left)
+left views false h = refl
+left views true h = absurd (cc)

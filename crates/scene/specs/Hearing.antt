@@ -1,5 +1,5 @@
 -- Who is told, and with what text.
-use Rattle.std.specs.Prelude.{ℕ, nat_lt, if◌then◌else◌, Bool, true, false, List, [], length, filter, bit_or}
+use Rattle.std.specs.Prelude.{ℕ, nat_lt, if◌then◌else◌, Bool, true, false, List, [], ◌∷◌, length, filter, bit_or}
 use Rattle.ed_types.specs.Notices.{Notice}
 use Rattle.ed_types.specs.declared.reply.Note.{Note}
 use Rattle.ed_types.specs.Heard.{with_text}
@@ -31,6 +31,14 @@ with_note_text Shared note shared = with_text note shared
 -- how many of the views hear notes of one of the kinds
 abbrev pub hearers : ℕ → List View → ℕ
 hearers kinds views = length (filter (λ (v : View). meets v.mask kinds) views)
+
+-- the bits of all their masks, with those that came before
+abbrev pub masks_from : ℕ → List View → ℕ
+masks_from masks [] = masks
+masks_from masks (v ∷ vs) = masks_from (bit_or masks v.mask) vs
+
+abbrev pub masks_of : List View → ℕ
+masks_of views = masks_from 0 views
 
 -- the kinds of the notes of a step, with the bits of who makes it
 abbrev pub before_kind : ℕ → Step → ℕ

@@ -1,10 +1,10 @@
 -- One change of those that undo or redo performs.
-use Rattle.std.specs.Prelude.{◌≡◌, ℕ, ◌+◌, ◌≤◌, ◌++◌, ◌==◌, nat_lt, Bool, true, false, if◌then◌else◌, List, length, map, slice_get, bit_or, Option, Some}
-use Rattle.ed_model.specs.Steps.{Step, step_bytes}
+use Rattle.std.specs.Prelude.{◌≡◌, ℕ, ℤ, [], ◌<◌, ◌^◌, ◌+◌, ◌≤◌, ◌++◌, ◌==◌, nat_lt, Bool, true, false, if◌then◌else◌, List, length, map, slice_get, bit_or, Option, Some}
+use Rattle.ed_model.specs.Steps.{Step, place_of, step_bytes}
 use Rattle.ed_model.specs.History.{History, Change, TextStep, ContainerStep}
 use Rattle.ed_model.specs.InverseLaws.{Fits}
 use Rattle.ed_model.specs.Session.{View, text_of}
-use Rattle.ed_model.specs.Notes.{bit_if, multi_step, heard, before_note}
+use Rattle.ed_model.specs.Notes.{bit_if, multi_step, heard, before_note, after_note}
 use Rattle.ed_model.specs.Performing.{last_bits, changes_lines, change_performed}
 use Rattle.id_table.specs.Entries.{Entries, id_of}
 use Rattle.notify.specs.Gathered.{Gathered}
@@ -69,3 +69,13 @@ pub record IsToldBefore (who : ℕ) (views : List View) (hears : Bool) (old new 
   pub text_room : new.text_room + bytes_of_change views who (TextStep step) ≡ old.text_room
   pub unheard : hears ≡ false → hearers (performed_kinds who step) views ≡ 0
   pub shared : hears ≡ true → new.shared ≡ step_bytes step
+
+-- the step was made on this text: if no view hears of it there is no note after it, and if one does its bytes are shared; its
+-- numbers are small, and there is room for its notes
+pub record CanTellAfter (hears : Bool) (bits : ℕ) (lines : ℤ) (step : Step) (text : List ℕ) (views : List View) (g : Gathered) : Type 0 where
+  pub fits : Fits step text
+  pub place : place_of step < 2 ^ 63
+  pub count : length (step_bytes step) < 2 ^ 63
+  pub unheard : hears ≡ false → heard views (after_note bits lines step) ≡ []
+  pub shared : hears ≡ true → g.shared ≡ step_bytes step
+  pub room : length (heard views (after_note bits lines step)) ≤ g.note_room

@@ -8,7 +8,11 @@ use Rattle.ed_model.specs.Notes as notes
 use Rattle.ed_model.specs.Performing.{last_bits, place_behind}
 use Rattle.document.specs.declared.undoing.Direction.{Direction}
 use Rattle.document.specs.declared.undoing.Direction.TheVariants.{Undo, Redo}
+use Rattle.document.specs.declared.undoing.ChangeOutline.{ChangeOutline}
+use Rattle.document.specs.declared.undoing.ChangeOutline.TheVariants as outline
 use Rattle.document.specs.declared.room.DocumentRoom.{DocumentRoom}
+use Rattle.selection.specs.declared.movements.Movement.{Movement}
+use Rattle.selection.specs.declared.movements.Movement.TheVariants.{Inserted, Deleted}
 use Rattle.document.specs.Kept.{document_room, no_room, amount_sum}
 use Rattle.document.specs.TextSteps.{bytes_out}
 use Rattle.document.specs.Undoing.{room_of_change}
@@ -31,6 +35,18 @@ performed_kinds who step = step_kinds who (all_bits who) step
 
 abbrev pub container_kinds : ℕ → ℕ
 container_kinds who = bit_or notes.container (all_bits who)
+
+-- By its outline: the kinds that a change may be told under, and what it does to positions. A container's step moves none.
+
+abbrev pub outline_kinds : ℕ → ChangeOutline → ℕ
+outline_kinds who (outline.Insert place count) = bit_or (bit_or notes.before_insert who) (bit_or notes.insert_text (all_bits who))
+outline_kinds who (outline.Delete place count) = bit_or (bit_or notes.before_delete who) (bit_or notes.delete_text (all_bits who))
+outline_kinds who (outline.Container token) = container_kinds who
+
+abbrev pub outline_movement : ChangeOutline → Movement
+outline_movement (outline.Insert place count) = Inserted place count
+outline_movement (outline.Delete place count) = Deleted place count
+outline_movement (outline.Container token) = Inserted 0 0
 
 -- Needs of one change, performed with the bit, and of changes in turn.
 

@@ -1,20 +1,24 @@
 //! Changes that undo or redo performs, one by one: each told of and followed.
 
-ghost use Rattle.std.specs.Prelude.{◌≡◌, ◌≤◌, ◌<◌, ◌+◌, ◌++◌, ◌==◌, not, true, if◌then◌else◌, [], List, ℕ, length, Some};
+ghost use Rattle.std.specs.Prelude.{◌≡◌, ◌≤◌, ◌<◌, ◌+◌, ◌-◌, ◌^◌, ◌++◌, ◌==◌, not, true, if◌then◌else◌, [], List, ℕ, length, Some, IsSomeAnd};
 ghost use Rattle.ed_types.specs.Heard.{with_text};
 ghost use Rattle.ed_model.specs.Steps.{Step};
 ghost use Rattle.ed_model.specs.InverseLaws.{Fits};
 ghost use Rattle.ed_model.specs.History.{Change, TextStep as Text};
-ghost use Rattle.ed_model.specs.Notes.{heard};
+ghost use Rattle.ed_model.specs.Notes.{heard, after_note as note_after};
+ghost use Rattle.ed_model.specs.Numbers.{growth};
 ghost use Rattle.ed_model.specs.Performing.{container_note};
 ghost use Rattle.document.specs.TextSteps.{step_in, IsStepOn};
+ghost use Rattle.document.specs.Undoing.{outline_of};
 ghost use Rattle.scene.specs.Scenes.{watchers, AreNamed};
 ghost use Rattle.scene.specs.Hearing.{hearers};
-ghost use Rattle.scene.specs.Undoing.{bits_of, all_bits as every_bit, container_kinds};
-ghost use Rattle.scene.specs.Turns.{change_at, bits_behind, CanPerform, IsToldBefore, IsPerformed};
+ghost use Rattle.scene.specs.Undoing.{bits_of, all_bits as every_bit, container_kinds, performed_kinds, outline_kinds, outline_movement};
+ghost use Rattle.scene.specs.Turns.{change_at, bits_behind, CanPerform, CanTellAfter, IsToldBefore, IsPerformed};
 
 use crate::moving::follow;
-use crate::step_notes::{MODIFIED, kind_after, kind_before, movement_of, tell_coming, tell_made};
+use crate::step_notes::{
+    BEFORE_DELETE, BEFORE_INSERT, DELETE_TEXT, INSERT_TEXT, MODIFIED, tell_coming, tell_made,
+};
 use crate::telling::{Audience, NoteText, count_hearers, tell};
 use document::{ChangeOutline, Direction, Document, TextStep};
 use ed_model::steps_keep_views_standing;
@@ -23,6 +27,7 @@ use ed_view::{View, moves_are_those_of_steps};
 use id_table::IdTable;
 use line_index::edits_of_steps;
 use notify::{NoteList, blank};
+use selection::Movement;
 
 // Bits of the kind of SCN_MODIFIED, SC_ and SC_MOD_ left out.
 const PERFORMED_UNDO: u32 = 0x20;
@@ -35,7 +40,7 @@ const LAST_STEP: u32 = 0x100;
 
 const MULTI_LINE: u32 = 0x1000;
 
-pub(crate) const CONTAINER: u32 = 0x40000;
+const CONTAINER: u32 = 0x40000;
 
 /// Which change is performed: that at `index`, in the order of performing.
 #[derive(Clone, Copy, Debug, PartialEq, Eq)]
@@ -48,8 +53,8 @@ pub(crate) struct Turn {
     pub last: bool,
 }
 
-/// The bit that says which of the two is performed.
-pub(crate) fn bit_of(direction: Direction) -> u32
+// The bit that says which of the two is performed.
+fn bit_of(direction: Direction) -> u32
     ensures { result ≡ bits_of direction }
 {
     match direction {
@@ -58,8 +63,8 @@ pub(crate) fn bit_of(direction: Direction) -> u32
     }
 }
 
-/// All bits that the note after a change may have of which change it is.
-pub(crate) fn all_bits(direction: Direction) -> u32
+// All bits that the note after a change may have of which change it is.
+fn all_bits(direction: Direction) -> u32
     ensures { result ≡ every_bit (bits_of direction) }
 {
     bit_of(direction) | MULTI_STEP | LAST_STEP | MULTI_LINE
@@ -75,7 +80,32 @@ fn bits_after(turn: Turn, lines_changed: bool) -> u32
     bit_of(turn.direction) | several | last
 }
 
-// The change, which is one of the text, as a step.
+/// Each kind of note that the change may be told under.
+pub(crate) fn kinds_of(direction: Direction, outline: ChangeOutline) -> u32
+    ensures { result ≡ outline_kinds (bits_of direction) outline }
+{
+    let before = bit_of(direction);
+    let after = all_bits(direction);
+    match outline {
+        ChangeOutline::Insert { .. } => (BEFORE_INSERT | before) | (INSERT_TEXT | after),
+        ChangeOutline::Delete { .. } => (BEFORE_DELETE | before) | (DELETE_TEXT | after),
+        ChangeOutline::Container { .. } => CONTAINER | after,
+    }
+}
+
+// What the change does to positions: a container's step moves none.
+fn movement_of_change(outline: ChangeOutline) -> Movement
+    ensures { result ≡ outline_movement outline }
+{
+    match outline {
+        ChangeOutline::Insert { place, count } => Movement::Inserted { place, count },
+        ChangeOutline::Delete { place, count } => Movement::Deleted { place, count },
+        ChangeOutline::Container { .. } => Movement::Inserted { place: 0, count: 0 },
+    }
+}
+
+// The change, which is one of the text, as a step: looked up once more, since only where a view hears it its bytes are asked for.
+#[inline(never)]
 fn step_at(document: &Document, turn: Turn) -> TextStep<'_>
     requires { (step : Step) × (change_at turn document.now.document.history ≡ Some (Text step)) }
     ensures { (step : Step) (text : List ℕ) → change_at turn document.now.document.history ≡ Some (Text step) → Fits step text → (step_in result text ≡ step) × IsStepOn result (length text) }
@@ -90,39 +120,63 @@ fn step_at(document: &Document, turn: Turn) -> TextStep<'_>
     }
 }
 
-// Shares bytes among the notes to come, if a view hears of them.
-fn share_if(notes: &mut NoteList, bytes: &[u8], is_heard: bool)
-    requires room { (if is_heard then length bytes.now else 0) ≤ notes.old.text_room }
-    ensures notes { notes.new.notes ≡ notes.old.notes }
-    ensures note_room { notes.new.note_room ≡ notes.old.note_room }
-    ensures text_room { notes.new.text_room + (if is_heard then length bytes.now else 0) ≡ notes.old.text_room }
-    ensures shared { is_heard ≡ true → notes.new.shared ≡ bytes.now }
+// Tells of the change, which is one of the text, before it is made. A view that watches hears of it; its bytes are then shared
+// for the note after it.
+#[inline(never)]
+fn tell_heard_change(document: &Document, views: &IdTable<View>, notes: &mut NoteList, turn: Turn)
+    requires { (step : Step) × CanPerform turn document.now views.now notes.old (Text step) × (0 < hearers (performed_kinds (bits_of turn.direction) step) (watchers document.now.document views.now)) }
+    ensures { (step : Step) → change_at turn document.now.document.history ≡ Some (Text step) → IsToldBefore (bits_of turn.direction) (watchers document.now.document views.now) true notes.old notes.new step }
 {
-    if is_heard {
-        notes.share(bytes, &[]);
-    }
+    let who = bit_of(turn.direction);
+    let step = step_at(document, turn);
+    let _ = document.len(); // it says that the step's numbers are small
+    notes.share(document.change_bytes(turn.direction, turn.index), &[]);
+    tell_coming(document, views, notes, true, who, step);
 }
 
-// Tells of the change, which is one of the text, before it is made. Answers whether a view that watches hears of it; its bytes
-// are then shared for the note after it.
+// The same, if a view that watches hears of it, and answers whether one does.
 fn tell_before_change(
     document: &Document,
     views: &IdTable<View>,
     notes: &mut NoteList,
     turn: Turn,
+    outline: ChangeOutline,
 ) -> bool
-    requires { (step : Step) × CanPerform turn document.now views.now notes.old (Text step) }
+    requires can { (step : Step) × CanPerform turn document.now views.now notes.old (Text step) }
+    requires outline { IsSomeAnd (change_at turn document.now.document.history) (λ change. outline ≡ outline_of change) }
     ensures { (step : Step) → change_at turn document.now.document.history ≡ Some (Text step) → IsToldBefore (bits_of turn.direction) (watchers document.now.document views.now) result notes.old notes.new step }
 {
-    let who = bit_of(turn.direction);
+    let kinds = kinds_of(turn.direction, outline);
+    if count_hearers(document, views, kinds) == 0 {
+        return false;
+    }
+    tell_heard_change(document, views, notes, turn);
+    true
+}
+
+// Tells of the change, which is one of the text, after it was made, if a view that watches `hears` of it, where the text had so
+// many lines and has so many now. Its bytes are shared.
+fn tell_after_change(
+    document: &Document,
+    views: &IdTable<View>,
+    notes: &mut NoteList,
+    turn: Turn,
+    hears: bool,
+    changed: bool,
+    old_lines: usize,
+    lines: usize,
+)
+    requires lines { (old_lines < 2 ^ 63) × (lines < 2 ^ 63) }
+    requires named { AreNamed views.now.entries }
+    requires can { (step : Step) × (text : List ℕ) × (change_at turn document.now.document.history ≡ Some (Text step)) × CanTellAfter hears (bits_behind turn changed) (growth old_lines lines) step text (watchers document.now.document views.now) notes.old }
+    ensures { (step : Step) → change_at turn document.now.document.history ≡ Some (Text step) → notes.new ≡ record notes.old { notes = notes.old.notes ++ heard (watchers document.now.document views.now) (note_after (bits_behind turn changed) (growth old_lines lines) step); note_room = notes.old.note_room - length (heard (watchers document.now.document views.now) (note_after (bits_behind turn changed) (growth old_lines lines) step)) } }
+{
+    if !hears {
+        return;
+    }
     let step = step_at(document, turn);
-    let _ = document.len(); // it says that the step's numbers are small
-    let kinds = kind_before(who, step) | kind_after(all_bits(turn.direction), step);
-    let is_heard = count_hearers(document, views, kinds) > 0;
-    let bytes = document.change_bytes(turn.direction, turn.index);
-    share_if(notes, bytes, is_heard);
-    tell_coming(document, views, notes, is_heard, who, step);
-    is_heard
+    let bits = bits_after(turn, changed);
+    tell_made(document, views, notes, true, bits, old_lines, lines, step);
 }
 
 // Whether by now the number of lines is changed.
@@ -139,25 +193,28 @@ fn perform_step(
     views: &mut IdTable<View>,
     notes: &mut NoteList,
     turn: Turn,
+    outline: ChangeOutline,
     lines_changed: bool,
 ) -> bool
-    requires { (step : Step) × CanPerform turn document.old views.old notes.old (Text step) }
+    requires can { (step : Step) × CanPerform turn document.old views.old notes.old (Text step) }
+    requires outline { IsSomeAnd (change_at turn document.old.document.history) (λ change. outline ≡ outline_of change) }
     ensures { (step : Step) → change_at turn document.old.document.history ≡ Some (Text step) → IsPerformed turn lines_changed result document.old views.old notes.old document.new views.new notes.new (Text step) }
 {
     edits_of_steps();
     moves_are_those_of_steps();
     steps_keep_views_standing();
     let _ = document.len(); // it says that no position runs out of numbers
-    let hears = tell_before_change(document, views, notes, turn);
+    let hears = tell_before_change(document, views, notes, turn, outline);
     let old_lines = document.line_count();
     let change = document.make_change(turn.direction, turn.index);
     let lines = document.line_count();
     let changed = is_changed(lines_changed, old_lines, lines);
-    let step = step_at(document, turn);
-    let bits = bits_after(turn, changed);
-    tell_made(document, views, notes, hears, bits, old_lines, lines, step);
+    tell_after_change(
+        document, views, notes, turn, hears, changed, old_lines, lines,
+    );
     let edits = change.edits();
-    follow(document.views(), views, movement_of(step), edits.as_slice());
+    let movement = movement_of_change(outline);
+    follow(document.views(), views, movement, edits.as_slice());
     changed
 }
 
@@ -171,7 +228,8 @@ fn note_of_container(bits: u32, token: i64) -> Note
     note
 }
 
-// Performs a container's own step: those views that watch and hear it are told.
+// Performs a container's own step: those views that watch and hear it are told. It stands apart, for its note is kept.
+#[inline(never)]
 fn perform_container(
     document: &Document,
     views: &IdTable<View>,
@@ -208,12 +266,10 @@ pub(crate) fn perform_change(
     requires { (change : Change) × CanPerform turn document.old views.old notes.old change }
     ensures { (change : Change) → change_at turn document.old.document.history ≡ Some change → IsPerformed turn lines_changed result document.old views.old notes.old document.new views.new notes.new change }
 {
-    if let ChangeOutline::Container { token } = document.change_outline(
-        turn.direction,
-        turn.index,
-    ) {
+    let outline = document.change_outline(turn.direction, turn.index);
+    if let ChangeOutline::Container { token } = outline {
         perform_container(document, views, notes, turn, token, lines_changed);
         return lines_changed;
     }
-    perform_step(document, views, notes, turn, lines_changed)
+    perform_step(document, views, notes, turn, outline, lines_changed)
 }

@@ -143,7 +143,28 @@ pub(crate) fn share_bytes(document: &mut Document, notes: &mut NoteList, step: T
     }
 }
 
-/// Tells of a step before it is made, if some view that watches `hears` of it: no note is set up for none. Its bytes are shared.
+// Tells of a step before it is made. Its bytes are shared. It stands apart, so that a note is set up only where a view hears it.
+#[inline(never)]
+fn put_coming(
+    document: &Document,
+    views: &IdTable<View>,
+    notes: &mut NoteList,
+    bits: u32,
+    step: TextStep,
+)
+    requires fits { IsStepOn step (length document.now.document.cells) }
+    requires small { IsSmallStep step }
+    requires named { AreNamed views.now.entries }
+    requires shared { notes.old.shared ≡ step_bytes (step_in step (text_of document.now.document)) }
+    requires room { length (heard (watchers document.now.document views.now) (note_before bits (step_in step (text_of document.now.document)))) ≤ notes.old.note_room }
+    ensures { notes.new ≡ record notes.old { notes = notes.old.notes ++ heard (watchers document.now.document views.now) (note_before bits (step_in step.entry (text_of document.now.document))); note_room = notes.old.note_room - length (heard (watchers document.now.document views.now) (note_before bits (step_in step.entry (text_of document.now.document)))) } }
+{
+    let note = before_note(bits, step);
+    let text = text_of_before(step);
+    tell(document, views, notes, &note, Audience::Hearers, text);
+}
+
+/// Tells of a step before it is made, if some view that watches `hears` of it. Its bytes are shared.
 pub(crate) fn tell_coming(
     document: &Document,
     views: &IdTable<View>,
@@ -161,10 +182,37 @@ pub(crate) fn tell_coming(
     ensures { notes.new ≡ record notes.old { notes = notes.old.notes ++ heard (watchers document.now.document views.now) (note_before bits (step_in step.entry (text_of document.now.document))); note_room = notes.old.note_room - length (heard (watchers document.now.document views.now) (note_before bits (step_in step.entry (text_of document.now.document)))) } }
 {
     if hears {
-        let note = before_note(bits, step);
-        let text = text_of_before(step);
-        tell(document, views, notes, &note, Audience::Hearers, text);
+        put_coming(document, views, notes, bits, step);
     }
+}
+
+// Tells of a step after it was made, where the text had so many lines and has so many now. Its bytes are shared. It stands apart,
+// so that a note is set up only where a view hears it.
+#[inline(never)]
+fn put_made(
+    document: &Document,
+    views: &IdTable<View>,
+    notes: &mut NoteList,
+    bits: u32,
+    old_lines: usize,
+    lines: usize,
+    step: TextStep,
+)
+    requires small { IsSmallStep step }
+    requires lines { (old_lines < 2 ^ 63) × (lines < 2 ^ 63) }
+    requires named { AreNamed views.now.entries }
+    requires can { (text : List ℕ) × CanTellMade true bits (growth old_lines lines) step text (watchers document.now.document views.now) notes.old }
+    ensures { (text : List ℕ) → CanTellMade true bits (growth old_lines lines) step.entry text (watchers document.now.document views.now) notes.old → notes.new ≡ record notes.old { notes = notes.old.notes ++ heard (watchers document.now.document views.now) (note_after bits (growth old_lines lines) (step_in step.entry text)); note_room = notes.old.note_room - length (heard (watchers document.now.document views.now) (note_after bits (growth old_lines lines) (step_in step.entry text))) } }
+{
+    let note = after_note(bits, old_lines, lines, step);
+    tell(
+        document,
+        views,
+        notes,
+        &note,
+        Audience::Hearers,
+        NoteText::Shared,
+    );
 }
 
 /// Tells of a step after it was made, if some view that watches `hears` of it, where the text had so many lines and has so
@@ -186,14 +234,6 @@ pub(crate) fn tell_made(
     ensures { (text : List ℕ) → CanTellMade hears bits (growth old_lines lines) step.entry text (watchers document.now.document views.now) notes.old → notes.new ≡ record notes.old { notes = notes.old.notes ++ heard (watchers document.now.document views.now) (note_after bits (growth old_lines lines) (step_in step.entry text)); note_room = notes.old.note_room - length (heard (watchers document.now.document views.now) (note_after bits (growth old_lines lines) (step_in step.entry text))) } }
 {
     if hears {
-        let note = after_note(bits, old_lines, lines, step);
-        tell(
-            document,
-            views,
-            notes,
-            &note,
-            Audience::Hearers,
-            NoteText::Shared,
-        );
+        put_made(document, views, notes, bits, old_lines, lines, step);
     }
 }

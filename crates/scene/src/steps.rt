@@ -38,7 +38,8 @@ pub struct StepBits {
     pub after: u32,
 }
 
-// Shares the step's bytes, if a view that watches hears of it, and answers whether one does.
+// Shares the step's bytes, if a view that watches hears of it, and answers whether one does. Where there is room for no note,
+// none does, and nobody is asked.
 fn share_if_heard(
     document: &mut Document,
     views: &IdTable<View>,
@@ -48,6 +49,7 @@ fn share_if_heard(
 ) -> bool
     requires fits { IsStepOn step (length document.old.document.cells) }
     requires named { AreNamed views.now.entries }
+    requires full { notes.old.note_room ≡ 0 → hearers (step_kinds bits.before bits.after (step_in step (text_of document.old.document))) (watchers document.old.document views.now) ≡ 0 }
     requires texts { bytes_shared (step_kinds bits.before bits.after (step_in step (text_of document.old.document))) (watchers document.old.document views.now) (length (step_bytes (step_in step (text_of document.old.document)))) ≤ notes.old.text_room }
     ensures document { document.new ≡ document.old }
     ensures notes { notes.new.notes ≡ notes.old.notes }
@@ -56,6 +58,9 @@ fn share_if_heard(
     ensures unheard { result ≡ false → hearers (step_kinds bits.before bits.after (step_in step.entry (text_of document.old.document))) (watchers document.old.document views.now) ≡ 0 }
     ensures shared { result ≡ true → notes.new.shared ≡ step_bytes (step_in step.entry (text_of document.old.document)) }
 {
+    if notes.is_full() {
+        return false;
+    }
     let kinds = kind_before(bits.before, step) | kind_after(bits.after, step);
     let hears = count_hearers(document, views, kinds) > 0;
     if hears {
@@ -64,22 +69,32 @@ fn share_if_heard(
     hears
 }
 
-// Tells each view that watches that the save point is left, if so.
+// Tells each view that watches that the save point is left. It stands apart, so that its note is set up only where it is.
+#[inline(never)]
+fn put_left(document: &Document, views: &IdTable<View>, notes: &mut NoteList)
+    requires named { AreNamed views.now.entries }
+    requires room { length (left_note true (watchers document.now.document views.now)) ≤ notes.old.note_room }
+    ensures { notes.new ≡ record notes.old { notes = notes.old.notes ++ left_note true (watchers document.now.document views.now); note_room = notes.old.note_room - length (left_note true (watchers document.now.document views.now)) } }
+{
+    let note = blank(SAVE_POINT_LEFT);
+    tell(
+        document,
+        views,
+        notes,
+        &note,
+        Audience::Everyone,
+        NoteText::Empty,
+    );
+}
+
+// The same, if it `is_left`.
 fn tell_left(document: &Document, views: &IdTable<View>, notes: &mut NoteList, is_left: bool)
     requires named { AreNamed views.now.entries }
     requires room { length (left_note is_left (watchers document.now.document views.now)) ≤ notes.old.note_room }
     ensures { notes.new ≡ record notes.old { notes = notes.old.notes ++ left_note is_left (watchers document.now.document views.now); note_room = notes.old.note_room - length (left_note is_left (watchers document.now.document views.now)) } }
 {
     if is_left {
-        let note = blank(SAVE_POINT_LEFT);
-        tell(
-            document,
-            views,
-            notes,
-            &note,
-            Audience::Everyone,
-            NoteText::Empty,
-        );
+        put_left(document, views, notes);
     }
 }
 
@@ -97,6 +112,7 @@ fn tell_before(
     requires small { IsSmallStep step }
     requires named { AreNamed views.now.entries }
     requires notes { length (heard (watchers document.old.document views.now) (note_before bits.before (step_in step (text_of document.old.document)))) + length (left_note is_left (watchers document.old.document views.now)) ≤ notes.old.note_room }
+    requires full { notes.old.note_room ≡ 0 → hearers (step_kinds bits.before bits.after (step_in step (text_of document.old.document))) (watchers document.old.document views.now) ≡ 0 }
     requires texts { bytes_shared (step_kinds bits.before bits.after (step_in step (text_of document.old.document))) (watchers document.old.document views.now) (length (step_bytes (step_in step (text_of document.old.document)))) ≤ notes.old.text_room }
     ensures document { document.new ≡ document.old }
     ensures notes { notes.new.notes ≡ notes.old.notes ++ heard (watchers document.old.document views.now) (note_before bits.before (step_in step.entry (text_of document.old.document))) ++ left_note is_left (watchers document.old.document views.now) }

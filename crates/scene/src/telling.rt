@@ -4,7 +4,7 @@ ghost use Rattle.std.specs.Prelude.{◌≡◌, ◌≤◌, ◌<◌, ◌-◌, ◌^
 ghost use Rattle.ed_types.specs.Heard.{with_text};
 ghost use Rattle.ed_model.specs.Notes.{told, modify_attempt, blank as blank_note};
 ghost use Rattle.scene.specs.Scenes.{watchers, AreNamed};
-ghost use Rattle.scene.specs.Hearing.{audience_of, belongs, with_note_text, hearers};
+ghost use Rattle.scene.specs.Hearing.{audience_of, belongs, with_note_text, hearers, masks_of};
 
 use document::Document;
 use ed_types::Note;
@@ -104,6 +104,32 @@ pub fn attempt(document: &Document, views: &IdTable<View>, notes: &mut NoteList)
         Audience::Everyone,
         NoteText::Empty,
     );
+}
+
+/// The views that watch a document, taken together.
+#[derive(Clone, Copy, Debug, PartialEq, Eq)]
+pub(crate) struct Watched {
+    /// How many they are.
+    pub count: usize,
+    /// Each kind of note that one of them hears, as the bits of all their masks.
+    pub masks: u32,
+}
+
+/// Counts the views that watch the document and joins their masks, in one walk over them.
+pub(crate) fn survey(document: &Document, views: &IdTable<View>) -> Watched
+    requires named { AreNamed views.now.entries }
+    ensures count { result.count ≡ length (watchers document.now.document views.now) }
+    ensures masks { result.masks ≡ masks_of (watchers document.now.document views.now) }
+{
+    let mut count = 0;
+    let mut masks = 0;
+    for watcher in document.views() {
+        if let Some(view) = views.get(*watcher) {
+            count += 1;
+            masks |= view.mask();
+        }
+    }
+    Watched { count, masks }
 }
 
 // How many of the views that watch the document belong to the audience of notes of this kind.

@@ -1,6 +1,6 @@
 //! Undo and redo: a transaction performed, and what that needs.
 
-ghost use Rattle.std.specs.Prelude.{◌≡◌, ◌≤◌, ◌<◌, ◌+◌, ◌-◌, ◌++◌, length, map, reverse, slice_get, Some};
+ghost use Rattle.std.specs.Prelude.{◌≡◌, ◌≤◌, ◌<◌, ◌+◌, ◌-◌, ◌++◌, length, map, not, reverse};
 ghost use Rattle.ed_model.specs.History.{Change, latest_text_step};
 ghost use Rattle.ed_model.specs.Session.{text_of};
 ghost use Rattle.ed_model.specs.SoundLaws.{AreStepsOf};
@@ -10,16 +10,16 @@ ghost use Rattle.id_table.specs.Entries.{id_of};
 ghost use Rattle.document.specs.Kept.{HasTextRoom, TakesRoom};
 ghost use Rattle.document.specs.Undoing.{changes_of, history_behind, outline_of};
 ghost use Rattle.scene.specs.Scenes.{scene_in, watchers, AreNamed, IsWatched};
+ghost use Rattle.scene.specs.Hearing.{masks_of};
 ghost use Rattle.scene.specs.Needs.{note_room};
 ghost use Rattle.scene.specs.Turns.{turn_of};
 ghost use Rattle.scene.specs.Performed.{CanPerformAll, AreAllPerformed};
 ghost use Rattle.scene.specs.Undoing.{bits_of, free_behind, notes_of_change, bytes_of_change, bytes_of_changes, notes_of_history, room_of_changes, capped_room, capped_notes, place_behind_any};
 
 use crate::need::{NoteRoom, told_need};
-use crate::performing::{CONTAINER, Turn, all_bits, bit_of, perform_change};
-use crate::step_notes::{BEFORE_DELETE, BEFORE_INSERT, DELETE_TEXT, INSERT_TEXT};
+use crate::performing::{Turn, kinds_of, perform_change};
 use crate::steps::SAVE_POINT_LEFT;
-use crate::telling::{Audience, NoteText, count_hearers, count_watchers, tell};
+use crate::telling::{Audience, NoteText, count_hearers, survey, tell};
 use document::{ChangeOutline, Direction, Document, DocumentRoom};
 use ed_model::positions_after_a_step;
 use ed_view::View;
@@ -70,6 +70,32 @@ fn perform_changes(
     }
 }
 
+// Tells each view that watches that the save point is reached, if the document `is_there`, or else that it is left. It stands
+// apart, so that a note is set up only where one of the two is so.
+#[inline(never)]
+fn put_save_point(document: &Document, views: &IdTable<View>, notes: &mut NoteList, is_there: bool)
+    requires named { AreNamed views.now.entries }
+    requires room { length (watchers document.now.document views.now) ≤ notes.old.note_room }
+    ensures notes { notes.new.notes ≡ notes.old.notes ++ save_point_change (watchers document.now.document views.now) (not is_there) is_there }
+    ensures note_room { notes.new.note_room + length notes.new.notes ≡ notes.old.note_room + length notes.old.notes }
+    ensures text_room { notes.new.text_room ≡ notes.old.text_room }
+{
+    let code = if is_there {
+        SAVE_POINT_REACHED
+    } else {
+        SAVE_POINT_LEFT
+    };
+    let note = blank(code);
+    tell(
+        document,
+        views,
+        notes,
+        &note,
+        Audience::Everyone,
+        NoteText::Empty,
+    );
+}
+
 // Tells each view that watches that the save point is reached or left, if so.
 fn tell_save_point(
     document: &Document,
@@ -87,20 +113,7 @@ fn tell_save_point(
     if was_there == is_there {
         return;
     }
-    let code = if is_there {
-        SAVE_POINT_REACHED
-    } else {
-        SAVE_POINT_LEFT
-    };
-    let note = blank(code);
-    tell(
-        document,
-        views,
-        notes,
-        &note,
-        Audience::Everyone,
-        NoteText::Empty,
-    );
+    put_save_point(document, views, notes, is_there);
 }
 
 /// Performs undo or redo, `SCI_UNDO` and `SCI_REDO`: the changes of the transaction one after the other, each told of to the views
@@ -133,41 +146,45 @@ pub fn perform_history(
     tell_save_point(document, views, notes, was_there, is_there);
 }
 
-// What a change needs of the notes.
+// What a change needs of the notes, by its outline, where some view that watches hears one of its kinds.
+#[inline(never)]
+fn heard_change_need(
+    document: &Document,
+    views: &IdTable<View>,
+    direction: Direction,
+    outline: ChangeOutline,
+) -> NoteRoom
+    requires named { AreNamed views.now.entries }
+    ensures { (change : Change) → outline ≡ outline_of change → result ≡ note_room (notes_of_change (watchers document.now.document views.now) (bits_of direction) change) (bytes_of_change (watchers document.now.document views.now) (bits_of direction) change) }
+{
+    let kinds = kinds_of(direction, outline);
+    match outline {
+        ChangeOutline::Insert { count, .. } => told_need(document, views, kinds, count),
+        ChangeOutline::Delete { count, .. } => told_need(document, views, kinds, count),
+        ChangeOutline::Container { .. } => NoteRoom {
+            notes: count_hearers(document, views, kinds),
+            bytes: 0,
+        },
+    }
+}
+
+// What a change needs of the notes, by its outline; `masks` are those of the views that watch, joined, so that mostly none of them
+// is asked.
 fn change_note_need(
     document: &Document,
     views: &IdTable<View>,
     direction: Direction,
-    index: usize,
+    outline: ChangeOutline,
+    masks: u32,
 ) -> NoteRoom
-    requires there { index < length (changes_of direction document.now.document.history) }
     requires named { AreNamed views.now.entries }
-    ensures { (change : Change) → slice_get (changes_of direction document.now.document.history) index ≡ Some change → result ≡ note_room (notes_of_change (watchers document.now.document views.now) (bits_of direction) change) (bytes_of_change (watchers document.now.document views.now) (bits_of direction) change) }
+    requires masks { masks ≡ masks_of (watchers document.now.document views.now) }
+    ensures { (change : Change) → outline ≡ outline_of change → result ≡ note_room (notes_of_change (watchers document.now.document views.now) (bits_of direction) change) (bytes_of_change (watchers document.now.document views.now) (bits_of direction) change) }
 {
-    let before = bit_of(direction);
-    let after = all_bits(direction);
-    match document.change_outline(direction, index) {
-        ChangeOutline::Insert { count, .. } => {
-            told_need(
-                document,
-                views,
-                (BEFORE_INSERT | before) | (INSERT_TEXT | after),
-                count,
-            )
-        }
-        ChangeOutline::Delete { count, .. } => {
-            told_need(
-                document,
-                views,
-                (BEFORE_DELETE | before) | (DELETE_TEXT | after),
-                count,
-            )
-        }
-        ChangeOutline::Container { .. } => NoteRoom {
-            notes: count_hearers(document, views, CONTAINER | after),
-            bytes: 0,
-        },
+    if masks & kinds_of(direction, outline) == 0 {
+        return NoteRoom::none();
     }
+    heard_change_need(document, views, direction, outline)
 }
 
 // How many bytes of room are free behind a change, of so many before it: what comes takes of them, and what goes leaves its own.
@@ -197,22 +214,23 @@ pub fn history_need(document: &Document, views: &IdTable<View>, direction: Direc
     ensures notes { result.notes ≡ capped_notes (notes_of_history (watchers document.now.document views.now) (bits_of direction) (changes_of direction document.now.document.history)) (bytes_of_changes (watchers document.now.document views.now) (bits_of direction) (changes_of direction document.now.document.history)) }
     ensures document { result.document ≡ capped_room (room_of_changes document.now.document.line_end_types (changes_of direction document.now.document.history)) }
 {
+    let watched = survey(document, views);
     let mut need = HistoryNeed {
         notes: NoteRoom {
-            notes: count_watchers(document, views),
+            notes: watched.count,
             bytes: 0,
         },
         document: DocumentRoom::none(),
     };
     let mut free = 0;
     for index in 0..document.change_count(direction) {
-        let notes = change_note_need(document, views, direction, index);
-        let room = beside(free, document.change_need(direction, index));
+        let (outline, room) = document.change_with_need(direction, index);
+        let notes = change_note_need(document, views, direction, outline, watched.masks);
         need = HistoryNeed {
             notes: need.notes.plus(notes),
-            document: need.document.plus(room),
+            document: need.document.plus(beside(free, room)),
         };
-        free = free_behind(free, document.change_outline(direction, index));
+        free = free_behind(free, outline);
     }
     need
 }

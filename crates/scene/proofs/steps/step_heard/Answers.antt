@@ -10,7 +10,7 @@ use Rattle.ed_view.specs.Moving.{step_edits}
 use Rattle.scene.specs.Scenes.{watchers, IsWatched}
 use Rattle.scene.specs.Hearing.{left_note}
 use Rattle.scene.proofs.ToldSoFar.{heard_last, length_parts}
-use Rattle.scene.proofs.KindLemmas.{can_tell}
+use Rattle.scene.proofs.KindLemmas.{can_tell, none_by_notes}
 use Rattle.scene.proofs.StepScenes.{on_text, end_within, small_step, count_is, lines_of_need, same_scene, watched_can, stands_can, watched_after, watched_again}
 use Rattle.scene.proofs.steps.step_heard.Goals as goal
 
@@ -27,6 +27,7 @@ tell_before-hears-requires c =
       small = small_step d.line_end_types c.args.step (length d.cells) c.args.document.now.room.text c.requires.fits c.requires.room.0 c.len.ensures.small;
       named = c.requires.watched.named;
       notes = omega arith;
+      full = λ full. none_by_notes W s c.args.bits.before c.args.bits.after (growth (lines_in d) (lines_in (document_after s d))) (omega arith) (omega arith);
       texts = c.requires.texts;
     }
 

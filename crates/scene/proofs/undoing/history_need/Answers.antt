@@ -15,11 +15,11 @@ loop-index-preserved c =
     let i = c.loop-index.index in
     let count = c.change_count-index-end.ensures in
     let next = there all i (omega arith) in
-    let N = c.change_note_need-notes.ensures next.0 next.1 in
-    let D = some_has _ _ next.0 next.1 c.change_need.ensures.need in
-    let O = some_has _ _ next.0 next.1 c.change_outline.ensures.outline in
+    let O = some_has _ _ next.0 next.1 c.change_with_need-outline.ensures.outline in
+    let D = some_has _ _ next.0 next.1 c.change_with_need-outline.ensures.need in
+    let N = c.change_note_need-notes.ensures next.0 O in
     let F = c.free_behind-free.ensures next.0 O in
-    rw (c.plus.ensures, c.plus-in-loop-index.ensures, N, c.beside-room.ensures, D, F) (needed_next (watchers d c.args.views.now) (bits_of c.args.direction) d.line_end_types c.loop-index.free next.0 (drop i all) (drop (i + 1) all) all
+    rw (c.plus.ensures, c.plus-in-loop-index.ensures, N, c.beside.ensures, D, F) (needed_next (watchers d c.args.views.now) (bits_of c.args.direction) d.line_end_types c.loop-index.free next.0 (drop i all) (drop (i + 1) all) all
     c.loop-index.need c.loop-index.invariant (drop_some all i next.0 next.1))
 
 pub returns : goal.returns

@@ -1,0 +1,63 @@
+use Rattle.std.proofs.Common.{◌≡◌, true, refl, ap, ◌∙◌, arith, subst}
+use Rattle.std.specs.Prelude.{nat_lt}
+use Rattle.std.proofs.lemmas.Bool.{lt-ltb}
+use Rattle.std.proofs.lemmas.List.{append-nil}
+use Rattle.ed_model.specs.History.{TextStep}
+use Rattle.ed_model.specs.Session.{text_of}
+use Rattle.scene.specs.Scenes.{watchers}
+use Rattle.scene.specs.Hearing.{hearers}
+use Rattle.scene.specs.Undoing.{bits_of, performed_kinds}
+use Rattle.scene.specs.Turns.{IsToldBefore}
+use Rattle.scene.proofs.ChangeNotes.{before_few}
+use Rattle.scene.proofs.ChangeSteps.{some_has, step_same}
+use Rattle.scene.proofs.performing.tell_heard_change.Goals as goal
+
+pub share-requires : goal.share-requires
+share-requires c =
+    let s = c.requires.0 in
+    let can = c.requires.1 in
+    let B = some_has _ _ (TextStep s) can.at c.change_bytes.ensures.bytes in
+    let some : nat_lt 0 (hearers (performed_kinds (bits_of c.args.turn.direction) s) (watchers c.args.document.now.document c.args.views.now)) ≡ true = lt-ltb 0 _ c.requires.2 in
+    let texts = rw some at can.texts in
+    rw B (omega arith)
+
+pub tell_coming-requires-clause-shared : goal.tell_coming-requires-clause-shared
+tell_coming-requires-clause-shared c =
+    let s = c.requires.0 in
+    let can = c.requires.1 in
+    let at = c.step_at-step.ensures s (text_of c.args.document.now.document) can.at can.fits in
+    let B = some_has _ _ (TextStep s) can.at c.change_bytes.ensures.bytes in
+    rw (at.0, c.share.ensures) (λ some. append-nil _ ∙ B)
+
+pub tell_coming-requires-clause-room : goal.tell_coming-requires-clause-room
+tell_coming-requires-clause-room c =
+    let s = c.requires.0 in
+    let can = c.requires.1 in
+    let W = watchers c.args.document.now.document c.args.views.now in
+    let who = bits_of c.args.turn.direction in
+    let at = c.step_at-step.ensures s (text_of c.args.document.now.document) can.at can.fits in
+    let few = before_few who s W in
+    let r = can.notes in
+    let n = ap (λ g. g.note_room) c.share.ensures in
+    rw (at.0, c.bit_of-who.ensures) (omega arith)
+
+pub returns : goal.returns
+returns c =
+    let s = c.requires.0 in
+    let can = c.requires.1 in
+    let W = watchers c.args.document.now.document c.args.views.now in
+    let who = bits_of c.args.turn.direction in
+    let at = c.step_at-step.ensures s (text_of c.args.document.now.document) can.at can.fits in
+    let B = some_has _ _ (TextStep s) can.at c.change_bytes.ensures.bytes in
+    let some : nat_lt 0 (hearers (performed_kinds who s) W) ≡ true = lt-ltb 0 _ c.requires.2 in
+    let few = before_few who s W in
+    let put = rw (at.0, c.bit_of-who.ensures, c.share.ensures) at c.tell_coming.ensures in
+    let texts = rw some at can.texts in
+    let r = can.notes in
+    λ step e. subst (λ x. IsToldBefore who W true c.args.notes.now c.tell_coming.new.notes x) (step_same _ s step can.at e) (rw put (record {
+      notes = refl;
+      note_room = omega arith;
+      text_room = rw (some, B) (omega arith);
+      unheard = λ none. absurd (cc);
+      shared = λ heard. append-nil _ ∙ B;
+    }))

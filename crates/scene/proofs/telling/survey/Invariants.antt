@@ -1,0 +1,16 @@
+-- what was counted and joined, and what is still to be, is the whole
+use Rattle.std.proofs.Common.{◌≡◌, ◌≤◌, ◌+◌, length, drop}
+use Rattle.scene.specs.declared.telling.Audience.TheVariants.{Everyone}
+use Rattle.scene.specs.Hearing.{masks_from, masks_of}
+use Rattle.scene.proofs.Pending.{pending}
+use Rattle.scene.proofs.telling.survey.Given as goal
+
+abbrev pub invariant-loop-watcher : goal.invariant-loop-watcher
+invariant-loop-watcher l =
+    let rest = pending Everyone 0 l.fn.views.entries (drop l.watcher-index l.fn.document.document.views) in
+    let whole = pending Everyone 0 l.fn.views.entries l.fn.document.document.views in
+    record {
+      counted : l.count + length rest ≡ length whole;
+      joined : masks_from l.masks rest ≡ masks_of whole;
+      few : l.count ≤ l.watcher-index;
+    }
