@@ -131,45 +131,23 @@ changed_of_kept keeps bs ss new start k h l =
 
 -- A range of two lists that stand one behind the other.
 
-range_before : (xs ys : List ℕ) (start past : ℕ) → start ≤ past → past < length xs →
-    slice_range xs (min start (length xs)) (min past (length xs)) ++ slice_range ys (start - length xs) (past - length xs) ≡ slice_range (xs ++ ys) start past
+pub range_before : (xs ys : List ℕ) (start past : ℕ) → start ≤ past → past ≤ length xs → slice_range xs start past ≡ slice_range (xs ++ ys) start past
 range_before xs ys start past l h =
-    let first : min start (length xs) ≡ start = omega arith in
-    let last : min past (length xs) ≡ past = omega arith in
-    let none : past - length xs - (start - length xs) ≡ 0 = omega arith in
     let inside : start ≤ length xs = omega arith in
     let fits : past - start ≤ length (drop start xs) = omega (arith, length-drop start xs) in
-    rw (first, last, none, drop-append-le start xs ys inside, take-append-le (past - start) (drop start xs) ys fits, append-nil)
+    rw (drop-append-le start xs ys inside, take-append-le (past - start) (drop start xs) ys fits)
 
-range_across : (xs ys : List ℕ) (start past : ℕ) → start < length xs → length xs ≤ past →
-    slice_range xs (min start (length xs)) (min past (length xs)) ++ slice_range ys (start - length xs) (past - length xs) ≡ slice_range (xs ++ ys) start past
-range_across xs ys start past l h =
-    let first : min start (length xs) ≡ start = omega arith in
-    let last : min past (length xs) ≡ length xs = omega arith in
-    let none : start - length xs ≡ 0 = omega arith in
-    let left : past - length xs - 0 ≡ past - length xs = omega arith in
-    let inside : start ≤ length xs = omega arith in
-    let all : take (length xs - start) (drop start xs) ≡ drop start xs = take_all (length xs - start) (drop start xs) (omega (arith, length-drop start xs)) in
-    let count : past - start ≡ length (drop start xs) + (past - length xs) = omega (arith, length-drop start xs) in
-    rw (first, last, none, all, drop-append-le start xs ys inside, count, take-append-add (drop start xs) ys (past - length xs))
-    (ap (λ n. drop start xs ++ take n ys) left)
-
-range_behind : (xs ys : List ℕ) (start past : ℕ) → length xs ≤ start → start ≤ past →
-    slice_range xs (min start (length xs)) (min past (length xs)) ++ slice_range ys (start - length xs) (past - length xs) ≡ slice_range (xs ++ ys) start past
+pub range_behind : (xs ys : List ℕ) (start past : ℕ) → length xs ≤ start → start ≤ past →
+    slice_range ys (start - length xs) (past - length xs) ≡ slice_range (xs ++ ys) start past
 range_behind xs ys start past l h =
-    let first : min start (length xs) ≡ length xs = omega arith in
-    let last : min past (length xs) ≡ length xs = omega arith in
-    let none : length xs - length xs ≡ 0 = omega arith in
     let place : start ≡ length xs + (start - length xs) = omega arith in
     let count : past - length xs - (start - length xs) ≡ past - start = omega arith in
     let back : drop start (xs ++ ys) ≡ drop (start - length xs) ys = ap (λ j. drop j (xs ++ ys)) place ∙ drop-append-add xs ys (start - length xs) in
-    rw (first, last, none, back, count)
+    rw (back, count)
 
--- a range of both is a range of the one, and a range of the other behind it
-pub range_of_halves : (xs ys : List ℕ) (start past : ℕ) → start ≤ past →
-    slice_range xs (min start (length xs)) (min past (length xs)) ++ slice_range ys (start - length xs) (past - length xs) ≡ slice_range (xs ++ ys) start past
-range_of_halves xs ys start past l =
-    elim (cases_lt past (length xs)) [
-      | inl inside ↦ range_before xs ys start past l inside
-      | inr behind ↦ elim (cases_lt start (length xs)) [ inl across ↦ range_across xs ys start past across behind | inr after ↦ range_behind xs ys start past after l ]
-    ]
+pub range_across : (xs ys : List ℕ) (start past : ℕ) → start ≤ length xs → length xs ≤ past →
+    slice_range xs start (length xs) ++ take (past - length xs) ys ≡ slice_range (xs ++ ys) start past
+range_across xs ys start past l h =
+    let all : take (length xs - start) (drop start xs) ≡ drop start xs = take_all (length xs - start) (drop start xs) (omega (arith, length-drop start xs)) in
+    let count : past - start ≡ length (drop start xs) + (past - length xs) = omega (arith, length-drop start xs) in
+    rw (all, drop-append-le start xs ys l, count, take-append-add (drop start xs) ys (past - length xs))

@@ -123,6 +123,7 @@ impl Cells {
     ///
     /// `AllocError` where memory is refused. All but `spare` is then as it was.
     #[tactic(auto, using(crate::proofs::Stored::cells_length))]
+    #[inline(always)]
     pub fn reserve(&mut self, count: usize) -> Result<(), AllocError>
         ensures ok { OnOk result (self.new ≡ record self.old { room = max self.old.room count; spare = self.new.spare }) }
         ensures room_is_there { count ≤ self.old.room → IsOk result × (self.new ≡ self.old) }
@@ -135,6 +136,20 @@ impl Cells {
             let _ = self.bytes.spare(); // it says that the sum is small
             return Ok(());
         }
+        self.make_room(count)
+    }
+
+    // Makes room for `count` more bytes, and for their styles, where there is room for fewer.
+    #[inline(never)]
+    #[tactic(auto, using(crate::proofs::Stored::cells_length))]
+    fn make_room(&mut self, count: usize) -> Result<(), AllocError>
+        requires { self.old.room < count }
+        ensures ok { OnOk result (self.new ≡ record self.old { room = max self.old.room count; spare = self.new.spare }) }
+        ensures at_most { self.new.spare.0 ≤ most_room (length self.old.cells) self.old.spare.0 count }
+        ensures styles_at_most { self.new.spare.1 ≤ most_room (stored self.old.keeps_styles (length self.old.cells)) self.old.spare.1 (stored self.old.keeps_styles count) }
+        ensures err { OnErr result (self.new ≡ record self.old { spare = self.new.spare }) }
+        ensures within { length self.new.cells + self.new.room < 2 ^ 63 }
+    {
         let Ok(()) = self.bytes.reserve(count) else {
             return Err(AllocError);
         };
@@ -255,7 +270,7 @@ impl Cells {
     /// # Errors
     ///
     /// `AllocError` where memory is refused. `target` has then the same bytes.
-    #[tactic(auto, using(crate::proofs::Stored::cells_length, crate::proofs::Stored::cells_bytes, crate::proofs::Stored::range_of_halves))]
+    #[tactic(auto, using(crate::proofs::Stored::cells_length, crate::proofs::Stored::cells_bytes, crate::proofs::Stored::range_before, crate::proofs::Stored::range_behind))]
     pub fn append_text_to(
         &self,
         start: usize,
@@ -267,22 +282,17 @@ impl Cells {
         ensures room_is_there { vec_len target.old + count ≤ vec_capacity target.old → IsOk result }
         ensures err { OnErr result (target.new.items ≡ target.old.items) }
     {
-        let Ok(()) = target.reserve(count) else {
-            return Err(AllocError);
-        };
         let _ = self.bytes.len(); // it says that the sum is small
         let end = start + count;
         let (before, behind) = self.bytes.halves();
         let gap = before.len();
-        let Ok(()) = target.extend_from_slice(&before[start.min(gap)..end.min(gap)]) else {
-            unreachable!();
-        };
-        let first = start.saturating_sub(gap);
-        let past = end.saturating_sub(gap);
-        let Ok(()) = target.extend_from_slice(&behind[first..past]) else {
-            unreachable!();
-        };
-        Ok(())
+        if end <= gap {
+            return target.extend_from_slice(&before[start..end]);
+        }
+        if gap <= start {
+            return target.extend_from_slice(&behind[start - gap..end - gap]);
+        }
+        append_both(&before[start..], &behind[..end - gap], target)
     }
 
     /// The bytes before the gap and those behind it. Nothing moves.
@@ -318,4 +328,23 @@ impl Cells {
     {
         (self.bytes.gap(), self.styles.gap())
     }
+}
+
+// Appends the bytes of `first` and those of `second` to `target`, all or none of them.
+#[inline(never)]
+fn append_both(first: &[u8], second: &[u8], target: &mut Vec<u8>) -> Result<(), AllocError>
+    ensures ok { OnOk result (target.new.items ≡ target.old.items ++ (first.now ++ second.now)) }
+    ensures room_is_there { vec_len target.old + (length first.now + length second.now) ≤ vec_capacity target.old → IsOk result }
+    ensures err { OnErr result (target.new.items ≡ target.old.items) }
+{
+    let Ok(()) = target.reserve(first.len() + second.len()) else {
+        return Err(AllocError);
+    };
+    let Ok(()) = target.extend_from_slice(first) else {
+        unreachable!();
+    };
+    let Ok(()) = target.extend_from_slice(second) else {
+        unreachable!();
+    };
+    Ok(())
 }

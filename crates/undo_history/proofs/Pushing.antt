@@ -1,15 +1,15 @@
 -- The future dropped, and a change stored behind the past.
-use Rattle.std.proofs.Common.{◌≡◌, ◌≤◌, ◌<◌, ◌+◌, ◌-◌, ℕ, zero, suc, List, [], ◌∷◌, ◌++◌, length, take, drop, refl, ap, ap₂, sym, subst, ◌∙◌, arith, reverse, Bool, true, false, append-nil}
+use Rattle.std.proofs.Common.{◌≡◌, ◌≤◌, ◌+◌, ◌-◌, ℕ, zero, suc, List, [], ◌∷◌, ◌++◌, length, take, drop, refl, ap, ap₂, sym, subst, ◌∙◌, arith, reverse, Bool, true, false, append-nil}
 use Rattle.std.specs.Prelude.{Option, slice_range, not, if◌then◌else◌}
-use Rattle.std.proofs.lemmas.List.{take-take, take_all, drop_at, drop_all, take_at, length-append, length-take-le, length-reverse, length-drop, reverse-append}
-use Rattle.ed_model.specs.History.{Change, Transaction, History, with_change, reachable}
+use Rattle.std.proofs.lemmas.List.{take-take, take_all, drop_at, drop_all, length-append, length-take-le, length-reverse, length-drop, reverse-append}
+use Rattle.ed_model.specs.History.{Change, Transaction, with_change}
 use Rattle.split_vector.specs.Split.{inserted, deleted}
 use Rattle.undo_history.specs.declared.records.ChangeKind.{ChangeKind}
 use Rattle.undo_history.specs.declared.records.StepRecord.{StepRecord}
-use Rattle.undo_history.specs.Dropping.{without_future}
-use Rattle.undo_history.specs.Records.{Entry, entry, entry_in, entries_in, change_of, pushed, joined, transactions, history_of, bytes_end, last_end, read_parts, BeginsOne, EndsInOrder, IsInOrder, LastIsOpen}
+use Rattle.undo_history.specs.Dropping.{without_undone}
+use Rattle.undo_history.specs.Records.{Entry, entry, entry_in, entries_in, change_of, pushed, transactions, history_of, bytes_end, last_end, BeginsOne, EndsInOrder, IsInOrder, LastIsOpen}
 use Rattle.undo_history.proofs.Parts.{front_of_parts, parts_of_front, ends_of_front, last_of_front, parts_push, parts_of_more, ends_push, last_of_ends}
-use Rattle.undo_history.proofs.Transactions.{transactions_some, begins_front}
+use Rattle.undo_history.proofs.Transactions.{transactions_some}
 use Rattle.undo_history.proofs.Moving.{history}
 use Rattle.undo_history.proofs.Sealing.{entries_length}
 
@@ -50,16 +50,22 @@ dropped_in_order rs bytes past count k h e =
       counted = h.counted ∙ ap (λ t. length (transactions (reverse t))) (sym (take-take past past es (omega arith))) ∙ ap (λ t. length (transactions (reverse (take past t)))) (sym same);
     }
 
-pub dropped_view : (rs : List StepRecord) (bytes : List ℕ) (past count k depth : ℕ) (old new : Option ℕ) (collecting : Bool) → IsInOrder rs bytes past count → k ≡ past_bytes past rs → new ≡ reachable count old →
-    history_of (entries_in (take past rs) (take k bytes)) past new depth collecting ≡ without_future (history_of (entries_in rs bytes) past old depth collecting)
-dropped_view rs bytes past count k depth old new collecting h e save =
+pub dropped_view : (rs : List StepRecord) (bytes : List ℕ) (past count k depth : ℕ) (save_point : Option ℕ) (collecting : Bool) → IsInOrder rs bytes past count → k ≡ past_bytes past rs →
+    history_of (entries_in (take past rs) (take k bytes)) past save_point depth collecting ≡ without_undone (history_of (entries_in rs bytes) past save_point depth collecting)
+dropped_view rs bytes past count k depth save_point collecting h e =
     let es = entries_in rs bytes in
     let same : entries_in (take past rs) (take k bytes) ≡ take past es = ap (λ n. entries_in (take past rs) (take n bytes)) e ∙ past_entries past rs bytes h.ends in
     let long : length (take past es) ≡ past = length-take-le past es (omega (arith, entries_length rs bytes, h.there)) in
     let nothing : drop past (take past es) ≡ [] = drop_all past (take past es) (omega arith) in
-    ap (λ t. history_of t past new depth collecting) same
-    ∙ ap₂ (λ p f. history (transactions (reverse p)) (reverse (transactions (reverse f))) new depth collecting) (take-take past past es (omega arith)) nothing
-    ∙ ap (λ s. history (transactions (reverse (take past es))) [] s depth collecting) (save ∙ ap (λ n. reachable n old) h.counted)
+    ap (λ t. history_of t past save_point depth collecting) same
+    ∙ ap₂ (λ p f. history (transactions (reverse p)) (reverse (transactions (reverse f))) save_point depth collecting) (take-take past past es (omega arith)) nothing
+
+-- nothing is undone where all is past
+pub all_past : (rs : List StepRecord) (bytes : List ℕ) (past depth : ℕ) (save_point : Option ℕ) (collecting : Bool) → length rs ≤ past →
+    history_of (entries_in rs bytes) past save_point depth collecting ≡ without_undone (history_of (entries_in rs bytes) past save_point depth collecting)
+all_past rs bytes past depth save_point collecting h =
+    let es = entries_in rs bytes in
+    ap (λ f. history (transactions (reverse (take past es))) (reverse (transactions (reverse f))) save_point depth collecting) (drop_all past es (omega (arith, entries_length rs bytes)))
 
 -- A change stored.
 

@@ -4,7 +4,7 @@ ghost use Rattle.std.specs.Prelude.{true, false, [], ◌∷◌, ◌++◌, ◌≡
 ghost use Rattle.ed_model.specs.History.{at_save_point, can_undo, can_redo, sealed_outside_groups, with_change, joins, begins_transaction, appended, TextStep, with_container_step, group_begun, group_ended, saved, emptied, collecting_set, undone, redone, reachable, undo_changes, redo_changes, inverse_change};
 ghost use Rattle.undo_history.specs.Kept.{fresh, HasRoom};
 ghost use Rattle.undo_history.specs.Steps.{step_of};
-ghost use Rattle.undo_history.specs.Dropping.{without_future};
+ghost use Rattle.undo_history.specs.Dropping.{without_future, without_undone};
 ghost use Rattle.undo_history.specs.Records.{change_of, HasItsBytes, LastIsOpen};
 
 use crate::joining::{belongs, find_latest_step};
@@ -121,6 +121,7 @@ impl UndoHistory {
     /// # Errors
     ///
     /// `AllocError` where memory is refused. All but `taken` is then as it was.
+    #[inline(always)]
     pub fn reserve(&mut self, steps: usize, bytes: usize) -> Result<(), AllocError>
         ensures same { self.new.history ≡ self.old.history }
         ensures ok { OnOk result (HasRoom self.new steps bytes) }
@@ -133,6 +134,19 @@ impl UndoHistory {
         if !self.is_collecting || (steps <= self.step_room && bytes <= self.byte_room) {
             return Ok(());
         }
+        self.make_room(steps, bytes)
+    }
+
+    // Makes room for so many more steps, with so many bytes in all, where there is too little.
+    #[inline(never)]
+    fn make_room(&mut self, steps: usize, bytes: usize) -> Result<(), AllocError>
+        ensures same { self.new.history ≡ self.old.history }
+        ensures ok { OnOk result (HasRoom self.new steps bytes) }
+        ensures room_stays { (self.old.step_room ≤ self.new.step_room) × (self.old.byte_room ≤ self.new.byte_room) }
+        ensures rooms { (self.new.step_room ≤ max self.old.step_room steps) × (self.new.byte_room ≤ max self.old.byte_room bytes) }
+        ensures at_most { (self.new.taken.0 ≤ max (2 * self.old.taken.0) (self.old.taken.0 + steps)) × (self.new.taken.1 ≤ max (2 * self.old.taken.1) (self.old.taken.1 + bytes)) }
+        ensures err { OnErr result (self.new ≡ record self.old { taken = self.new.taken }) }
+    {
         let Ok(()) = self.steps.reserve(steps) else {
             return Err(AllocError);
         };
@@ -304,6 +318,7 @@ impl UndoHistory {
     }
 
     // Appends a change, and answers whether it begins a transaction. There must be room for it.
+    #[inline(always)]
     fn append(&mut self, later: bool, kind: ChangeKind, bytes: &[u8]) -> bool
         requires { HasRoom self.old 1 (length bytes.now) }
         ensures history { self.new.history ≡ appended later (change_of kind bytes.now) self.old.history }
@@ -358,6 +373,7 @@ impl UndoHistory {
     }
 
     // Whether a change joins the last transaction; `later` says that it is a later step of its message.
+    #[inline]
     fn joins(&self, later: bool, kind: ChangeKind, bytes: &[u8]) -> bool
         ensures { result ≡ joins later (change_of kind bytes.now) self.now.history }
     {
@@ -375,18 +391,38 @@ impl UndoHistory {
     }
 
     // Drops what was undone, and a save point that could be reached only by redoing it.
+    #[inline(always)]
     fn drop_future(&mut self)
         ensures { self.new ≡ record self.old { history = without_future self.old.history } }
+    {
+        self.drop_undone();
+        self.save_point = still_reachable(self.transactions, self.save_point);
+    }
+
+    // Drops what was undone. Mostly there is nothing.
+    #[inline(always)]
+    fn drop_undone(&mut self)
+        ensures { self.new ≡ record self.old { history = without_undone self.old.history } }
+    {
+        if self.past < self.steps.len() {
+            self.delete_undone();
+        }
+    }
+
+    // Deletes what was undone.
+    #[inline(never)]
+    fn delete_undone(&mut self)
+        ensures { self.new ≡ record self.old { history = without_undone self.old.history } }
     {
         let kept = bytes_before(all_steps(&self.steps), self.past);
         let steps = self.steps.len();
         let bytes = self.bytes.len();
         self.steps.delete(self.past, steps - self.past);
         self.bytes.delete(kept, bytes - kept);
-        self.save_point = still_reachable(self.transactions, self.save_point);
     }
 
     // Appends a change, to the last transaction or as one of its own. Nothing is there to be redone.
+    #[inline(always)]
     fn push(&mut self, joined: bool, kind: ChangeKind, bytes: &[u8])
         requires last { self.old.history.future ≡ [] }
         requires begun { joined ≡ true → LastIsOpen self.old.history.past }

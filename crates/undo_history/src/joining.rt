@@ -38,6 +38,7 @@ pub fn belongs(kind: ChangeKind, count: usize, latest: Option<StepOutline>) -> b
 }
 
 /// The latest step of the text in the last transaction of the first `past` steps.
+#[inline]
 pub fn find_latest_step(steps: &[StepRecord], past: usize) -> Option<StepOutline>
     requires { past ≤ length steps.now }
     ensures { (bytes : List ℕ) → EndsInOrder bytes_end 0 steps.now (length bytes) → result ≡ outline_if_any (latest_text_step (first_changes (transactions (reverse (take past (entries_in steps.now bytes)))))) }

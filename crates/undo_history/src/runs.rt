@@ -6,6 +6,7 @@ ghost use Rattle.undo_history.specs.Records.{entries_in, last_count, next_count,
 use crate::records::StepRecord;
 
 /// How many steps the last transaction of the first `past` steps has: 0 where there are none.
+#[inline]
 pub fn count_before(steps: &[StepRecord], past: usize) -> usize
     requires { past ≤ length steps.now }
     ensures { (bytes : List ℕ) → result ≡ last_count (reverse (take past (entries_in steps.now bytes))) }
@@ -19,6 +20,7 @@ pub fn count_before(steps: &[StepRecord], past: usize) -> usize
 }
 
 /// How many steps the first transaction behind the first `past` steps has: 0 where there is none.
+#[inline]
 pub fn count_behind(steps: &[StepRecord], past: usize) -> usize
     requires { past ≤ length steps.now }
     ensures { (bytes : List ℕ) → result ≡ next_count (drop past (entries_in steps.now bytes)) }

@@ -1,11 +1,10 @@
 use Rattle.std.proofs.Common.{◌≡◌, ◌≤◌, ◌+◌, ◌-◌, ◌∙◌, ap, ap₂, arith, length, take}
-use Rattle.std.proofs.lemmas.Grind.{common_steps}
 use Rattle.std.proofs.lemmas.List.{length-take-le}
 use Rattle.undo_history.specs.Kept.{Kept, kept}
-use Rattle.undo_history.specs.Dropping.{without_future}
+use Rattle.undo_history.specs.Dropping.{without_undone}
 use Rattle.undo_history.specs.Records.{entries_in, history_of}
 use Rattle.undo_history.proofs.Pushing.{past_bytes, past_bytes_there, deleted_behind, dropped_in_order, dropped_view}
-use Rattle.undo_history.proofs.history.UndoHistory.drop_future.Goals as goal
+use Rattle.undo_history.proofs.history.UndoHistory.delete_undone.Goals as goal
 
 pub overflow_sub-bytes : goal.overflow_sub-bytes
 overflow_sub-bytes c =
@@ -46,19 +45,18 @@ returns c =
     let rs = i.steps.items in
     let bytes = i.bytes.items in
     let k = c.bytes_before-kept.result in
-    let save = c.still_reachable-self-inside.result in
     let kept_is : k ≡ past_bytes i.past rs = c.bytes_before-kept.ensures ∙ ap (λ t. past_bytes i.past t) c.all_steps.ensures.steps in
     let within : k ≤ length bytes = omega (arith, kept_is, past_bytes_there i.past rs bytes c.self.invariant.in_order.ends) in
     let steps_are : c.delete.new.self.items ≡ take i.past rs =
     c.delete.ensures.items ∙ deleted_behind rs i.past (c.len-steps.result - i.past) (omega (arith, c.len-steps.ensures.len, c.self.invariant.in_order.there)) in
     let bytes_are : c.delete-2.new.self.items ≡ take k bytes =
     c.delete-2.ensures.items ∙ deleted_behind bytes k (c.len-bytes.result - k) (omega (arith, c.len-bytes.ensures.len)) in
-    let view : history_of (entries_in c.delete.new.self.items c.delete-2.new.self.items) i.past save i.depth i.is_collecting ≡ without_future (history_of (entries_in rs bytes) i.past i.save_point i.depth i.is_collecting) =
-    ap₂ (λ a b. history_of (entries_in a b) i.past save i.depth i.is_collecting) steps_are bytes_are
-    ∙ dropped_view rs bytes i.past i.transactions k i.depth i.save_point save i.is_collecting c.self.invariant.in_order kept_is c.still_reachable-self-inside.ensures in
+    let view : history_of (entries_in c.delete.new.self.items c.delete-2.new.self.items) i.past i.save_point i.depth i.is_collecting ≡ without_undone (history_of (entries_in rs bytes) i.past i.save_point i.depth i.is_collecting) =
+    ap₂ (λ a b. history_of (entries_in a b) i.past i.save_point i.depth i.is_collecting) steps_are bytes_are
+    ∙ dropped_view rs bytes i.past i.transactions k i.depth i.save_point i.is_collecting c.self.invariant.in_order kept_is in
     let steps_taken : length c.delete.new.self.items + c.delete.new.self.spare ≡ length rs + i.steps.spare =
     omega (arith, ap length steps_are, length-take-le i.past rs c.self.invariant.in_order.there, c.delete.ensures.spare, c.len-steps.ensures.len) in
     let bytes_taken : length c.delete-2.new.self.items + c.delete-2.new.self.spare ≡ length bytes + i.bytes.spare =
     omega (arith, ap length bytes_are, length-take-le k bytes within, c.delete-2.ensures.spare, c.len-bytes.ensures.len) in
     ap₂ (λ h t. kept h i.step_room i.byte_room t) view (ap₂ (λ a b. (a, b)) steps_taken bytes_taken)
-    ∙ ap (λ (k : Kept). kept (without_future k.history) k.step_room k.byte_room k.taken) c.self.view_is
+    ∙ ap (λ (k : Kept). kept (without_undone k.history) k.step_room k.byte_room k.taken) c.self.view_is
