@@ -37,6 +37,16 @@ impl<T: Copy> Model for LineValues<T> {
     ghost invariant = { λ v. record { fewer : length v.stored.items ≤ v.lines; for_lines : v.room ≤ v.stored.spare; for_values : v.reach + v.room ≤ length v.stored.items + v.stored.spare } };
 }
 
+// Takes memory for `count` more values, or for twice as many as there was for. It stands apart, since it is rare.
+#[inline(never)]
+fn grow<T: Copy>(stored: &mut SplitVector<T>, count: usize) -> Result<(), AllocError>
+    ensures ok { OnOk result ((stored.new.items ≡ stored.old.items) × (count ≤ stored.new.spare)) }
+    ensures at_most { OnOk result (stored.new.spare ≤ most_room (length stored.old.items) stored.old.spare count) }
+    ensures err { OnErr result (stored.new ≡ stored.old) }
+{
+    stored.reserve(count)
+}
+
 // Makes room for `count` more values. Where it is there already, nothing is called.
 #[inline]
 fn make_room<T: Copy>(stored: &mut SplitVector<T>, count: usize) -> Result<(), AllocError>
@@ -47,7 +57,7 @@ fn make_room<T: Copy>(stored: &mut SplitVector<T>, count: usize) -> Result<(), A
     if count <= stored.spare() {
         return Ok(());
     }
-    stored.reserve(count)
+    grow(stored, count)
 }
 
 // Appends defaults up to `len` values, where there are fewer. It stands apart, since lines mostly get values one behind the other.

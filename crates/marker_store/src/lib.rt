@@ -16,7 +16,8 @@
 //! What a call costs: one search by halves for the first marker of a line, and then a walk over markers, from one to the
 //! next, never over lines. A line's mask is that of its own markers, and the next line with a mask is that of the first
 //! marker behind with a bit of it.
-//! Where lines come or go, the step is tried before the search. So edits at one place, or behind all markers, search once.
+//! Where lines come or go, the step is tried before the search, and where a marker comes, the last marker before the step. So
+//! edits at one place, or behind all markers, search once, and markers that come line after line never do.
 //!
 //! `stored` keeps the entries and `placed` shows them as markers with their lines; `store` shows the list of each line.
 #![tactic(auto)]

@@ -8,6 +8,16 @@ use crate::entries::Entry;
 use split_vector::SplitVector;
 use std::alloc::{AllocError, Allocator};
 
+// Takes memory for `count` more entries, or for twice as many as there was for. It stands apart, since it is rare.
+#[inline(never)]
+fn grow<A: Allocator>(stored: &mut SplitVector<Entry, A>, count: usize) -> Result<(), AllocError>
+    ensures ok { OnOk result ((stored.new.items ≡ stored.old.items) × (count ≤ stored.new.spare)) }
+    ensures at_most { OnOk result (stored.new.spare ≤ most_room (length stored.old.items) stored.old.spare count) }
+    ensures err { OnErr result (stored.new ≡ stored.old) }
+{
+    stored.reserve(count)
+}
+
 /// Makes room for `count` more entries. Where it is there already, nothing is called.
 #[inline]
 pub(crate) fn make_room<A: Allocator>(
@@ -21,7 +31,7 @@ pub(crate) fn make_room<A: Allocator>(
     if count <= stored.spare() {
         return Ok(());
     }
-    stored.reserve(count)
+    grow(stored, count)
 }
 
 /// Returns the marker at the index with its line.
