@@ -218,12 +218,36 @@ fn beside(free: usize, need: DocumentRoom) -> DocumentRoom
     }
 }
 
+// What undo or redo of one change needs: that of the change, and no loop that adds up.
+fn need_of_one(document: &Document, views: &IdTable<View>, direction: Direction) -> HistoryNeed
+    requires named { AreNamed views.now.entries }
+    requires one { length (changes_of direction document.now.document.history) ≡ 1 }
+    ensures notes { result.notes ≡ capped_notes (notes_of_history (watchers document.now.document views.now) (bits_of direction) (changes_of direction document.now.document.history)) (bytes_of_changes (watchers document.now.document views.now) (bits_of direction) (changes_of direction document.now.document.history)) }
+    ensures document { result.document ≡ capped_room (room_of_changes document.now.document.line_end_types (changes_of direction document.now.document.history)) }
+{
+    let watched = survey(document, views);
+    let (outline, room) = document.change_with_need(direction, 0);
+    let notes = change_note_need(document, views, direction, outline, watched.masks);
+    let told = NoteRoom {
+        notes: watched.count,
+        bytes: 0,
+    };
+    HistoryNeed {
+        notes: notes.plus(told),
+        document: DocumentRoom::none().plus(room),
+    }
+}
+
 /// Returns what undo or redo needs at most. What goes out of the text makes room for what comes later.
 pub fn history_need(document: &Document, views: &IdTable<View>, direction: Direction) -> HistoryNeed
     requires named { AreNamed views.now.entries }
     ensures notes { result.notes ≡ capped_notes (notes_of_history (watchers document.now.document views.now) (bits_of direction) (changes_of direction document.now.document.history)) (bytes_of_changes (watchers document.now.document views.now) (bits_of direction) (changes_of direction document.now.document.history)) }
     ensures document { result.document ≡ capped_room (room_of_changes document.now.document.line_end_types (changes_of direction document.now.document.history)) }
 {
+    let count = document.change_count(direction);
+    if count == 1 {
+        return need_of_one(document, views, direction);
+    }
     let watched = survey(document, views);
     let mut need = HistoryNeed {
         notes: NoteRoom {
@@ -233,7 +257,7 @@ pub fn history_need(document: &Document, views: &IdTable<View>, direction: Direc
         document: DocumentRoom::none(),
     };
     let mut free = 0;
-    for index in 0..document.change_count(direction) {
+    for index in 0..count {
         let (outline, room) = document.change_with_need(direction, index);
         let notes = change_note_need(document, views, direction, outline, watched.masks);
         need = HistoryNeed {
