@@ -4,7 +4,7 @@ use Rattle.std.specs.Prelude.{ℤ, filter, filter_map, bit_or, nat_lt}
 use Rattle.std.proofs.lemmas.List.{length-map}
 use Rattle.ed_types.specs.Notices.{Notice}
 use Rattle.ed_model.specs.Numbers.{meets, growth}
-use Rattle.ed_model.specs.Steps.{Step, step_bytes}
+use Rattle.ed_model.specs.Steps.{Step, Insert, Delete, step_bytes}
 use Rattle.ed_model.specs.History.{Change, TextStep, ContainerStep}
 use Rattle.ed_model.specs.Notes as notes
 use Rattle.ed_model.specs.Notes.{told, heard, before_note, after_note}
@@ -13,7 +13,7 @@ use Rattle.ed_model.specs.Performing.{Scene, document_after, view_after, last_bi
 use Rattle.document.specs.declared.undoing.Direction.{Direction}
 use Rattle.document.specs.declared.undoing.Direction.TheVariants.{Undo, Redo}
 use Rattle.scene.specs.Hearing.{hearers, before_kind, after_kind}
-use Rattle.scene.specs.Undoing.{bits_of, all_bits, performed_kinds, container_kinds, notes_of_change, bytes_of_change, notes_of_changes, bytes_of_changes}
+use Rattle.scene.specs.Undoing.{bits_of, all_bits, every_kind, performed_kinds, container_kinds, notes_of_change, bytes_of_change, notes_of_changes, bytes_of_changes}
 use Rattle.scene.proofs.ToldSoFar.{length_told}
 use Rattle.scene.proofs.KindLemmas.{meets_left, meets_right, meets_more, after_more, hearers_more, before_kind_is, after_kind_is}
 use Rattle.scene.proofs.NeedLemmas.{hear_same, watch_after}
@@ -37,6 +37,19 @@ bits_more Redo true false changed m h = meets_left m 0xC0 0x11C0 h
 bits_more Redo false true true m h = meets_left m 0x1140 0x11C0 h
 bits_more Redo false true false m h = meets_left m 0x140 0x11C0 h
 bits_more Redo false false changed m h = meets_left m 0x40 0x11C0 h
+
+-- The kinds of a step are among all.
+every_more : (direction : Direction) (s : Step) (m : ℕ) → meets m (performed_kinds (bits_of direction) s) ≡ true → meets m (every_kind (bits_of direction)) ≡ true
+every_more Undo (Insert p bytes) m h = meets_left m 0x15A1 0x41DA3 h
+every_more Undo (Delete p bytes) m h = meets_left m 0x19A2 0x41DA3 h
+every_more Redo (Insert p bytes) m h = meets_left m 0x15C1 0x41DC3 h
+every_more Redo (Delete p bytes) m h = meets_left m 0x19C2 0x41DC3 h
+
+-- where no view hears of any change, none hears of the step
+pub none_of_all : (direction : Direction) (s : Step) (views : List View) → hearers (every_kind (bits_of direction)) views ≡ 0 → hearers (performed_kinds (bits_of direction) s) views ≡ 0
+none_of_all direction s views none =
+    let few = hearers_more (performed_kinds (bits_of direction) s) (every_kind (bits_of direction)) views (every_more direction s) in
+    omega arith
 
 -- Each note has no more hearers than the change.
 

@@ -1,9 +1,12 @@
 -- What the changes so far need of undo or redo, and what those need that are left.
 use Rattle.std.proofs.Common.{◌≡◌, ℕ, ◌+◌, ◌^◌, ◌<◌, List, [], ◌∷◌, length, ap, ◌∙◌, subst, arith}
+use Rattle.std.specs.Prelude.{slice_get, Some}
+use Rattle.std.proofs.lemmas.Option.{get_or_from_slice_get}
 use Rattle.ed_model.specs.declared.plan.LineEndTypes.{LineEndTypes}
 use Rattle.ed_model.specs.History.{Change}
 use Rattle.ed_model.specs.Session.{View}
 use Rattle.document.specs.declared.room.DocumentRoom.{DocumentRoom}
+use Rattle.document.specs.Undoing.{room_of_change}
 use Rattle.document.specs.Kept.{document_room, no_room, amount_sum, room_sum}
 use Rattle.scene.specs.declared.need.NoteRoom.{NoteRoom}
 use Rattle.scene.specs.declared.undoing.HistoryNeed.{HistoryNeed}
@@ -88,3 +91,25 @@ needed_room views who types free rest all need so e =
     let whole = room_of_changes types all in
     same_room _ _ _ _ _ _ _ _ _ _ (sum_all need.document.text whole.text so.text) (sum_all need.document.lines whole.lines so.lines)
     (sum_all need.document.insertions whole.insertions so.insertions) (sum_all need.document.steps whole.steps so.steps) (sum_all need.document.bytes whole.bytes so.bytes)
+
+-- Of one change there is nothing to add up.
+
+pub one_change : (cs : List Change) (c : Change) → length cs ≡ 1 → slice_get cs 0 ≡ Some c → cs ≡ c ∷ []
+one_change [] c l e = absurd (omega arith)
+one_change (x ∷ []) c l e = let same : x ≡ c = get_or_from_slice_get (x ∷ []) 0 c x e in ap (λ y. y ∷ []) same
+one_change (x ∷ y ∷ rest) c l e = absurd (omega arith)
+
+pub notes_of_one : (views : List View) (who : ℕ) (cs : List Change) (c : Change) (need : NoteRoom) → cs ≡ c ∷ [] → need ≡ note_room (notes_of_change views who c) (bytes_of_change views who c)
+    → note_room (amount_sum need.notes (length views)) (amount_sum need.bytes 0) ≡ capped_notes (notes_of_history views who cs) (bytes_of_changes views who cs)
+notes_of_one views who cs c need e is =
+    let n : need.notes ≡ notes_of_change views who c = ap (λ (r : NoteRoom). r.notes) is in
+    let b : need.bytes ≡ bytes_of_change views who c = ap (λ (r : NoteRoom). r.bytes) is in
+    let told : amount_sum need.notes (length views) ≡ capped (notes_of_history views who (c ∷ [])) = omega arith in
+    let shared : amount_sum need.bytes 0 ≡ capped (bytes_of_changes views who (c ∷ [])) = omega arith in
+    rw e (ap (λ x. note_room x (amount_sum need.bytes 0)) told ∙ ap (λ x. note_room (capped (notes_of_history views who (c ∷ []))) x) shared)
+
+pub room_of_one : (types : LineEndTypes) (cs : List Change) (c : Change) (need : DocumentRoom) → cs ≡ c ∷ [] → need ≡ room_of_change types c
+    → room_sum no_room need ≡ capped_room (room_of_changes types cs)
+room_of_one types cs c need e is =
+    let r = room_of_change types c in
+    rw (e, is) (same_room _ _ _ _ _ _ _ _ _ _ (omega arith) (omega arith) (omega arith) (omega arith) (omega arith))

@@ -1,8 +1,8 @@
 -- What was performed of undo or redo, and what is still to be performed.
 use Rattle.std.proofs.Common.{◌≡◌, ℕ, ◌+◌, ◌-◌, ◌<◌, ◌≤◌, Bool, true, false, List, [], ◌∷◌, ◌++◌, map, length, drop, get_or, refl, ap, sym, ◌∙◌, subst, arith}
-use Rattle.std.specs.Prelude.{◌==◌, not, nat_lt, slice_get, Some}
+use Rattle.std.specs.Prelude.{◌==◌, ◌&&◌, bit_and, not, nat_lt, slice_get, Some}
 use Rattle.std.proofs.lemmas.List.{length-drop}
-use Rattle.std.proofs.lemmas.Bool.{eq-eqb, ne_eqb}
+use Rattle.std.proofs.lemmas.Bool.{eq-eqb, ne_eqb, eqb-true}
 use Rattle.std.proofs.lemmas.Option.{slice_get-get_or}
 use Rattle.ed_types.specs.Notices.{Notice}
 use Rattle.ed_model.specs.Notes.{bit_if, multi_step, told, blank, save_point_reached, save_point_left}
@@ -20,9 +20,11 @@ use Rattle.document.specs.Kept.{Kept, HasTextRoom, TakesRoom}
 use Rattle.document.specs.Undoing.{changes_of, room_of_change}
 use Rattle.scene.specs.declared.performing.Turn.{Turn}
 use Rattle.scene.specs.Scenes.{views_of, scene_in, watchers, IsWatched}
-use Rattle.scene.specs.Undoing.{bits_of, notes_of_changes, bytes_of_changes, free_behind, freed_by, room_of_changes, rooms_beside}
+use Rattle.scene.specs.Hearing.{hearers, masks_of}
+use Rattle.scene.specs.Undoing.{bits_of, every_kind, notes_of_changes, bytes_of_changes, free_behind, freed_by, room_of_changes, rooms_beside}
 use Rattle.scene.specs.Turns.{several_bits, CanPerform, IsPerformed}
 use Rattle.scene.specs.Performed.{CanPerformAll, AreAllPerformed}
+use Rattle.scene.proofs.KindLemmas.{none_by_masks}
 use Rattle.scene.proofs.ChangeNotes.{HearAlike, hear_alike_still, notes_alike, bytes_alike, performed_few}
 use Rattle.scene.proofs.ChangeSteps.{LeavesRoom, leaves_all, leaves_next, leaves_none, next_fits, steps_left}
 
@@ -40,6 +42,7 @@ pub record IsPerformedSoFar (direction : Direction) (rest : List Change) (change
   pub room : LeavesRoom old.room now.room free (room_of_changes old.document.line_end_types (changes_of direction old.document.history))
       (rooms_beside old.document.line_end_types free rest)
   pub notes : notes_of_changes (watchers now.document views') (bits_of direction) rest + length (watchers now.document views') ≤ gathered'.note_room
+  pub hear : (k : ℕ) → hearers k (watchers now.document views') ≡ hearers k (watchers old.document views)
   pub note_room : gathered'.note_room + length gathered'.notes ≡ gathered.note_room + length gathered.notes
   pub text_room : gathered'.text_room + bytes_of_changes (watchers old.document views) (bits_of direction) (changes_of direction old.document.history)
       ≡ gathered.text_room + bytes_of_changes (watchers now.document views') (bits_of direction) rest
@@ -58,12 +61,22 @@ performed_none direction old views gathered can = record {
   free = 0;
   room = leaves_all old.room (room_of_changes old.document.line_end_types (changes_of direction old.document.history));
   notes = can.notes;
+  hear = λ k. refl;
   note_room = refl;
   text_room = refl;
   ids = refl;
   next = refl;
   view_room = refl;
 }
+
+-- where it was answered that no view hears of any change, none does
+pub still_quiet : (direction : Direction) (rest : List Change) (changed : Bool) (old now : Kept) (views views' : Entries KeptView) (gathered gathered' : Gathered) (several quiet : Bool)
+    → IsPerformedSoFar direction rest changed old views gathered now views' gathered'
+    → quiet ≡ (several && (bit_and (masks_of (watchers old.document views)) (every_kind (bits_of direction)) == 0)) → quiet ≡ true
+    → hearers (every_kind (bits_of direction)) (watchers now.document views') ≡ 0
+still_quiet direction rest changed old now views views' gathered gathered' true quiet so e is =
+    so.hear (every_kind (bits_of direction)) ∙ none_by_masks (every_kind (bits_of direction)) (watchers old.document views) (eqb-true _ 0 (sym e ∙ is))
+still_quiet direction rest changed old now views views' gathered gathered' false quiet so e is = absurd (let wrong : false ≡ true = sym e ∙ is in cc)
 
 -- The change whose turn it is.
 
@@ -164,6 +177,7 @@ module _ (turn : Turn) (c : Change) (rest after : List Change) (changed : Bool) 
               (subst (λ t. TakesRoom now.room new.room (room_of_change t c)) so.types p.room)
               (subst (λ t. now.room.text + freed_by c ≤ new.room.text + (room_of_change t c).text) so.types p.freed);
           notes = omega arith;
+          hear = λ k. alike.hear k ∙ so.hear k;
           note_room = p.note_room ∙ so.note_room;
           text_room = omega arith;
           ids = p.ids ∙ so.ids;

@@ -50,6 +50,13 @@ told_all note whole rest old now so e room =
     let left : now.note_room ≡ old.note_room - length whole = omega (arith, so.room) in
     gathered_same now.notes (old.notes ++ told whole note) now.shared old.shared now.note_room (old.note_room - length whole) now.text_room old.text_room notes so.shared left so.texts
 
+-- where there is room for no note, nobody is told
+pub told_nobody : (note : Notice) (whole : List View) (old : Gathered) → old.note_room ≡ 0 → length whole ≤ old.note_room
+    → old ≡ record old { notes = old.notes ++ told whole note; note_room = old.note_room - length whole }
+told_nobody note [] old full room =
+    gathered_same old.notes (old.notes ++ []) old.shared old.shared old.note_room (old.note_room - 0) old.text_room old.text_room (sym (append-nil old.notes)) refl (omega arith) refl
+told_nobody note (v ∷ vs) old full room = absurd (omega arith)
+
 -- there is room for the next
 pub room_for_one : (note : Notice) (whole rest next : List View) (v : View) (old now : Gathered) → IsToldSoFar note whole rest old now → rest ≡ v ∷ next
     → length whole ≤ old.note_room → 1 ≤ now.note_room

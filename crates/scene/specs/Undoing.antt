@@ -48,6 +48,11 @@ outline_movement (outline.Insert place count) = Inserted place count
 outline_movement (outline.Delete place count) = Deleted place count
 outline_movement (outline.Container token) = Inserted 0 0
 
+-- each kind that any change may be told under
+abbrev pub every_kind : ℕ → ℕ
+every_kind who =
+    bit_or (bit_or (bit_or (bit_or (bit_or notes.before_insert notes.before_delete) notes.insert_text) notes.delete_text) notes.container) (all_bits who)
+
 -- Needs of one change, performed with the bit, and of changes in turn.
 
 abbrev pub notes_of_change : List View → ℕ → Change → ℕ

@@ -12,7 +12,7 @@ ghost use Rattle.document.specs.TextSteps.{step_in, IsStepOn};
 ghost use Rattle.document.specs.Undoing.{outline_of};
 ghost use Rattle.scene.specs.Scenes.{watchers, AreNamed};
 ghost use Rattle.scene.specs.Hearing.{hearers};
-ghost use Rattle.scene.specs.Undoing.{bits_of, all_bits as every_bit, container_kinds, performed_kinds, outline_kinds, outline_movement};
+ghost use Rattle.scene.specs.Undoing.{bits_of, all_bits as every_bit, container_kinds, performed_kinds, every_kind, outline_kinds, outline_movement};
 ghost use Rattle.scene.specs.Turns.{change_at, bits_behind, CanPerform, CanTellAfter, IsToldBefore, IsPerformed};
 
 use crate::moving::follow;
@@ -93,6 +93,13 @@ pub(crate) fn kinds_of(direction: Direction, outline: ChangeOutline) -> u32
     }
 }
 
+/// Each kind of note that any change may be told under.
+pub(crate) fn kinds_of_all(direction: Direction) -> u32
+    ensures { result ≡ every_kind (bits_of direction) }
+{
+    BEFORE_INSERT | BEFORE_DELETE | INSERT_TEXT | DELETE_TEXT | CONTAINER | all_bits(direction)
+}
+
 // What the change does to positions: a container's step moves none.
 fn movement_of_change(outline: ChangeOutline) -> Movement
     ensures { result ≡ outline_movement outline }
@@ -134,18 +141,23 @@ fn tell_heard_change(document: &Document, views: &IdTable<View>, notes: &mut Not
     tell_coming(document, views, notes, true, who, step);
 }
 
-// The same, if a view that watches hears of it, and answers whether one does.
+// The same, if a view that watches hears of it, and answers whether one does. None is asked where it is known to be `quiet`.
 fn tell_before_change(
     document: &Document,
     views: &IdTable<View>,
     notes: &mut NoteList,
     turn: Turn,
     outline: ChangeOutline,
+    quiet: bool,
 ) -> bool
     requires can { (step : Step) × CanPerform turn document.now views.now notes.old (Text step) }
     requires outline { IsSomeAnd (change_at turn document.now.document.history) (λ change. outline ≡ outline_of change) }
+    requires quiet { quiet ≡ true → hearers (every_kind (bits_of turn.direction)) (watchers document.now.document views.now) ≡ 0 }
     ensures { (step : Step) → change_at turn document.now.document.history ≡ Some (Text step) → IsToldBefore (bits_of turn.direction) (watchers document.now.document views.now) result notes.old notes.new step }
 {
+    if quiet {
+        return false;
+    }
     let kinds = kinds_of(turn.direction, outline);
     if count_hearers(document, views, kinds) == 0 {
         return false;
@@ -194,17 +206,19 @@ fn perform_step(
     notes: &mut NoteList,
     turn: Turn,
     outline: ChangeOutline,
+    quiet: bool,
     lines_changed: bool,
 ) -> bool
     requires can { (step : Step) × CanPerform turn document.old views.old notes.old (Text step) }
     requires outline { IsSomeAnd (change_at turn document.old.document.history) (λ change. outline ≡ outline_of change) }
+    requires quiet { quiet ≡ true → hearers (every_kind (bits_of turn.direction)) (watchers document.old.document views.old) ≡ 0 }
     ensures { (step : Step) → change_at turn document.old.document.history ≡ Some (Text step) → IsPerformed turn lines_changed result document.old views.old notes.old document.new views.new notes.new (Text step) }
 {
     edits_of_steps();
     moves_are_those_of_steps();
     steps_keep_views_standing();
     let _ = document.len(); // it says that no position runs out of numbers
-    let hears = tell_before_change(document, views, notes, turn, outline);
+    let hears = tell_before_change(document, views, notes, turn, outline, quiet);
     let old_lines = document.line_count();
     let change = document.make_change(turn.direction, turn.index);
     let lines = document.line_count();
@@ -255,15 +269,18 @@ fn perform_container(
     );
 }
 
-/// Performs a change. Answers whether by now the number of lines is changed.
+/// Performs a change; `quiet` says that no view that watches is known to hear of any. Answers whether by now the number of lines
+/// is changed.
 pub(crate) fn perform_change(
     document: &mut Document,
     views: &mut IdTable<View>,
     notes: &mut NoteList,
     turn: Turn,
+    quiet: bool,
     lines_changed: bool,
 ) -> bool
-    requires { (change : Change) × CanPerform turn document.old views.old notes.old change }
+    requires can { (change : Change) × CanPerform turn document.old views.old notes.old change }
+    requires quiet { quiet ≡ true → hearers (every_kind (bits_of turn.direction)) (watchers document.old.document views.old) ≡ 0 }
     ensures { (change : Change) → change_at turn document.old.document.history ≡ Some change → IsPerformed turn lines_changed result document.old views.old notes.old document.new views.new notes.new change }
 {
     let outline = document.change_outline(turn.direction, turn.index);
@@ -271,5 +288,5 @@ pub(crate) fn perform_change(
         perform_container(document, views, notes, turn, token, lines_changed);
         return lines_changed;
     }
-    perform_step(document, views, notes, turn, outline, lines_changed)
+    perform_step(document, views, notes, turn, outline, quiet, lines_changed)
 }

@@ -66,7 +66,7 @@ fn put(notes: &mut NoteList, note: Note, text: NoteText)
 }
 
 /// Puts a note for each view that watches the document and belongs to the audience, in the order in which the views were
-/// attached. There must be room for as many notes.
+/// attached. There must be room for as many notes: where there is none, nobody belongs to it, and no view is asked.
 pub fn tell(
     document: &Document,
     views: &IdTable<View>,
@@ -79,6 +79,9 @@ pub fn tell(
     requires room { length (audience_of audience note.now.kind (watchers document.now.document views.now)) ≤ notes.old.note_room }
     ensures { notes.new ≡ record notes.old { notes = notes.old.notes ++ told (audience_of audience note.entry.now.kind (watchers document.now.document views.now)) (with_note_text text note.entry.now notes.old.shared); note_room = notes.old.note_room - length (audience_of audience note.entry.now.kind (watchers document.now.document views.now)) } }
 {
+    if notes.is_full() {
+        return;
+    }
     for id in document.views() {
         if let Some(view) = views.get(*id) {
             if is_told(view, audience, note.kind) {

@@ -1,6 +1,6 @@
 //! Undo and redo: a transaction performed, and what that needs.
 
-ghost use Rattle.std.specs.Prelude.{◌≡◌, ◌≤◌, ◌<◌, ◌+◌, ◌-◌, ◌++◌, length, map, not, reverse};
+ghost use Rattle.std.specs.Prelude.{◌≡◌, ◌≤◌, ◌<◌, ◌+◌, ◌-◌, ◌++◌, ◌==◌, ◌&&◌, bit_and, nat_lt, length, map, not, reverse};
 ghost use Rattle.ed_model.specs.History.{Change, latest_text_step};
 ghost use Rattle.ed_model.specs.Session.{text_of};
 ghost use Rattle.ed_model.specs.SoundLaws.{AreStepsOf};
@@ -14,10 +14,10 @@ ghost use Rattle.scene.specs.Hearing.{masks_of};
 ghost use Rattle.scene.specs.Needs.{note_room};
 ghost use Rattle.scene.specs.Turns.{turn_of};
 ghost use Rattle.scene.specs.Performed.{CanPerformAll, AreAllPerformed};
-ghost use Rattle.scene.specs.Undoing.{bits_of, free_behind, notes_of_change, bytes_of_change, bytes_of_changes, notes_of_history, room_of_changes, capped_room, capped_notes, place_behind_any};
+ghost use Rattle.scene.specs.Undoing.{bits_of, every_kind, free_behind, notes_of_change, bytes_of_change, bytes_of_changes, notes_of_history, room_of_changes, capped_room, capped_notes, place_behind_any};
 
 use crate::need::{NoteRoom, told_need};
-use crate::performing::{Turn, kinds_of, perform_change};
+use crate::performing::{Turn, kinds_of, kinds_of_all, perform_change};
 use crate::steps::SAVE_POINT_LEFT;
 use crate::telling::{Audience, NoteText, count_hearers, survey, tell};
 use document::{ChangeOutline, Direction, Document, DocumentRoom};
@@ -51,6 +51,15 @@ fn turn_at(direction: Direction, index: usize, count: usize) -> Turn
     }
 }
 
+// Whether none of the views that watch hears of any change, so that none has to be asked at each. Of one change it is not asked
+// here.
+fn is_quiet(document: &Document, views: &IdTable<View>, direction: Direction, count: usize) -> bool
+    requires named { AreNamed views.now.entries }
+    ensures { result ≡ (nat_lt 1 count && (bit_and (masks_of (watchers document.now.document views.now)) (every_kind (bits_of direction)) == 0)) }
+{
+    count > 1 && survey(document, views).masks & kinds_of_all(direction) == 0
+}
+
 // Performs the changes one after the other. The history stays.
 fn perform_changes(
     document: &mut Document,
@@ -63,10 +72,11 @@ fn perform_changes(
 {
     positions_after_a_step();
     let count = document.change_count(direction);
+    let quiet = is_quiet(document, views, direction, count);
     let mut lines_changed = false;
     for index in 0..count {
         let turn = turn_at(direction, index, count);
-        lines_changed = perform_change(document, views, notes, turn, lines_changed);
+        lines_changed = perform_change(document, views, notes, turn, quiet, lines_changed);
     }
 }
 
@@ -208,12 +218,36 @@ fn beside(free: usize, need: DocumentRoom) -> DocumentRoom
     }
 }
 
+// What undo or redo of one change needs: that of the change, and no loop that adds up.
+fn need_of_one(document: &Document, views: &IdTable<View>, direction: Direction) -> HistoryNeed
+    requires named { AreNamed views.now.entries }
+    requires one { length (changes_of direction document.now.document.history) ≡ 1 }
+    ensures notes { result.notes ≡ capped_notes (notes_of_history (watchers document.now.document views.now) (bits_of direction) (changes_of direction document.now.document.history)) (bytes_of_changes (watchers document.now.document views.now) (bits_of direction) (changes_of direction document.now.document.history)) }
+    ensures document { result.document ≡ capped_room (room_of_changes document.now.document.line_end_types (changes_of direction document.now.document.history)) }
+{
+    let watched = survey(document, views);
+    let (outline, room) = document.change_with_need(direction, 0);
+    let notes = change_note_need(document, views, direction, outline, watched.masks);
+    let told = NoteRoom {
+        notes: watched.count,
+        bytes: 0,
+    };
+    HistoryNeed {
+        notes: notes.plus(told),
+        document: DocumentRoom::none().plus(room),
+    }
+}
+
 /// Returns what undo or redo needs at most. What goes out of the text makes room for what comes later.
 pub fn history_need(document: &Document, views: &IdTable<View>, direction: Direction) -> HistoryNeed
     requires named { AreNamed views.now.entries }
     ensures notes { result.notes ≡ capped_notes (notes_of_history (watchers document.now.document views.now) (bits_of direction) (changes_of direction document.now.document.history)) (bytes_of_changes (watchers document.now.document views.now) (bits_of direction) (changes_of direction document.now.document.history)) }
     ensures document { result.document ≡ capped_room (room_of_changes document.now.document.line_end_types (changes_of direction document.now.document.history)) }
 {
+    let count = document.change_count(direction);
+    if count == 1 {
+        return need_of_one(document, views, direction);
+    }
     let watched = survey(document, views);
     let mut need = HistoryNeed {
         notes: NoteRoom {
@@ -223,7 +257,7 @@ pub fn history_need(document: &Document, views: &IdTable<View>, direction: Direc
         document: DocumentRoom::none(),
     };
     let mut free = 0;
-    for index in 0..document.change_count(direction) {
+    for index in 0..count {
         let (outline, room) = document.change_with_need(direction, index);
         let notes = change_note_need(document, views, direction, outline, watched.masks);
         need = HistoryNeed {

@@ -1,13 +1,38 @@
-use Rattle.std.proofs.Common.{◌≡◌, false, ap, sym, ◌∙◌, arith, subst}
+use Rattle.std.proofs.Common.{◌≡◌, ℕ, List, false, ap, sym, ◌∙◌, arith, subst}
 use Rattle.std.proofs.lemmas.List.{append-nil}
+use Rattle.ed_model.specs.Steps.{Step}
 use Rattle.ed_model.specs.History.{TextStep}
+use Rattle.ed_model.specs.Session.{View}
+use Rattle.notify.specs.Gathered.{Gathered}
 use Rattle.scene.specs.Scenes.{watchers}
 use Rattle.scene.specs.Hearing.{hearers}
 use Rattle.scene.specs.Undoing.{bits_of, all_bits, outline_kinds, performed_kinds}
 use Rattle.scene.specs.Turns.{IsToldBefore}
 use Rattle.scene.proofs.KindLemmas.{unheard_before}
+use Rattle.scene.proofs.ChangeNotes.{none_of_all}
 use Rattle.scene.proofs.ChangeSteps.{some_has, step_same, outline_kinds_are}
 use Rattle.scene.proofs.performing.tell_before_change.Goals as goal
+
+-- nobody hears of it
+untold : (who : ℕ) (s : Step) (W : List View) (notes : Gathered) → hearers (performed_kinds who s) W ≡ 0 → IsToldBefore who W false notes notes s
+untold who s W notes none =
+    let quiet = unheard_before W s who (all_bits who) none in
+    record {
+      notes = rw quiet (sym (append-nil notes.notes));
+      note_room = rw quiet (omega arith);
+      text_room = rw none (omega arith);
+      unheard = λ no. none;
+      shared = λ yes. absurd (cc);
+    }
+
+pub returns-then-quiet : goal.returns-then-quiet
+returns-then-quiet c =
+    let s = c.requires.can.0 in
+    let can = c.requires.can.1 in
+    let W = watchers c.args.document.now.document c.args.views.now in
+    let who = bits_of c.args.turn.direction in
+    let none = none_of_all c.args.turn.direction s W (c.requires.quiet c.if-quiet.true) in
+    λ step e. subst (IsToldBefore who W false c.args.notes.now c.args.notes.now) (step_same _ s step can.at e) (untold who s W c.args.notes.now none)
 
 pub returns-then-count_hearers-eq0 : goal.returns-then-count_hearers-eq0
 returns-then-count_hearers-eq0 c =
@@ -18,11 +43,4 @@ returns-then-count_hearers-eq0 c =
     let O = some_has _ _ (TextStep s) can.at c.requires.outline in
     let K : c.kinds_of-kinds.result ≡ performed_kinds who s = c.kinds_of-kinds.ensures ∙ ap (outline_kinds who) O ∙ outline_kinds_are who s in
     let none : hearers (performed_kinds who s) W ≡ 0 = ap (λ k. hearers k W) (sym K) ∙ sym c.count_hearers.ensures.count ∙ c.if-count_hearers-eq0.true in
-    let quiet = unheard_before W s who (all_bits who) none in
-    λ step e. subst (λ x. IsToldBefore who W false c.args.notes.now c.args.notes.now x) (step_same _ s step can.at e) (record {
-      notes = rw quiet (sym (append-nil c.args.notes.now.notes));
-      note_room = rw quiet (omega arith);
-      text_room = rw none (omega arith);
-      unheard = λ no. none;
-      shared = λ yes. absurd (cc);
-    })
+    λ step e. subst (IsToldBefore who W false c.args.notes.now c.args.notes.now) (step_same _ s step can.at e) (untold who s W c.args.notes.now none)

@@ -1,9 +1,14 @@
 use Rattle.std.proofs.Common.{sym, ap, ◌∙◌}
 use Rattle.std.specs.Prelude.{option_copied}
+use Rattle.std.proofs.lemmas.Bool.{eqb-true}
+use Rattle.scene.specs.Hearing.{with_note_text}
 use Rattle.scene.proofs.Pending.{next_told, next_passed, next_missing, nothing_pending}
-use Rattle.scene.proofs.ToldSoFar.{told_none, told_one, told_same, told_all, room_for_one, note_for_text}
+use Rattle.scene.proofs.ToldSoFar.{told_nobody, told_none, told_one, told_same, told_all, room_for_one, note_for_text}
 use Rattle.scene.proofs.telling.tell.Goals as goal
 use Rattle.scene.proofs.telling.tell.Goals.{in-Some+then-is_told, in-Some+else-is_told, in_default}
+
+pub returns-then-is_full : goal.returns-then-is_full
+returns-then-is_full c = told_nobody (with_note_text c.args.text c.args.note.now c.args.notes.now.shared) _ c.args.notes.now (eqb-true c.args.notes.now.note_room 0 (sym c.is_full.ensures ∙ c.if-is_full.true)) c.requires.room
 
 pub loop-id-init : goal.loop-id-init
 loop-id-init c = told_none _ _ _

@@ -13,7 +13,7 @@ loop-index-preserved c =
     let d = c.args.document.now.document in
     let all = changes_of c.args.direction d.history in
     let i = c.loop-index.index in
-    let count = c.change_count-index-end.ensures in
+    let count = c.change_count-count.ensures in
     let next = there all i (omega arith) in
     let O = some_has _ _ next.0 next.1 c.change_with_need-outline.ensures.outline in
     let D = some_has _ _ next.0 next.1 c.change_with_need-outline.ensures.need in
@@ -26,7 +26,7 @@ pub returns : goal.returns
 returns c =
     let d = c.args.document.now.document in
     let all = changes_of c.args.direction d.history in
-    let count = c.change_count-index-end.ensures in
+    let count = c.change_count-count.ensures in
     let none = drop_all c.loop-index.index all (omega arith) in
     let W = watchers d c.args.views.now in
     let who = bits_of c.args.direction in

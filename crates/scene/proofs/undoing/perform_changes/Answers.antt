@@ -4,14 +4,18 @@ use Rattle.std.proofs.lemmas.List.{drop_all}
 use Rattle.document.specs.Undoing.{changes_of}
 use Rattle.scene.specs.Turns.{turn_of}
 use Rattle.scene.proofs.ChangeSteps.{drop_some}
-use Rattle.scene.proofs.PerformedSoFar.{performed_none, there, last_is, next_can, performed_next, performed_all}
+use Rattle.scene.proofs.PerformedSoFar.{performed_none, still_quiet, there, last_is, next_can, performed_next, performed_all}
 use Rattle.scene.proofs.undoing.perform_changes.Goals as goal
 
 pub loop-index-init : goal.loop-index-init
 loop-index-init c = performed_none c.args.direction c.args.document.now c.args.views.now c.args.notes.now c.requires.can
 
-pub perform_change-lines_changed-requires : goal.perform_change-lines_changed-requires
-perform_change-lines_changed-requires c =
+pub perform_change-lines_changed-requires-clause-quiet : goal.perform_change-lines_changed-requires-clause-quiet
+perform_change-lines_changed-requires-clause-quiet c =
+    rw c.turn_at-turn.ensures (still_quiet _ _ _ _ _ _ _ _ _ (nat_lt 1 c.change_count-count.result) c.is_quiet-quiet.result c.loop-index.invariant c.is_quiet-quiet.ensures)
+
+pub perform_change-lines_changed-requires-clause-can : goal.perform_change-lines_changed-requires-clause-can
+perform_change-lines_changed-requires-clause-can c =
     let all = changes_of c.args.direction c.args.document.now.document.history in
     let i = c.loop-index.index in
     let count = c.change_count-count.ensures in
