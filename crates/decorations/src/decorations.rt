@@ -119,6 +119,7 @@ impl<P: Place> Decorations<P> {
     /// # Errors
     ///
     /// `AllocError` where memory is refused. All is then as it was, but that there may be memory for more runs.
+    #[inline(always)]
     pub fn reserve(&mut self, insertions: usize) -> Result<(), AllocError>
         ensures ok { OnOk result (self.new ≡ record self.old { room = max self.old.room insertions; held = self.new.held }) }
         ensures room_is_there { insertions ≤ self.old.room → IsOk result × (self.new ≡ self.old) }
@@ -129,6 +130,18 @@ impl<P: Place> Decorations<P> {
         if insertions <= self.room {
             return Ok(());
         }
+        self.make_room(insertions)
+    }
+
+    // Makes room for so many insertions, where there is for fewer.
+    #[inline(never)]
+    fn make_room(&mut self, insertions: usize) -> Result<(), AllocError>
+        requires { self.old.room < insertions }
+        ensures ok { OnOk result (self.new ≡ record self.old { room = max self.old.room insertions; held = self.new.held }) }
+        ensures runs_at_most { AreRunsFor (insertions + 3) self.old.values self.old.held self.new.held }
+        ensures slots { HaveSlotsOf self.old.held self.new.held }
+        ensures err { OnErr result (self.new ≡ record self.old { held = self.new.held }) }
+    {
         // Room for a fill too, should one be reserved.
         let Some(runs) = insertions.checked_add(3) else {
             return Err(AllocError);

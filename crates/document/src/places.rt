@@ -133,6 +133,7 @@ impl Lines {
     /// # Errors
     ///
     /// `AllocError` where the memory is refused. All is then as it was.
+    #[inline(always)]
     pub(crate) fn reserve(&mut self, count: usize) -> Result<(), AllocError>
         ensures ok { OnOk result (count ≤ self.new.index.room) }
         ensures same { self.new ≡ record self.old { index = record self.old.index { room = self.new.index.room } } }
@@ -345,6 +346,7 @@ impl Indicators {
     /// # Errors
     ///
     /// `AllocError` where memory is refused. All is then as it was, but that there may be memory for more runs.
+    #[inline(always)]
     pub(crate) fn reserve(&mut self, insertions: usize) -> Result<(), AllocError>
         ensures ok { OnOk result (self.new ≡ record self.old { decorated = record self.old.decorated { room = max self.old.decorated.room insertions; held = self.new.decorated.held } }) }
         ensures room_is_there { insertions ≤ self.old.decorated.room → IsOk result × (self.new ≡ self.old) }

@@ -109,6 +109,7 @@ impl<P: Place> LineIndex<P> {
     /// # Errors
     ///
     /// `AllocError` where the memory is refused. All is then as it was.
+    #[inline(always)]
     pub fn reserve(&mut self, count: usize) -> Result<(), AllocError>
         ensures ok { OnOk result ((count ≤ self.new.room) × (self.new ≡ record self.old { room = self.new.room })) }
         ensures room_is_there { count ≤ self.old.room → IsOk result × (self.new ≡ self.old) }

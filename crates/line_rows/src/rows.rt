@@ -100,6 +100,7 @@ impl LineRows {
     /// # Errors
     ///
     /// `AllocError` where memory is refused. All is then as it was, but that the states may have got the memory.
+    #[inline(always)]
     pub fn reserve(&mut self, lines: usize) -> Result<(), AllocError>
         ensures ok { OnOk result (self.new ≡ record self.old { room = record self.old.room { lines = max self.old.room.lines lines }; blocks = record self.old.blocks { level_block = self.new.blocks.level_block; state_block = self.new.blocks.state_block; state_lines = max self.old.blocks.state_lines lines } }) }
         ensures room_is_there { lines ≤ self.old.room.lines → IsOk result × (self.new ≡ self.old) }

@@ -163,6 +163,7 @@ impl<T: Copy> LineValues<T> {
     /// # Errors
     ///
     /// `AllocError` where memory is refused. All is then as it was.
+    #[inline(always)]
     pub fn reserve(&mut self, lines: usize, reach: usize) -> Result<(), AllocError>
         ensures ok { OnOk result (self.new ≡ record self.old { room = max self.old.room lines; reach = max self.old.reach reach; block = self.new.block }) }
         ensures room_is_there { lines ≤ self.old.room → reach ≤ self.old.reach → IsOk result × (self.new ≡ self.old) }
@@ -172,6 +173,16 @@ impl<T: Copy> LineValues<T> {
         if lines <= self.room && reach <= self.reach {
             return Ok(());
         }
+        self.make_room(lines, reach)
+    }
+
+    // Makes the room, where there is too little.
+    #[inline(never)]
+    fn make_room(&mut self, lines: usize, reach: usize) -> Result<(), AllocError>
+        ensures ok { OnOk result (self.new ≡ record self.old { room = max self.old.room lines; reach = max self.old.reach reach; block = self.new.block }) }
+        ensures at_most { self.new.block ≤ most_block self.old.stored self.old.block (max self.old.room lines) (max self.old.reach reach) }
+        ensures err { OnErr result (self.new ≡ self.old) }
+    {
         let room = self.room.max(lines);
         let reach = self.reach.max(reach);
         let Some(wanted) = reach.saturating_sub(self.stored.len()).checked_add(room) else {

@@ -3,7 +3,7 @@ use Rattle.decorations.specs.Decorated.{Decorated, decorated, AreRunsFor}
 use Rattle.decorations.specs.Slots.{all_shown, held_by}
 use Rattle.decorations.proofs.Kept.{roomy_slots, grown_shown}
 use Rattle.decorations.proofs.Memory.{grown_runs}
-use Rattle.decorations.proofs.decorations.Decorations.reserve.Goals as goal
+use Rattle.decorations.proofs.decorations.Decorations.make_room.Goals as goal
 
 pub returns-in_default-reserve_all-clause-runs_at_most : goal.returns-in_default-reserve_all-clause-runs_at_most
 returns-in_default-reserve_all-clause-runs_at_most g c =
@@ -34,7 +34,8 @@ returns-clause-ok g c =
     let d = c.self.inside in
     let after = c.reserve_all.new in
     let now = held_by after.slots.items (vec_capacity after.slots) after.spare in
-    let most : c.args.insertions ≡ max d.room c.args.insertions = omega (arith, c.if-insertions-self.false) in
+    let was : d.room ≡ c.args.self.now.room = ap (λ (v : Decorated). v.room) c.self.view_is in
+    let most : c.args.insertions ≡ max d.room c.args.insertions = omega (arith, c.requires, was) in
     ap (λ values. decorated d.size values c.args.insertions d.ready now) (grown_shown c.in-Some.runs d.size d.slots.items after.slots.items c.in-Ok.ensures.same)
     ∙ ap (λ room. decorated d.size (all_shown d.size d.slots.items) room d.ready now) most
     ∙ ap (λ (v : Decorated). decorated v.length v.values (max v.room c.args.insertions) v.ready now) c.self.view_is
