@@ -83,6 +83,7 @@ impl<T, A: Allocator> Block<T, A> {
             .right(self.base, self.gap + self.spare, self.len - self.gap)
     }
 
+    #[inline(always)]
     fn count(&mut self, items: usize)
         requires { IsBlock self.old }
         ensures { Has self.new self.old.cells.left self.old.spare self.old.cells.right (counted self.old.moved items) }
@@ -108,7 +109,8 @@ impl<T, A: Allocator> Block<T, A> {
         }
     }
 
-    /// Moves the gap to `place`, and counts the items that were copied.
+    /// Moves the gap to `place`, and counts the items that were copied. Mostly it stands there.
+    #[inline(always)]
     pub(crate) fn move_gap(&mut self, place: usize)
         requires { IsBlock self.old × (place ≤ self.old.len) }
         ensures { Has self.new (take place (block_items self.old)) self.old.spare (drop place (block_items self.old)) (counted self.old.moved (apart place self.old.gap)) }
@@ -116,6 +118,15 @@ impl<T, A: Allocator> Block<T, A> {
         if place == self.gap {
             return;
         }
+        self.carry_gap(place);
+    }
+
+    // Moves the gap to `place` from elsewhere.
+    #[inline(never)]
+    fn carry_gap(&mut self, place: usize)
+        requires { IsBlock self.old × (place ≤ self.old.len) }
+        ensures { Has self.new (take place (block_items self.old)) self.old.spare (drop place (block_items self.old)) (counted self.old.moved (apart place self.old.gap)) }
+    {
         let distance = if place < self.gap {
             self.gap - place
         } else {
@@ -152,6 +163,7 @@ impl<T, A: Allocator> Block<T, A> {
     }
 
     /// Writes `item` before the gap.
+    #[inline(always)]
     pub(crate) fn write(&mut self, item: T)
         requires { IsBlock self.old × (0 < self.old.spare) }
         ensures { Has self.new (self.old.cells.left ++ item ∷ []) (self.old.spare - 1) self.old.cells.right (counted self.old.moved 1) }
@@ -164,6 +176,7 @@ impl<T, A: Allocator> Block<T, A> {
     }
 
     /// Writes the items of `source` before the gap.
+    #[inline(always)]
     pub(crate) fn write_slice(&mut self, source: &[T])
     where
         T: Copy,

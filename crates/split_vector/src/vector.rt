@@ -120,6 +120,7 @@ impl<T: Copy, A: Allocator> SplitVector<T, A> {
     }
 
     /// Puts `item` in before the one at `place`, or at the end. There must be room for it.
+    #[inline]
     pub fn insert_reserved(&mut self, place: usize, item: T)
         requires { (place ≤ length self.old.items) × (0 < self.old.spare) }
         ensures items { self.new.items ≡ inserted self.old.items place (item ∷ []) }
@@ -132,6 +133,7 @@ impl<T: Copy, A: Allocator> SplitVector<T, A> {
     }
 
     /// Puts the items of `source` in, in their order, before the one at `place`, or at the end. There must be room for them.
+    #[inline]
     pub fn insert_slice_reserved(&mut self, place: usize, source: &[T])
         requires { (place ≤ length self.old.items) × (length source.now ≤ self.old.spare) }
         ensures items { self.new.items ≡ inserted self.old.items place source.now }
