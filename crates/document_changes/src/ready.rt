@@ -1,7 +1,9 @@
 //! Room for a change in its document.
 
-ghost use Rattle.std.specs.Prelude.{◌≡◌, [], false, IfOk, IsOk, OnOk, OnErr};
+ghost use Rattle.std.specs.Prelude.{◌≡◌, ◌≤◌, ◌<◌, [], false, length, max, Some, IfOk, IsOk, OnOk, OnErr};
 ghost use Rattle.ed_model.specs.declared.plan.DocumentChange.TheVariants as change;
+ghost use Rattle.ed_model.specs.LinePlans.{numbers_in};
+ghost use Rattle.document.specs.Changes.{CanStyle};
 ghost use Rattle.document.specs.Kept.{IsAtMost, TakesRoom, no_room};
 ghost use Rattle.document_changes.specs.Fit.{IsFitChange};
 ghost use Rattle.document_changes.specs.Needs.{IsReady, is_of_types, needs_room, room_for, spare_for};
@@ -49,7 +51,41 @@ fn reserve_types(
     Ok(ChangeReady { edits })
 }
 
+// Makes room for a marker for each bit of a mask. It stands apart, as what follows does, so that room for one marker, a level or a
+// state is made without a frame.
+#[inline(never)]
+fn reserve_numbers(document: &mut Document, mask: u32) -> Result<(), AllocError>
+    ensures ok { OnOk result (document.new ≡ record document.old { spare = record document.old.spare { markers = max document.old.spare.markers (length (numbers_in mask)) } }) }
+    ensures room_is_there { length (numbers_in mask) ≤ document.old.spare.markers → IsOk result × (document.new ≡ document.old) }
+    ensures err { OnErr result (document.new ≡ document.old) }
+{
+    document.reserve_markers(count_numbers(mask))
+}
+
+// Makes the document ready to be styled.
+#[inline(never)]
+fn reserve_styling(document: &mut Document) -> Result<(), AllocError>
+    ensures ok { OnOk result (CanStyle document.new) }
+    ensures same { document.new ≡ record document.old { spare = record document.old.spare { styles = document.new.spare.styles } } }
+    ensures room_is_there { CanStyle document.old → IsOk result × (document.new ≡ document.old) }
+    ensures err { OnErr result (document.new ≡ document.old) }
+{
+    document.reserve_styles()
+}
+
+// Makes room for one fill of an indicator.
+#[inline(never)]
+fn reserve_filling(document: &mut Document, indicator: usize) -> Result<(), AllocError>
+    requires { indicator < 32 }
+    ensures ok { OnOk result (document.new ≡ record document.old { spare = record document.old.spare { fill = Some indicator } }) }
+    ensures room_is_there { document.old.spare.fill ≡ Some indicator → IsOk result × (document.new ≡ document.old) }
+    ensures err { OnErr result (document.new ≡ document.old) }
+{
+    document.reserve_fill(indicator)
+}
+
 // Makes room for any other change.
+#[inline]
 fn reserve_other(document: &mut Document, change: DocumentChange) -> Result<(), AllocError>
     requires fits { IsFitChange document.old.document change }
     requires other { is_of_types change ≡ false }
@@ -69,14 +105,14 @@ fn reserve_other(document: &mut Document, change: DocumentChange) -> Result<(), 
             document.reserve(DocumentRoom::of_container_step())
         }
         DocumentChange::AddMarker { .. } => document.reserve_markers(1),
-        DocumentChange::AddMarkers { mask, .. } => document.reserve_markers(count_numbers(mask)),
+        DocumentChange::AddMarkers { mask, .. } => reserve_numbers(document, mask),
         DocumentChange::SetLevel { line, .. } => document.reserve_levels(line + 1),
         DocumentChange::SetState { line, .. } => document.reserve_states(line + 1),
         DocumentChange::StyleRun { .. } | DocumentChange::StyleBytes { .. } => {
-            document.reserve_styles()
+            reserve_styling(document)
         }
         DocumentChange::FillIndicator { indicator, .. } => {
-            document.reserve_fill(indicator as usize)
+            reserve_filling(document, indicator as usize)
         }
         _ => Ok(()),
     }
