@@ -1,7 +1,6 @@
 -- Undo and redo at once.
 use Rattle.std.proofs.Common.{◌≡◌, ℕ, true, false, pos, [], refl, ap, sym, subst, Ok, Err, OnOk, OnErr, IfOk, IfErr, IfSome, IsSomeAnd}
 use Rattle.std.specs.Prelude.{Result}
-use Rattle.ed_types.specs.declared.kind.Kind.{Kind}
 use Rattle.ed_types.specs.declared.message.Message.{Message}
 use Rattle.ed_types.specs.declared.refusal.Refusal.{Refusal}
 use Rattle.ed_types.specs.declared.refusal.Refusal.TheVariants.{OutOfMemory}
@@ -12,7 +11,7 @@ use Rattle.ed_model.specs.PlansFit.{UndoStepsFit, RedoStepsFit, IsSoundRequest}
 use Rattle.ed_model.specs.Requests.{Request, text}
 use Rattle.ed_model.specs.Session.{Session, text_of}
 use Rattle.ed_model.specs.SoundLaws.{AreStepsOf}
-use Rattle.ed_model.specs.Table.{table, plan_of, performed}
+use Rattle.ed_model.specs.Table.{table, performed}
 use Rattle.ed_model.specs.UndoPlans.{text_steps}
 use Rattle.document.specs.Undoing.{changes_of, history_behind}
 use Rattle.document.specs.declared.undoing.Direction.{Direction}
@@ -26,7 +25,7 @@ use Rattle.session_changes.specs.Kept.{IsKept}
 use Rattle.editor_session.specs.Answers.{AnswersBy}
 use Rattle.editor_session.specs.Doing.{CanGoOnceThereIsRoom, Goes}
 use Rattle.editor_session.specs.Plans.{is_free, planned_without_memory}
-use Rattle.editor_session.specs.Tasks.{IsFound, IsTask}
+use Rattle.editor_session.specs.Tasks.{IsTask}
 use Rattle.editor_session.specs.Unheard.{unrecorded, going, no_notes, IsSent}
 use Rattle.editor_session.proofs.Performing.{asked_by, answered_so, kept_at, of_kept, for_kept, watched_here, gone}
 use Rattle.editor_session.proofs.TableWay.{free_found, carried_so}
@@ -73,16 +72,22 @@ module _ (s : SessionState) (kept : IsKept s) (document view : ℕ) (direction :
 
 -- The answer to a message whose plan it is.
 
-pub went_so : (s s' : Session) (document view : ℕ) (m m' : Message) (what : Plan) (result : Result Response Refusal) → m ≡ m' → IsTask s view m (unrecorded document view what)
-    → IfOk result (λ reply. (m : Message) → IsTask s view m (unrecorded document view what) → table s view m ≡ Ok (s', reply)) → OnErr result (s' ≡ s) → IfErr result (λ e. e ≡ OutOfMemory) → AnswersBy (table s view m') s s' result
-went_so s s' document view m m' what result same t ok stays err =
-    subst (λ x. AnswersBy (table s view x) s s' result) same (carried_so (table s view m) s s' result (if_ok result _ (λ reply. table s view m ≡ Ok (s', reply)) ok (λ reply h. h m t)) stays err)
+pub going_so : (s s' : Session) (document view : ℕ) (m : Message) (what what' : Plan) (result : Result Response Refusal) → what ≡ what' → IsTask s view m (unrecorded document view what)
+    → IfOk result (λ reply. (m : Message) → IsTask s view m (unrecorded document view what') → table s view m ≡ Ok (s', reply)) → OnErr result (s' ≡ s) → IfErr result (λ e. e ≡ OutOfMemory) → AnswersBy (table s view m) s s' result
+going_so s s' document view m what what' result is t ok stays err =
+    carried_so (table s view m) s s' result (if_ok result _ (λ reply. table s view m ≡ Ok (s', reply)) ok (λ reply h. h m (subst (λ x. IsTask s view m (unrecorded document view x)) is t))) stays err
+
+-- the same of one that reads a text
+pub once_so : (s s' : Session) (document view : ℕ) (m : Message) (what what' : Plan) (result : Result Response Refusal) → what ≡ what' → IsTask s view m (unrecorded document view what)
+    → IfOk result (λ reply. (x : Message) → IsTask s view x (unrecorded document view what') → x.text ≡ m.text → table s view x ≡ Ok (s', reply)) → OnErr result (s' ≡ s) → IfErr result (λ e. e ≡ OutOfMemory) → AnswersBy (table s view m) s s' result
+once_so s s' document view m what what' result is t ok stays err =
+    carried_so (table s view m) s s' result (if_ok result _ (λ reply. table s view m ≡ Ok (s', reply)) ok (λ reply h. h m (subst (λ x. IsTask s view m (unrecorded document view x)) is t) refl)) stays err
 
 needs_some : (direction : Direction) (r : Request) → planned_without_memory r (Ok (going direction)) ≡ true → false ≡ true
 needs_some Undo r h = h
 needs_some Redo r h = h
 
 -- it always needs memory
-pub never_free : (s : Session) (view : ℕ) (m m' : Message) (kind : Kind) (r : Request) (direction : Direction) → m ≡ m' → IsFound s view m kind r → plan_of kind r ≡ Ok (going direction) → is_free s view m' ≡ true → false ≡ true
-never_free s view m m' kind r direction same found planned free =
-    needs_some direction r (subst (λ p. planned_without_memory r p ≡ true) planned (free_found s view m kind r found (subst (λ x. is_free s view x ≡ true) (sym same) free)).0)
+pub never_free : (s : Session) (document view : ℕ) (m : Message) (direction : Direction) → IsTask s view m (unrecorded document view (going direction)) → is_free s view m ≡ true → false ≡ true
+never_free s document view m direction t free =
+    needs_some direction t.request (subst (λ p. planned_without_memory t.request p ≡ true) t.planned (free_found s view m t.kind t.request t.found free).0)

@@ -15,5 +15,6 @@ pub mod Needing
 pub mod LendingLemmas
 pub mod WalkLemmas
 pub mod RunLemmas
+pub mod PlainChanges
 pub mod PlainEdits
 pub mod Going

@@ -1,4 +1,4 @@
--- Changes of which no view hears.
+-- Messages that are not recorded, and changes of a view that take no memory.
 use Rattle.std.proofs.Common.{◌≡◌, ℕ, ◌+◌, ◌≤◌, ◌&&◌, ◌==◌, ℤ, Bool, true, false, List, [], ◌∷◌, length, refl, ap, sym, ◌∙◌, subst, arith, Option, Some, None, Ok, IsSome, IfSome, IsSomeAnd}
 use Rattle.std.specs.Prelude.{not}
 use Rattle.std.proofs.lemmas.Bool.{and_parts}
@@ -91,65 +91,3 @@ module _ (s : SessionState) (kept : IsKept s) (document view : ℕ) (what : View
       let task = unrecorded document view (plan.ChangeView what value) in
       let by = asked_by s view m task t in
       answered_so s view m task t s' [] [] value [] refl (view_changed s task m.text kept t.request by what value s' [] (done t.request by.asked))
-
--- Changes of a document.
-
-pub can_tell_still : (what : DocumentChange) (text : List ℕ) (views : Entries KeptView) (notes : Gathered) (k k' : Kept) → k'.document ≡ k.document → CanTell what text views notes k → CanTell what text views notes k'
-can_tell_still what text views notes k k' same can = record {
-  fits = subst (λ d. IsFitChange d what) (sym same) can.fits;
-  read = can.read;
-  watched = subst (λ d. IsWatched d views) (sym same) can.watched;
-  room = subst (λ (d : Document). notes_of_change what d.history (watchers d views) ≤ notes.note_room) (sym same) can.room;
-}
-
-no_length : (ns : List Notice) → length ns ≡ 0 → ns ≡ []
-no_length [] h = refl
-no_length (n ∷ ns) h = absurd (omega (arith, h))
-
--- where there is no room for notes, none were put
-pub none_told : (old new : Gathered) → old ≡ no_notes → new.note_room + length new.notes ≡ old.note_room + length old.notes → new.notes ≡ []
-none_told old new is left =
-    let none : new.note_room + length new.notes ≡ 0 = left ∙ ap (λ (g : Gathered). g.note_room + length g.notes) is in
-    no_length new.notes (omega (arith, none))
-
--- the session after a change in its tables
-changes_so : (what : DocumentChange) (view : ℕ) (text : List ℕ) (s s' : SessionState) (notes notes' : Gathered) (k : Kept) → IsChangedIn what view text k s.documents s.views notes s'.documents s'.views notes'
-    → s'.clipboard ≡ s.clipboard → s'.documents.next ≡ s.documents.next → s'.views.next ≡ s.views.next → s'.limits ≡ s.limits → Changes what view text k s notes s' notes'
-changes_so what view text s s' notes notes' k done clipboard next_document next_view limits =
-    record { session_after = rw (done.documents_after, done.views_after, clipboard, next_document, next_view, limits) refl; notes_after = done.notes_after }
-
-not_true : (b : Bool) → not b ≡ true → b ≡ false
-not_true true h = absurd (cc)
-not_true false h = refl
-
--- where the message needs no memory, the change needs no room
-pub needs_no_room : (s : Session) (view : ℕ) (m : Message) (kind : Kind) (r : Request) (what : DocumentChange) (value : ℤ) → IsFound s view m kind r → plan_of kind r ≡ Ok (plan.ChangeDocument what value) → is_free s view m ≡ true → needs_room what ≡ false
-needs_no_room s view m kind r what value found planned free =
-    let none = subst (λ p. planned_without_memory r p ≡ true) planned (free_found s view m kind r found free).0 in
-    not_true (needs_room what) (and_parts (not (needs_room what)) (notes_of_change what r.document.history (watching r.session.views r.document) == 0) none).0
-
-module _ (s : SessionState) (kept : IsKept s) (document view : ℕ) (text : List ℕ) (what : DocumentChange) where
-  pub unheard_can : IsSentWith (session_in s) document view text (plan.ChangeDocument what)
-      → IsSomeAnd (value_at s.documents.entries document) (λ k. notes_of_change what k.document.history (watchers k.document s.views) ≡ 0)
-      → IsSomeAnd (value_at s.documents.entries document) (CanTell what text s.views no_notes)
-  unheard_can by_text unheard =
-      let sent = by_text.sent in
-      let t = sent.task in
-      let r = t.request in
-      let task = unrecorded document view (plan.ChangeDocument what sent.value) in
-      let by = subst (λ x. IsAskedBy (session_in s) task x r) by_text.text_is (asked_by s view sent.message task t) in
-      let here = subst (λ (d : Document). notes_of_change what d.history (watchers d s.views) ≡ 0) (kept_at s task text kept r by).is
-      (of_room s task text kept r by (λ k. notes_of_change what k.document.history (watchers k.document s.views) ≡ 0) unheard) in
-      let none = subst (λ (x : Session). notes_of_change what r.document.history (watching x.views r.document) ≡ 0) (sym (session_is s task text kept r by)) here in
-      for_kept s task text kept r by (CanTell what text s.views no_notes)
-      (can_tell s task text kept r by what no_notes (change_fits s task text kept r by what sent.value t.fit) (read_change r what t.fit) (omega (arith, none)))
-
-  pub unheard_answer : (s' : SessionState) → IfSome (value_at s.documents.entries document) (λ k. IsChangedIn what view text k s.documents s.views no_notes s'.documents s'.views no_notes)
-      → s'.clipboard ≡ s.clipboard → s'.documents.next ≡ s.documents.next → s'.views.next ≡ s.views.next → s'.limits ≡ s.limits
-      → (m : Message) (value : ℤ) → IsTask (session_in s) view m (unrecorded document view (plan.ChangeDocument what value)) → m.text ≡ text → table (session_in s) view m ≡ Ok (session_in s', quiet value)
-  unheard_answer s' done clipboard next_document next_view limits m value t text_is =
-      let task = unrecorded document view (plan.ChangeDocument what value) in
-      let by = subst (λ x. IsAskedBy (session_in s) task x t.request) text_is (asked_by s view m task t) in
-      let here = of_kept s task text kept t.request by (λ k. IsChangedIn what view text k s.documents s.views no_notes s'.documents s'.views no_notes) done in
-      answered_so s view m task t s' [] [] value [] refl
-      (changed s task text kept t.request by what value s' no_notes no_notes (changes_so what view text s s' no_notes no_notes (kept_at s task text kept t.request by).k here clipboard next_document next_view limits))

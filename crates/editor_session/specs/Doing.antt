@@ -59,6 +59,12 @@ pub record CanTell (change : DocumentChange) (text : List ℕ) (views : Entries 
   pub watched : IsWatched k.document views
   pub room : notes_of_change change k.document.history (watchers k.document views) ≤ notes.note_room
 
+-- the same, but for the room
+pub record CanChangeOnceThereIsRoom (change : DocumentChange) (text : List ℕ) (views : Entries KeptView) (k : Kept) : Type 0 where
+  pub fits : IsFitChange k.document change
+  pub read : bytes_read change ≤ length text
+  pub watched : IsWatched k.document views
+
 -- it is made on a document of the table
 pub record IsChangedIn (change : DocumentChange) (sender : ℕ) (text : List ℕ) (k : Kept) (documents : Entries Kept) (views : Entries KeptView) (notes : Gathered)
     (documents' : Entries Kept) (views' : Entries KeptView) (notes' : Gathered) : Type 0 where

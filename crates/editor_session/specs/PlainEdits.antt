@@ -1,5 +1,5 @@
 -- Plain replacements of bytes, by messages that are not recorded.
-use Rattle.std.specs.Prelude.{Bool, true, false, not, ◌&&◌, Result, Ok, Err}
+use Rattle.std.specs.Prelude.{Bool, true, false, not, ◌&&◌}
 use Rattle.ed_model.specs.declared.plan.Source.{Source}
 use Rattle.ed_model.specs.declared.plan.Source.TheVariants as source
 use Rattle.ed_model.specs.declared.plan.Follow.{Follow}
@@ -18,15 +18,3 @@ takes_along other = false
 -- it leaves the clipboard, and puts in bytes as they stand
 abbrev pub is_plain : Source → Follow → Bool
 is_plain from after = not (turns_clipboard from) && not (takes_along after)
-
--- where it was done, this holds
-abbrev pub IfMade : {E : Type 0} → Result Bool E → Type 0 → Type 0
-IfMade (Ok true) holds = holds
-IfMade (Ok false) holds = Unit {0}
-IfMade (Err e) holds = Unit {0}
-
--- where it was left to the caller or refused, this holds
-abbrev pub UnlessMade : {E : Type 0} → Result Bool E → Type 0 → Type 0
-UnlessMade (Ok true) holds = Unit {0}
-UnlessMade (Ok false) holds = holds
-UnlessMade (Err e) holds = holds

@@ -2,8 +2,9 @@
 //!
 //! A message goes one way. Its view and document are found and its number is decoded; a plan is made, which carries every
 //! refusal but want of memory; what the plan needs is told, and reserved in one pass; and then the plan is performed, which
-//! cannot fail. A plain question is answered before a plan is made, and a change of which nobody hears is made at once, as
-//! plain replacements of bytes, undo and redo are that are not recorded.
+//! cannot fail. A plain question is answered before a plan is made; and what is not recorded is done at once, without a task,
+//! where it is a plain replacement of bytes, undo or redo, a change of a document that is no edit, or one of a view that takes
+//! no memory.
 #![tactic(auto)]
 
 mod asking;
@@ -17,6 +18,7 @@ mod lending;
 mod need;
 mod opening;
 mod perform;
+mod plain_changes;
 mod plain_edits;
 mod prepare;
 mod quietly;

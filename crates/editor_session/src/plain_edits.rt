@@ -1,10 +1,11 @@
 //! Plain replacements of bytes by messages that are not recorded, made at once, without a task.
 
-ghost use Rattle.std.specs.Prelude.{◌≡◌, ◌≤◌, ◌+◌, ℤ, [], true, map, length, Ok, OnOk, OnErr, IfErr, IfSome, IsOk, IsSomeAnd};
+ghost use Rattle.std.specs.Prelude.{◌≡◌, ◌≤◌, ◌+◌, [], true, map, length, Ok, OnOk, OnErr, IfOk, IfErr, IfSome, IsOk, IsSomeAnd};
 ghost use Rattle.ed_types.specs.declared.message.Message.{Message};
 ghost use Rattle.ed_types.specs.declared.refusal.Refusal.TheVariants.{OutOfMemory};
+ghost use Rattle.ed_model.specs.declared.plan.Edit.TheVariants as edit;
 ghost use Rattle.ed_model.specs.declared.plan.Plan.TheVariants as plan;
-ghost use Rattle.ed_model.specs.Performing.{edit_made, response};
+ghost use Rattle.ed_model.specs.Performing.{edit_made};
 ghost use Rattle.ed_model.specs.Session.{Document as ModelDocument, text_of};
 ghost use Rattle.ed_model.specs.SoundLaws.{Rise};
 ghost use Rattle.ed_model.specs.Steps.{replacement};
@@ -14,26 +15,27 @@ ghost use Rattle.scene.specs.Scenes.{scene_in, views_of, AreNamed, IsWatched};
 ghost use Rattle.message_requests.specs.Requested.{session_in, documents_in};
 ghost use Rattle.session_changes.specs.Kept.{IsKept, DocumentsAreNamed, ViewsRise};
 ghost use Rattle.editor_session.specs.Edited.{IsStoredIn, stored_bytes, followed_views, Replaces};
+ghost use Rattle.editor_session.specs.Edits.{Edits, edit_steps};
 ghost use Rattle.editor_session.specs.Plans.{is_free};
 ghost use Rattle.editor_session.specs.Tasks.{IsTask};
 ghost use Rattle.editor_session.specs.Unheard.{unrecorded, no_notes, IsSentWith};
-ghost use Rattle.editor_session.specs.PlainEdits.{is_plain, IfMade, UnlessMade};
+ghost use Rattle.editor_session.specs.PlainEdits.{is_plain};
 
 use crate::edits::{replace_bytes, set_caret, set_target, source_bytes};
 use crate::need::replacement_need;
 use crate::ready::reserve;
 use document::Document;
 use document_table::DocumentTable;
-use ed_model::{Edit, Follow, Source, soundness_is_kept};
-use ed_types::Refusal;
+use ed_model::{Follow, Source, soundness_is_kept};
+use ed_types::{Bytes, Refusal, Reply};
 use ed_view::View;
 use id_table::IdTable;
 use message_requests::SessionState;
 use notify::NoteList;
-use std::alloc::AllocError;
+use std::alloc::{AllocError, Global};
 
 /// Whether a replacement leaves the clipboard, and puts in bytes as they stand.
-fn is_plain(source: Source, follow: Follow) -> bool
+pub(crate) fn is_plain(source: Source, follow: Follow) -> bool
     ensures { result ≡ is_plain source follow }
 {
     !matches!(source, Source::Clipboard { convert: true })
@@ -132,43 +134,34 @@ fn follow_in_views(views: &mut IdTable<View>, view: u32, follow: Follow)
     }
 }
 
-/// Makes a plain replacement in the document of an id for the view of an id, and does what follows it; returns whether it was
-/// done. All other edits are left to the caller.
+/// The same for the view of an id, for which it does what follows.
 ///
 /// # Errors
 ///
-/// `OutOfMemory` where memory is refused. The session is as it was, here too.
-pub(crate) fn edit_at_once(
+/// `AllocError` where memory is refused. The session is as it was, here too.
+fn replace_making_room(
     state: &mut SessionState,
     document: u32,
     view: u32,
     text: &[u8],
-    edit: Edit,
+    start: usize,
+    count: usize,
+    source: Source,
     follow: Follow,
     notes: &mut NoteList,
-) -> Result<bool, Refusal>
+) -> Result<(), AllocError>
     requires kept { IsKept state.old }
-    requires sent { IsSentWith (session_in state.old) document view text.now (λ value. plan.Edit edit value follow) }
+    requires stored { IsStoredIn source (length text.now) }
+    requires can { IsSomeAnd (value_at state.old.documents.entries document) (λ k. (start + count ≤ length k.document.cells) × IsWatched k.document state.old.views) }
+    requires plain { is_plain source follow ≡ true }
     requires empty { notes.old ≡ no_notes }
-    ensures answer { IfMade result ((m : Message) (value : ℤ) → IsTask (session_in state.old) view m (unrecorded document view (plan.Edit edit value follow)) → m.text ≡ text.now → table (session_in state.old) view m ≡ Ok (session_in state.new, response value [] notes.new.notes)) }
-    ensures same { UnlessMade result (session_in state.new ≡ session_in state.old) }
-    ensures refused { IfErr result (λ refusal. refusal ≡ OutOfMemory) }
-    ensures kept { IsKept state.new }
-    ensures free { (m : Message) (value : ℤ) → IsTask (session_in state.old) view m (unrecorded document view (plan.Edit edit value follow)) → m.text ≡ text.now → is_free (session_in state.old) view m ≡ true → IsOk result }
+    ensures edited { OnOk result (IfSome (value_at state.old.documents.entries document) (λ k. Edits view (edit.Replace start count source) text.now [] follow state.old no_notes k state.new notes.new)) }
+    ensures same { OnErr result (session_in state.new ≡ session_in state.old) }
+    ensures documents { DocumentsAreNamed state.new.documents.entries }
+    ensures views { AreNamed state.new.views.entries }
+    ensures limits { state.new.limits ≡ state.old.limits }
+    ensures free { IfSome (value_at state.old.documents.entries document) (λ k. edit_steps (edit.Replace start count source) text.now state.old.clipboard.items [] k.document ≡ [] → IsOk result) }
 {
-    // The law that the session stays sound.
-    soundness_is_kept();
-    let Edit::Replace {
-        start,
-        count,
-        source,
-    } = edit
-    else {
-        return Ok(false);
-    };
-    if !is_plain(source, follow) {
-        return Ok(false);
-    }
     let SessionState {
         documents,
         views,
@@ -180,8 +173,47 @@ pub(crate) fn edit_at_once(
     ) {
         Ok(()) => {
             follow_in_views(views, view, follow);
-            Ok(true)
+            Ok(())
         }
+        Err(error) => Err(error),
+    }
+}
+
+/// Answers a message to the view of an id that makes a plain replacement in the document of that id, where it is not recorded:
+/// room is made and all is done at once, without a task.
+///
+/// # Errors
+///
+/// `OutOfMemory` where memory is refused. The session is as it was, here too.
+#[inline(never)]
+pub(crate) fn replace_at_once(
+    alloc: Global,
+    state: &mut SessionState,
+    document: u32,
+    view: u32,
+    text: &[u8],
+    start: usize,
+    count: usize,
+    source: Source,
+    value: i64,
+    follow: Follow,
+) -> Result<Reply, Refusal>
+    requires kept { IsKept state.old }
+    requires sent { IsSentWith (session_in state.old) document view text.now (λ value. plan.Edit (edit.Replace start count source) value follow) }
+    requires plain { is_plain source follow ≡ true }
+    ensures answer { IfOk result (λ reply. (m : Message) → IsTask (session_in state.old) view m (unrecorded document view (plan.Edit (edit.Replace start count source) value follow)) → m.text ≡ text.now → table (session_in state.old) view m ≡ Ok (session_in state.new, reply)) }
+    ensures same { OnErr result (session_in state.new ≡ session_in state.old) }
+    ensures refused { IfErr result (λ refusal. refusal ≡ OutOfMemory) }
+    ensures kept { IsKept state.new }
+    ensures free { (m : Message) → IsTask (session_in state.old) view m (unrecorded document view (plan.Edit (edit.Replace start count source) value follow)) → m.text ≡ text.now → is_free (session_in state.old) view m ≡ true → IsOk result }
+{
+    // The law that the session stays sound.
+    soundness_is_kept();
+    let mut notes = NoteList::new(alloc);
+    match replace_making_room(
+        state, document, view, text, start, count, source, follow, &mut notes,
+    ) {
+        Ok(()) => Ok(notes.finish(value, Bytes::empty(alloc))),
         Err(_) => Err(Refusal::OutOfMemory),
     }
 }

@@ -18,15 +18,15 @@ use crate::asking::ask;
 use crate::find::{Task, find};
 use crate::history::go_at_once;
 use crate::perform::perform;
-use crate::plain_edits::edit_at_once;
+use crate::plain_changes::change_at_once;
+use crate::plain_edits::{is_plain, replace_at_once};
 use crate::prepare::prepare;
-use crate::quietly::{change_lightly, change_unheard, is_light, is_unheard};
+use crate::quietly::{change_lightly, is_light};
 use document::{Direction, Document};
-use ed_model::{DocumentChange, Edit, Follow, Plan, plans_are_fit, soundness_is_kept};
+use ed_model::{Edit, Plan, plans_are_fit, soundness_is_kept};
 use ed_types::{Bytes, Kind, Refusal, Reply};
 use message_plans::plan_of;
 use message_requests::{Request, SessionState};
-use notify::NoteList;
 use std::alloc::Global;
 
 /// The reply of a value alone. Takes no memory.
@@ -69,14 +69,13 @@ fn carry_out(
     Ok(perform(state, task, number, w, l, text, prepared))
 }
 
-/// Answers a message that is not recorded and changes a document: at once where no view hears of it, else by its task. It stands
-/// apart, so that all others set up nothing of it.
+/// Carries out a message that is not recorded by its task. It stands apart from what has a shorter way.
 ///
 /// # Errors
 ///
 /// `OutOfMemory` where memory is refused. The session is then as it was.
 #[inline(never)]
-fn answer_change(
+fn do_by_task(
     alloc: Global,
     state: &mut SessionState,
     document: u32,
@@ -85,36 +84,30 @@ fn answer_change(
     w: i64,
     l: i64,
     text: &[u8],
-    change: DocumentChange,
-    value: i64,
+    plan: Plan,
 ) -> Result<Reply, Refusal>
     requires kept { IsKept state.old }
-    requires task { IsTask (session_in state.old) view (message_with number w l text.now) (unrecorded document view (plan.ChangeDocument change value)) }
+    requires task { IsTask (session_in state.old) view (message_with number w l text.now) (unrecorded document view plan) }
     ensures answer { AnswersBy (table (session_in state.old) view (message_with number w l text.now)) (session_in state.old) (session_in state.new) result }
     ensures refused { IfErr result (λ refusal. refusal ≡ OutOfMemory) }
     ensures kept { IsKept state.new }
     ensures free { is_free (session_in state.old) view (message_with number w l text.now) ≡ true → IsOk result }
 {
-    if is_unheard(state, document, change) {
-        change_unheard(alloc, state, document, view, text, change)?;
-        return Ok(answer(alloc, value));
-    }
     let task = Task {
         view,
         document,
-        plan: Plan::ChangeDocument { change, value },
+        plan,
         is_recorded: false,
     };
     carry_out(alloc, state, &task, number, w, l, text)
 }
 
-/// Answers a message that is not recorded and edits a document, by its task. It stands apart from plain replacements.
+/// Carries out a message that is not recorded: at once where it has a short way, else by its task.
 ///
 /// # Errors
 ///
 /// `OutOfMemory` where memory is refused. The session is then as it was.
-#[inline(never)]
-fn edit_by_task(
+fn do_at_once(
     alloc: Global,
     state: &mut SessionState,
     document: u32,
@@ -123,63 +116,37 @@ fn edit_by_task(
     w: i64,
     l: i64,
     text: &[u8],
-    edit: Edit,
-    value: i64,
-    follow: Follow,
+    plan: Plan,
 ) -> Result<Reply, Refusal>
     requires kept { IsKept state.old }
-    requires task { IsTask (session_in state.old) view (message_with number w l text.now) (unrecorded document view (plan.Edit edit value follow)) }
+    requires task { IsTask (session_in state.old) view (message_with number w l text.now) (unrecorded document view plan) }
     ensures answer { AnswersBy (table (session_in state.old) view (message_with number w l text.now)) (session_in state.old) (session_in state.new) result }
     ensures refused { IfErr result (λ refusal. refusal ≡ OutOfMemory) }
     ensures kept { IsKept state.new }
     ensures free { is_free (session_in state.old) view (message_with number w l text.now) ≡ true → IsOk result }
 {
-    let task = Task {
-        view,
-        document,
-        plan: Plan::Edit {
-            edit,
+    match plan {
+        Plan::ChangeView { change, value } if is_light(change) => {
+            change_lightly(state, document, view, change);
+            Ok(answer(alloc, value))
+        }
+        Plan::ChangeDocument { change, value } => {
+            change_at_once(alloc, state, document, view, text, change, value)
+        }
+        Plan::Edit {
+            edit: Edit::Replace {
+                start,
+                count,
+                source,
+            },
             value,
             follow,
-        },
-        is_recorded: false,
-    };
-    carry_out(alloc, state, &task, number, w, l, text)
-}
-
-/// Answers a message that is not recorded and edits a document: at once where it is a plain replacement, else by its task.
-///
-/// # Errors
-///
-/// `OutOfMemory` where memory is refused. The session is then as it was.
-#[inline(never)]
-fn answer_edit(
-    alloc: Global,
-    state: &mut SessionState,
-    document: u32,
-    view: u32,
-    number: u32,
-    w: i64,
-    l: i64,
-    text: &[u8],
-    edit: Edit,
-    value: i64,
-    follow: Follow,
-) -> Result<Reply, Refusal>
-    requires kept { IsKept state.old }
-    requires task { IsTask (session_in state.old) view (message_with number w l text.now) (unrecorded document view (plan.Edit edit value follow)) }
-    ensures answer { AnswersBy (table (session_in state.old) view (message_with number w l text.now)) (session_in state.old) (session_in state.new) result }
-    ensures refused { IfErr result (λ refusal. refusal ≡ OutOfMemory) }
-    ensures kept { IsKept state.new }
-    ensures free { is_free (session_in state.old) view (message_with number w l text.now) ≡ true → IsOk result }
-{
-    let mut notes = NoteList::new(alloc);
-    match edit_at_once(state, document, view, text, edit, follow, &mut notes) {
-        Ok(true) => Ok(notes.finish(value, Bytes::empty(alloc))),
-        Ok(false) => edit_by_task(
-            alloc, state, document, view, number, w, l, text, edit, value, follow,
+        } if is_plain(source, follow) => replace_at_once(
+            alloc, state, document, view, text, start, count, source, value, follow,
         ),
-        Err(refusal) => Err(refusal),
+        Plan::Undo => go_at_once(alloc, state, document, view, Direction::Undo),
+        Plan::Redo => go_at_once(alloc, state, document, view, Direction::Redo),
+        plan => do_by_task(alloc, state, document, view, number, w, l, text, plan),
     }
 }
 
@@ -247,7 +214,7 @@ pub(crate) fn answer_by_plan(
     };
     let document = request.document.id();
     let is_recorded = is_recorded(kind, &request);
-    // A plan is not small: those of the messages that are sent most are read where they stand.
+    // A plan is not small: that of an answer is read where it stands.
     let plan = match plan_of(kind, &request) {
         Ok(Plan::Answer { value }) if !is_recorded => return Ok(answer(alloc, value)),
         Ok(
@@ -257,35 +224,12 @@ pub(crate) fn answer_by_plan(
                 count,
             },
         ) if !is_recorded => return hand_out(alloc, request.document, value, start, count),
-        Ok(Plan::ChangeView { change, value }) if !is_recorded && is_light(change) => {
-            change_lightly(state, document, view, change);
-            return Ok(answer(alloc, value));
-        }
-        Ok(Plan::ChangeDocument { change, value }) if !is_recorded => {
-            return answer_change(
-                alloc, state, document, view, number, w, l, text, change, value,
-            );
-        }
-        Ok(
-            Plan::Edit {
-                edit,
-                value,
-                follow,
-            },
-        ) if !is_recorded => {
-            return answer_edit(
-                alloc, state, document, view, number, w, l, text, edit, value, follow,
-            );
-        }
-        Ok(Plan::Undo) if !is_recorded => {
-            return go_at_once(alloc, state, document, view, Direction::Undo);
-        }
-        Ok(Plan::Redo) if !is_recorded => {
-            return go_at_once(alloc, state, document, view, Direction::Redo);
-        }
         Ok(plan) => plan,
         Err(refusal) => return Err(refusal),
     };
+    if !is_recorded {
+        return do_at_once(alloc, state, document, view, number, w, l, text, plan);
+    }
     let task = Task {
         view,
         document,

@@ -1,12 +1,10 @@
 use Rattle.std.proofs.Common.{rules, ◌≡◌, to_z, of_z, w64, sym, ap, subst, ◌∙◌, [], Some, None}
 use Rattle.std.specs.Prelude.{option_copied}
-use Rattle.ed_model.specs.PlansFit.{IsSoundRequest}
 use Rattle.ed_model.specs.Session.{view_at, document_at}
 use Rattle.ed_model.specs.Table.{request}
 use Rattle.message_requests.specs.Requested.{session_in}
 use Rattle.message_plans.specs.Asking.{question_of, value_asked}
 use Rattle.editor_session.specs.Answers.{message_with}
-use Rattle.editor_session.specs.Asked.{value_to}
 use Rattle.editor_session.proofs.Finding.{found_some, found_none, view_in, id_of_view, document_in, id_of_document}
 use Rattle.editor_session.proofs.Questions.{asked_of_no_view, asked_of_no_document, asked_of, sound_request, answers_as_the_table}
 use Rattle.editor_session.proofs.asking.ask_as.Goals as goal

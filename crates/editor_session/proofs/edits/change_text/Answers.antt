@@ -1,11 +1,9 @@
-use Rattle.std.proofs.Common.{◌≡◌, IfSome, IsSomeAnd, length, sym, subst}
+use Rattle.std.proofs.Common.{IfSome, IsSomeAnd, sym, subst}
 use Rattle.ed_model.specs.LineEnds.{conversion_steps}
-use Rattle.ed_model.specs.Steps.{replacement}
 use Rattle.ed_model.specs.Session.{text_of}
 use Rattle.id_table.specs.Entries.{value_at}
-use Rattle.document.specs.Kept.{Kept}
 use Rattle.scene.specs.Conversion.{CanMakeSteps}
-use Rattle.editor_session.specs.Edited.{IsEditWithin, CanReplace, Replaces}
+use Rattle.editor_session.specs.Edited.{Replaces}
 use Rattle.editor_session.specs.Edits.{edit_steps, CanChange}
 use Rattle.editor_session.proofs.Changing.{both_if, and_if, and_also, can_replace, replaced_text, stored}
 use Rattle.editor_session.proofs.edits.change_text.Goals as goal

@@ -1,4 +1,4 @@
-use Rattle.std.proofs.Common.{refl, sym, ap, ◌∙◌}
+use Rattle.std.proofs.Common.{refl, sym, ◌∙◌}
 use Rattle.std.specs.Prelude.{reverse}
 use Rattle.ed_model.specs.History.{latest_text_step}
 use Rattle.id_table.specs.Entries.{value_at}

@@ -1,18 +1,14 @@
-use Rattle.std.proofs.Common.{rules, ◌≡◌, [], length, refl, sym, ap, subst, ◌∙◌, false}
-use Rattle.ed_model.specs.declared.plan.Plan.{Plan}
-use Rattle.ed_model.specs.declared.plan.Plan.TheVariants as plan
+use Rattle.std.proofs.Common.{length, sym, ap, subst, ◌∙◌, false}
 use Rattle.ed_model.specs.Session.{Document, Session, watching}
-use Rattle.document.specs.declared.undoing.Direction.{Direction}
 use Rattle.document.specs.declared.undoing.Direction.TheVariants.{Undo, Redo}
 use Rattle.document.specs.Undoing.{changes_of}
 use Rattle.document_changes.specs.Needs.{notes_of_change}
 use Rattle.scene.specs.Needs.{note_room}
-use Rattle.scene.specs.Scenes.{views_of}
 use Rattle.scene.specs.Undoing.{bits_of, notes_of_history, bytes_of_changes, room_of_changes, capped_room, capped_notes}
 use Rattle.editor_session.specs.declared.need.Need.{Need}
 use Rattle.editor_session.specs.Needs.{no_need, NeedsTask}
 use Rattle.editor_session.specs.Edited.{IsWithin, IsPastedFor}
-use Rattle.editor_session.proofs.Needing.{attempt_needs, undo_needs, redo_needs, change_needs, none_needs, hand_out_needs, styled_needs, edit_needs}
+use Rattle.editor_session.proofs.Needing.{attempt_needs, undo_needs, redo_needs, change_needs, hand_out_needs, styled_needs, edit_needs}
 use Rattle.editor_session.proofs.need.plan_need.Goals as goal
 
 pub edit_need-requires-clause-within : goal.edit_need-requires-clause-within

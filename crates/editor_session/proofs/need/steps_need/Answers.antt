@@ -1,4 +1,4 @@
-use Rattle.std.proofs.Common.{◌≡◌, ◌+◌, ◌≤◌, [], length, sym, ap, ◌∙◌, subst}
+use Rattle.std.proofs.Common.{◌≡◌, [], length, sym, ap, ◌∙◌, subst}
 use Rattle.ed_model.specs.Steps.{replacement}
 use Rattle.ed_model.specs.Session.{text_of}
 use Rattle.scene.specs.Scenes.{scene_in}

@@ -1,4 +1,4 @@
-use Rattle.std.proofs.Common.{◌≡◌, length, sym, ap, subst, ◌∙◌, Some, IsSomeAnd}
+use Rattle.std.proofs.Common.{length, sym, ap, subst, ◌∙◌, IsSomeAnd}
 use Rattle.std.specs.Prelude.{option_copied}
 use Rattle.document.specs.Kept.{Kept}
 use Rattle.editor_session.specs.Needs.{NeedsTask, need_sum}

@@ -1,11 +1,10 @@
-use Rattle.std.proofs.Common.{rules, SFits, w64, to_z, of_z, to_z-of_z, ℤ, ℕ, List, length, ◌≡◌, ◌≤◌, ◌<◌, ◌+◌, ◌*◌, ◌++◌, pos, refl, [], sym, ap, ◌∙◌, subst, arith}
+use Rattle.std.proofs.Common.{rules, SFits, w64, to_z, of_z, to_z-of_z, ℤ, ℕ, List, length, ◌≡◌, ◌≤◌, ◌+◌, ◌*◌, pos, refl, [], sym, ap, subst, arith}
 use Rattle.std.specs.Prelude.{vec_len, vec_capacity}
 use Rattle.ed_model.specs.declared.plan.Plan.TheVariants as plan
 use Rattle.ed_model.specs.PlansFit.{IsFitPlan}
-use Rattle.ed_model.specs.Session.{Document, Session, watching}
+use Rattle.ed_model.specs.Session.{Document}
 use Rattle.ed_model.specs.Requests.{Request}
-use Rattle.scene.specs.Scenes.{views_of}
-use Rattle.document.specs.Kept.{Kept, HasRoom}
+use Rattle.document.specs.Kept.{HasRoom}
 use Rattle.document.specs.declared.undoing.Direction.TheVariants.{Undo, Redo}
 use Rattle.editor_session.specs.Needs.{text_of_plan, clipboard_of_plan, notes_of_plan, bytes_of_plan, room_of_plan, room_of_history_of}
 use Rattle.editor_session.specs.Prepared.{IsReadyFor, IsReadyForChange, IsReadyForSession}

@@ -2,7 +2,7 @@ use Rattle.std.proofs.Common.{rules, to_z, of_z, w64, ◌≡◌, ◌++◌, ap, �
 use Rattle.ed_model.specs.Performing.{response}
 use Rattle.editor_session.specs.Answers.{message_with}
 use Rattle.editor_session.specs.Tasks.{first_note}
-use Rattle.editor_session.specs.Prepared.{HasAll, IsPastedIn}
+use Rattle.editor_session.specs.Prepared.{IsPastedIn}
 use Rattle.editor_session.proofs.Performing.{asked_by, planned, answered_so, room_left, bytes_same}
 use Rattle.editor_session.proofs.perform.perform.Goals as goal
 

@@ -1,6 +1,5 @@
-use Rattle.std.proofs.Common.{◌≡◌, true, false, Bool, refl, sym, subst, IfOk, Some}
+use Rattle.std.proofs.Common.{◌≡◌, true, false, Bool, refl, sym, subst, IfOk}
 use Rattle.std.specs.Prelude.{not}
-use Rattle.ed_model.specs.declared.plan.Plan.TheVariants as plan
 use Rattle.ed_model.specs.PlansFit.{IsFitPlan}
 use Rattle.ed_model.specs.Session.{Document}
 use Rattle.document_changes.specs.Fit.{IsFitChange}

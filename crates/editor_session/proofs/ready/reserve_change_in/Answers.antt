@@ -1,4 +1,4 @@
-use Rattle.std.proofs.Common.{sym, ap, ◌∙◌, OnOk, IfOk}
+use Rattle.std.proofs.Common.{sym, ap, ◌∙◌, IfOk}
 use Rattle.std.specs.Option.{option_copied_mut}
 use Rattle.std.specs.Prelude.{Result, Ok, Err}
 use Rattle.document_changes.specs.Needs.{IsReady}

@@ -1,4 +1,4 @@
-use Rattle.std.proofs.Common.{sym, ap, ◌∙◌, OnOk, IfOk}
+use Rattle.std.proofs.Common.{sym, ap, ◌∙◌, OnOk}
 use Rattle.std.specs.Option.{option_copied_mut}
 use Rattle.std.specs.Prelude.{Result, Ok, Err}
 use Rattle.editor_session.proofs.Needing.{roomier, still_named_there, has_room_there}

@@ -1,12 +1,11 @@
-use Rattle.std.proofs.Common.{rules, ◌≡◌, true, Ok, refl, sym, ap, subst, ◌∙◌, to_z, of_z, w64}
-use Rattle.ed_model.specs.declared.plan.Plan.TheVariants as plan
+use Rattle.std.proofs.Common.{rules, ◌≡◌, true, refl, sym, subst, to_z, of_z, w64}
 use Rattle.ed_model.specs.Table.{table}
 use Rattle.message_requests.specs.Requested.{session_in}
 use Rattle.editor_session.specs.Answers.{AnswersBy, message_with}
 use Rattle.editor_session.specs.Plans.{is_free}
 use Rattle.editor_session.specs.Tasks.{IsFound}
 use Rattle.editor_session.proofs.TableWay.{carried_so}
-use Rattle.editor_session.proofs.sending.edit_by_task.Goals as goal
+use Rattle.editor_session.proofs.sending.do_by_task.Goals as goal
 
 pub carry_out-requires-clause-task : goal.carry_out-requires-clause-task
 carry_out-requires-clause-task c =
@@ -17,7 +16,7 @@ carry_out-requires-clause-task c =
       kind = t.kind;
       request = t.request;
       found = subst (λ x. IsFound (session_in a.state.now) a.view x t.kind t.request) same t.found;
-      planned = t.planned ∙ ap (λ v. Ok (plan.Edit a.edit v a.follow)) (search rules);
+      planned = t.planned;
       view_id = refl;
       document_id = t.document_id;
       recorded = t.recorded;

@@ -1,0 +1,90 @@
+-- Changes of a document at once.
+use Rattle.std.proofs.Common.{◌≡◌, ℕ, ◌≤◌, ◌&&◌, ◌==◌, ℤ, Bool, true, false, List, [], length, refl, ap, sym, ◌∙◌, subst, Option, Some, None, Ok, Err, OnOk, IfSome, IsSomeAnd}
+use Rattle.std.specs.Prelude.{not, Result}
+use Rattle.std.proofs.lemmas.Bool.{and_parts, eqb-true}
+use Rattle.ed_types.specs.declared.message.Message.{Message}
+use Rattle.ed_model.specs.declared.plan.DocumentChange.{DocumentChange}
+use Rattle.ed_model.specs.declared.plan.Plan.TheVariants as plan
+use Rattle.ed_model.specs.Performing.{response}
+use Rattle.ed_model.specs.Session.{Session, Document, watching}
+use Rattle.ed_model.specs.Table.{table}
+use Rattle.id_table.specs.Entries.{value_at}
+use Rattle.document.specs.Kept.{Kept}
+use Rattle.notify.specs.Gathered.{Gathered}
+use Rattle.document_changes.specs.Fit.{IsFitChange, bytes_read}
+use Rattle.document_changes.specs.Needs.{needs_room, notes_of_change}
+use Rattle.scene.specs.Scenes.{watchers}
+use Rattle.message_requests.specs.Requested.{session_in}
+use Rattle.message_requests.specs.declared.state.SessionState.{SessionState}
+use Rattle.session_changes.specs.Kept.{IsKept}
+use Rattle.editor_session.specs.Doing.{CanChangeOnceThereIsRoom, IsChangedIn, Changes}
+use Rattle.editor_session.specs.Unheard.{unrecorded, no_notes, IsSentWith}
+use Rattle.editor_session.specs.Plans.{is_free, planned_without_memory}
+use Rattle.editor_session.specs.Tasks.{IsTask, IsAskedBy}
+use Rattle.editor_session.proofs.Performing.{asked_by, answered_so, kept_at, of_kept, for_kept, session_is, changed, change_fits, read_change, watched_here}
+use Rattle.editor_session.proofs.TableWay.{free_found}
+
+-- the session after a change in its tables
+changes_so : (what : DocumentChange) (view : ℕ) (text : List ℕ) (s s' : SessionState) (notes notes' : Gathered) (k : Kept) → IsChangedIn what view text k s.documents s.views notes s'.documents s'.views notes'
+    → s'.clipboard ≡ s.clipboard → s'.documents.next ≡ s.documents.next → s'.views.next ≡ s.views.next → s'.limits ≡ s.limits → Changes what view text k s notes s' notes'
+changes_so what view text s s' notes notes' k done clipboard next_document next_view limits =
+    record { session_after = rw (done.documents_after, done.views_after, clipboard, next_document, next_view, limits) refl; notes_after = done.notes_after }
+
+if_also : (o : Option Kept) (P Q : Kept → Type 0) → ((k : Kept) → P k → Q k) → IfSome o P → IfSome o Q
+if_also None P Q f h = tt
+if_also (Some k) P Q f h = f k h
+
+pub changes_in : (document : ℕ) (what : DocumentChange) (view : ℕ) (text : List ℕ) (s s' : SessionState) (notes notes' : Gathered) → IfSome (value_at s.documents.entries document) (λ k. IsChangedIn what view text k s.documents s.views notes s'.documents s'.views notes')
+    → s'.clipboard ≡ s.clipboard → s'.documents.next ≡ s.documents.next → s'.views.next ≡ s.views.next → s'.limits ≡ s.limits → IfSome (value_at s.documents.entries document) (λ k. Changes what view text k s notes s' notes')
+changes_in document what view text s s' notes notes' done clipboard next_document next_view limits =
+    if_also (value_at s.documents.entries document) (λ k. IsChangedIn what view text k s.documents s.views notes s'.documents s'.views notes') (λ k. Changes what view text k s notes s' notes')
+    (λ k here. changes_so what view text s s' notes notes' k here clipboard next_document next_view limits) done
+
+pub all_ok : {A E : Type 0} (r : Result A E) (P Q R S : Type 0) → OnOk r P → OnOk r Q → OnOk r R → (P → Q → R → S) → OnOk r S
+all_ok (Ok a) P Q R S p q h f = f p q h
+all_ok (Err e) P Q R S p q h f = tt
+
+not_true : (b : Bool) → not b ≡ true → b ≡ false
+not_true true h = absurd (cc)
+not_true false h = refl
+
+module _ (s : SessionState) (kept : IsKept s) (document view : ℕ) (text : List ℕ) (what : DocumentChange) where
+  pub can_change_once : IsSentWith (session_in s) document view text (plan.ChangeDocument what) → IsSomeAnd (value_at s.documents.entries document) (CanChangeOnceThereIsRoom what text s.views)
+  can_change_once by_text =
+      let sent = by_text.sent in
+      let t = sent.task in
+      let r = t.request in
+      let task = unrecorded document view (plan.ChangeDocument what sent.value) in
+      let by = subst (λ x. IsAskedBy (session_in s) task x r) by_text.text_is (asked_by s view sent.message task t) in
+      let at = kept_at s task text kept r by in
+      for_kept s task text kept r by (CanChangeOnceThereIsRoom what text s.views)
+      (record {
+        fits = subst (λ d. IsFitChange d what) (sym at.is) (change_fits s task text kept r by what sent.value t.fit);
+        read = subst (λ x. bytes_read what ≤ length x) by.message (read_change r what t.fit);
+        watched = watched_here s task text kept r by;
+      })
+
+  module _ (m : Message) (value : ℤ) (t : IsTask (session_in s) view m (unrecorded document view (plan.ChangeDocument what value))) (text_is : m.text ≡ text) where
+    pub changed_at_once : (s' : SessionState) (notes notes' : Gathered) → notes ≡ no_notes → IfSome (value_at s.documents.entries document) (λ k. Changes what view text k s notes s' notes')
+        → table (session_in s) view m ≡ Ok (session_in s', response value [] notes'.notes)
+    changed_at_once s' notes notes' none done =
+        let task = unrecorded document view (plan.ChangeDocument what value) in
+        let by = subst (λ x. IsAskedBy (session_in s) task x t.request) text_is (asked_by s view m task t) in
+        let here = of_kept s task text kept t.request by (λ k. Changes what view text k s notes s' notes') done in
+        answered_so s view m task t s' notes.notes notes'.notes value [] (ap (λ (g : Gathered). g.notes) none) (changed s task text kept t.request by what value s' notes notes' here)
+
+    -- where the message needs no memory, the change needs no room, and no view hears of it
+    pub change_free : (P : Type 0) → IfSome (value_at s.documents.entries document) (λ k. needs_room what ≡ false → notes_of_change what k.document.history (watchers k.document s.views) ≡ 0 → P)
+        → is_free (session_in s) view m ≡ true → P
+    change_free P here free =
+        let task = unrecorded document view (plan.ChangeDocument what value) in
+        let r = t.request in
+        let by = subst (λ x. IsAskedBy (session_in s) task x r) text_is (asked_by s view m task t) in
+        let at = kept_at s task text kept r by in
+        let none = subst (λ p. planned_without_memory r p ≡ true) t.planned (free_found (session_in s) view m t.kind r t.found free).0 in
+        let parts = and_parts (not (needs_room what)) (notes_of_change what r.document.history (watching r.session.views r.document) == 0) none in
+        let unheard = eqb-true (notes_of_change what r.document.history (watching r.session.views r.document)) 0 parts.1 in
+        of_kept s task text kept r by (λ k. needs_room what ≡ false → notes_of_change what k.document.history (watchers k.document s.views) ≡ 0 → P) here
+        (not_true (needs_room what) parts.0)
+        (subst (λ (d : Document). notes_of_change what d.history (watchers d s.views) ≡ 0) (sym at.is)
+        (subst (λ (x : Session). notes_of_change what r.document.history (watching x.views r.document) ≡ 0) (session_is s task text kept r by) unheard))
