@@ -1,9 +1,8 @@
 -- Changes of one of the documents of a session.
 use Rattle.std.specs.Prelude.{reverse}
-use Rattle.std.proofs.Common.{◌≡◌, ℕ, ◌+◌, ◌≤◌, List, length, refl, ap, sym, ◌∙◌, subst, Option, Some, None, IfSome, IsSomeAnd}
+use Rattle.std.proofs.Common.{◌≡◌, ℕ, List, length, refl, ap, sym, ◌∙◌, subst, Option, Some, None, IfSome, IsSomeAnd}
 use Rattle.ed_model.specs.declared.plan.LineEnd.{LineEnd}
 use Rattle.ed_model.specs.declared.plan.Source.{Source}
-use Rattle.ed_model.specs.declared.plan.Edit.{Edit}
 use Rattle.ed_model.specs.declared.plan.Edit.TheVariants as edit
 use Rattle.ed_model.specs.Steps.{Step, replacement}
 use Rattle.ed_model.specs.Session.{View, text_of, with_document}
@@ -20,8 +19,7 @@ use Rattle.notify.specs.Gathered.{Gathered}
 use Rattle.document.specs.Kept.{Kept}
 use Rattle.ed_view.specs.Kept.{KeptView}
 use Rattle.scene.specs.Undoing.{place_behind_any}
-use Rattle.scene.specs.Conversion.{CanMakeSteps}
-use Rattle.editor_session.specs.Edited.{IsStoredIn, IsEditWithin, stored_bytes, CanReplace, Replaces}
+use Rattle.editor_session.specs.Edited.{IsStoredIn, stored_bytes, CanReplace, Replaces}
 use Rattle.editor_session.specs.Edits.{edit_steps, CanChange}
 
 pub both_if : (o : Option Kept) (P Q R : Kept → Type 0) → ((k : Kept) → P k → Q k → R k) → IfSome o P → IfSome o Q → IfSome o R

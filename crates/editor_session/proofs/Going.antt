@@ -1,11 +1,7 @@
 -- Undo and redo at once.
-use Rattle.std.proofs.Common.{◌≡◌, ℕ, true, false, pos, [], refl, ap, sym, subst, Ok, Err, OnOk, OnErr, IfOk, IfErr, IfSome, IsSomeAnd}
-use Rattle.std.specs.Prelude.{Result}
+use Rattle.std.proofs.Common.{◌≡◌, ℕ, ℤ, Option, Some, None, true, false, pos, [], refl, ap, sym, subst, Ok, Err, OnOk, OnErr, IfOk, IfSome, IsSomeAnd}
+use Rattle.std.specs.Prelude.{Result, IfNone}
 use Rattle.ed_types.specs.declared.message.Message.{Message}
-use Rattle.ed_types.specs.declared.refusal.Refusal.{Refusal}
-use Rattle.ed_types.specs.declared.refusal.Refusal.TheVariants.{OutOfMemory}
-use Rattle.ed_types.specs.Notices.{Response}
-use Rattle.ed_model.specs.declared.plan.Plan.{Plan}
 use Rattle.ed_model.specs.Performing.{history_performed, response}
 use Rattle.ed_model.specs.PlansFit.{UndoStepsFit, RedoStepsFit, IsSoundRequest}
 use Rattle.ed_model.specs.Requests.{Request, text}
@@ -22,13 +18,13 @@ use Rattle.scene.specs.Undoing.{bits_of}
 use Rattle.message_requests.specs.Requested.{session_in}
 use Rattle.message_requests.specs.declared.state.SessionState.{SessionState}
 use Rattle.session_changes.specs.Kept.{IsKept}
-use Rattle.editor_session.specs.Answers.{AnswersBy}
 use Rattle.editor_session.specs.Doing.{CanGoOnceThereIsRoom, Goes}
 use Rattle.editor_session.specs.Plans.{is_free, planned_without_memory}
+use Rattle.editor_session.specs.declared.find.Task.{Task}
 use Rattle.editor_session.specs.Tasks.{IsTask}
 use Rattle.editor_session.specs.Unheard.{unrecorded, going, no_notes, IsSent}
 use Rattle.editor_session.proofs.Performing.{asked_by, answered_so, kept_at, of_kept, for_kept, watched_here, gone}
-use Rattle.editor_session.proofs.TableWay.{free_found, carried_so}
+use Rattle.editor_session.proofs.TableWay.{free_found}
 
 pub on_ok : {A E : Type 0} (r : Result A E) (P Q : Type 0) → OnOk r P → (P → Q) → OnOk r Q
 on_ok (Ok a) P Q h f = f h
@@ -70,18 +66,20 @@ module _ (s : SessionState) (kept : IsKept s) (document view : ℕ) (direction :
       answered_so s view m task t s' notes.notes notes'.notes (pos 0) [] (ap (λ (g : Gathered). g.notes) none)
       (gone s task m.text kept t.request by direction (going direction) (going_is direction t.request) s' notes notes' here)
 
--- The answer to a message whose plan it is.
+-- What was done at once, with a value, or left to the task.
 
-pub going_so : (s s' : Session) (document view : ℕ) (m : Message) (what what' : Plan) (result : Result Response Refusal) → what ≡ what' → IsTask s view m (unrecorded document view what)
-    → IfOk result (λ reply. (m : Message) → IsTask s view m (unrecorded document view what') → table s view m ≡ Ok (s', reply)) → OnErr result (s' ≡ s) → IfErr result (λ e. e ≡ OutOfMemory) → AnswersBy (table s view m) s s' result
-going_so s s' document view m what what' result is t ok stays err =
-    carried_so (table s view m) s s' result (if_ok result _ (λ reply. table s view m ≡ Ok (s', reply)) ok (λ reply h. h m (subst (λ x. IsTask s view m (unrecorded document view x)) is t))) stays err
+pub some_so : {E : Type 0} (r : Result (Option ℤ) E) (o : Option ℤ) (value : ℤ) (P : ℤ → Type 0) → r ≡ Ok o → o ≡ Some value → IfOk r (λ x. IfSome x P) → P value
+some_so (Ok (Some v)) o value P is some h = let same : v ≡ value = cc in subst P same h
+some_so (Ok None) o value P is some h = absurd (cc)
+some_so (Err e) o value P is some h = absurd (cc)
 
--- the same of one that reads a text
-pub once_so : (s s' : Session) (document view : ℕ) (m : Message) (what what' : Plan) (result : Result Response Refusal) → what ≡ what' → IsTask s view m (unrecorded document view what)
-    → IfOk result (λ reply. (x : Message) → IsTask s view x (unrecorded document view what') → x.text ≡ m.text → table s view x ≡ Ok (s', reply)) → OnErr result (s' ≡ s) → IfErr result (λ e. e ≡ OutOfMemory) → AnswersBy (table s view m) s s' result
-once_so s s' document view m what what' result is t ok stays err =
-    carried_so (table s view m) s s' result (if_ok result _ (λ reply. table s view m ≡ Ok (s', reply)) ok (λ reply h. h m (subst (λ x. IsTask s view m (unrecorded document view x)) is t) refl)) stays err
+pub none_so : {E : Type 0} (r : Result (Option ℤ) E) (o : Option ℤ) (Q : Type 0) → r ≡ Ok o → o ≡ None → IfOk r (λ x. IfNone x Q) → Q
+none_so (Ok (Some v)) o Q is none h = absurd (cc)
+none_so (Ok None) o Q is none h = h
+none_so (Err e) o Q is none h = absurd (cc)
+
+pub task_stays : (s s' : Session) (view : ℕ) (m : Message) (task : Task) → s' ≡ s → IsTask s view m task → IsTask s' view m task
+task_stays s s' view m task same t = subst (λ x. IsTask x view m task) (sym same) t
 
 needs_some : (direction : Direction) (r : Request) → planned_without_memory r (Ok (going direction)) ≡ true → false ≡ true
 needs_some Undo r h = h

@@ -36,7 +36,6 @@ use Rattle.ed_model.specs.Table.{table, performed, answered as answered_by, with
 use Rattle.id_table.specs.Entries.{value_at}
 use Rattle.notify.specs.Gathered.{Gathered}
 use Rattle.document.specs.Kept.{Kept, HasRoom}
-use Rattle.document.specs.declared.room.DocumentRoom.{DocumentRoom}
 use Rattle.document.specs.declared.undoing.Direction.{Direction}
 use Rattle.document.specs.Undoing.{changes_of, history_behind}
 use Rattle.document_changes.specs.Fit.{IsFitChange, bytes_read}

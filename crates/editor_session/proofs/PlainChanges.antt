@@ -1,5 +1,5 @@
 -- Changes of a document at once.
-use Rattle.std.proofs.Common.{◌≡◌, ℕ, ◌≤◌, ◌&&◌, ◌==◌, ℤ, Bool, true, false, List, [], length, refl, ap, sym, ◌∙◌, subst, Option, Some, None, Ok, Err, OnOk, IfSome, IsSomeAnd}
+use Rattle.std.proofs.Common.{◌≡◌, ℕ, ◌≤◌, ◌==◌, ℤ, Bool, true, false, List, [], length, refl, ap, sym, subst, Option, Some, None, Ok, Err, OnOk, IfSome, IsSomeAnd}
 use Rattle.std.specs.Prelude.{not, Result}
 use Rattle.std.proofs.lemmas.Bool.{and_parts, eqb-true}
 use Rattle.ed_types.specs.declared.message.Message.{Message}

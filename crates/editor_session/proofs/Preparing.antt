@@ -1,5 +1,5 @@
 -- All that is taken for a message is there.
-use Rattle.std.proofs.Common.{◌≡◌, ◌⊎◌, inl, inr, ℕ, ◌+◌, ◌≤◌, ◌==◌, ◌&&◌, Bool, true, false, List, [], ◌∷◌, ◌++◌, length, refl, ap, sym, ◌∙◌, subst, arith, Option, Some, None, Ok, Err, IfOk, IfSome, IsSomeAnd}
+use Rattle.std.proofs.Common.{◌≡◌, ◌⊎◌, inl, inr, ℕ, ◌≤◌, ◌==◌, true, false, List, [], ◌∷◌, ◌++◌, refl, ap, sym, ◌∙◌, subst, arith, Option, Some, None, Ok, Err, IfOk, IfSome, IsSomeAnd}
 use Rattle.std.specs.Prelude.{Result, not, vec_capacity}
 use Rattle.std.proofs.lemmas.Bool.{and_parts}
 use Rattle.ed_model.specs.declared.plan.Source.TheVariants as source
@@ -7,7 +7,7 @@ use Rattle.ed_model.specs.declared.plan.Edit.TheVariants as edit
 use Rattle.ed_model.specs.declared.plan.Plan.{Plan}
 use Rattle.ed_model.specs.declared.plan.Plan.TheVariants as plan
 use Rattle.ed_model.specs.LineEnds.{converted}
-use Rattle.ed_model.specs.Steps.{Step, insertion, deletion}
+use Rattle.ed_model.specs.Steps.{Step, insertion}
 use Rattle.ed_model.specs.Session.{Session, Document}
 use Rattle.ed_model.specs.Requests.{Request, text}
 use Rattle.ed_model.specs.Edits.{steps_of, has_steps}

@@ -1,5 +1,5 @@
 -- Text with its styles, byte for byte.
-use Rattle.std.proofs.Common.{◌≡◌, ℕ, zero, suc, ◌+◌, ◌-◌, ◌<◌, ◌≤◌, List, [], ◌∷◌, ◌++◌, length, map, take, drop, refl, ap, sym, ◌∙◌, subst, arith, Some, slice_get, slice_range}
+use Rattle.std.proofs.Common.{◌≡◌, ℕ, zero, suc, ◌+◌, ◌-◌, ◌≤◌, List, [], ◌∷◌, ◌++◌, map, take, drop, refl, ap, sym, ◌∙◌, arith, Some, slice_get, slice_range}
 use Rattle.ed_model.specs.Text.{Cell, styles_of, bytes_of}
 use Rattle.ed_model.specs.Performing.{styled_text}
 

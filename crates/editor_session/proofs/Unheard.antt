@@ -1,12 +1,8 @@
 -- Messages that are not recorded, and changes of a view that take no memory.
-use Rattle.std.proofs.Common.{◌≡◌, ℕ, ◌+◌, ◌≤◌, ◌&&◌, ◌==◌, ℤ, Bool, true, false, List, [], ◌∷◌, length, refl, ap, sym, ◌∙◌, subst, arith, Option, Some, None, Ok, IsSome, IfSome, IsSomeAnd}
-use Rattle.std.specs.Prelude.{not}
-use Rattle.std.proofs.lemmas.Bool.{and_parts}
+use Rattle.std.proofs.Common.{◌≡◌, ℕ, ◌&&◌, ℤ, true, false, [], length, refl, sym, arith, Option, Some, None, Ok, IsSome, IsSomeAnd}
 use Rattle.ed_types.specs.declared.kind.Kind.{Kind}
 use Rattle.ed_types.specs.declared.message.Message.{Message}
 use Rattle.ed_types.specs.Messages.{marks_of}
-use Rattle.ed_types.specs.Notices.{Notice}
-use Rattle.ed_model.specs.declared.plan.DocumentChange.{DocumentChange}
 use Rattle.ed_model.specs.declared.plan.Plan.{Plan}
 use Rattle.ed_model.specs.declared.plan.Plan.TheVariants as plan
 use Rattle.ed_model.specs.declared.plan.ViewChange.{ViewChange}
@@ -15,27 +11,20 @@ use Rattle.ed_model.specs.Changes.{view_change_performed}
 use Rattle.ed_model.specs.Performing.{quiet}
 use Rattle.ed_model.specs.PlansFit.{IsFitPlanned}
 use Rattle.ed_model.specs.Requests.{Request}
-use Rattle.ed_model.specs.Session.{Session, Document, watching}
+use Rattle.ed_model.specs.Session.{Session}
 use Rattle.ed_model.specs.Table.{table, plan_of}
-use Rattle.id_table.specs.Entries.{Entries, value_at}
-use Rattle.notify.specs.Gathered.{Gathered}
-use Rattle.document.specs.Kept.{Kept}
-use Rattle.document_changes.specs.Fit.{IsFitChange}
-use Rattle.document_changes.specs.Needs.{needs_room, notes_of_change}
+use Rattle.id_table.specs.Entries.{value_at}
 use Rattle.ed_view.specs.Folding.{fold_need, HasFoldRoom}
 use Rattle.ed_view.specs.Kept.{KeptView}
-use Rattle.scene.specs.Scenes.{watchers, IsWatched}
 use Rattle.message_requests.specs.Requested.{session_in}
 use Rattle.message_requests.specs.declared.state.SessionState.{SessionState}
 use Rattle.session_changes.specs.Asked.{IsAsked, CanChangeView}
 use Rattle.session_changes.specs.Folding.{takes_fold_room, HasFoldRoomAt}
 use Rattle.session_changes.specs.Kept.{IsKept}
-use Rattle.editor_session.specs.Doing.{CanTell, IsChangedIn, Changes}
-use Rattle.editor_session.specs.Unheard.{unrecorded, no_notes, IsSent, IsSentWith}
-use Rattle.editor_session.specs.Plans.{is_free, planned_without_memory}
-use Rattle.editor_session.specs.Tasks.{IsFound, IsTask, IsAskedBy}
-use Rattle.editor_session.proofs.Performing.{asked_by, answered_so, can_change_view, view_changed, view_here, kept_at, of_room, of_kept, for_kept, session_is, can_tell, changed, change_fits, read_change}
-use Rattle.editor_session.proofs.TableWay.{fit_of, free_found}
+use Rattle.editor_session.specs.Unheard.{unrecorded, IsSent}
+use Rattle.editor_session.specs.Tasks.{IsFound, IsTask}
+use Rattle.editor_session.proofs.Performing.{asked_by, answered_so, can_change_view, view_changed, view_here}
+use Rattle.editor_session.proofs.TableWay.{fit_of}
 
 -- The task of a message that is found, and is not recorded.
 pub unrecorded_task : (s : Session) (document view : ℕ) (m : Message) (kind : Kind) (r : Request) (what : Plan) → IsFound s view m kind r → plan_of kind r ≡ Ok what → document ≡ r.document.id

@@ -1,5 +1,5 @@
 -- What is done at once, by messages that are not recorded: changes of which no view hears, undo and redo.
-use Rattle.std.specs.Prelude.{◌≡◌, ℕ, ℤ, false, List, []}
+use Rattle.std.specs.Prelude.{◌≡◌, ℕ, ℤ, Bool, false, List, []}
 use Rattle.ed_types.specs.declared.message.Message.{Message}
 use Rattle.ed_model.specs.declared.plan.Plan.{Plan}
 use Rattle.ed_model.specs.declared.plan.Plan.TheVariants as plan
@@ -10,9 +10,13 @@ use Rattle.notify.specs.Gathered.{Gathered, gathered}
 use Rattle.editor_session.specs.declared.find.Task.{Task}
 use Rattle.editor_session.specs.Tasks.{IsTask}
 
--- the task of a message that is not recorded
+-- the task of a message, which is recorded or not
+abbrev pub task_of : ℕ → ℕ → Plan → Bool → Task
+task_of document view what is_recorded = record { view = view; document = document; plan = what; is_recorded = is_recorded }
+
+-- .. which is not
 abbrev pub unrecorded : ℕ → ℕ → Plan → Task
-unrecorded document view what = record { view = view; document = document; plan = what; is_recorded = false }
+unrecorded document view what = task_of document view what false
 
 -- no notes, and no room for any
 abbrev pub no_notes : Gathered
@@ -28,6 +32,12 @@ pub record IsSent (s : Session) (document view : ℕ) (what : ℤ → Plan) : Ty
 pub record IsSentWith (s : Session) (document view : ℕ) (text : List ℕ) (what : ℤ → Plan) : Type 0 where
   pub sent : IsSent s document view what
   pub text_is : sent.message.text ≡ text
+
+-- a message with this text, that is not recorded, comes to this plan with its value
+pub record IsSentAs (s : Session) (document view : ℕ) (text : List ℕ) (what : Plan) : Type 0 where
+  pub message : Message
+  pub task : IsTask s view message (unrecorded document view what)
+  pub text_is : message.text ≡ text
 
 -- the plan of undo or redo
 abbrev pub going : Direction → Plan

@@ -1,10 +1,10 @@
 //! Undo and redo in a document of the session: with the room that a task made, or at once.
 
-ghost use Rattle.std.specs.Prelude.{◌≡◌, map, Ok, OnOk, OnErr, IfOk, IfErr, IfSome, IsSomeAnd, reverse};
+ghost use Rattle.std.specs.Prelude.{◌≡◌, pos, [], map, Ok, OnOk, OnErr, IfOk, IfErr, IfSome, IsSomeAnd, reverse};
 ghost use Rattle.ed_types.specs.declared.message.Message.{Message};
 ghost use Rattle.ed_types.specs.declared.refusal.Refusal.TheVariants.{OutOfMemory};
 ghost use Rattle.ed_model.specs.History.{latest_text_step};
-ghost use Rattle.ed_model.specs.Performing.{transaction_performed};
+ghost use Rattle.ed_model.specs.Performing.{response, transaction_performed};
 ghost use Rattle.ed_model.specs.Session.{Document as ModelDocument, text_of};
 ghost use Rattle.ed_model.specs.SoundLaws.{AreStepsOf, Rise};
 ghost use Rattle.ed_model.specs.Table.{table};
@@ -18,7 +18,7 @@ ghost use Rattle.session_changes.specs.Kept.{IsKept, DocumentsAreNamed, ViewsRis
 ghost use Rattle.editor_session.specs.Edited.{Becomes};
 ghost use Rattle.editor_session.specs.Doing.{CanGo, CanGoOnceThereIsRoom, Goes, scene_gone};
 ghost use Rattle.editor_session.specs.Tasks.{IsTask};
-ghost use Rattle.editor_session.specs.Unheard.{unrecorded, going, IsSent};
+ghost use Rattle.editor_session.specs.Unheard.{unrecorded, going, no_notes, IsSent};
 
 use crate::edits::set_caret;
 use crate::need::history;
@@ -26,13 +26,13 @@ use crate::ready::reserve;
 use document::{Direction, Document};
 use document_table::DocumentTable;
 use ed_model::{plans_are_fit, soundness_is_kept};
-use ed_types::{Bytes, Refusal, Reply};
+use ed_types::Refusal;
 use ed_view::View;
 use id_table::IdTable;
 use message_requests::SessionState;
 use notify::NoteList;
 use scene::{caret_after, perform_history};
-use std::alloc::{AllocError, Global};
+use std::alloc::AllocError;
 
 /// Performs undo or redo in the document of an id, and returns where that leaves the caret, if it makes a step of the text.
 fn go_in(
@@ -188,23 +188,24 @@ fn go_making_room(
     }
 }
 
-/// Answers UNDO or REDO to the view of an id, on the document of that id, where it is not recorded: room is made and all is done
-/// at once, without a task.
+/// Does what UNDO or REDO to the view of an id is to do, on the document of that id, where it is not recorded: room is made and all
+/// is done at once, without a task.
 ///
 /// # Errors
 ///
 /// `OutOfMemory` where memory is refused. The session is as it was, here too.
 #[inline(never)]
 pub(crate) fn go_at_once(
-    alloc: Global,
     state: &mut SessionState,
     document: u32,
     view: u32,
     direction: Direction,
-) -> Result<Reply, Refusal>
+    notes: &mut NoteList,
+) -> Result<(), Refusal>
     requires kept { IsKept state.old }
     requires sent { IsSent (session_in state.old) document view (λ value. going direction) }
-    ensures answer { IfOk result (λ reply. (m : Message) → IsTask (session_in state.old) view m (unrecorded document view (going direction)) → table (session_in state.old) view m ≡ Ok (session_in state.new, reply)) }
+    requires empty { notes.old ≡ no_notes }
+    ensures answer { OnOk result ((m : Message) → IsTask (session_in state.old) view m (unrecorded document view (going direction)) → table (session_in state.old) view m ≡ Ok (session_in state.new, response (pos 0) [] notes.new.notes)) }
     ensures same { OnErr result (session_in state.new ≡ session_in state.old) }
     ensures refused { IfErr result (λ refusal. refusal ≡ OutOfMemory) }
     ensures kept { IsKept state.new }
@@ -212,9 +213,8 @@ pub(crate) fn go_at_once(
     // The laws that the steps of undo and redo fit the text, and that the session stays sound.
     plans_are_fit();
     soundness_is_kept();
-    let mut notes = NoteList::new(alloc);
-    match go_making_room(state, document, view, direction, &mut notes) {
-        Ok(()) => Ok(notes.finish(0, Bytes::empty(alloc))),
+    match go_making_room(state, document, view, direction, notes) {
+        Ok(()) => Ok(()),
         Err(_) => Err(Refusal::OutOfMemory),
     }
 }

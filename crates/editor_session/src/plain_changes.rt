@@ -1,10 +1,11 @@
 //! Changes of a document that are no edit of its text, by messages that are not recorded, made at once, without a task.
 
-ghost use Rattle.std.specs.Prelude.{◌≡◌, ◌++◌, ◌≤◌, true, false, map, length, Ok, OnOk, OnErr, IfOk, IfErr, IfSome, IsOk, IsSomeAnd};
+ghost use Rattle.std.specs.Prelude.{◌≡◌, ◌++◌, ◌≤◌, ℤ, [], true, false, map, length, Ok, OnOk, OnErr, IfErr, IfSome, IsOk, IsSomeAnd};
 ghost use Rattle.ed_types.specs.declared.message.Message.{Message};
 ghost use Rattle.ed_types.specs.declared.refusal.Refusal.TheVariants.{OutOfMemory};
 ghost use Rattle.ed_model.specs.declared.plan.Plan.TheVariants as plan;
 ghost use Rattle.ed_model.specs.Changes.{changed_document, changed_lines, change_told};
+ghost use Rattle.ed_model.specs.Performing.{response};
 ghost use Rattle.ed_model.specs.Session.{Document as ModelDocument, View as ModelView};
 ghost use Rattle.ed_model.specs.SoundLaws.{Rise};
 ghost use Rattle.ed_model.specs.Table.{table};
@@ -16,14 +17,14 @@ ghost use Rattle.message_requests.specs.Requested.{session_in, documents_in};
 ghost use Rattle.session_changes.specs.Kept.{IsKept, DocumentsAreNamed};
 ghost use Rattle.editor_session.specs.Doing.{CanChangeOnceThereIsRoom, IsChangedIn, Changes};
 ghost use Rattle.editor_session.specs.Plans.{is_free};
-ghost use Rattle.editor_session.specs.Unheard.{unrecorded, IsSentWith};
+ghost use Rattle.editor_session.specs.Unheard.{unrecorded, no_notes, IsSentWith};
 ghost use Rattle.editor_session.specs.Tasks.{IsTask};
 
 use document::Document;
 use document_changes::{change_document, change_note_need, reserve_change};
 use document_table::DocumentTable;
 use ed_model::{DocumentChange, soundness_is_kept};
-use ed_types::{Bytes, Refusal, Reply};
+use ed_types::Refusal;
 use ed_view::View;
 use id_table::IdTable;
 use message_requests::SessionState;
@@ -131,8 +132,8 @@ fn change_making_room(
     change_with_room_in(alloc, documents, views, notes, document, view, text, change)
 }
 
-/// Answers a message to the view of an id that changes the document of that id, where it is not recorded: room is made and all is
-/// done at once, without a task. It takes memory for the change and its notes alone.
+/// Does what a message to the view of an id is to do that changes the document of that id, where it is not recorded: room is made
+/// and all is done at once, without a task. It takes memory for the change and its notes alone.
 ///
 /// # Errors
 ///
@@ -145,21 +146,21 @@ pub(crate) fn change_at_once(
     view: u32,
     text: &[u8],
     change: DocumentChange,
-    value: i64,
-) -> Result<Reply, Refusal>
+    notes: &mut NoteList,
+) -> Result<(), Refusal>
     requires kept { IsKept state.old }
     requires sent { IsSentWith (session_in state.old) document view text.now (plan.ChangeDocument change) }
-    ensures answer { IfOk result (λ reply. (m : Message) → IsTask (session_in state.old) view m (unrecorded document view (plan.ChangeDocument change value)) → m.text ≡ text.now → table (session_in state.old) view m ≡ Ok (session_in state.new, reply)) }
+    requires empty { notes.old ≡ no_notes }
+    ensures answer { OnOk result ((m : Message) (value : ℤ) → IsTask (session_in state.old) view m (unrecorded document view (plan.ChangeDocument change value)) → m.text ≡ text.now → table (session_in state.old) view m ≡ Ok (session_in state.new, response value [] notes.new.notes)) }
     ensures same { OnErr result (session_in state.new ≡ session_in state.old) }
     ensures refused { IfErr result (λ refusal. refusal ≡ OutOfMemory) }
     ensures kept { IsKept state.new }
-    ensures free { (m : Message) → IsTask (session_in state.old) view m (unrecorded document view (plan.ChangeDocument change value)) → m.text ≡ text.now → is_free (session_in state.old) view m ≡ true → IsOk result }
+    ensures free { (m : Message) (value : ℤ) → IsTask (session_in state.old) view m (unrecorded document view (plan.ChangeDocument change value)) → m.text ≡ text.now → is_free (session_in state.old) view m ≡ true → IsOk result }
 {
     // The law that the session stays sound.
     soundness_is_kept();
-    let mut notes = NoteList::new(alloc);
-    match change_making_room(alloc, state, document, view, text, change, &mut notes) {
-        Ok(()) => Ok(notes.finish(value, Bytes::empty(alloc))),
+    match change_making_room(alloc, state, document, view, text, change, notes) {
+        Ok(()) => Ok(()),
         Err(_) => Err(Refusal::OutOfMemory),
     }
 }

@@ -1,11 +1,11 @@
 //! Plain replacements of bytes by messages that are not recorded, made at once, without a task.
 
-ghost use Rattle.std.specs.Prelude.{◌≡◌, ◌≤◌, ◌+◌, [], true, map, length, Ok, OnOk, OnErr, IfOk, IfErr, IfSome, IsOk, IsSomeAnd};
+ghost use Rattle.std.specs.Prelude.{◌≡◌, ◌≤◌, ◌+◌, ℤ, [], true, map, length, Ok, OnOk, OnErr, IfErr, IfSome, IsOk, IsSomeAnd};
 ghost use Rattle.ed_types.specs.declared.message.Message.{Message};
 ghost use Rattle.ed_types.specs.declared.refusal.Refusal.TheVariants.{OutOfMemory};
 ghost use Rattle.ed_model.specs.declared.plan.Edit.TheVariants as edit;
 ghost use Rattle.ed_model.specs.declared.plan.Plan.TheVariants as plan;
-ghost use Rattle.ed_model.specs.Performing.{edit_made};
+ghost use Rattle.ed_model.specs.Performing.{edit_made, response};
 ghost use Rattle.ed_model.specs.Session.{Document as ModelDocument, text_of};
 ghost use Rattle.ed_model.specs.SoundLaws.{Rise};
 ghost use Rattle.ed_model.specs.Steps.{replacement};
@@ -27,12 +27,12 @@ use crate::ready::reserve;
 use document::Document;
 use document_table::DocumentTable;
 use ed_model::{Follow, Source, soundness_is_kept};
-use ed_types::{Bytes, Refusal, Reply};
+use ed_types::Refusal;
 use ed_view::View;
 use id_table::IdTable;
 use message_requests::SessionState;
 use notify::NoteList;
-use std::alloc::{AllocError, Global};
+use std::alloc::AllocError;
 
 /// Whether a replacement leaves the clipboard, and puts in bytes as they stand.
 pub(crate) fn is_plain(source: Source, follow: Follow) -> bool
@@ -179,15 +179,14 @@ fn replace_making_room(
     }
 }
 
-/// Answers a message to the view of an id that makes a plain replacement in the document of that id, where it is not recorded:
-/// room is made and all is done at once, without a task.
+/// Does what a message to the view of an id is to do that makes a plain replacement in the document of that id, where it is not
+/// recorded: room is made and all is done at once, without a task.
 ///
 /// # Errors
 ///
 /// `OutOfMemory` where memory is refused. The session is as it was, here too.
 #[inline(never)]
 pub(crate) fn replace_at_once(
-    alloc: Global,
     state: &mut SessionState,
     document: u32,
     view: u32,
@@ -195,25 +194,25 @@ pub(crate) fn replace_at_once(
     start: usize,
     count: usize,
     source: Source,
-    value: i64,
     follow: Follow,
-) -> Result<Reply, Refusal>
+    notes: &mut NoteList,
+) -> Result<(), Refusal>
     requires kept { IsKept state.old }
     requires sent { IsSentWith (session_in state.old) document view text.now (λ value. plan.Edit (edit.Replace start count source) value follow) }
     requires plain { is_plain source follow ≡ true }
-    ensures answer { IfOk result (λ reply. (m : Message) → IsTask (session_in state.old) view m (unrecorded document view (plan.Edit (edit.Replace start count source) value follow)) → m.text ≡ text.now → table (session_in state.old) view m ≡ Ok (session_in state.new, reply)) }
+    requires empty { notes.old ≡ no_notes }
+    ensures answer { OnOk result ((m : Message) (value : ℤ) → IsTask (session_in state.old) view m (unrecorded document view (plan.Edit (edit.Replace start count source) value follow)) → m.text ≡ text.now → table (session_in state.old) view m ≡ Ok (session_in state.new, response value [] notes.new.notes)) }
     ensures same { OnErr result (session_in state.new ≡ session_in state.old) }
     ensures refused { IfErr result (λ refusal. refusal ≡ OutOfMemory) }
     ensures kept { IsKept state.new }
-    ensures free { (m : Message) → IsTask (session_in state.old) view m (unrecorded document view (plan.Edit (edit.Replace start count source) value follow)) → m.text ≡ text.now → is_free (session_in state.old) view m ≡ true → IsOk result }
+    ensures free { (m : Message) (value : ℤ) → IsTask (session_in state.old) view m (unrecorded document view (plan.Edit (edit.Replace start count source) value follow)) → m.text ≡ text.now → is_free (session_in state.old) view m ≡ true → IsOk result }
 {
     // The law that the session stays sound.
     soundness_is_kept();
-    let mut notes = NoteList::new(alloc);
     match replace_making_room(
-        state, document, view, text, start, count, source, follow, &mut notes,
+        state, document, view, text, start, count, source, follow, notes,
     ) {
-        Ok(()) => Ok(notes.finish(value, Bytes::empty(alloc))),
+        Ok(()) => Ok(()),
         Err(_) => Err(Refusal::OutOfMemory),
     }
 }

@@ -1,9 +1,9 @@
 //! A message on its way through a session: found, planned, and answered at once or carried out.
 
-ghost use Rattle.std.specs.Prelude.{◌≡◌, ◌≢◌, ◌&&◌, ◌≤◌, ◌+◌, [], length, slice_range, true, OnErr, IfOk, IfErr, IsOk, Ok, Err};
+ghost use Rattle.std.specs.Prelude.{◌≡◌, ◌≢◌, ◌&&◌, ◌≤◌, ◌+◌, [], length, slice_range, true, OnErr, IfOk, IfErr, IfSome, IfNone, IsOk, Ok, Err};
+ghost use Rattle.ed_types.specs.declared.message.Message.{Message};
 ghost use Rattle.ed_types.specs.declared.refusal.Refusal.TheVariants.{OutOfMemory};
 ghost use Rattle.ed_types.specs.Messages.{marks_of};
-ghost use Rattle.ed_model.specs.declared.plan.Plan.TheVariants as plan;
 ghost use Rattle.ed_model.specs.Performing.{quiet, response};
 ghost use Rattle.ed_model.specs.Session.{text_of};
 ghost use Rattle.ed_model.specs.Table.{table};
@@ -12,7 +12,7 @@ ghost use Rattle.session_changes.specs.Kept.{IsKept};
 ghost use Rattle.editor_session.specs.Answers.{AnswersBy, message_with};
 ghost use Rattle.editor_session.specs.Plans.{is_free};
 ghost use Rattle.editor_session.specs.Tasks.{IsTask};
-ghost use Rattle.editor_session.specs.Unheard.{unrecorded};
+ghost use Rattle.editor_session.specs.Unheard.{task_of, unrecorded, no_notes, IsSentAs};
 
 use crate::asking::ask;
 use crate::find::{Task, find};
@@ -27,6 +27,7 @@ use ed_model::{Edit, Plan, plans_are_fit, soundness_is_kept};
 use ed_types::{Bytes, Kind, Refusal, Reply};
 use message_plans::plan_of;
 use message_requests::{Request, SessionState};
+use notify::NoteList;
 use std::alloc::Global;
 
 /// The reply of a value alone. Takes no memory.
@@ -69,7 +70,7 @@ fn carry_out(
     Ok(perform(state, task, number, w, l, text, prepared))
 }
 
-/// Carries out a message that is not recorded by its task. It stands apart from what has a shorter way.
+/// Carries out a message by its task. It stands apart from what has a shorter way.
 ///
 /// # Errors
 ///
@@ -85,9 +86,10 @@ fn do_by_task(
     l: i64,
     text: &[u8],
     plan: Plan,
+    is_recorded: bool,
 ) -> Result<Reply, Refusal>
     requires kept { IsKept state.old }
-    requires task { IsTask (session_in state.old) view (message_with number w l text.now) (unrecorded document view plan) }
+    requires task { IsTask (session_in state.old) view (message_with number w l text.now) (task_of document view plan is_recorded) }
     ensures answer { AnswersBy (table (session_in state.old) view (message_with number w l text.now)) (session_in state.old) (session_in state.new) result }
     ensures refused { IfErr result (λ refusal. refusal ≡ OutOfMemory) }
     ensures kept { IsKept state.new }
@@ -97,41 +99,44 @@ fn do_by_task(
         view,
         document,
         plan,
-        is_recorded: false,
+        is_recorded,
     };
     carry_out(alloc, state, &task, number, w, l, text)
 }
 
-/// Carries out a message that is not recorded: at once where it has a short way, else by its task.
+/// Does what a message that is not recorded is to do, where it has a short way, and returns the value that is then answered with the
+/// notes. All others are left to their task: `None`.
 ///
 /// # Errors
 ///
-/// `OutOfMemory` where memory is refused. The session is then as it was.
+/// `OutOfMemory` where memory is refused. The session is as it was, here too.
 fn do_at_once(
     alloc: Global,
     state: &mut SessionState,
     document: u32,
     view: u32,
-    number: u32,
-    w: i64,
-    l: i64,
     text: &[u8],
     plan: Plan,
-) -> Result<Reply, Refusal>
+    notes: &mut NoteList,
+) -> Result<Option<i64>, Refusal>
     requires kept { IsKept state.old }
-    requires task { IsTask (session_in state.old) view (message_with number w l text.now) (unrecorded document view plan) }
-    ensures answer { AnswersBy (table (session_in state.old) view (message_with number w l text.now)) (session_in state.old) (session_in state.new) result }
+    requires sent { IsSentAs (session_in state.old) document view text.now plan }
+    requires empty { notes.old ≡ no_notes }
+    ensures done { IfOk result (λ o. IfSome o (λ value. (m : Message) → IsTask (session_in state.old) view m (unrecorded document view plan) → m.text ≡ text.now → table (session_in state.old) view m ≡ Ok (session_in state.new, response value [] notes.new.notes))) }
+    ensures left { IfOk result (λ o. IfNone o (session_in state.new ≡ session_in state.old)) }
+    ensures same { OnErr result (session_in state.new ≡ session_in state.old) }
     ensures refused { IfErr result (λ refusal. refusal ≡ OutOfMemory) }
     ensures kept { IsKept state.new }
-    ensures free { is_free (session_in state.old) view (message_with number w l text.now) ≡ true → IsOk result }
+    ensures free { (m : Message) → IsTask (session_in state.old) view m (unrecorded document view plan) → m.text ≡ text.now → is_free (session_in state.old) view m ≡ true → IsOk result }
 {
     match plan {
         Plan::ChangeView { change, value } if is_light(change) => {
             change_lightly(state, document, view, change);
-            Ok(answer(alloc, value))
+            Ok(Some(value))
         }
         Plan::ChangeDocument { change, value } => {
-            change_at_once(alloc, state, document, view, text, change, value)
+            change_at_once(alloc, state, document, view, text, change, notes)?;
+            Ok(Some(value))
         }
         Plan::Edit {
             edit: Edit::Replace {
@@ -141,12 +146,21 @@ fn do_at_once(
             },
             value,
             follow,
-        } if is_plain(source, follow) => replace_at_once(
-            alloc, state, document, view, text, start, count, source, value, follow,
-        ),
-        Plan::Undo => go_at_once(alloc, state, document, view, Direction::Undo),
-        Plan::Redo => go_at_once(alloc, state, document, view, Direction::Redo),
-        plan => do_by_task(alloc, state, document, view, number, w, l, text, plan),
+        } if is_plain(source, follow) => {
+            replace_at_once(
+                state, document, view, text, start, count, source, follow, notes,
+            )?;
+            Ok(Some(value))
+        }
+        Plan::Undo => {
+            go_at_once(state, document, view, Direction::Undo, notes)?;
+            Ok(Some(0))
+        }
+        Plan::Redo => {
+            go_at_once(state, document, view, Direction::Redo, notes)?;
+            Ok(Some(0))
+        }
+        _ => Ok(None),
     }
 }
 
@@ -227,16 +241,17 @@ pub(crate) fn answer_by_plan(
         Ok(plan) => plan,
         Err(refusal) => return Err(refusal),
     };
-    if !is_recorded {
-        return do_at_once(alloc, state, document, view, number, w, l, text, plan);
+    if is_recorded {
+        return do_by_task(alloc, state, document, view, number, w, l, text, plan, true);
     }
-    let task = Task {
-        view,
-        document,
-        plan,
-        is_recorded,
-    };
-    carry_out(alloc, state, &task, number, w, l, text)
+    let mut notes = NoteList::new(alloc);
+    match do_at_once(alloc, state, document, view, text, plan, &mut notes) {
+        Ok(Some(value)) => Ok(notes.finish(value, Bytes::empty(alloc))),
+        Ok(None) => do_by_task(
+            alloc, state, document, view, number, w, l, text, plan, false,
+        ),
+        Err(refusal) => Err(refusal),
+    }
 }
 
 /// Answers a message to the view of an id.

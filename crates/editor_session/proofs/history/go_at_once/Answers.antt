@@ -1,5 +1,3 @@
-use Rattle.std.proofs.Common.{rules, Ok, ap, ◌∙◌}
-use Rattle.message_requests.specs.Requested.{session_in}
 use Rattle.editor_session.proofs.Going.{can_go_once, gone_at_once}
 use Rattle.editor_session.proofs.Keeping.{kept_after_message}
 use Rattle.editor_session.proofs.history.go_at_once.Goals as goal
@@ -13,8 +11,7 @@ pub returns-in-Ok-clause-answer : goal.returns-in-Ok-clause-answer
 returns-in-Ok-clause-answer c = λ m t.
     let a = c.args in
     let n = c.go_making_room.new in
-    gone_at_once a.state.now c.requires.kept a.document a.view a.direction n.state c.new-notes.result n.notes c.new-notes.ensures c.in-Ok.ensures.gone m t
-    ∙ ap (λ x. Ok (session_in n.state, x)) (search rules)
+    gone_at_once a.state.now c.requires.kept a.document a.view a.direction n.state a.notes.now n.notes c.requires.empty c.in-Ok.ensures.gone m t
 
 pub returns-in-Ok-clause-kept : goal.returns-in-Ok-clause-kept
 returns-in-Ok-clause-kept c =
@@ -22,4 +19,4 @@ returns-in-Ok-clause-kept c =
     let n = c.go_making_room.new in
     let e = c.go_making_room.ensures in
     let sent = c.requires.sent in
-    kept_after_message c.soundness_is_kept.ensures.by_messages a.state.now n.state a.view sent.message c.finish.result c.requires.kept (returns-in-Ok-clause-answer c sent.message sent.task) e.limits e.documents e.views
+    kept_after_message c.soundness_is_kept.ensures.by_messages a.state.now n.state a.view sent.message _ c.requires.kept (returns-in-Ok-clause-answer c sent.message sent.task) e.limits e.documents e.views

@@ -1,5 +1,4 @@
-use Rattle.std.proofs.Common.{rules, ◌≡◌, false, true, Ok, ap, ◌∙◌}
-use Rattle.message_requests.specs.Requested.{session_in}
+use Rattle.std.proofs.Common.{◌≡◌, false, true}
 use Rattle.editor_session.proofs.Keeping.{kept_after_message}
 use Rattle.editor_session.proofs.PlainChanges.{can_change_once, changed_at_once, change_free}
 use Rattle.editor_session.proofs.plain_changes.change_at_once.Goals as goal
@@ -10,11 +9,10 @@ change_making_room-requires-clause-can c =
     can_change_once a.state.now c.requires.kept a.document a.view a.text.now a.change c.requires.sent
 
 pub returns-in-Ok-clause-answer : goal.returns-in-Ok-clause-answer
-returns-in-Ok-clause-answer c = λ m task text_is.
+returns-in-Ok-clause-answer c = λ m value task text_is.
     let a = c.args in
     let n = c.change_making_room.new in
-    changed_at_once a.state.now c.requires.kept a.document a.view a.text.now a.change m a.value task text_is n.state c.new-notes.result n.notes c.new-notes.ensures c.in-Ok.ensures.changed
-    ∙ ap (λ x. Ok (session_in n.state, x)) (search rules)
+    changed_at_once a.state.now c.requires.kept a.document a.view a.text.now a.change m value task text_is n.state a.notes.now n.notes c.requires.empty c.in-Ok.ensures.changed
 
 pub returns-in-Ok-clause-kept : goal.returns-in-Ok-clause-kept
 returns-in-Ok-clause-kept c =
@@ -24,10 +22,9 @@ returns-in-Ok-clause-kept c =
     let by_text = c.requires.sent in
     let sent = by_text.sent in
     kept_after_message c.soundness_is_kept.ensures.by_messages a.state.now n.state a.view sent.message _ c.requires.kept
-    (changed_at_once a.state.now c.requires.kept a.document a.view a.text.now a.change sent.message sent.value sent.task by_text.text_is n.state c.new-notes.result n.notes c.new-notes.ensures c.in-Ok.ensures.changed)
-    e.limits e.documents e.views
+    (returns-in-Ok-clause-answer c sent.message sent.value sent.task by_text.text_is) e.limits e.documents e.views
 
 pub returns-in-Err-clause-free : goal.returns-in-Err-clause-free
-returns-in-Err-clause-free c = λ m task text_is free.
+returns-in-Err-clause-free c = λ m value task text_is free.
     let a = c.args in
-    change_free a.state.now c.requires.kept a.document a.view a.text.now a.change m a.value task text_is (false ≡ true) c.in-Err.ensures.free free
+    change_free a.state.now c.requires.kept a.document a.view a.text.now a.change m value task text_is (false ≡ true) c.in-Err.ensures.free free

@@ -1,5 +1,4 @@
-use Rattle.std.proofs.Common.{rules, ◌≡◌, false, true, Ok, ap, ◌∙◌}
-use Rattle.message_requests.specs.Requested.{session_in}
+use Rattle.std.proofs.Common.{◌≡◌, false, true}
 use Rattle.editor_session.proofs.Keeping.{kept_after_message}
 use Rattle.editor_session.proofs.PlainEdits.{plain_can, plain_stored, replaced_at_once, plain_free}
 use Rattle.editor_session.proofs.plain_edits.replace_at_once.Goals as goal
@@ -15,11 +14,10 @@ replace_making_room-requires-clause-can c =
     plain_can a.state.now c.requires.kept a.document a.view a.text.now a.start a.count a.source a.follow c.requires.sent
 
 pub returns-in-Ok-clause-answer : goal.returns-in-Ok-clause-answer
-returns-in-Ok-clause-answer c = λ m task text_is.
+returns-in-Ok-clause-answer c = λ m value task text_is.
     let a = c.args in
     let n = c.replace_making_room.new in
-    replaced_at_once a.state.now c.requires.kept a.document a.view a.text.now a.start a.count a.source a.follow c.requires.plain m a.value task text_is n.state n.notes c.in-Ok.ensures.edited
-    ∙ ap (λ x. Ok (session_in n.state, x)) (search rules)
+    replaced_at_once a.state.now c.requires.kept a.document a.view a.text.now a.start a.count a.source a.follow c.requires.plain m value task text_is n.state n.notes c.in-Ok.ensures.edited
 
 pub returns-in-Ok-clause-kept : goal.returns-in-Ok-clause-kept
 returns-in-Ok-clause-kept c =
@@ -29,10 +27,9 @@ returns-in-Ok-clause-kept c =
     let by_text = c.requires.sent in
     let sent = by_text.sent in
     kept_after_message c.soundness_is_kept.ensures.by_messages a.state.now n.state a.view sent.message _ c.requires.kept
-    (replaced_at_once a.state.now c.requires.kept a.document a.view a.text.now a.start a.count a.source a.follow c.requires.plain sent.message sent.value sent.task by_text.text_is n.state n.notes c.in-Ok.ensures.edited)
-    e.limits e.documents e.views
+    (returns-in-Ok-clause-answer c sent.message sent.value sent.task by_text.text_is) e.limits e.documents e.views
 
 pub returns-in-Err-clause-free : goal.returns-in-Err-clause-free
-returns-in-Err-clause-free c = λ m task text_is free.
+returns-in-Err-clause-free c = λ m value task text_is free.
     let a = c.args in
-    plain_free a.state.now c.requires.kept a.document a.view a.text.now a.start a.count a.source a.follow c.requires.plain m a.value task text_is (false ≡ true) c.in-Err.ensures.free free
+    plain_free a.state.now c.requires.kept a.document a.view a.text.now a.start a.count a.source a.follow c.requires.plain m value task text_is (false ≡ true) c.in-Err.ensures.free free

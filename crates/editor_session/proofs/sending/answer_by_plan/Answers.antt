@@ -9,7 +9,8 @@ use Rattle.ed_model.specs.Table.{table, plan_of}
 use Rattle.message_requests.specs.Requested.{session_in}
 use Rattle.editor_session.specs.Answers.{AnswersBy, message_with}
 use Rattle.editor_session.specs.Plans.{is_free, planned_without_memory}
-use Rattle.editor_session.proofs.TableWay.{plain_answer, text_handed_out, handed_so, with_a_plan, carried_so, never_refused, free_found, fit_of}
+use Rattle.editor_session.proofs.Going.{some_so, none_so, task_stays}
+use Rattle.editor_session.proofs.TableWay.{plain_answer, text_handed_out, handed_so, with_a_plan, never_refused, free_found, fit_of}
 use Rattle.editor_session.proofs.Unheard.{unrecorded_task}
 use Rattle.editor_session.proofs.sending.answer_by_plan.Goals as goal
 
@@ -38,8 +39,8 @@ returns-in-Err-plan_of-clause-free c free =
     let planned : plan_of kind r ≡ Err c.in-Err-plan_of.refusal = search rules in
     subst (IsFitPlanned r) planned (c.plans_are_fit.ensures.in_range kind r c.in-Ok.ensures.found.sound)
 
-pub carry_out-requires-clause-task : goal.carry_out-requires-clause-task
-carry_out-requires-clause-task c =
+pub do_by_task-requires-clause-task : goal.do_by_task-requires-clause-task
+do_by_task-requires-clause-task c =
     let kind = c.in-Ok.found.0 in
     let r = c.in-Ok.found.1 in
     record {
@@ -53,30 +54,27 @@ carry_out-requires-clause-task c =
       fit = fit_of kind r (search rules) (c.plans_are_fit.ensures.in_range kind r c.in-Ok.ensures.found.sound);
     }
 
-pub returns-clause-answer : goal.returns-clause-answer
-returns-clause-answer c =
+pub returns-then-is_recorded-clause-answer : goal.returns-then-is_recorded-clause-answer
+returns-then-is_recorded-clause-answer c =
     let a = c.args in
     let s = session_in a.state.now in
-    let n = session_in c.carry_out.new.state in
-    let e = c.carry_out.ensures in
     let same : message_with a.number (to_z w64 (of_z w64 a.w)) (to_z w64 (of_z w64 a.l)) a.text.now ≡ message_with a.number a.w a.l a.text.now = search rules in
-    subst (λ x. AnswersBy (table s a.view x) s n c.carry_out.result) same
-    (carried_so (table s a.view (message_with a.number (to_z w64 (of_z w64 a.w)) (to_z w64 (of_z w64 a.l)) a.text.now)) s n c.carry_out.result e.answer e.same e.refused)
+    subst (λ x. AnswersBy (table s a.view x) s (session_in c.do_by_task.new.state) c.do_by_task.result) same c.do_by_task.ensures.answer
 
-pub returns-clause-refused : goal.returns-clause-refused
-returns-clause-refused c =
+pub returns-then-is_recorded-clause-refused : goal.returns-then-is_recorded-clause-refused
+returns-then-is_recorded-clause-refused c =
     let a = c.args in
     let kind = c.in-Ok.found.0 in
     let r = c.in-Ok.found.1 in
     let planned : plan_of kind r ≡ Ok c.in-Ok-plan_of.plan = search rules in
     with_a_plan _ (session_in a.state.now) a.view (message_with a.number (to_z w64 (of_z w64 a.w)) (to_z w64 (of_z w64 a.l)) a.text.now) (message_with a.number a.w a.l a.text.now) kind r c.in-Ok-plan_of.plan (search rules) c.in-Ok.ensures.found planned
 
-pub returns-clause-free : goal.returns-clause-free
-returns-clause-free c free =
+pub returns-then-is_recorded-clause-free : goal.returns-then-is_recorded-clause-free
+returns-then-is_recorded-clause-free c free =
     let a = c.args in
     let s = session_in a.state.now in
     let same : message_with a.number (to_z w64 (of_z w64 a.w)) (to_z w64 (of_z w64 a.l)) a.text.now ≡ message_with a.number a.w a.l a.text.now = search rules in
-    never_refused c.carry_out.result (c.carry_out.ensures.free (subst (λ x. is_free s a.view x ≡ true) (sym same) free))
+    never_refused c.do_by_task.result (c.do_by_task.ensures.free (subst (λ x. is_free s a.view x ≡ true) (sym same) free))
 
 pub returns-in-Ok-HandOut-clause-answer : goal.returns-in-Ok-HandOut-clause-answer
 returns-in-Ok-HandOut-clause-answer c =
@@ -118,31 +116,89 @@ returns-in-Ok-HandOut-clause-free c free =
     let zero : h.count ≡ 0 = search rules in
     never_refused c.hand_out.result (c.hand_out.ensures.free zero)
 
-pub do_at_once-requires-clause-task : goal.do_at_once-requires-clause-task
-do_at_once-requires-clause-task c =
+pub do_at_once-requires-clause-sent : goal.do_at_once-requires-clause-sent
+do_at_once-requires-clause-sent c =
     let a = c.args in
     let kind = c.in-Ok.found.0 in
     let r = c.in-Ok.found.1 in
-    unrecorded_task (session_in a.state.now) _ a.view _ kind r _ c.in-Ok.ensures.found (search rules) (search rules) (search rules) (c.plans_are_fit.ensures.in_range kind r c.in-Ok.ensures.found.sound)
+    let m = message_with a.number (to_z w64 (of_z w64 a.w)) (to_z w64 (of_z w64 a.l)) a.text.now in
+    record {
+      message = m;
+      task = unrecorded_task (session_in a.state.now) _ a.view m kind r _ c.in-Ok.ensures.found (search rules) (search rules) (search rules) (c.plans_are_fit.ensures.in_range kind r c.in-Ok.ensures.found.sound);
+      text_is = refl;
+    }
 
-pub returns-then-not-is_recorded-3-clause-answer : goal.returns-then-not-is_recorded-3-clause-answer
-returns-then-not-is_recorded-3-clause-answer c =
+pub returns-in-Ok-Some-clause-answer : goal.returns-in-Ok-Some-clause-answer
+returns-in-Ok-Some-clause-answer c =
     let a = c.args in
     let s = session_in a.state.now in
-    let same : message_with a.number (to_z w64 (of_z w64 a.w)) (to_z w64 (of_z w64 a.l)) a.text.now ≡ message_with a.number a.w a.l a.text.now = search rules in
-    subst (λ x. AnswersBy (table s a.view x) s (session_in c.do_at_once.new.state) c.do_at_once.result) same c.do_at_once.ensures.answer
+    let kind = c.in-Ok.found.0 in
+    let r = c.in-Ok.found.1 in
+    let m = message_with a.number (to_z w64 (of_z w64 a.w)) (to_z w64 (of_z w64 a.l)) a.text.now in
+    let same : m ≡ message_with a.number a.w a.l a.text.now = search rules in
+    ap (table s a.view) (sym same) ∙ some_so c.do_at_once.result c.in-Ok-Some.field-0 c.in-Ok-Some.value _ c.in-Ok-Some.is (search rules) c.do_at_once.ensures.done m (unrecorded_task s _ a.view m kind r _ c.in-Ok.ensures.found (search rules) (search rules) (search rules) (c.plans_are_fit.ensures.in_range kind r c.in-Ok.ensures.found.sound)) refl ∙ ap (λ x. Ok (session_in c.do_at_once.new.state, x)) (search rules)
 
-pub returns-then-not-is_recorded-3-clause-refused : goal.returns-then-not-is_recorded-3-clause-refused
-returns-then-not-is_recorded-3-clause-refused c =
+pub returns-in-Ok-Some-clause-refused : goal.returns-in-Ok-Some-clause-refused
+returns-in-Ok-Some-clause-refused c =
     let a = c.args in
     let kind = c.in-Ok.found.0 in
     let r = c.in-Ok.found.1 in
     let planned : plan_of kind r ≡ Ok c.in-Ok-plan_of.plan = search rules in
     with_a_plan _ (session_in a.state.now) a.view (message_with a.number (to_z w64 (of_z w64 a.w)) (to_z w64 (of_z w64 a.l)) a.text.now) (message_with a.number a.w a.l a.text.now) kind r c.in-Ok-plan_of.plan (search rules) c.in-Ok.ensures.found planned
 
-pub returns-then-not-is_recorded-3-clause-free : goal.returns-then-not-is_recorded-3-clause-free
-returns-then-not-is_recorded-3-clause-free c free =
+pub returns-in-Err-do_at_once-clause-refused : goal.returns-in-Err-do_at_once-clause-refused
+returns-in-Err-do_at_once-clause-refused c =
+    let a = c.args in
+    let kind = c.in-Ok.found.0 in
+    let r = c.in-Ok.found.1 in
+    let planned : plan_of kind r ≡ Ok c.in-Ok-plan_of.plan = search rules in
+    with_a_plan _ (session_in a.state.now) a.view (message_with a.number (to_z w64 (of_z w64 a.w)) (to_z w64 (of_z w64 a.l)) a.text.now) (message_with a.number a.w a.l a.text.now) kind r c.in-Ok-plan_of.plan (search rules) c.in-Ok.ensures.found planned
+
+pub returns-in-Err-do_at_once-clause-free : goal.returns-in-Err-do_at_once-clause-free
+returns-in-Err-do_at_once-clause-free c free =
     let a = c.args in
     let s = session_in a.state.now in
-    let same : message_with a.number (to_z w64 (of_z w64 a.w)) (to_z w64 (of_z w64 a.l)) a.text.now ≡ message_with a.number a.w a.l a.text.now = search rules in
-    never_refused c.do_at_once.result (c.do_at_once.ensures.free (subst (λ x. is_free s a.view x ≡ true) (sym same) free))
+    let kind = c.in-Ok.found.0 in
+    let r = c.in-Ok.found.1 in
+    let m = message_with a.number (to_z w64 (of_z w64 a.w)) (to_z w64 (of_z w64 a.l)) a.text.now in
+    let same : m ≡ message_with a.number a.w a.l a.text.now = search rules in
+    let bad : false ≡ true = c.in-Err-do_at_once.ensures.free m (unrecorded_task s _ a.view m kind r _ c.in-Ok.ensures.found (search rules) (search rules) (search rules) (c.plans_are_fit.ensures.in_range kind r c.in-Ok.ensures.found.sound)) refl (subst (λ x. is_free s a.view x ≡ true) (sym same) free) in
+    absurd (cc)
+
+pub do_by_task-requires-in-Ok-None-clause-task : goal.do_by_task-requires-in-Ok-None-clause-task
+do_by_task-requires-in-Ok-None-clause-task c =
+    let a = c.args in
+    let s = session_in a.state.now in
+    let kind = c.in-Ok.found.0 in
+    let r = c.in-Ok.found.1 in
+    let m = message_with a.number (to_z w64 (of_z w64 a.w)) (to_z w64 (of_z w64 a.l)) a.text.now in
+    let stays : session_in c.do_at_once.new.state ≡ s = none_so c.do_at_once.result c.in-Ok-None.field-0 _ c.in-Ok-None.is (search rules) c.do_at_once.ensures.left in
+    task_stays s (session_in c.do_at_once.new.state) a.view m _ stays (unrecorded_task s _ a.view m kind r _ c.in-Ok.ensures.found (search rules) (search rules) (search rules) (c.plans_are_fit.ensures.in_range kind r c.in-Ok.ensures.found.sound))
+
+pub returns-in-Ok-None-clause-answer : goal.returns-in-Ok-None-clause-answer
+returns-in-Ok-None-clause-answer c =
+    let a = c.args in
+    let s = session_in a.state.now in
+    let n = session_in c.do_by_task-in-Ok-None.new.state in
+    let m = message_with a.number (to_z w64 (of_z w64 a.w)) (to_z w64 (of_z w64 a.l)) a.text.now in
+    let same : m ≡ message_with a.number a.w a.l a.text.now = search rules in
+    let stays : session_in c.do_at_once.new.state ≡ s = none_so c.do_at_once.result c.in-Ok-None.field-0 _ c.in-Ok-None.is (search rules) c.do_at_once.ensures.left in
+    subst (λ x. AnswersBy (table s a.view x) s n c.do_by_task-in-Ok-None.result) same
+    (subst (λ x. AnswersBy (table x a.view m) x n c.do_by_task-in-Ok-None.result) stays c.do_by_task-in-Ok-None.ensures.answer)
+
+pub returns-in-Ok-None-clause-refused : goal.returns-in-Ok-None-clause-refused
+returns-in-Ok-None-clause-refused c =
+    let a = c.args in
+    let kind = c.in-Ok.found.0 in
+    let r = c.in-Ok.found.1 in
+    let planned : plan_of kind r ≡ Ok c.in-Ok-plan_of.plan = search rules in
+    with_a_plan _ (session_in a.state.now) a.view (message_with a.number (to_z w64 (of_z w64 a.w)) (to_z w64 (of_z w64 a.l)) a.text.now) (message_with a.number a.w a.l a.text.now) kind r c.in-Ok-plan_of.plan (search rules) c.in-Ok.ensures.found planned
+
+pub returns-in-Ok-None-clause-free : goal.returns-in-Ok-None-clause-free
+returns-in-Ok-None-clause-free c free =
+    let a = c.args in
+    let s = session_in a.state.now in
+    let m = message_with a.number (to_z w64 (of_z w64 a.w)) (to_z w64 (of_z w64 a.l)) a.text.now in
+    let same : m ≡ message_with a.number a.w a.l a.text.now = search rules in
+    let stays : session_in c.do_at_once.new.state ≡ s = none_so c.do_at_once.result c.in-Ok-None.field-0 _ c.in-Ok-None.is (search rules) c.do_at_once.ensures.left in
+    never_refused c.do_by_task-in-Ok-None.result (c.do_by_task-in-Ok-None.ensures.free (subst (λ x. is_free x a.view m ≡ true) (sym stays) (subst (λ x. is_free s a.view x ≡ true) (sym same) free)))

@@ -1,10 +1,6 @@
 use Rattle.std.proofs.Common.{rules, ◌≡◌, Some, None, Ok, Err, pos, OnOk, ◌∙◌}
-use Rattle.std.specs.Prelude.{Result}
-use Rattle.ed_types.specs.declared.script.Command.TheVariants.{OpenView, SendMessage, LoadFile}
-use Rattle.ed_types.specs.declared.refusal.Refusal.{Refusal}
+use Rattle.ed_types.specs.declared.script.Command.TheVariants.{OpenView, SendMessage}
 use Rattle.ed_types.specs.Notices.{Response}
-use Rattle.ed_model.specs.Session.{Session, view_at}
-use Rattle.ed_model.specs.Run.{loaded, file_at}
 use Rattle.ed_model.specs.Table.{table, opened}
 use Rattle.editor_session.specs.Answers.{AnswersBy}
 use Rattle.editor_session.proofs.RunLemmas.{opened_state, refused_state, refused_outcome}
