@@ -70,3 +70,16 @@ before_next line found i es some h a =
     let e : i - 1 + 1 ≡ i = omega arith in
     let b = rw e at a in
     before_more (found + 1) line (take i es) (omega arith) b
+
+-- What is behind an index, by what is behind an earlier one.
+
+from_later : (line n m : ℕ) (es : List Entry) → AllFrom line (drop n es) → n ≤ m → AllFrom line (drop m es)
+from_later line zero zero es a h = a
+from_later line zero (suc m) [] a h = tt
+from_later line zero (suc m) (e ∷ es) a h = from_later line zero m es a.1 (omega arith)
+from_later line (suc n) zero es a h = absurd (omega arith)
+from_later line (suc n) (suc m) [] a h = tt
+from_later line (suc n) (suc m) (e ∷ es) a h = from_later line n m es a (omega arith)
+
+pub from_found : (line found n m : ℕ) (es : List Entry) → line ≤ found → AllFrom found (drop n es) → n ≤ m → AllFrom line (drop m es)
+from_found line found n m es h a b = from_less line found (drop m es) h (from_later found n m es a b)

@@ -95,22 +95,35 @@ impl<A: Allocator> PlacedMarkers<A> {
         (entry.line(), entry.marker())
     }
 
+    /// Returns the line of the marker at an index.
+    #[inline]
+    fn line_at(&self, index: usize) -> usize
+        requires { index < length self.now.entries }
+        ensures before { AllBefore (result + 1) (take (index + 1) self.now.entries) }
+        ensures behind { AllFrom result (drop index self.now.entries) }
+    {
+        let (line, _) = self.entry_at(index);
+        line
+    }
+
     /// Returns how many markers are on lines before the line. The search stands apart, since what is asked for is mostly found
-    /// without it.
+    /// without it. It reads as many markers whatever it finds, and what it finds is added and not jumped by, since a processor
+    /// guesses every second such jump wrongly.
     #[inline(never)]
     pub(crate) fn cut(&self, line: usize) -> usize
         ensures { IsCut line self.now.entries result }
     {
         let mut low = 0;
-        let mut high = self.len();
-        'halving: while low < high {
-            let middle = low + (high - low) / 2;
-            let (found, _) = self.entry_at(middle);
-            if found < line {
-                low = middle + 1;
-            } else {
-                high = middle;
+        let mut width = self.len();
+        'halving: while width > 1 {
+            let half = width / 2;
+            if self.line_at(low + half - 1) < line {
+                low += half;
             }
+            width -= half;
+        }
+        if width == 1 && self.line_at(low) < line {
+            return low + 1;
         }
         low
     }
