@@ -38,6 +38,15 @@ impl Probes {
     }
 }
 
+// Counts that one more start was read.
+#[inline]
+fn count_read(probes: &mut Probes)
+    ensures counted { probes.new ≡ counted probes.old 1 }
+    ensures rises { probes.old ≤ probes.new }
+{
+    probes.reads = probes.reads.saturating_add(1);
+}
+
 /// The starts of a partitioning, as a look-up is handed them: outside this module a start is read by
 /// `probe` and `is_at_most` alone, which count it.
 #[derive(Drop)]
@@ -88,7 +97,7 @@ impl<'a, P: Place, A: Allocator> CountedStarts<'a, P, A> {
         ensures probes { probes.new ≡ counted probes.old 1 }
         ensures rises { probes.old ≤ probes.new }
     {
-        probes.reads = probes.reads.saturating_add(1);
+        count_read(probes);
         self.table.place_of(index)
     }
 
@@ -101,7 +110,7 @@ impl<'a, P: Place, A: Allocator> CountedStarts<'a, P, A> {
         ensures probes { probes.new ≡ counted probes.old 1 }
         ensures rises { probes.old ≤ probes.new }
     {
-        probes.reads = probes.reads.saturating_add(1);
+        count_read(probes);
         self.table.starts_by(index, wanted)
     }
 }

@@ -7,7 +7,7 @@ use crate::counted::{CountedStarts, Probes};
 use crate::places::Place;
 use std::alloc::Allocator;
 
-/// So many starts, mostly, are in the processor's caches.
+// So many starts are mostly in the processor's caches.
 const FEW: usize = 1 << 17;
 
 /// Returns the last partition that starts at `place` or before it: from the length on, the last of all.
@@ -29,8 +29,9 @@ pub(crate) fn last_at_most<P: Place, A: Allocator>(
     last_of_many(starts, wanted, probes)
 }
 
-// Among few starts: no jump rests on what a start is, since the processor would guess it wrongly half of the time. Each
-// turn adds a power of two or nothing, the first one, which may reach back over starts that a later one reads, aside.
+// Among few starts: no jump rests on what a start is, since the processor would guess it wrongly half of the time. The first
+// turn leaves a power of two of starts, so that each other turn adds the next lower power or nothing. It is added by a shift:
+// of a product with the power the compiler would make a jump again.
 fn last_of_few<P: Place, A: Allocator>(
     starts: &CountedStarts<'_, P, A>,
     wanted: P,
@@ -54,8 +55,8 @@ fn last_of_few<P: Place, A: Allocator>(
     low
 }
 
-// Among many: a guess lets the processor fetch the next start before it has this one, which wins even where half of the
-// guesses are wrong.
+// Among many: by a guess the processor fetches the next start before it has this one, which wins where starts come from
+// memory, though half of the guesses are wrong.
 fn last_of_many<P: Place, A: Allocator>(
     starts: &CountedStarts<'_, P, A>,
     wanted: P,

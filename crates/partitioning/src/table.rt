@@ -90,8 +90,8 @@ impl<P: Place, A: Allocator> Partitioning<P, A> {
         self.end.minus(stored)
     }
 
-    // Returns whether the partition starts at `wanted` or before it: its start is compared as it is stored. Of two answers
-    // that are there already one is taken without a jump, as a difference that one side needs alone is not.
+    // Returns whether the partition starts at `wanted` or before it. Its start is compared as it is stored, for both sides of the
+    // step: so one of two answers is taken, for which the processor needs no jump.
     #[inline]
     pub(crate) fn starts_by(&self, index: usize, wanted: P) -> bool
         requires index { index < length self.now.starts }
