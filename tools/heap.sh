@@ -73,6 +73,8 @@ bound() {
         # 65,536 starts of 4 bytes, or of 8, in a block that grew
         many_small_partitions) echo $((262144 + 131072 + 40000)) ;;
         many_large_partitions) echo $((524288 + 262144 + 40000)) ;;
+        # 140,000 starts of 4 bytes, for which room was made at once
+        looks_up_among_many) echo $((140001 * 4 + 40000)) ;;
         # three texts (what goes in, the old and the new one), and twice 65,543 starts of 4 bytes in a block that grew
         lines_of_a_large_text) echo $((3 * 1048576 + 3 * 65543 * 4 + 40000)) ;;
         # the text, and the turned one with 65,536 bytes more

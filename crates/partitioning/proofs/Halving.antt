@@ -1,5 +1,7 @@
 -- A look-up by halving: how many starts it may still read, and what it found.
-use Rattle.std.proofs.Common.{◌≡◌, ℕ, ◌+◌, ◌-◌, ◌*◌, ◌/◌, ◌^◌, ◌<◌, ◌≤◌, zero, suc, min, List, length, get_or, inl, inr, true, false, arith, pow-suc}
+use Rattle.std.proofs.Common.{◌≡◌, ℕ, ◌+◌, ◌-◌, ◌*◌, ◌/◌, ◌%◌, ◌^◌, ◌<◌, ◌≤◌, zero, suc, min, List, length, get_or, inl, inr, Bool, IsTrue, true, false, refl, arith, pow-suc}
+use mir.Val.{bool_byte}
+use Rattle.std.proofs.Math.Pow.{pow_mono}
 use Rattle.std.proofs.lemmas.Bool.{cases_lt, false≢true}
 use Rattle.partitioning.specs.Partitions.{ArePartitions, IsLastAtMost, IsFloorLog}
 use Rattle.split_vector.specs.Split.{counted}
@@ -51,23 +53,67 @@ no_more old now k (suc j) h e = let p : 2 ^ j * 2 ≤ 1 = rw pow-suc at h in abs
 pub read_enough : (count old now width k : ℕ) → width ≤ 1 → MustRead count old now width → IsFloorLog k count → counted old k ≤ now
 read_enough count old now width k h must log = let m = must k log in no_more old now k m.0 (omega (arith, m.1)) m.2
 
--- a range of one is what was looked for
-pub found :
-    (starts : List ℕ) (end place wanted low width : ℕ) → ArePartitions starts end → wanted ≡ min place end → (0 < width) × (low + width ≤ length starts)
-    → width ≤ 1 → get_or starts low 0 ≤ wanted → (low + width < length starts → wanted < get_or starts (low + width) 0) → IsLastAtMost starts place low
-found starts end place wanted low width sound w range one at_most above =
+-- what is left of a look-up: a range of so many starts from one on, of which the last that is at most the wanted place is one
+pub record IsRange (starts : List ℕ) (wanted low width : ℕ) : Type 0 where
+  pub some : 0 < width
+  pub within : low + width ≤ length starts
+  pub at_most : get_or starts low 0 ≤ wanted
+  pub above : low + width < length starts → wanted < get_or starts (low + width) 0
+
+pub whole : (starts : List ℕ) (end wanted : ℕ) → ArePartitions starts end → IsRange starts wanted 0 (length starts)
+whole starts end wanted sound =
     record {
+      some = sound.some;
       within = omega arith;
-      at_most = omega arith;
-      last = λ k a b.
-          omega (arith, above (omega arith), rising_or_same starts sound.rising (low + width) k (omega arith) b, sound.within k b);
+      at_most = omega (arith, sound.first);
+      above = λ b. absurd (omega arith);
     }
 
--- what is above the wanted place stays so behind it
-pub above_later :
-    (starts : List ℕ) (end wanted middle later : ℕ) → ArePartitions starts end → wanted < get_or starts middle 0 → middle ≤ later
-    → later < length starts → wanted < get_or starts later 0
-above_later starts end wanted middle later sound h le b = omega (arith, rising_or_same starts sound.rising middle later le b)
+pub later_half :
+    (starts : List ℕ) (wanted low width half : ℕ) → IsRange starts wanted low width → half < width → get_or starts (low + half) 0 ≤ wanted
+    → IsRange starts wanted (low + half) (width - half)
+later_half starts wanted low width half range h at_most =
+    let q : low + half + (width - half) ≡ low + width = omega arith in
+    let w = range.within in
+    record {
+      some = omega arith;
+      within = omega arith;
+      at_most = at_most;
+      above = rw q range.above;
+    }
+
+pub earlier_half :
+    (starts : List ℕ) (end wanted low width half : ℕ) → ArePartitions starts end → IsRange starts wanted low width → half < width → half ≤ width - half
+    → wanted < get_or starts (low + half) 0 → IsRange starts wanted low (width - half)
+earlier_half starts end wanted low width half sound range h m above =
+    let w = range.within in
+    record {
+      some = omega arith;
+      within = omega arith;
+      at_most = range.at_most;
+      above = λ b. omega (arith, above, rising_or_same starts sound.rising (low + half) (low + (width - half)) (omega arith) b);
+    }
+
+-- a range of one is what was looked for
+pub found : (starts : List ℕ) (end wanted low width : ℕ) → ArePartitions starts end → IsRange starts wanted low width → width ≤ 1 → IsLastAtMost starts wanted low
+found starts end wanted low width sound range one =
+    let w = range.within in
+    let s = range.some in
+    record {
+      within = omega arith;
+      at_most = range.at_most;
+      last = λ k a b. omega (arith, range.above (omega arith), rising_or_same starts sound.rising (low + width) k (omega arith) b);
+    }
+
+-- .. at each place behind the end too
+pub found_at :
+    (starts : List ℕ) (end place wanted i : ℕ) → ArePartitions starts end → wanted ≡ min place end → IsLastAtMost starts wanted i → IsLastAtMost starts place i
+found_at starts end place wanted i sound w last =
+    record {
+      within = last.within;
+      at_most = omega (arith, last.at_most);
+      last = λ k a b. omega (arith, last.last k a b, sound.within k b);
+    }
 
 -- the answer was no
 pub below_where_not : (wanted start : ℕ) → (start ≤ wanted → false ≡ true) → wanted < start
@@ -76,3 +122,41 @@ below_where_not wanted start never =
       | inl h ↦ h
       | inr h ↦ absurd (false≢true (never h))
     ]
+
+-- the answer, as a number, times the half is how far the range goes on
+pub turned_by :
+    (starts : List ℕ) (end wanted low width middle half low' width' : ℕ) (yes : Bool) → ArePartitions starts end → IsRange starts wanted low width
+    → half < width → half ≤ width - half → middle ≡ low + half → low' ≡ low + bool_byte yes * half → width' ≡ width - half
+    → (IsTrue yes → get_or starts middle 0 ≤ wanted) × (get_or starts middle 0 ≤ wanted → IsTrue yes) → IsRange starts wanted low' width'
+turned_by starts end wanted low width middle half low' width' true sound range h m p q r answer =
+    let on : low' ≡ low + half = omega arith in
+    rw (on, r) (later_half starts wanted low width half range h (rw p at (answer.0 refl)))
+turned_by starts end wanted low width middle half low' width' false sound range h m p q r answer =
+    let same : low' ≡ low = omega arith in
+    rw (same, r) (earlier_half starts end wanted low width half sound range h m (rw p at (below_where_not wanted (get_or starts middle 0) answer.1)))
+
+-- the answer as a number, moved up to a power of two
+pub moved_up : (yes : Bool) (power : ℕ) → power < 18446744073709551616 → bool_byte yes * power % 18446744073709551616 ≡ bool_byte yes * power
+moved_up true power h = omega arith
+moved_up false power h = omega arith
+
+pub power_halved : (level : ℕ) → 0 < level → 2 ^ level ≡ 2 ^ (level - 1) * 2
+power_halved zero h = absurd (omega arith)
+power_halved (suc level) h = let q : suc level - 1 ≡ level = omega arith in rw q (pow-suc 2 level)
+
+power_at_most : (level k count : ℕ) → 2 ^ level ≤ count → count < 2 ^ (k + 1) → level ≤ k
+power_at_most level k count a b =
+    elim (cases_lt k level) [
+      | inl h ↦ absurd (omega (arith, pow_mono {i = k + 1} {j = level} (omega arith)))
+      | inr h ↦ h
+    ]
+
+-- one start was read, and the greatest power of two is left
+pub may_read_power : (count old now level : ℕ) → 2 ^ level ≤ count → now ≤ old + 1 → MayRead count old now (2 ^ level)
+may_read_power count old now level a b k log = (level, omega arith, omega (arith, power_at_most level k count a log.1))
+
+pub must_read_power : (count old now level : ℕ) → count < 2 * 2 ^ level → now ≡ counted old 1 → MustRead count old now (2 ^ level)
+must_read_power count old now level a b k log =
+    let q : level + 1 - 1 ≡ level = omega arith in
+    let p : 2 ^ (level + 1) ≡ 2 ^ level * 2 = rw q at (power_halved (level + 1) (omega arith)) in
+    (level, omega arith, omega (arith, power_at_most k level count log.0 (omega arith)))

@@ -1,9 +1,9 @@
 -- What is stored, when the step moves.
-use Rattle.std.proofs.Common.{◌≡◌, ℕ, ◌+◌, ◌-◌, ◌<◌, ◌≤◌, min, max, List, length, get_or, sym, ◌∙◌, ◌⊎◌, inl, inr, arith}
-use Rattle.std.proofs.lemmas.List.{ext_get_or}
+use Rattle.std.proofs.Common.{◌≡◌, ℕ, ◌+◌, ◌-◌, ◌<◌, ◌≤◌, min, max, List, length, get_or, map, sym, ap, ◌∙◌, ◌⊎◌, inl, inr, arith}
+use Rattle.std.proofs.lemmas.List.{ext_get_or, length-map}
 use Rattle.std.proofs.lemmas.Bool.{cases_lt}
 use Rattle.partitioning.specs.Stored.{IsTurned, AreWithin, IsSound, starts_of, near_count}
-use Rattle.partitioning.proofs.Lists.{length-map_from, map_from_before, map_from_behind}
+use Rattle.partitioning.proofs.Lists.{length-map_from, map_from_before, map_from_behind, read_number}
 
 -- the starts that are stored as they are
 pub starts_of_near : (e s : ℕ) (xs : List ℕ) (k : ℕ) → k ≤ s → get_or (starts_of e s xs) k 0 ≡ get_or xs k 0
@@ -15,6 +15,14 @@ starts_of_far e s xs k h l = map_from_behind (λ d. e - d) (s + 1) xs k (omega a
 
 pub length-starts_of : (e s : ℕ) (xs : List ℕ) → length (starts_of e s xs) ≡ length xs
 length-starts_of e s xs = length-map_from (λ d. e - d) (s + 1) xs
+
+-- a start that was read as its distance to the end
+pub read_far :
+    {X : Type 0} (f : X → ℕ) (e s : ℕ) (xs : List X) (i : ℕ) (x : X) → i < length (starts_of e s (map f xs)) → s < i → x ≡ get_or xs i x
+    → get_or (starts_of e s (map f xs)) i 0 ≡ e - f x
+read_far f e s xs i x l h q =
+    let m : i < length (map f xs) = omega (arith, length-starts_of e s (map f xs)) in
+    starts_of_far e s (map f xs) i h m ∙ ap (λ v. e - v) (sym (read_number f xs i x (omega (arith, length-map xs f)) q))
 
 module _ (e s t : ℕ) (xs ys : List ℕ) (low high : ℕ)
     (w : AreWithin e xs)

@@ -1,5 +1,5 @@
 //! Starts that are read by look-ups, and a count of what they read.
-ghost use Rattle.std.specs.Prelude.{◌≡◌, ◌≤◌, ◌<◌, ◌+◌, ◌^◌, length, slice_index};
+ghost use Rattle.std.specs.Prelude.{◌≡◌, ◌≤◌, ◌<◌, ◌+◌, ◌^◌, ◌↔◌, length, slice_index, IsTrue};
 ghost use Rattle.partitioning.specs.Partitions.{ArePartitions};
 ghost use Rattle.split_vector.specs.Split.{counted};
 
@@ -38,7 +38,17 @@ impl Probes {
     }
 }
 
-/// The starts of a partitioning, as a look-up is handed them: outside this module a start is read by `probe` alone, which counts it.
+// Counts that one more start was read.
+#[inline]
+fn count_read(probes: &mut Probes)
+    ensures counted { probes.new ≡ counted probes.old 1 }
+    ensures rises { probes.old ≤ probes.new }
+{
+    probes.reads = probes.reads.saturating_add(1);
+}
+
+/// The starts of a partitioning, as a look-up is handed them: outside this module a start is read by
+/// `probe` and `is_at_most` alone, which count it.
 #[derive(Drop)]
 pub(crate) struct CountedStarts<'a, P: Place, A: Allocator> {
     table: &'a Partitioning<P, A>,
@@ -87,7 +97,20 @@ impl<'a, P: Place, A: Allocator> CountedStarts<'a, P, A> {
         ensures probes { probes.new ≡ counted probes.old 1 }
         ensures rises { probes.old ≤ probes.new }
     {
-        probes.reads = probes.reads.saturating_add(1);
+        count_read(probes);
         self.table.place_of(index)
+    }
+
+    /// Returns whether the partition starts at `wanted` or before it, and counts that its start was read.
+    #[inline]
+    pub(crate) fn is_at_most(&self, index: usize, wanted: P, probes: &mut Probes) -> bool
+        requires index { index < length self.now.starts }
+        requires wanted { P.number wanted ≤ self.now.length }
+        ensures at_most { IsTrue result ↔ (slice_index self.now.starts index ≤ P.number wanted) }
+        ensures probes { probes.new ≡ counted probes.old 1 }
+        ensures rises { probes.old ≤ probes.new }
+    {
+        count_read(probes);
+        self.table.starts_by(index, wanted)
     }
 }

@@ -7,6 +7,9 @@ use crate::counted::{CountedStarts, Probes};
 use crate::places::Place;
 use std::alloc::Allocator;
 
+// So many starts are mostly in the processor's caches.
+const FEW: usize = 1 << 17;
+
 /// Returns the last partition that starts at `place` or before it: from the length on, the last of all.
 /// Each start that it reads is counted in `probes`, since it is handed nothing else to read starts by.
 pub(crate) fn last_at_most<P: Place, A: Allocator>(
@@ -20,6 +23,51 @@ pub(crate) fn last_at_most<P: Place, A: Allocator>(
     ensures many { (k : ℕ) → IsFloorLog k (length starts.now.starts) → counted probes.old k ≤ probes.new }
 {
     let wanted = P::from_usize(place.min(starts.length()));
+    if starts.count() <= FEW {
+        return last_of_few(starts, wanted, probes);
+    }
+    last_of_many(starts, wanted, probes)
+}
+
+// Among few starts: no jump rests on what a start is, since the processor would guess it wrongly half of the time. The first
+// turn leaves a power of two of starts, so that each other turn adds the next lower power or nothing. It is added by a shift:
+// of a product with the power the compiler would make a jump again.
+fn last_of_few<P: Place, A: Allocator>(
+    starts: &CountedStarts<'_, P, A>,
+    wanted: P,
+    probes: &mut Probes,
+) -> usize
+    requires { P.number wanted ≤ starts.now.length }
+    ensures last { IsLastAtMost starts.now.starts (P.number wanted) result }
+    ensures counted { probes.old ≤ probes.new }
+    ensures few { (k : ℕ) → IsFloorLog k (length starts.now.starts) → probes.new ≤ probes.old + (2 + k) }
+    ensures many { (k : ℕ) → IsFloorLog k (length starts.now.starts) → counted probes.old k ≤ probes.new }
+{
+    let count = starts.count();
+    let mut level = count.ilog2();
+    let first = count - (1 << level);
+    let mut low = starts.is_at_most(first, wanted, probes) as usize * first;
+    'halving: while level > 0 {
+        level -= 1;
+        let middle = low + (1 << level);
+        low += (starts.is_at_most(middle, wanted, probes) as usize) << level;
+    }
+    low
+}
+
+// Among many: by a guess the processor fetches the next start before it has this one, which wins where starts come from
+// memory, though half of the guesses are wrong.
+fn last_of_many<P: Place, A: Allocator>(
+    starts: &CountedStarts<'_, P, A>,
+    wanted: P,
+    probes: &mut Probes,
+) -> usize
+    requires { P.number wanted ≤ starts.now.length }
+    ensures last { IsLastAtMost starts.now.starts (P.number wanted) result }
+    ensures counted { probes.old ≤ probes.new }
+    ensures few { (k : ℕ) → IsFloorLog k (length starts.now.starts) → probes.new ≤ probes.old + (2 + k) }
+    ensures many { (k : ℕ) → IsFloorLog k (length starts.now.starts) → counted probes.old k ≤ probes.new }
+{
     let mut low = 0;
     let mut width = starts.count();
     'halving: while width > 1 {

@@ -1,5 +1,5 @@
 //! `Partitioning`: how it is made and read, and its room.
-ghost use Rattle.std.specs.Prelude.{◌≡◌, ◌≤◌, ◌<◌, ◌+◌, ◌^◌, ℕ, [], ◌∷◌, length, slice_index, IfOk, OnOk, OnErr, IsOk};
+ghost use Rattle.std.specs.Prelude.{◌≡◌, ◌≤◌, ◌<◌, ◌+◌, ◌^◌, ◌↔◌, ℕ, [], ◌∷◌, length, slice_index, IfOk, OnOk, OnErr, IsOk, IsTrue};
 ghost use Rattle.partitioning.specs.Partitions.{ArePartitions, IsLastAtMost, IsFloorLog};
 ghost use Rattle.split_vector.specs.Split.{counted, most_room};
 
@@ -88,6 +88,20 @@ impl<P: Place, A: Allocator> Partitioning<P, A> {
             return stored;
         }
         self.end.minus(stored)
+    }
+
+    // Returns whether the partition starts at `wanted` or before it. Its start is compared as it is stored, for both sides of the
+    // step: so one of two answers is taken, for which the processor needs no jump.
+    #[inline]
+    pub(crate) fn starts_by(&self, index: usize, wanted: P) -> bool
+        requires index { index < length self.now.starts }
+        requires wanted { P.number wanted ≤ self.now.length }
+        ensures { IsTrue result ↔ (slice_index self.now.starts index ≤ P.number wanted) }
+    {
+        let stored = self.body.get(index);
+        let near = stored.is_at_most(wanted);
+        let far = self.end.minus(wanted).is_at_most(stored);
+        if index <= self.step_at { near } else { far }
     }
 
     /// Returns where the partition starts.

@@ -127,6 +127,54 @@ fn many_large_partitions(rt: HostRuntime) {
     partitions_one_by_one::<u64>(&rt, rt.alloc());
 }
 
+// As many starts as are looked up without a jump, and more than these.
+const FEW_STARTS: usize = 131_072;
+
+const MANY_STARTS: usize = 140_000;
+
+// Puts starts in at the end, each two behind the one before, until there are so many.
+fn cut_in_twos(rt: &impl Abort, table: &mut Partitioning<u32>, count: usize) {
+    assert!(rt; count <= MANY_STARTS);
+    for index in table.count()..count {
+        let start = 2 * index;
+        assert!(rt; table.count() == index && 0 < index && start <= table.length());
+        assert!(rt; table.start_of(index - 1) < start);
+        table.reserve(1).expect(rt, "memory");
+        table.insert_reserved(index, start);
+    }
+    assert_eq!(rt; table.count(), count);
+}
+
+// Places far apart, up to behind the end, even ones and odd.
+fn look_twos_up(rt: &impl Abort, table: &Partitioning<u32>) {
+    let last = table.count() - 1;
+    for turn in 0..300 {
+        let place = 997 * turn;
+        let mut probes = Probes::new();
+        assert_eq!(rt; table.partition_of(place, &mut probes), last.min(place / 2));
+    }
+}
+
+// Once all starts are kept as they are, once most as their distances to the end, and once there are many.
+fn look_up_three_times(rt: &impl Abort, table: &mut Partitioning<u32>) {
+    table.reserve(MANY_STARTS).expect(rt, "memory");
+    assert_eq!(rt; table.length(), 0);
+    table.insert_text(0, 2 * MANY_STARTS);
+    cut_in_twos(rt, table, FEW_STARTS);
+    look_twos_up(rt, table);
+    table.insert_text(40_000, 0);
+    assert_eq!(rt; table.step_at(), 40_000);
+    look_twos_up(rt, table);
+    cut_in_twos(rt, table, MANY_STARTS);
+    look_twos_up(rt, table);
+}
+
+#[test]
+fn looks_up_among_many(rt: HostRuntime) {
+    let mut table: Partitioning<u32> = Partitioning::new(rt.alloc()).expect(&rt, "memory");
+    look_up_three_times(&rt, &mut table);
+}
+
 fn append_one_step(rt: &impl Abort, history: &mut UndoHistory, text: &[u8]) {
     history.reserve(1, text.len()).expect(rt, "memory");
     history.append_reserved(false, StepKind::Insert, 0, text);

@@ -1,7 +1,8 @@
-use Rattle.std.proofs.Common.{◌≡◌, ◌<◌, ◌-◌, length, get_or, map, ap, sym, ◌∙◌, arith}
+use Rattle.std.proofs.Common.{◌<◌, length, map, ap, sym, ◌∙◌, arith}
 use Rattle.std.proofs.lemmas.List.{length-map}
+use Rattle.partitioning.specs.Stored.{starts_of}
 use Rattle.partitioning.proofs.Lists.{read_number}
-use Rattle.partitioning.proofs.Steps.{length-starts_of, starts_of_far}
+use Rattle.partitioning.proofs.Steps.{length-starts_of, read_far}
 use Rattle.partitioning.proofs.table.Partitioning.place_of.Goals as goal
 
 pub minus-requires : goal.minus-requires
@@ -15,11 +16,6 @@ minus-requires g c =
 pub returns : goal.returns
 returns g c =
     let f = g.P.Place.number in
-    let xs = c.self.inside.body.items in
-    let e = f c.self.inside.end in
-    let l : c.args.index < length (map f xs) =
-    omega (arith, length-starts_of e c.self.inside.step_at (map f xs), ap (λ p. length p.starts) c.self.view_is) in
-    let l' : c.args.index < length xs = omega (arith, length-map xs f) in
-    let r : f c.get-stored.result ≡ get_or (map f xs) c.args.index 0 = read_number f xs c.args.index c.get-stored.result l' c.get-stored.ensures in
+    let l : c.args.index < length (starts_of (f c.self.inside.end) c.self.inside.step_at (map f c.self.inside.body.items)) = omega (arith, c.requires, ap (λ p. length p.starts) c.self.view_is) in
     rw (← c.self.view_is)
-    (c.minus.ensures ∙ ap (λ v. e - v) r ∙ sym (starts_of_far e c.self.inside.step_at (map f xs) c.args.index c.if-index-self.false l))
+    (c.minus.ensures ∙ sym (read_far f (f c.self.inside.end) c.self.inside.step_at c.self.inside.body.items c.args.index c.get-stored.result l c.if-index-self.false c.get-stored.ensures))

@@ -1,4 +1,4 @@
-use Rattle.std.proofs.Common.{◌≡◌, ◌+◌, ◌≤◌, ◌<◌, length, map, sym, ap, ◌∙◌, refl, arith}
+use Rattle.std.proofs.Common.{◌+◌, ◌<◌, length, map, ap, refl, arith}
 use Rattle.partitioning.proofs.Steps.{length-starts_of, step_taken}
 use Rattle.partitioning.proofs.table.Partitioning.step_on.Goals as goal
 
