@@ -136,6 +136,13 @@ impl<T: Copy> LineValues<T> {
         self.lines
     }
 
+    /// Returns for how many fresh lines there is room.
+    pub(crate) fn room(&self) -> usize
+        ensures { result ≡ self.now.room }
+    {
+        self.room
+    }
+
     /// Returns the value of a line.
     pub fn get(&self, line: usize) -> T
         requires { line < length self.now.values }
