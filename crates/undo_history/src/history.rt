@@ -10,7 +10,7 @@ ghost use Rattle.undo_history.specs.Records.{change_of, HasItsBytes, LastIsOpen}
 use crate::joining::{belongs, find_latest_step};
 use crate::records::{
     ChangeKind, LentChange, StepKind, StepRecord, all_bytes, all_steps, bytes_before, change_at,
-    seal,
+    end_of, seal,
 };
 use crate::runs::{count_before, count_behind, is_last_of_next};
 use split_vector::SplitVector;
@@ -356,6 +356,25 @@ impl UndoHistory {
         ensures steps_left { self.old.step_room ≤ self.new.step_room + 1 }
         ensures bytes_left { self.old.byte_room ≤ self.new.byte_room + length bytes.now }
     {
+        if self.past < self.steps.len() {
+            return self.append_instead(later, kind, place, bytes);
+        }
+        self.append(later, ChangeKind::Text { kind, place }, bytes)
+    }
+
+    // Appends a step of the text in place of what was undone. It stands apart, since it is rare: a step that is typed behind all
+    // others is appended with no call.
+    #[inline(never)]
+    fn append_instead(&mut self, later: bool, kind: StepKind, place: usize, bytes: &[u8]) -> bool
+        requires { HasRoom self.old 1 (length bytes.now) }
+        ensures history { self.new.history ≡ appended later (TextStep (step_of kind place bytes.now)) self.old.history }
+        ensures begins { result ≡ begins_transaction later (TextStep (step_of kind place bytes.now)) self.old.history }
+        ensures taken { self.new.taken ≡ self.old.taken }
+        ensures room { self.old.history.collecting ≡ true → (self.new.step_room + 1 ≡ self.old.step_room) × (self.new.byte_room + length bytes.now ≡ self.old.byte_room) }
+        ensures not_collecting { self.old.history.collecting ≡ false → self.new ≡ self.old }
+        ensures steps_left { self.old.step_room ≤ self.new.step_room + 1 }
+        ensures bytes_left { self.old.byte_room ≤ self.new.byte_room + length bytes.now }
+    {
         self.append(later, ChangeKind::Text { kind, place }, bytes)
     }
 
@@ -396,7 +415,9 @@ impl UndoHistory {
         ensures { self.new ≡ record self.old { history = without_future self.old.history } }
     {
         self.drop_undone();
-        self.save_point = still_reachable(self.transactions, self.save_point);
+        if is_lost(self.transactions, self.save_point) {
+            self.save_point = None;
+        }
     }
 
     // Drops what was undone. Mostly there is nothing.
@@ -432,7 +453,7 @@ impl UndoHistory {
         ensures steps_left { self.new.step_room + 1 ≡ self.old.step_room }
         ensures bytes_left { self.new.byte_room + length bytes.now ≡ self.old.byte_room }
     {
-        let stored = self.bytes.len();
+        let stored = end_of(&self.bytes);
         self.bytes.insert_slice_reserved(stored, bytes);
         let step = StepRecord {
             kind,
@@ -440,7 +461,7 @@ impl UndoHistory {
             starts: !joined,
             is_sealed: false,
         };
-        let place = self.steps.len();
+        let place = end_of(&self.steps);
         self.steps.insert_reserved(place, step);
         self.past += 1;
         self.transactions = transactions_after(self.transactions, joined);
@@ -449,13 +470,15 @@ impl UndoHistory {
     }
 }
 
-// The save point, if it can still be reached from a past of `past` transactions.
-fn still_reachable(past: usize, save_point: Option<usize>) -> Option<usize>
-    ensures { result ≡ reachable past save_point }
+// Whether a save point can no longer be reached from a past of `past` transactions. Mostly it can, and then nothing is written.
+#[inline(always)]
+fn is_lost(past: usize, save_point: Option<usize>) -> bool
+    ensures lost { result ≡ true → reachable past save_point ≡ None }
+    ensures kept { result ≡ false → reachable past save_point ≡ save_point }
 {
     match save_point {
-        Some(place) if place <= past => Some(place),
-        _ => None,
+        Some(place) => place > past,
+        None => false,
     }
 }
 
