@@ -130,6 +130,10 @@ impl<P: Place> Decorations<P> {
         if insertions <= self.room {
             return Ok(());
         }
+        if self.slots.len() == 0 {
+            self.room = insertions; // there are no runs that would need any
+            return Ok(());
+        }
         self.make_room(insertions)
     }
 

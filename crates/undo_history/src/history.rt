@@ -131,15 +131,20 @@ impl UndoHistory {
         ensures at_most { (self.new.taken.0 ≤ max (2 * self.old.taken.0) (self.old.taken.0 + steps)) × (self.new.taken.1 ≤ max (2 * self.old.taken.1) (self.old.taken.1 + bytes)) }
         ensures err { OnErr result (self.new ≡ record self.old { taken = self.new.taken }) }
     {
-        if !self.is_collecting || (steps <= self.step_room && bytes <= self.byte_room) {
+        if !self.is_collecting {
             return Ok(());
         }
-        self.make_room(steps, bytes)
+        if steps <= self.steps.spare() && bytes <= self.bytes.spare() {
+            self.step_room = self.step_room.max(steps);
+            self.byte_room = self.byte_room.max(bytes);
+            return Ok(());
+        }
+        self.grow(steps, bytes)
     }
 
-    // Makes room for so many more steps, with so many bytes in all, where there is too little.
+    // Takes memory for so many more steps, with so many bytes in all, where there is too little. It stands apart, since it is rare.
     #[inline(never)]
-    fn make_room(&mut self, steps: usize, bytes: usize) -> Result<(), AllocError>
+    fn grow(&mut self, steps: usize, bytes: usize) -> Result<(), AllocError>
         ensures same { self.new.history ≡ self.old.history }
         ensures ok { OnOk result (HasRoom self.new steps bytes) }
         ensures room_stays { (self.old.step_room ≤ self.new.step_room) × (self.old.byte_room ≤ self.new.byte_room) }
@@ -153,8 +158,8 @@ impl UndoHistory {
         let Ok(()) = self.bytes.reserve(bytes) else {
             return Err(AllocError);
         };
-        self.step_room = self.step_room.max(steps);
-        self.byte_room = self.byte_room.max(bytes);
+        self.step_room = steps.max(self.step_room);
+        self.byte_room = bytes.max(self.byte_room);
         Ok(())
     }
 
@@ -356,7 +361,7 @@ impl UndoHistory {
         ensures steps_left { self.old.step_room ≤ self.new.step_room + 1 }
         ensures bytes_left { self.old.byte_room ≤ self.new.byte_room + length bytes.now }
     {
-        if self.past < self.steps.len() {
+        if self.steps.len() > self.past {
             return self.append_instead(later, kind, place, bytes);
         }
         self.append(later, ChangeKind::Text { kind, place }, bytes)
@@ -375,7 +380,8 @@ impl UndoHistory {
         ensures steps_left { self.old.step_room ≤ self.new.step_room + 1 }
         ensures bytes_left { self.old.byte_room ≤ self.new.byte_room + length bytes.now }
     {
-        self.append(later, ChangeKind::Text { kind, place }, bytes)
+        let change = ChangeKind::Text { kind, place };
+        self.append(later, change, bytes)
     }
 
     /// Whether a step would begin a transaction.
