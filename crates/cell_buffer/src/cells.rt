@@ -132,17 +132,31 @@ impl Cells {
         ensures err { OnErr result (self.new ≡ record self.old { spare = self.new.spare }) }
         ensures within { length self.new.cells + self.new.room < 2 ^ 63 }
     {
-        if count <= self.room {
-            let _ = self.bytes.spare(); // it says that the sum is small
+        if self.fits(count) {
+            self.room = self.room.max(count);
             return Ok(());
         }
-        self.make_room(count)
+        self.grow(count)
     }
 
-    // Makes room for `count` more bytes, and for their styles, where there is room for fewer.
+    // Whether there is memory for `count` more bytes, and for their styles where styles are kept.
+    #[inline(always)]
+    #[tactic(auto, using(crate::proofs::Stored::cells_length))]
+    fn fits(&self, count: usize) -> bool
+        ensures yes { result ≡ true → (count ≤ self.now.spare.0) × (stored self.now.keeps_styles count ≤ self.now.spare.1) }
+        ensures no { result ≡ false → self.now.room < count }
+        ensures within { length self.now.cells + self.now.spare.0 < 2 ^ 63 }
+    {
+        if self.bytes.spare() < count {
+            return false;
+        }
+        !self.keeps_styles || count <= self.styles.spare()
+    }
+
+    // Takes memory for `count` more bytes, and for their styles, where there is too little. It stands apart, since it is rare.
     #[inline(never)]
     #[tactic(auto, using(crate::proofs::Stored::cells_length))]
-    fn make_room(&mut self, count: usize) -> Result<(), AllocError>
+    fn grow(&mut self, count: usize) -> Result<(), AllocError>
         requires { self.old.room < count }
         ensures ok { OnOk result (self.new ≡ record self.old { room = max self.old.room count; spare = self.new.spare }) }
         ensures at_most { self.new.spare.0 ≤ most_room (length self.old.cells) self.old.spare.0 count }

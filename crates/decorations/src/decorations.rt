@@ -130,6 +130,10 @@ impl<P: Place> Decorations<P> {
         if insertions <= self.room {
             return Ok(());
         }
+        if self.slots.len() == 0 {
+            self.room = insertions; // there are no runs that would need any
+            return Ok(());
+        }
         self.make_room(insertions)
     }
 
@@ -211,6 +215,7 @@ impl<P: Place> Decorations<P> {
 
     /// Puts `count` bytes in before a place. Of each indicator they get 0 at both ends of the text and where it is 0 at
     /// the place, and else its value before the place. It takes the room of one insertion, and that of a fill.
+    #[inline]
     pub fn insert(&mut self, place: usize, count: usize)
         requires within { place ≤ self.old.length }
         requires fits { self.old.length + count ≤ P.GREATEST }
@@ -228,6 +233,7 @@ impl<P: Place> Decorations<P> {
     }
 
     /// Takes `count` bytes away, from a place on. It takes no room but that of a fill.
+    #[inline]
     pub fn delete(&mut self, place: usize, count: usize)
         requires { place + count ≤ self.old.length }
         ensures length { self.new.length + count ≡ self.old.length }

@@ -93,8 +93,22 @@ fn insert_into<P: Place>(slot: &mut Slot<P>, place: usize, count: usize)
     }
 }
 
-/// Puts `count` places in before `place`, into the runs of each indicator in use.
+/// Puts `count` places in before `place`, into the runs of each indicator in use. Mostly there is no slot at all.
+#[inline(always)]
 pub(crate) fn insert_into_all<P: Place>(slots: &mut Vec<Slot<P>>, place: usize, count: usize)
+    requires { (k : ℕ) → IfSome (slot_at slots.old.items k) (CanTakeIn P.GREATEST place count) }
+    ensures runs { InEach (InBoth (TookIn place count)) slots.old.items slots.new.items }
+    ensures length { length slots.new.items ≡ length slots.old.items }
+    ensures capacity { vec_capacity slots.new ≡ vec_capacity slots.old }
+{
+    if slots.len() > 0 {
+        insert_into_each(slots, place, count);
+    }
+}
+
+// The same, slot by slot.
+#[inline(never)]
+fn insert_into_each<P: Place>(slots: &mut Vec<Slot<P>>, place: usize, count: usize)
     requires { (k : ℕ) → IfSome (slot_at slots.old.items k) (CanTakeIn P.GREATEST place count) }
     ensures runs { InEach (InBoth (TookIn place count)) slots.old.items slots.new.items }
     ensures length { length slots.new.items ≡ length slots.old.items }
@@ -119,8 +133,23 @@ fn delete_from<P: Place>(slot: &mut Slot<P>, place: usize, count: usize)
     }
 }
 
-/// Takes `count` places away, from `place` on, from the runs of each indicator in use. Those that are all 0 then go.
+/// Takes `count` places away, from `place` on, from the runs of each indicator in use. Those that are all 0 then go. Mostly there
+/// is no slot at all.
+#[inline(always)]
 pub(crate) fn delete_from_all<P: Place>(slots: &mut Vec<Slot<P>>, place: usize, count: usize)
+    requires { (k : ℕ) → IfSome (slot_at slots.old.items k) (λ runs. place + count ≤ length runs.values) }
+    ensures runs { InEach (GaveAway place count) slots.old.items slots.new.items }
+    ensures length { length slots.new.items ≡ length slots.old.items }
+    ensures capacity { vec_capacity slots.new ≡ vec_capacity slots.old }
+{
+    if slots.len() > 0 {
+        delete_from_each(slots, place, count);
+    }
+}
+
+// The same, slot by slot.
+#[inline(never)]
+fn delete_from_each<P: Place>(slots: &mut Vec<Slot<P>>, place: usize, count: usize)
     requires { (k : ℕ) → IfSome (slot_at slots.old.items k) (λ runs. place + count ≤ length runs.values) }
     ensures runs { InEach (GaveAway place count) slots.old.items slots.new.items }
     ensures length { length slots.new.items ≡ length slots.old.items }

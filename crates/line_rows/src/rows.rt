@@ -109,6 +109,22 @@ impl LineRows {
         ensures state_lines { (self.old.blocks.state_lines ≤ self.new.blocks.state_lines) × (self.new.blocks.state_lines ≤ max self.old.blocks.state_lines lines) }
         ensures err { OnErr result (self.new ≡ record self.old { blocks = record self.old.blocks { state_block = self.new.blocks.state_block; state_lines = self.new.blocks.state_lines } }) }
     {
+        // The states have no less room for lines than the levels.
+        if lines <= self.levels.room() {
+            return Ok(());
+        }
+        self.make_room(lines)
+    }
+
+    // Makes room for so many fresh lines, where there is too little.
+    #[inline(never)]
+    fn make_room(&mut self, lines: usize) -> Result<(), AllocError>
+        ensures ok { OnOk result (self.new ≡ record self.old { room = record self.old.room { lines = max self.old.room.lines lines }; blocks = record self.old.blocks { level_block = self.new.blocks.level_block; state_block = self.new.blocks.state_block; state_lines = max self.old.blocks.state_lines lines } }) }
+        ensures levels_at_most { self.new.blocks.level_block ≤ most_block self.old.blocks.stored_levels self.old.blocks.level_block (max self.old.room.lines lines) self.old.room.levels }
+        ensures states_at_most { self.new.blocks.state_block ≤ most_block self.old.blocks.stored_states self.old.blocks.state_block (max self.old.blocks.state_lines lines) self.old.room.states }
+        ensures state_lines { (self.old.blocks.state_lines ≤ self.new.blocks.state_lines) × (self.new.blocks.state_lines ≤ max self.old.blocks.state_lines lines) }
+        ensures err { OnErr result (self.new ≡ record self.old { blocks = record self.old.blocks { state_block = self.new.blocks.state_block; state_lines = self.new.blocks.state_lines } }) }
+    {
         let Ok(()) = self.states.reserve(lines, 0) else {
             return Err(AllocError);
         };
@@ -171,7 +187,7 @@ impl LineRows {
 
     /// Carries the rows through edits of lines. There must be room for the fresh lines. Markers of lines that go give
     /// their room back.
-    #[inline]
+    #[inline(always)]
     pub fn carry(&mut self, edits: &[LineEdit])
         requires lines { FitLines (length self.old.rows) edits.now }
         requires fits { length self.old.rows + fresh_lines edits.now ≤ 2 ^ 62 }
@@ -184,9 +200,25 @@ impl LineRows {
         ensures marker_room { self.old.room.markers ≤ self.new.room.markers }
         ensures blocks { self.new.blocks ≡ record self.old.blocks { stored_levels = stored_after edits.now self.old.blocks.stored_levels; stored_states = stored_after edits.now self.old.blocks.stored_states; state_lines = self.old.blocks.state_lines - fresh_lines edits.now } }
     {
-        if edits.is_empty() {
-            return;
+        if !edits.is_empty() {
+            self.carry_some(edits);
         }
+    }
+
+    // Carries the rows through edits, where there are any.
+    #[inline(never)]
+    fn carry_some(&mut self, edits: &[LineEdit])
+        requires lines { FitLines (length self.old.rows) edits.now }
+        requires fits { length self.old.rows + fresh_lines edits.now ≤ 2 ^ 62 }
+        requires room { fresh_lines edits.now ≤ self.old.room.lines }
+        ensures rows { self.new.rows ≡ after_edits rows_together edits.now self.old.rows }
+        ensures next_handle { self.new.next_handle ≡ self.old.next_handle }
+        ensures line_room { self.new.room.lines + fresh_lines edits.now ≡ self.old.room.lines }
+        ensures level_room { self.new.room.levels ≡ self.old.room.levels }
+        ensures state_room { self.new.room.states ≡ self.old.room.states }
+        ensures marker_room { self.old.room.markers ≤ self.new.room.markers }
+        ensures blocks { self.new.blocks ≡ record self.old.blocks { stored_levels = stored_after edits.now self.old.blocks.stored_levels; stored_states = stored_after edits.now self.old.blocks.stored_states; state_lines = self.old.blocks.state_lines - fresh_lines edits.now } }
+    {
         carry_markers(&mut self.markers, edits);
         self.levels.carry(edits);
         self.states.carry(edits);

@@ -136,6 +136,13 @@ impl<T: Copy> LineValues<T> {
         self.lines
     }
 
+    /// Returns for how many fresh lines there is room.
+    pub(crate) fn room(&self) -> usize
+        ensures { result ≡ self.now.room }
+    {
+        self.room
+    }
+
     /// Returns the value of a line.
     pub fn get(&self, line: usize) -> T
         requires { line < length self.now.values }
@@ -176,8 +183,8 @@ impl<T: Copy> LineValues<T> {
         self.make_room(lines, reach)
     }
 
-    // Makes the room, where there is too little.
-    #[inline(never)]
+    // Makes the room, where less was asked for so far. Mostly there is memory for it.
+    #[inline]
     fn make_room(&mut self, lines: usize, reach: usize) -> Result<(), AllocError>
         ensures ok { OnOk result (self.new ≡ record self.old { room = max self.old.room lines; reach = max self.old.reach reach; block = self.new.block }) }
         ensures at_most { self.new.block ≤ most_block self.old.stored self.old.block (max self.old.room lines) (max self.old.reach reach) }

@@ -10,7 +10,7 @@ ghost use Rattle.undo_history.specs.Records.{change_of, HasItsBytes, LastIsOpen}
 use crate::joining::{belongs, find_latest_step};
 use crate::records::{
     ChangeKind, LentChange, StepKind, StepRecord, all_bytes, all_steps, bytes_before, change_at,
-    seal,
+    end_of, seal,
 };
 use crate::runs::{count_before, count_behind, is_last_of_next};
 use split_vector::SplitVector;
@@ -131,15 +131,20 @@ impl UndoHistory {
         ensures at_most { (self.new.taken.0 ≤ max (2 * self.old.taken.0) (self.old.taken.0 + steps)) × (self.new.taken.1 ≤ max (2 * self.old.taken.1) (self.old.taken.1 + bytes)) }
         ensures err { OnErr result (self.new ≡ record self.old { taken = self.new.taken }) }
     {
-        if !self.is_collecting || (steps <= self.step_room && bytes <= self.byte_room) {
+        if !self.is_collecting {
             return Ok(());
         }
-        self.make_room(steps, bytes)
+        if steps <= self.steps.spare() && bytes <= self.bytes.spare() {
+            self.step_room = self.step_room.max(steps);
+            self.byte_room = self.byte_room.max(bytes);
+            return Ok(());
+        }
+        self.grow(steps, bytes)
     }
 
-    // Makes room for so many more steps, with so many bytes in all, where there is too little.
+    // Takes memory for so many more steps, with so many bytes in all, where there is too little. It stands apart, since it is rare.
     #[inline(never)]
-    fn make_room(&mut self, steps: usize, bytes: usize) -> Result<(), AllocError>
+    fn grow(&mut self, steps: usize, bytes: usize) -> Result<(), AllocError>
         ensures same { self.new.history ≡ self.old.history }
         ensures ok { OnOk result (HasRoom self.new steps bytes) }
         ensures room_stays { (self.old.step_room ≤ self.new.step_room) × (self.old.byte_room ≤ self.new.byte_room) }
@@ -153,8 +158,8 @@ impl UndoHistory {
         let Ok(()) = self.bytes.reserve(bytes) else {
             return Err(AllocError);
         };
-        self.step_room = self.step_room.max(steps);
-        self.byte_room = self.byte_room.max(bytes);
+        self.step_room = steps.max(self.step_room);
+        self.byte_room = bytes.max(self.byte_room);
         Ok(())
     }
 
@@ -356,7 +361,27 @@ impl UndoHistory {
         ensures steps_left { self.old.step_room ≤ self.new.step_room + 1 }
         ensures bytes_left { self.old.byte_room ≤ self.new.byte_room + length bytes.now }
     {
+        if self.steps.len() > self.past {
+            return self.append_instead(later, kind, place, bytes);
+        }
         self.append(later, ChangeKind::Text { kind, place }, bytes)
+    }
+
+    // Appends a step of the text in place of what was undone. It stands apart, since it is rare: a step that is typed behind all
+    // others is appended with no call.
+    #[inline(never)]
+    fn append_instead(&mut self, later: bool, kind: StepKind, place: usize, bytes: &[u8]) -> bool
+        requires { HasRoom self.old 1 (length bytes.now) }
+        ensures history { self.new.history ≡ appended later (TextStep (step_of kind place bytes.now)) self.old.history }
+        ensures begins { result ≡ begins_transaction later (TextStep (step_of kind place bytes.now)) self.old.history }
+        ensures taken { self.new.taken ≡ self.old.taken }
+        ensures room { self.old.history.collecting ≡ true → (self.new.step_room + 1 ≡ self.old.step_room) × (self.new.byte_room + length bytes.now ≡ self.old.byte_room) }
+        ensures not_collecting { self.old.history.collecting ≡ false → self.new ≡ self.old }
+        ensures steps_left { self.old.step_room ≤ self.new.step_room + 1 }
+        ensures bytes_left { self.old.byte_room ≤ self.new.byte_room + length bytes.now }
+    {
+        let change = ChangeKind::Text { kind, place };
+        self.append(later, change, bytes)
     }
 
     /// Whether a step would begin a transaction.
@@ -396,7 +421,9 @@ impl UndoHistory {
         ensures { self.new ≡ record self.old { history = without_future self.old.history } }
     {
         self.drop_undone();
-        self.save_point = still_reachable(self.transactions, self.save_point);
+        if is_lost(self.transactions, self.save_point) {
+            self.save_point = None;
+        }
     }
 
     // Drops what was undone. Mostly there is nothing.
@@ -432,7 +459,7 @@ impl UndoHistory {
         ensures steps_left { self.new.step_room + 1 ≡ self.old.step_room }
         ensures bytes_left { self.new.byte_room + length bytes.now ≡ self.old.byte_room }
     {
-        let stored = self.bytes.len();
+        let stored = end_of(&self.bytes);
         self.bytes.insert_slice_reserved(stored, bytes);
         let step = StepRecord {
             kind,
@@ -440,7 +467,7 @@ impl UndoHistory {
             starts: !joined,
             is_sealed: false,
         };
-        let place = self.steps.len();
+        let place = end_of(&self.steps);
         self.steps.insert_reserved(place, step);
         self.past += 1;
         self.transactions = transactions_after(self.transactions, joined);
@@ -449,13 +476,15 @@ impl UndoHistory {
     }
 }
 
-// The save point, if it can still be reached from a past of `past` transactions.
-fn still_reachable(past: usize, save_point: Option<usize>) -> Option<usize>
-    ensures { result ≡ reachable past save_point }
+// Whether a save point can no longer be reached from a past of `past` transactions. Mostly it can, and then nothing is written.
+#[inline(always)]
+fn is_lost(past: usize, save_point: Option<usize>) -> bool
+    ensures lost { result ≡ true → reachable past save_point ≡ None }
+    ensures kept { result ≡ false → reachable past save_point ≡ save_point }
 {
     match save_point {
-        Some(place) if place <= past => Some(place),
-        _ => None,
+        Some(place) => place > past,
+        None => false,
     }
 }
 

@@ -1,7 +1,7 @@
 //! How a history is stored: one record a step, with marks where a transaction begins and where it is sealed, and the bytes of
 //! all steps in one block.
 
-ghost use Rattle.std.specs.Prelude.{◌≡◌, ◌≤◌, ◌<◌, ◌^◌, length, take, Some, map, slice_get};
+ghost use Rattle.std.specs.Prelude.{◌≡◌, ◌≤◌, ◌<◌, ◌+◌, ◌^◌, length, take, Some, map, slice_get};
 ghost use Rattle.undo_history.specs.Records.{last_end, bytes_end, change_of, HasItsBytes, EndsInOrder, with_sealed};
 ghost use Rattle.undo_history.specs.Reading.{changes_in};
 
@@ -71,6 +71,19 @@ pub fn all_bytes(bytes: &SplitVector<u8>) -> &[u8]
 {
     let (before, _) = bytes.halves();
     before
+}
+
+/// The place behind all items of a vector whose gap stands there. The compiler is told so, and leaves out the look whether the
+/// gap has to be moved to it.
+#[inline(always)]
+pub fn end_of<T: Copy>(items: &SplitVector<T>) -> usize
+    requires { items.now.gap ≡ length items.now.items }
+    ensures end { result ≡ length items.now.items }
+    ensures within { length items.now.items + items.now.spare < 2 ^ 63 }
+{
+    let end = items.len();
+    prove!(end == items.gap());
+    end
 }
 
 /// How many bytes the first `count` changes have.

@@ -11,7 +11,7 @@ use Rattle.undo_history.proofs.history.UndoHistory.push.Goals as goal
 pub transactions_after-self-inside-requires : goal.transactions_after-self-inside-requires
 transactions_after-self-inside-requires c =
     let i = c.self.inside in
-    omega (arith, count_within i.steps.items i.bytes.items i.past i.transactions c.self.invariant.in_order, c.self.invariant.in_order.there, c.len-place.ensures.len)
+    omega (arith, count_within i.steps.items i.bytes.items i.past i.transactions c.self.invariant.in_order, c.self.invariant.in_order.there, c.end_of-place.ensures.end)
 
 pub invariant_of-self : goal.invariant_of-self
 invariant_of-self c =
@@ -19,23 +19,23 @@ invariant_of-self c =
     let rs = i.steps.items in
     let bytes = i.bytes.items in
     let new = c.args.bytes.now in
-    let end = c.len-stored.result + length new in
-    let end_is : end ≡ length bytes + length new = omega (arith, c.len-stored.ensures.len) in
+    let end = c.end_of-stored.result + length new in
+    let end_is : end ≡ length bytes + length new = omega (arith, c.end_of-stored.ensures.end) in
     let none : reverse (transactions (reverse (drop i.past (entries_in rs bytes)))) ≡ [] = ap (λ (k : Kept). k.history.future) c.self.view_is ∙ c.requires.last in
     let whole : i.past ≡ length rs = past_is_all rs bytes i.past i.transactions c.self.invariant.in_order none in
     let open_ : c.args.joined ≡ true → LastIsOpen (transactions (reverse (take i.past (entries_in rs bytes)))) =
     λ j. subst (λ (k : Kept). LastIsOpen k.history.past) (sym c.self.view_is) (c.requires.begun j) in
     let steps_are : c.insert_reserved.new.self.items ≡ rs ++ stored_record c.args.kind c.args.joined end ∷ [] =
-    c.insert_reserved.ensures.items ∙ inserted_behind rs (stored_record c.args.kind c.args.joined end ∷ []) c.len-place.result c.len-place.ensures.len in
+    c.insert_reserved.ensures.items ∙ inserted_behind rs (stored_record c.args.kind c.args.joined end ∷ []) c.end_of-place.result c.end_of-place.ensures.end in
     let bytes_are : c.insert_slice_reserved.new.self.items ≡ bytes ++ new =
-    c.insert_slice_reserved.ensures.items ∙ inserted_behind bytes new c.len-stored.result c.len-stored.ensures.len in
+    c.insert_slice_reserved.ensures.items ∙ inserted_behind bytes new c.end_of-stored.result c.end_of-stored.ensures.end in
     let order = stored_in_order c.args.kind c.args.joined rs bytes new i.past i.transactions end c.self.invariant.in_order whole end_is open_ in
     record {
       in_order = rw (steps_are, bytes_are, c.transactions_after-self-inside.ensures) order;
       step_room = grind (arith, common_steps);
       byte_room = grind (arith, common_steps);
-      step_gap = omega (arith, c.insert_reserved.ensures.gap, c.len-place.ensures.len, ap length steps_are, length-append rs (stored_record c.args.kind c.args.joined end ∷ []));
-      byte_gap = grind (arith, c.insert_slice_reserved.ensures.gap, c.len-stored.ensures.len, ap length bytes_are, length-append bytes new, c.self.invariant.byte_gap);
+      step_gap = omega (arith, c.insert_reserved.ensures.gap, c.end_of-place.ensures.end, ap length steps_are, length-append rs (stored_record c.args.kind c.args.joined end ∷ []));
+      byte_gap = grind (arith, c.insert_slice_reserved.ensures.gap, c.end_of-stored.ensures.end, ap length bytes_are, length-append bytes new, c.self.invariant.byte_gap);
     }
 
 pub returns-clause-history : goal.returns-clause-history
@@ -44,16 +44,16 @@ returns-clause-history c =
     let rs = i.steps.items in
     let bytes = i.bytes.items in
     let new = c.args.bytes.now in
-    let end = c.len-stored.result + length new in
-    let end_is : end ≡ length bytes + length new = omega (arith, c.len-stored.ensures.len) in
+    let end = c.end_of-stored.result + length new in
+    let end_is : end ≡ length bytes + length new = omega (arith, c.end_of-stored.ensures.end) in
     let none : reverse (transactions (reverse (drop i.past (entries_in rs bytes)))) ≡ [] = ap (λ (k : Kept). k.history.future) c.self.view_is ∙ c.requires.last in
     let whole : i.past ≡ length rs = past_is_all rs bytes i.past i.transactions c.self.invariant.in_order none in
     let open_ : c.args.joined ≡ true → LastIsOpen (transactions (reverse (take i.past (entries_in rs bytes)))) =
     λ j. subst (λ (k : Kept). LastIsOpen k.history.past) (sym c.self.view_is) (c.requires.begun j) in
     let steps_are : c.insert_reserved.new.self.items ≡ rs ++ stored_record c.args.kind c.args.joined end ∷ [] =
-    c.insert_reserved.ensures.items ∙ inserted_behind rs (stored_record c.args.kind c.args.joined end ∷ []) c.len-place.result c.len-place.ensures.len in
+    c.insert_reserved.ensures.items ∙ inserted_behind rs (stored_record c.args.kind c.args.joined end ∷ []) c.end_of-place.result c.end_of-place.ensures.end in
     let bytes_are : c.insert_slice_reserved.new.self.items ≡ bytes ++ new =
-    c.insert_slice_reserved.ensures.items ∙ inserted_behind bytes new c.len-stored.result c.len-stored.ensures.len in
+    c.insert_slice_reserved.ensures.items ∙ inserted_behind bytes new c.end_of-stored.result c.end_of-stored.ensures.end in
     ap₂ (λ a b. history_of (entries_in a b) (i.past + 1) i.save_point i.depth i.is_collecting) steps_are bytes_are
     ∙ stored_view c.args.kind c.args.joined rs bytes new i.past i.transactions end i.depth i.save_point i.is_collecting c.self.invariant.in_order whole end_is open_
     ∙ ap (λ (k : Kept). history (with_change c.args.joined (change_of c.args.kind new) k.history.past) k.history.future k.history.save_point k.history.depth k.history.collecting) c.self.view_is

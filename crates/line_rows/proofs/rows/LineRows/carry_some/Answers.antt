@@ -6,7 +6,7 @@ use Rattle.ed_model.specs.Rows.{rows_together}
 use Rattle.line_rows.specs.Rows.{markers_together}
 use Rattle.line_rows.specs.Values.{first_or}
 use Rattle.line_rows.specs.Kept.{row_room, row_blocks, KeptRows}
-use Rattle.line_rows.proofs.rows.LineRows.carry.Goals as goal
+use Rattle.line_rows.proofs.rows.LineRows.carry_some.Goals as goal
 
 pub carry_markers-requires-clause-lines : goal.carry_markers-requires-clause-lines
 carry_markers-requires-clause-lines c =

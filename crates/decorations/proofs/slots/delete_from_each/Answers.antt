@@ -3,7 +3,7 @@ use Rattle.std.proofs.lemmas.List.{get_or_default}
 use Rattle.run_styles.specs.Runs.{Runs}
 use Rattle.decorations.specs.Slots.{slot_at, GaveAway}
 use Rattle.decorations.proofs.SlotLists.{slot_read, in_each, looped, done_more, same_more}
-use Rattle.decorations.proofs.slots.delete_from_all.Goals as goal
+use Rattle.decorations.proofs.slots.delete_from_each.Goals as goal
 
 pub delete_from-requires : goal.delete_from-requires
 delete_from-requires g c =

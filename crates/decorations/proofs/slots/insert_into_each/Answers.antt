@@ -2,7 +2,7 @@ use Rattle.std.proofs.Common.{◌≡◌, ℕ, ◌<◌, ◌≤◌, List, Option, 
 use Rattle.run_styles.specs.Runs.{Runs}
 use Rattle.decorations.specs.Slots.{slot_at, InBoth, TookIn, CanTakeIn}
 use Rattle.decorations.proofs.SlotLists.{slot_read, in_each, looped}
-use Rattle.decorations.proofs.slots.insert_into_all.Goals as goal
+use Rattle.decorations.proofs.slots.insert_into_each.Goals as goal
 
 pub insert_into-requires : goal.insert_into-requires
 insert_into-requires g c =
