@@ -105,6 +105,7 @@ pub(crate) fn put_in(cells: &mut Cells, lines: &mut Lines, place: usize, bytes: 
 
 /// Takes `count` bytes out from a place on, and returns what became of the lines. There must be room for the lines that a
 /// deletion needs.
+#[inline(always)]
 pub(crate) fn take_out(
     cells: &mut Cells,
     lines: &mut Lines,
