@@ -60,7 +60,9 @@ fn delete(
     change
 }
 
-/// Makes a step, and returns what became of the lines. There must be room for it.
+/// Makes a step, and returns what became of the lines. There must be room for it. It goes into its callers, so that neither
+/// the step nor what became of the lines is copied once more.
+#[inline(always)]
 pub(crate) fn make_step(
     cells: &mut Cells,
     lines: &mut Lines,

@@ -23,6 +23,7 @@ const PIECE: usize = 1 << 16;
 
 // Puts a piece in, and returns what became of the lines. There must be room for its bytes and for the lines that there are
 // with it.
+#[inline(always)]
 fn put_piece(cells: &mut Cells, lines: &mut Lines, place: usize, bytes: &[u8]) -> LineChange
     requires place { place ≤ length cells.old.cells }
     requires room { length bytes.now ≤ cells.old.room }
@@ -45,8 +46,38 @@ fn put_piece(cells: &mut Cells, lines: &mut Lines, place: usize, bytes: &[u8]) -
     lines.inserted(place, bytes.len(), near_before, near_after)
 }
 
+// The same of more bytes, a piece at a time. It stands apart, since mostly few bytes come at once.
+#[inline(never)]
+fn put_pieces(cells: &mut Cells, lines: &mut Lines, place: usize, bytes: &[u8]) -> LineChange
+    requires place { place ≤ length cells.old.cells }
+    requires room { length bytes.now ≤ cells.old.room }
+    requires fits { length cells.old.cells + cells.old.room < bound_of lines.old.is_large }
+    requires lines { IsIndexOf (bytes_of cells.old.cells) lines.old.index }
+    requires line_room { lines_for_insertion lines.old.index.types bytes.now ≤ lines.old.index.room }
+    ensures cells { cells.new.cells ≡ edited_cells (Insert place bytes.now) cells.old.cells }
+    ensures styles { cells.new.keeps_styles ≡ cells.old.keeps_styles }
+    ensures len { length cells.new.cells ≡ length cells.old.cells + length bytes.now }
+    ensures room { cells.new.room + length bytes.now ≡ cells.old.room }
+    ensures lines { HasLinesOf lines.old.index.types cells.new.cells lines.new.index }
+    ensures width { lines.new.is_large ≡ lines.old.is_large }
+    ensures line_room { lines.new.index.room + length lines.new.index.starts ≡ lines.old.index.room + length lines.old.index.starts }
+    ensures change { result ≡ change_of lines.old.index.types (Insert place bytes.now) (bytes_of cells.old.cells) }
+    ensures small { SmallLines result.old_lines × SmallLines result.new_lines }
+{
+    room_for_steps();
+    let about = lines.lines_about(place, place);
+    let mut done = 0;
+    'putting: while done < bytes.len() {
+        let end = bytes.len().min(done + PIECE);
+        put_piece(cells, lines, place + done, &bytes[done..end]);
+        done = end;
+    }
+    lines.change_since(about, place + bytes.len())
+}
+
 /// Puts bytes in at a place, and returns what became of the lines by all of them. There must be room for them and for the
 /// lines that they need.
+#[inline(always)]
 pub(crate) fn put_in(cells: &mut Cells, lines: &mut Lines, place: usize, bytes: &[u8]) -> LineChange
     requires place { place ≤ length cells.old.cells }
     requires room { length bytes.now ≤ cells.old.room }
@@ -67,18 +98,14 @@ pub(crate) fn put_in(cells: &mut Cells, lines: &mut Lines, place: usize, bytes: 
     if bytes.len() <= PIECE {
         return put_piece(cells, lines, place, bytes);
     }
-    let about = lines.lines_about(place, place);
-    let mut done = 0;
-    'putting: while done < bytes.len() {
-        let end = bytes.len().min(done + PIECE);
-        put_piece(cells, lines, place + done, &bytes[done..end]);
-        done = end;
-    }
-    lines.change_since(about, place + bytes.len())
+    // named, so that what the lines are mostly told needs no place in memory
+    let change = put_pieces(cells, lines, place, bytes);
+    change
 }
 
 /// Takes `count` bytes out from a place on, and returns what became of the lines. There must be room for the lines that a
 /// deletion needs.
+#[inline(always)]
 pub(crate) fn take_out(
     cells: &mut Cells,
     lines: &mut Lines,
@@ -106,8 +133,9 @@ pub(crate) fn take_out(
     lines.deleted(place, count, near_before, near_after)
 }
 
-/// Carries rows by what a step did to lines. There must be room for the lines that come.
-pub(crate) fn carry_rows(rows: &mut LineRows, change: &LineChange)
+// Carries rows by what a step did to lines, where it did not leave them. It stands apart, since mostly a step leaves them.
+#[inline(never)]
+fn carry_by_edits(rows: &mut LineRows, change: &LineChange)
     requires was { WasChanged rows.old change.now }
     requires small { SmallLines change.now.old_lines × SmallLines change.now.new_lines }
     ensures carried { (types : LineEndTypes) (step : Step) (text : List ℕ) → IsChange rows.old change.now types step text → AreCarried rows.old rows.new types step text }
@@ -116,4 +144,20 @@ pub(crate) fn carry_rows(rows: &mut LineRows, change: &LineChange)
     rows_that_meet();
     rows_match_lines();
     rows.carry(change.edits().as_slice());
+}
+
+/// Carries rows by what a step did to lines. There must be room for the lines that come.
+#[inline(always)]
+pub(crate) fn carry_rows(rows: &mut LineRows, change: &LineChange)
+    requires was { WasChanged rows.old change.now }
+    requires small { SmallLines change.now.old_lines × SmallLines change.now.new_lines }
+    ensures carried { (types : LineEndTypes) (step : Step) (text : List ℕ) → IsChange rows.old change.now types step text → AreCarried rows.old rows.new types step text }
+{
+    edits_of_steps();
+    rows_that_meet();
+    rows_match_lines();
+    if change.is_quiet() {
+        return;
+    }
+    carry_by_edits(rows, change);
 }

@@ -147,6 +147,7 @@ impl Lines {
     }
 
     /// As `LineIndex::inserted` of line_index.
+    #[inline(always)]
     pub(crate) fn inserted(
         &mut self,
         place: usize,
@@ -170,6 +171,7 @@ impl Lines {
     }
 
     /// As `LineIndex::deleted` of line_index.
+    #[inline(always)]
     pub(crate) fn deleted(
         &mut self,
         place: usize,

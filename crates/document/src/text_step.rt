@@ -15,6 +15,7 @@ pub enum TextStep<'a> {
 
 impl TextStep<'_> {
     // Where it is made.
+    #[inline(always)]
     pub(crate) fn place(self) -> usize
         ensures { (text : List ℕ) → result ≡ place_of (step_in self.entry text) }
     {

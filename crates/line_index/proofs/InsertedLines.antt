@@ -1,5 +1,5 @@
 -- What an insertion does to line starts, call by call.
-use Rattle.std.proofs.Common.{◌≡◌, ℕ, ◌+◌, ◌-◌, ◌<◌, ◌≤◌, ◌==◌, Bool, min, max, List, ◌++◌, length, take, drop, map, refl, ap, ◌∙◌, arith}
+use Rattle.std.proofs.Common.{◌≡◌, ℕ, ◌+◌, ◌-◌, ◌<◌, ◌≤◌, min, max, List, ◌++◌, length, take, drop, map, refl, ap, ◌∙◌, arith}
 use Rattle.ed_model.specs.declared.plan.LineEndTypes.{LineEndTypes}
 use Rattle.ed_model.specs.Lines.{line_starts, line_of, line_count}
 use Rattle.ed_model.specs.NeighbourLaws.{count_before}
@@ -17,10 +17,10 @@ first_is starts p q r e f = ap (λ n. n + 1) (e ∙ ap (line_of starts) f)
 
 -- what is known of a step, as a record
 pub change_is :
-    (place old_end new_end before : ℕ) (old new : List ℕ) (old_lines new_lines : NearLines) (end : ℕ) (emptied : Bool) → before ≡ count_before place old
-    → old_lines ≡ near_lines old old_end → new_lines ≡ near_lines new new_end → emptied ≡ (end == 0)
-    → (let change : LineChange = record { before = before; old_lines = old_lines; new_lines = new_lines; emptied = emptied } in change) ≡ change_about place old_end new_end old new end
-change_is place old_end new_end before old new old_lines new_lines end emptied a b c d = rw (a, b, c, d) refl
+    (place old_end new_end before : ℕ) (old new : List ℕ) (old_lines new_lines : NearLines) (end long : ℕ) → before ≡ count_before place old
+    → old_lines ≡ near_lines old old_end → new_lines ≡ near_lines new new_end → long ≡ end
+    → (let change : LineChange = record { before = before; old_lines = old_lines; new_lines = new_lines; length = long } in change) ≡ change_about place old_end new_end old new end
+change_is place old_end new_end before old new old_lines new_lines end long a b c d = rw (a, b, c, d) refl
 
 module _ (types : LineEndTypes) (place count end room : ℕ) (text starts : List ℕ) (w : Insertion place count text (index types starts end room))
     (i j : ℕ) (a : i ≡ line_of starts (place - 1) + 1) (b : j ≡ line_of starts (last_touched types place) + 1) where

@@ -66,7 +66,7 @@ settled_rows t j moved old new c rows moves about h =
     ∙ settling_carries c (length old) (length new) about t j rows h
 
 unless_empty :
-    {R : Type 0} (t : List R → R) → JoinsRows t → (types : LineEndTypes) (step : Step) (text after : List ℕ) (c : LineChange) (rows : List R) → c.emptied ≡ (length after == 0)
+    {R : Type 0} (t : List R → R) → JoinsRows t → (types : LineEndTypes) (step : Step) (text after : List ℕ) (c : LineChange) (rows : List R) → c.length ≡ length after
     → MovesLines (moved_start step) (line_starts types text) (line_starts types after) c → AreAbout c (line_count types text) (line_count types after) → length rows ≡ line_count types text
     → carried_unless_empty t types step text after rows ≡ after_edits t (edits_of c) rows
 unless_empty t j types step text [] c rows e moves about h = rw e refl
@@ -86,7 +86,7 @@ either P false xs a b = b
 pub step_edits_fit : EditsFitLines
 step_edits_fit types step text h =
     let c : LineChange = change_of types step text in
-    either (FitLines (line_count types text)) c.emptied (settling c.before c.old_lines c.new_lines) (tt, tt)
+    either (FitLines (line_count types text)) (c.length == 0) (settling c.before c.old_lines c.new_lines) (tt, tt)
     (settling_fits c (line_count types text) (line_count types (edited step text)) (step_moves types step text h).about)
 
 few_settled : (types : LineEndTypes) (step : Step) (text : List ℕ) → end_of step ≤ length text → let c : LineChange = change_of types step text in fresh_lines (settling c.before c.old_lines c.new_lines) ≤ lines_for_step types step
@@ -105,4 +105,4 @@ some_for_step types (Delete p bytes) = omega arith
 pub step_edits_few : EditsBringFewLines
 step_edits_few types step text h =
     let c : LineChange = change_of types step text in
-    either (λ edits. fresh_lines edits ≤ lines_for_step types step) c.emptied (settling c.before c.old_lines c.new_lines) (omega (arith, some_for_step types step)) (few_settled types step text h)
+    either (λ edits. fresh_lines edits ≤ lines_for_step types step) (c.length == 0) (settling c.before c.old_lines c.new_lines) (omega (arith, some_for_step types step)) (few_settled types step text h)

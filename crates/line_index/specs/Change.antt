@@ -1,5 +1,5 @@
 -- What a step does to lines: which new line each old one comes to.
-use Rattle.std.specs.Prelude.{◌≡◌, ℕ, ◌+◌, ◌-◌, ◌<◌, ◌==◌, nat_lt, nat_le, if◌then◌else◌, List, length, slice_index}
+use Rattle.std.specs.Prelude.{◌≡◌, ℕ, ◌+◌, ◌-◌, ◌<◌, nat_lt, nat_le, if◌then◌else◌, List, length, slice_index}
 use Rattle.ed_model.specs.declared.plan.LineEndTypes.{LineEndTypes}
 use Rattle.ed_model.specs.declared.plan.LineEndTypes.TheVariants.{Default, Unicode}
 use Rattle.ed_model.specs.Lines.{line_of}
@@ -25,7 +25,7 @@ lines_about place end starts = record { before = count_before place starts; old_
 -- what the step did to lines, told by those and by the new ones at the end of what it put in; the text is now so long
 abbrev pub change_since : LinesAbout → ℕ → List ℕ → ℕ → LineChange
 change_since about new_end starts length =
-    record { before = about.before; old_lines = about.old_lines; new_lines = near_lines starts new_end; emptied = length == 0 }
+    record { before = about.before; old_lines = about.old_lines; new_lines = near_lines starts new_end; length = length }
 
 -- what a step at `place` did, which put text that ends at `new_end` in the place of what ended at `old_end`
 abbrev pub change_about : ℕ → ℕ → ℕ → List ℕ → List ℕ → ℕ → LineChange

@@ -1,5 +1,5 @@
 -- What a step does to lines, as edits: which old lines settle on which new ones.
-use Rattle.std.specs.Prelude.{◌≡◌, ℕ, ◌+◌, ◌-◌, ◌^◌, ◌<◌, ◌≤◌, ◌==◌, nat_lt, if◌then◌else◌, List, [], ◌∷◌, ◌++◌, length}
+use Rattle.std.specs.Prelude.{◌≡◌, ℕ, ◌+◌, ◌-◌, ◌^◌, ◌<◌, ◌≤◌, ◌==◌, ◌&&◌, ◌||◌, not, Bool, nat_lt, if◌then◌else◌, List, [], ◌∷◌, ◌++◌, length}
 use Rattle.ed_model.specs.declared.plan.LineEndTypes.{LineEndTypes}
 use Rattle.ed_model.specs.Lines.{line_starts, line_count}
 use Rattle.ed_model.specs.Steps.{Step, place_of, edited}
@@ -44,7 +44,23 @@ settling before old new =
 
 -- what a step does to lines, as edits, one after the other
 abbrev pub edits_of : LineChange → List LineEdit
-edits_of change = if change.emptied then Restart ∷ [] else settling change.before change.old_lines change.new_lines
+edits_of change = if change.length == 0 then Restart ∷ [] else settling change.before change.old_lines change.new_lines
+
+-- it is the line, or the one behind it
+abbrev pub follows : ℕ → ℕ → Bool
+follows line other = other == line || other == line + 1
+
+abbrev pub are_same_lines : NearLines → NearLines → Bool
+are_same_lines old new = old.at == new.at && old.one_behind == new.one_behind && old.two_behind == new.two_behind
+
+-- The lines about the step keep their numbers, and each is the one before it, or follows it: no line comes, and none goes.
+abbrev pub leaves_lines : LineChange → Bool
+leaves_lines change =
+    are_same_lines change.old_lines change.new_lines
+    && not (change.length == 0)
+    && follows change.old_lines.at change.before
+    && follows change.old_lines.at change.old_lines.one_behind
+    && follows change.old_lines.one_behind change.old_lines.two_behind
 
 -- line numbers of an index, to which some can be added
 abbrev pub SmallLines : NearLines → Type 0

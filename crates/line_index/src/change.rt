@@ -35,8 +35,8 @@ pub struct LineChange {
     pub old_lines: NearLines,
     /// The new lines at the end of what the step put in, which for a deletion is its place.
     pub new_lines: NearLines,
-    /// Whether no text is left. What was kept of lines is then gone, and the one line is fresh.
-    pub emptied: bool,
+    /// How long the text is now, in bytes. Where none is left, what was kept of lines is gone, and the one line is fresh.
+    pub length: usize,
 }
 
 impl LineChange {

@@ -1,7 +1,7 @@
 //! What a step does to lines, as edits: a short list, for which no memory is taken.
 
 ghost use Rattle.std.specs.Prelude.{◌≡◌, ◌+◌, ◌-◌, ◌^◌, ◌≤◌, ◌<◌, ◌∷◌, ◌++◌, [], true, length};
-ghost use Rattle.line_index.specs.StepEdits.{SmallLines, came, edits_of, joined, last_at, last_one_behind, settled};
+ghost use Rattle.line_index.specs.StepEdits.{SmallLines, came, edits_of, follows, joined, leaves_lines, last_at, last_one_behind, settled};
 
 use crate::change::{LineChange, NearLines};
 use crate::edit::LineEdit;
@@ -150,19 +150,24 @@ fn last_line_one_behind(old: &NearLines, new: &NearLines) -> usize
 }
 
 // Whether it is the line, or the one behind it.
+#[inline(always)]
 fn is_next(line: usize, other: usize) -> bool
     requires { line < 2 ^ 63 }
-    ensures { result ≡ true → (line ≤ other) × (other ≤ line + 1) }
+    ensures next { result ≡ follows line other }
+    ensures near { result ≡ true → (line ≤ other) × (other ≤ line + 1) }
 {
     other == line || other == line + 1
 }
 
 impl LineChange {
-    // Whether the lines about the step are as they were, with the same neighbours: there is then no edit. It is told by a few
-    // comparisons, and true of an ordinary step inside a line.
-    fn is_quiet(&self) -> bool
+    /// Whether the step left the lines as they were: those about it have their old numbers, and each of them is the one
+    /// before it, or follows it. There is then no edit. It is told by a few comparisons, and true of an ordinary step
+    /// inside a line.
+    #[inline(always)]
+    pub fn is_quiet(&self) -> bool
         requires { SmallLines self.now.old_lines }
-        ensures { result ≡ true → edits_of self.now ≡ [] }
+        ensures quiet { result ≡ leaves_lines self.now }
+        ensures none { result ≡ true → edits_of self.now ≡ [] }
     {
         let old = &self.old_lines;
         let new = &self.new_lines;
@@ -172,7 +177,7 @@ impl LineChange {
         {
             return false;
         }
-        !self.emptied
+        self.length != 0
             && is_next(old.at, self.before)
             && is_next(old.at, old.one_behind)
             && is_next(old.one_behind, old.two_behind)
@@ -200,7 +205,7 @@ impl LineChange {
         ensures { result ≡ edits_of self.now }
     {
         let mut edits = FewEdits::none();
-        if self.emptied {
+        if self.length == 0 {
             edits.push(LineEdit::Restart);
             return edits;
         }

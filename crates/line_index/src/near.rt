@@ -5,6 +5,7 @@ ghost use Rattle.line_index.specs.Index.{bytes_near};
 
 /// Of the halves of a text, lends what a step reads that put `count` bytes in at `place`, or for a count of 0 one that
 /// deleted some there: those bytes and up to three on each side, in two halves.
+#[inline(always)]
 pub fn near_step<'a>(
     before: &'a [u8],
     after: &'a [u8],

@@ -189,8 +189,9 @@ pub(crate) fn lines_near<P: Place>(
     }
 }
 
-// The line of the byte in front of a step, and the lines near the end of what it takes away, wherever they are. It stands
-// apart, since mostly they are near the last step's.
+// The line of the byte in front of a step, and the lines near the end of what it takes away, wherever they are. The line
+// before the likely one is tried first: undo goes backwards through a text. It stands apart, since mostly they are those
+// of the last step, or behind them.
 #[inline(never)]
 fn lines_anywhere<P: Place>(
     starts: &Partitioning<P>,
@@ -198,11 +199,17 @@ fn lines_anywhere<P: Place>(
     end: usize,
     likely: usize,
 ) -> (usize, NearLines)
+    requires { front ≤ end }
     ensures line { result.0 ≡ line_of starts.now.starts front }
     ensures at { result.0 < length starts.now.starts }
     ensures lines { result.1 ≡ near_lines starts.now.starts end }
     ensures within { result.1.two_behind < length starts.now.starts }
 {
+    let _ = starts.count(); // it says that the starts rise
+    let before = likely.saturating_sub(1);
+    if let Some(lines) = few_lines(starts, front, end, end.saturating_add(2), before) {
+        return (before, lines);
+    }
     let line = likely_line(starts, front, likely);
     (line, lines_near(starts, end, line))
 }
@@ -233,7 +240,9 @@ pub(crate) fn lines_at_step<P: Place>(
     if let Some(lines) = few_lines(starts, front, end, last, next) {
         return (next, lines);
     }
-    lines_anywhere(starts, front, end, likely)
+    // taken apart, so that the lines found above need no place in memory
+    let (line, lines) = lines_anywhere(starts, front, end, likely);
+    (line, lines)
 }
 
 // The lines near a step's end, after it, where there were so many lines, of which so many starts were taken away. They stay,
@@ -262,7 +271,9 @@ pub(crate) fn lines_after_step<P: Place>(
     if let Some(lines) = few_lines(starts, end, end, end.saturating_add(2), likely) {
         return lines;
     }
-    lines_near(starts, end, likely)
+    // named, so that the lines told above need no place in memory
+    let lines = lines_near(starts, end, likely);
+    lines
 }
 
 // Takes the starts of the lines from `first` up to `last` away.

@@ -38,7 +38,8 @@ fn last_near(types: LineEndTypes, lines: &NearLines) -> usize
 }
 
 // Puts `count` bytes into the text at `place`, and the line starts about them in the place of those that were there. The
-// halves are those of the bytes near them.
+// halves are those of the bytes near them. It goes into its caller, so that what became of the lines is not handed on.
+#[inline(always)]
 fn put_in<P: Place>(
     starts: &mut Partitioning<P>,
     types: LineEndTypes,
@@ -78,12 +79,13 @@ fn put_in<P: Place>(
         before: about.before,
         old_lines,
         new_lines,
-        emptied: starts.length() == 0,
+        length: long,
     }
 }
 
 // Takes `count` bytes out of the text from `place` on, and puts the line starts about them in the place of those that
-// were there. The halves are those of the bytes near the place.
+// were there. The halves are those of the bytes near the place. It goes into its caller as `put_in` does.
+#[inline(always)]
 fn take_out<P: Place>(
     starts: &mut Partitioning<P>,
     types: LineEndTypes,
@@ -122,7 +124,7 @@ fn take_out<P: Place>(
         before: about.before,
         old_lines,
         new_lines,
-        emptied: starts.length() == 0,
+        length: long,
     }
 }
 
@@ -131,6 +133,7 @@ impl<P: Place> LineIndex<P> {
     /// `before` and `after` are the halves of those bytes and up to three on each side, which are all that may be read:
     /// the text from three bytes in front of the place to three behind what came. There must be room for the new lines,
     /// and the text must be shorter than 2^63 bytes.
+    #[inline(always)]
     pub fn inserted(
         &mut self,
         place: usize,
@@ -155,6 +158,7 @@ impl<P: Place> LineIndex<P> {
     /// Brings the index up to date after `count` bytes were deleted from `place` on, and returns what became of the
     /// lines. `before` and `after` are the halves of the up to six bytes about the place, which are all that may be read.
     /// A deletion may join two parts of a line end of Unicode, so there must be room for the lines that a deletion needs.
+    #[inline(always)]
     pub fn deleted(&mut self, place: usize, count: usize, before: &[u8], after: &[u8]) -> LineChange
         requires was { WasDeleted place count (before.now ++ after.now) self.old }
         requires short { self.old.length < 2 ^ 63 }

@@ -35,7 +35,7 @@ impl<P: Place> LineIndex<P> {
             before: about.before,
             old_lines: about.old_lines,
             new_lines: lines_near(&self.starts, end, about.before),
-            emptied: self.starts.length() == 0,
+            length: self.starts.length(),
         }
     }
 }

@@ -1,5 +1,5 @@
 -- How many lines there are after an edit, and how many come by it.
-use Rattle.std.proofs.Common.{◌≡◌, ◌≤◌, ◌+◌, ◌-◌, ℕ, List, length, refl, arith}
+use Rattle.std.proofs.Common.{◌≡◌, ◌≤◌, ◌+◌, ℕ, List, length, refl, arith}
 use Rattle.std.proofs.lemmas.List.{length-append, length-take, length-drop, length-replicate}
 use Rattle.line_index.specs.declared.edit.LineEdit.{LineEdit}
 use Rattle.line_index.specs.declared.edit.LineEdit.TheVariants.{Come, Join, Restart}

@@ -1,4 +1,4 @@
-use Rattle.std.proofs.Common.{◌≡◌, ℕ, ◌+◌, ◌++◌, ◌==◌, List, ap, min, length, take, drop, ◌∙◌, arith, length-append}
+use Rattle.std.proofs.Common.{◌≡◌, ℕ, ◌+◌, ◌++◌, List, ap, min, length, take, drop, ◌∙◌, arith, length-append}
 use Rattle.line_index.specs.Index.{index, last_touched, starts_near, starts_within}
 use Rattle.line_index.proofs.NearBytes.{found_near, near_reaches}
 use Rattle.line_index.proofs.StepLists.{deletion_is, shorter}
@@ -65,8 +65,8 @@ returns-clause-room g c =
 
 pub returns-clause-change : goal.returns-clause-change
 returns-clause-change g c =
-    change_is c.args.place (c.args.place + c.args.count) c.args.place c.lines_before.result c.args.starts.now.starts c.add_starts.new.starts.starts c.lines_at_step-line.result.1 c.lines_after_step-new_lines.result c.add_starts.new.starts.length (c.length-2.result == 0)
-    c.lines_before.ensures c.lines_at_step-line.ensures.lines c.lines_after_step-new_lines.ensures.lines (ap (λ n. n == 0) c.length-2.ensures.length)
+    change_is c.args.place (c.args.place + c.args.count) c.args.place c.lines_before.result c.args.starts.now.starts c.add_starts.new.starts.starts c.lines_at_step-line.result.1 c.lines_after_step-new_lines.result c.add_starts.new.starts.length c.length-long.result
+    c.lines_before.ensures c.lines_at_step-line.ensures.lines c.lines_after_step-new_lines.ensures.lines (omega (arith, c.length-long.ensures.length, c.add_starts.ensures.length))
 
 pub returns-clause-moves : goal.returns-clause-moves
 returns-clause-moves g c =
@@ -76,10 +76,10 @@ returns-clause-moves g c =
     found_near c.args.types c.args.place 0 (c.args.before.now ++ c.args.after.now) (take c.args.place c.requires.was.old ++ drop (c.args.place + c.args.count) c.requires.was.old) c.requires.was.is.reads c.saturating_sub-near.result c.max.result c.look_to-to.result c.saturating_sub-near.ensures c.max.ensures (omega (arith, to, touched_near c.args.types c.args.place)) in
     let added = c.add_starts.ensures.starts ∙ ap (λ (xs : List ℕ). take (c.lines_at_step-line.result.0 + 1) c.delete_text.new.self.starts ++ xs ++ drop (c.lines_at_step-line.result.0 + 1) c.delete_text.new.self.starts) found in
     moves_out c.args.types c.args.place c.args.count c.args.starts.now.length c.args.starts.now.room (take c.args.place c.requires.was.old ++ drop (c.args.place + c.args.count) c.requires.was.old) c.args.starts.now.starts (deletion_is c.args.place c.args.count (c.args.before.now ++ c.args.after.now) c.requires.was.old (index c.args.types c.args.starts.now.starts c.args.starts.now.length c.args.starts.now.room) c.requires.was.is) c.add_starts.new.starts.starts c.add_starts.new.starts.length
-    record { before = c.lines_before.result; old_lines = c.lines_at_step-line.result.1; new_lines = c.lines_after_step-new_lines.result; emptied = c.length-2.result == 0 }
+    record { before = c.lines_before.result; old_lines = c.lines_at_step-line.result.1; new_lines = c.lines_after_step-new_lines.result; length = c.length-long.result }
     (starts_out c.args.types c.args.place c.args.count c.args.starts.now.length c.args.starts.now.room (take c.args.place c.requires.was.old ++ drop (c.args.place + c.args.count) c.requires.was.old) c.args.starts.now.starts (deletion_is c.args.place c.args.count (c.args.before.now ++ c.args.after.now) c.requires.was.old (index c.args.types c.args.starts.now.starts c.args.starts.now.length c.args.starts.now.room) c.requires.was.is) (c.lines_at_step-line.result.0 + 1) (c.last_near-behind.result + 1) (first_is c.args.starts.now.starts c.args.place c.saturating_sub.result c.lines_at_step-line.result.0 c.lines_at_step-line.ensures.line c.saturating_sub.ensures) (ap (λ n. n + 1) c.last_near-behind.ensures ∙ last_line_is c.args.types c.args.starts.now.starts (c.args.place + c.args.count) c.lines_at_step-line.result.1 c.lines_at_step-line.ensures.lines) c.remove_starts.new.starts.starts c.delete_text.new.self.starts c.remove_starts.ensures.starts c.delete_text.ensures.starts c.max.result c.look_to-to.result c.max.ensures to c.add_starts.new.starts.starts added)
-    (change_is c.args.place (c.args.place + c.args.count) c.args.place c.lines_before.result c.args.starts.now.starts c.add_starts.new.starts.starts c.lines_at_step-line.result.1 c.lines_after_step-new_lines.result c.add_starts.new.starts.length (c.length-2.result == 0)
-    c.lines_before.ensures c.lines_at_step-line.ensures.lines c.lines_after_step-new_lines.ensures.lines (ap (λ n. n == 0) c.length-2.ensures.length))
+    (change_is c.args.place (c.args.place + c.args.count) c.args.place c.lines_before.result c.args.starts.now.starts c.add_starts.new.starts.starts c.lines_at_step-line.result.1 c.lines_after_step-new_lines.result c.add_starts.new.starts.length c.length-long.result
+    c.lines_before.ensures c.lines_at_step-line.ensures.lines c.lines_after_step-new_lines.ensures.lines (omega (arith, c.length-long.ensures.length, c.add_starts.ensures.length)))
 
 pub lines_before-requires : goal.lines_before-requires
 lines_before-requires g c =

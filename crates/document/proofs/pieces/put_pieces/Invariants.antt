@@ -1,7 +1,7 @@
 use Rattle.std.proofs.Common.{◌≡◌, ◌≤◌, ◌+◌, ◌-◌, length, take}
 use Rattle.ed_model.specs.Steps.{Insert, edited_cells}
 use Rattle.document.specs.Parts.{HasLinesOf}
-use Rattle.document.proofs.pieces.put_in.Given as goal
+use Rattle.document.proofs.pieces.put_pieces.Given as goal
 
 abbrev pub invariant-putting : goal.invariant-putting
 invariant-putting l =
