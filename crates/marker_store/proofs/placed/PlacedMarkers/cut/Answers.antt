@@ -16,13 +16,13 @@ halving-preserved g c =
           rw w.low-is (
             omega arith,
             before_next c.args.line c.line_at.result (h.low + half) es (omega arith) (omega (arith, w.if-line_at-line.true)) c.line_at.ensures.before,
-            rw q h.invariant.2
+            rw q h.invariant.2,
           )
       | else-line_at-line w ↦
           rw w.low-is (
             omega arith,
             h.invariant.1,
-            from_found c.args.line c.line_at.result (h.low + half - 1) (h.low + (h.width - half)) es (omega (arith, w.if-line_at-line.false)) c.line_at.ensures.behind (omega arith)
+            from_found c.args.line c.line_at.result (h.low + half - 1) (h.low + (h.width - half)) es (omega (arith, w.if-line_at-line.false)) c.line_at.ensures.behind (omega arith),
           )
     ]
 
