@@ -155,6 +155,12 @@ fn look_twos_up(rt: &impl Abort, table: &Partitioning<u32>) {
     }
 }
 
+fn move_step(rt: &impl Abort, table: &mut Partitioning<u32>, index: usize) {
+    assert!(rt; index < table.count() && table.length() <= u32::MAX as usize);
+    table.insert_text(index, 0);
+    assert_eq!(rt; table.step_at(), index);
+}
+
 // Once all starts are kept as they are, once most as their distances to the end, and once there are many.
 fn look_up_three_times(rt: &impl Abort, table: &mut Partitioning<u32>) {
     table.reserve(MANY_STARTS).expect(rt, "memory");
@@ -162,8 +168,7 @@ fn look_up_three_times(rt: &impl Abort, table: &mut Partitioning<u32>) {
     table.insert_text(0, 2 * MANY_STARTS);
     cut_in_twos(rt, table, FEW_STARTS);
     look_twos_up(rt, table);
-    table.insert_text(40_000, 0);
-    assert_eq!(rt; table.step_at(), 40_000);
+    move_step(rt, table, 40_000);
     look_twos_up(rt, table);
     cut_in_twos(rt, table, MANY_STARTS);
     look_twos_up(rt, table);
