@@ -73,17 +73,16 @@ pub fn all_bytes(bytes: &SplitVector<u8>) -> &[u8]
     before
 }
 
-/// The place behind all items of a vector whose gap stands there. The compiler is told so, and leaves out the look whether the
-/// gap has to be moved to it.
+/// The place behind all items of a vector whose gap stands there. It is read as the gap's, so that what is put in there is put in
+/// with no look whether the gap has to move.
 #[inline(always)]
 pub fn end_of<T: Copy>(items: &SplitVector<T>) -> usize
     requires { items.now.gap ≡ length items.now.items }
     ensures end { result ≡ length items.now.items }
     ensures within { length items.now.items + items.now.spare < 2 ^ 63 }
 {
-    let end = items.len();
-    prove!(end == items.gap());
-    end
+    let _ = items.len(); // it says that the sum is small
+    items.gap()
 }
 
 /// How many bytes the first `count` changes have.
