@@ -16,7 +16,8 @@ use cell_buffer::Cells;
 use line_index::LineChange;
 use line_rows::LineRows;
 
-// Puts bytes in.
+// Puts bytes in. It goes into its caller, and so does `delete`, so that what became of the lines is written once.
+#[inline(always)]
 fn insert(
     cells: &mut Cells,
     lines: &mut Lines,
@@ -39,6 +40,7 @@ fn insert(
 }
 
 // Takes bytes out.
+#[inline(always)]
 fn delete(
     cells: &mut Cells,
     lines: &mut Lines,

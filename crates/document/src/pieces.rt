@@ -133,12 +133,13 @@ pub(crate) fn take_out(
     lines.deleted(place, count, near_before, near_after)
 }
 
-// Carries rows by what a step did to lines, where it did not leave them. It stands apart, since mostly a step leaves them.
+// Carries rows by what a step did to lines, where it did not leave them. It stands apart, since mostly a step leaves them,
+// and takes a copy, so that such a step needs no place in memory for what became of the lines.
 #[inline(never)]
-fn carry_by_edits(rows: &mut LineRows, change: &LineChange)
-    requires was { WasChanged rows.old change.now }
-    requires small { SmallLines change.now.old_lines × SmallLines change.now.new_lines }
-    ensures carried { (types : LineEndTypes) (step : Step) (text : List ℕ) → IsChange rows.old change.now types step text → AreCarried rows.old rows.new types step text }
+fn carry_by_edits(rows: &mut LineRows, change: LineChange)
+    requires was { WasChanged rows.old change }
+    requires small { SmallLines change.old_lines × SmallLines change.new_lines }
+    ensures carried { (types : LineEndTypes) (step : Step) (text : List ℕ) → IsChange rows.old change types step text → AreCarried rows.old rows.new types step text }
 {
     edits_of_steps();
     rows_that_meet();
@@ -159,5 +160,5 @@ pub(crate) fn carry_rows(rows: &mut LineRows, change: &LineChange)
     if change.is_quiet() {
         return;
     }
-    carry_by_edits(rows, change);
+    carry_by_edits(rows, *change);
 }

@@ -74,6 +74,7 @@ impl Document {
 
     /// Makes a step of the text. The cells, the line starts, the rows, the indicators and how far it is styled go with it. Returns
     /// what became of the lines. The history is left alone. There must be room for all but the history; what goes out of the text leaves its room.
+    #[inline(always)]
     pub fn step(&mut self, step: TextStep) -> LineChange
         requires fits { IsStepOn step (length self.old.document.cells) }
         requires room { HasTextRoom self.old (need_of self.old.document.line_end_types step) }

@@ -194,15 +194,16 @@ impl LineChange {
             return LineEdits { few: None };
         }
         LineEdits {
-            few: Some(self.edits_about()),
+            few: Some((*self).edits_about()),
         }
     }
 
-    // The same of lines that are not as they were. It stands apart, so that a quiet step makes ready only what it returns.
+    // The same of lines that are not as they were. It stands apart, so that a quiet step makes ready only what it returns,
+    // and takes a copy, so that a quiet step needs no place in memory for what became of the lines.
     #[inline(never)]
-    fn edits_about(&self) -> FewEdits
-        requires { SmallLines self.now.old_lines × SmallLines self.now.new_lines }
-        ensures { result ≡ edits_of self.now }
+    fn edits_about(self) -> FewEdits
+        requires { SmallLines self.old_lines × SmallLines self.new_lines }
+        ensures { result ≡ edits_of self }
     {
         let mut edits = FewEdits::none();
         if self.length == 0 {

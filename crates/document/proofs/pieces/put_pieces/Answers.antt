@@ -8,8 +8,8 @@ use Rattle.document.proofs.LineSteps.{change_of_step}
 use Rattle.document.proofs.PieceLemmas.{piece_behind, piece_fits}
 use Rattle.document.proofs.pieces.put_pieces.Goals as goal
 
-pub put_piece-requires-in-putting-clause-line_room : goal.put_piece-requires-in-putting-clause-line_room
-put_piece-requires-in-putting-clause-line_room c =
+pub put_piece-requires-clause-line_room : goal.put_piece-requires-clause-line_room
+put_piece-requires-clause-line_room c =
     let inv = c.putting.invariant in
     let text = bytes_of (edited_cells (Insert (c.args.place + c.putting.done) (slice_range c.args.bytes.now c.putting.done c.min-end.result)) c.putting.cells.cells) in
     let fits = piece_fits c.args.lines.now.index.types c.args.cells.now.cells c.putting.cells.cells c.args.lines.now.index c.putting.lines.index c.args.place c.putting.done c.min-end.result c.args.bytes.now c.room_for_steps.ensures.insertion c.room_for_steps.ensures.first
@@ -19,7 +19,7 @@ put_piece-requires-in-putting-clause-line_room c =
 pub putting-preserved : goal.putting-preserved
 putting-preserved c =
     let inv = c.putting.invariant in
-    let put = c.put_piece-in-putting.ensures in
+    let put = c.put_piece.ensures in
     record {
       within = omega arith;
       cells = put.cells ∙ piece_behind c.args.cells.now.cells c.putting.cells.cells c.args.place c.putting.done c.min-end.result c.args.bytes.now c.requires.place (omega arith) (omega arith) inv.cells;
