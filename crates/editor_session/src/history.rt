@@ -31,7 +31,7 @@ use ed_view::View;
 use id_table::IdTable;
 use message_requests::SessionState;
 use notify::NoteList;
-use scene::{caret_after, perform_history};
+use scene::perform_history;
 use std::alloc::AllocError;
 
 /// Performs undo or redo in the document of an id, and returns where that leaves the caret, if it makes a step of the text.
@@ -55,9 +55,7 @@ fn go_in(
     let Some(document) = documents.get_mut(document) else {
         unreachable!()
     };
-    let place = caret_after(document, direction);
-    perform_history(document, views, notes, direction);
-    place
+    perform_history(document, views, notes, direction)
 }
 
 /// The same, after which the caret of the view of an id stands there.
@@ -117,9 +115,7 @@ fn go_with_room(
     let Ok(()) = reserve(document, need.document) else {
         return Err(AllocError);
     };
-    let place = caret_after(document, direction);
-    perform_history(document, views, notes, direction);
-    Ok(place)
+    Ok(perform_history(document, views, notes, direction))
 }
 
 /// The same in the document of an id, which is looked up once for all of it.
