@@ -62,6 +62,7 @@ fn inverse(kind: ChangeKind) -> ChangeKind
 }
 
 // The change that is performed at `index`, its bytes lent from the history.
+#[inline(always)]
 fn change_at(history: &UndoHistory, direction: Direction, index: usize) -> LentChange
     requires there { index < length (changes_of direction history.now.history) }
     ensures change { slice_get (changes_of direction history.now.history) index ≡ Some (change_of result.kind result.bytes.now) }

@@ -21,7 +21,6 @@ ghost use Rattle.editor_session.specs.Tasks.{IsTask};
 ghost use Rattle.editor_session.specs.Unheard.{unrecorded, going, no_notes, IsSent};
 
 use crate::edits::set_caret;
-use crate::need::history;
 use crate::ready::reserve;
 use document::{Direction, Document};
 use document_table::DocumentTable;
@@ -31,7 +30,7 @@ use ed_view::View;
 use id_table::IdTable;
 use message_requests::SessionState;
 use notify::NoteList;
-use scene::perform_history;
+use scene::{history_need, perform_history};
 use std::alloc::AllocError;
 
 /// Performs undo or redo in the document of an id, and returns where that leaves the caret, if it makes a step of the text.
@@ -105,7 +104,7 @@ fn go_with_room(
     ensures watched { IsWatched document.new.document views.new }
     ensures next { views.new.next ≡ views.old.next }
 {
-    let need = history(document, views, direction);
+    let need = history_need(document, views, direction);
     if !need.is_counted() {
         return Err(AllocError);
     }

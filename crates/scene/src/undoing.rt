@@ -14,7 +14,7 @@ ghost use Rattle.scene.specs.Hearing.{masks_of};
 ghost use Rattle.scene.specs.Needs.{note_room};
 ghost use Rattle.scene.specs.Turns.{turn_of, ChangeFits};
 ghost use Rattle.scene.specs.Performed.{CanPerformAll, AreAllPerformed};
-ghost use Rattle.scene.specs.Undoing.{bits_of, every_kind, free_behind, notes_of_change, bytes_of_change, bytes_of_changes, notes_of_history, room_of_changes, save_point_notes, capped_room, capped_notes, place_behind_any, place_by};
+ghost use Rattle.scene.specs.Undoing.{bits_of, every_kind, free_behind, notes_of_change, bytes_of_change, bytes_of_changes, notes_of_history, room_of_changes, save_point_notes, IsCounted, capped_room, capped_notes, place_behind_any, place_by};
 
 use crate::need::{NoteRoom, told_need};
 use crate::performing::{Turn, kinds_of, kinds_of_all, perform_change};
@@ -36,6 +36,22 @@ pub struct HistoryNeed {
     pub notes: NoteRoom,
     /// Room in the document.
     pub document: DocumentRoom,
+}
+
+impl HistoryNeed {
+    /// Whether no amount is the greatest, at which sums stop.
+    #[inline]
+    pub fn is_counted(&self) -> bool
+        ensures { result ≡ true → IsCounted self.now }
+    {
+        self.notes.notes < usize::MAX
+            && self.notes.bytes < usize::MAX
+            && self.document.text < usize::MAX
+            && self.document.lines < usize::MAX
+            && self.document.insertions < usize::MAX
+            && self.document.steps < usize::MAX
+            && self.document.bytes < usize::MAX
+    }
 }
 
 // The turn of the change at `index`, of `count`.
