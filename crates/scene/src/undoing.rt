@@ -1,6 +1,6 @@
 //! Undo and redo: a transaction performed, and what that needs.
 
-ghost use Rattle.std.specs.Prelude.{◌≡◌, ◌≤◌, ◌<◌, ◌+◌, ◌-◌, ◌++◌, ◌==◌, ◌&&◌, ◌||◌, bit_and, nat_lt, length, map, not, reverse};
+ghost use Rattle.std.specs.Prelude.{◌≡◌, ◌≤◌, ◌<◌, ◌+◌, ◌-◌, ◌++◌, ◌==◌, ◌&&◌, ◌||◌, true, bit_and, nat_lt, length, map, not, reverse};
 ghost use Rattle.ed_model.specs.History.{Change, latest_text_step};
 ghost use Rattle.ed_model.specs.Session.{text_of};
 ghost use Rattle.ed_model.specs.SoundLaws.{AreStepsOf};
@@ -79,8 +79,7 @@ fn is_quiet(
     requires named { AreNamed views.now.entries }
     ensures { result ≡ (notes.now.note_room == 0 || (nat_lt 1 count && (bit_and (masks_of (watchers document.now.document views.now)) (every_kind (bits_of direction)) == 0))) }
 {
-    notes.is_full()
-        || (count > 1 && survey(document, views).masks & kinds_of_all(direction) == 0)
+    notes.is_full() || (count > 1 && survey(document, views).masks & kinds_of_all(direction) == 0)
 }
 
 // Where the caret goes by a change of this outline, for which there is room: behind what it puts in, or where it deletes. By a
@@ -118,8 +117,7 @@ fn perform_changes(
         let turn = turn_at(direction, index, count);
         let outline = document.change_outline(direction, index);
         caret = caret_by(document, outline, caret);
-        lines_changed =
-            perform_change(document, views, notes, turn, outline, quiet, lines_changed);
+        lines_changed = perform_change(document, views, notes, turn, outline, quiet, lines_changed);
     }
     caret
 }

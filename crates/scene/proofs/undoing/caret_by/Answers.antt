@@ -4,8 +4,8 @@ use Rattle.scene.proofs.StepScenes.{length_text}
 use Rattle.scene.proofs.LatestStep.{ends_small}
 use Rattle.scene.proofs.undoing.caret_by.Goals as goal
 
-pub overflow_add : goal.overflow_add
-overflow_add c =
+pub overflow_add-result : goal.overflow_add-result
+overflow_add-result c =
     let d = c.args.document.now.document in
     let can = c.requires.can in
     let text = length_text d in

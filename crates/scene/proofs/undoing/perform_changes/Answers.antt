@@ -11,13 +11,13 @@ use Rattle.scene.proofs.undoing.perform_changes.Goals as goal
 pub loop-index-init : goal.loop-index-init
 loop-index-init c = (performed_none c.args.direction c.args.document.now c.args.views.now c.args.notes.now c.requires.can, refl)
 
-pub change_outline-outline-requires-clause-there : goal.change_outline-outline-requires-clause-there
-change_outline-outline-requires-clause-there c =
+pub change_outline-outline-requires : goal.change_outline-outline-requires
+change_outline-outline-requires c =
     let count = c.change_count-count.ensures in
-    subst (λ h. c.loop-index.index < length (changes_of c.args.direction h)) (sym c.loop-index.invariant.0.history) (omega arith)
+    record { there = subst (λ h. c.loop-index.index < length (changes_of c.args.direction h)) (sym c.loop-index.invariant.0.history) (omega arith) }
 
-pub caret_by-caret-requires-clause-can : goal.caret_by-caret-requires-clause-can
-caret_by-caret-requires-clause-can c =
+pub caret_by-caret-requires : goal.caret_by-caret-requires
+caret_by-caret-requires c =
     let all = changes_of c.args.direction c.args.document.now.document.history in
     let i = c.loop-index.index in
     let count = c.change_count-count.ensures in
@@ -25,7 +25,7 @@ caret_by-caret-requires-clause-can c =
     let turn = turn_of c.args.direction i c.change_count-count.result in
     let can = next_can turn next.0 (drop i all) (drop (i + 1) all) c.loop-index.lines_changed c.args.document.now c.loop-index.document c.args.views.now c.loop-index.views
     c.args.notes.now c.loop-index.notes c.loop-index.invariant.0 (drop_some all i next.0 next.1) c.requires.can next.1 in
-    (next.0, some_has _ _ next.0 can.at c.change_outline-outline.ensures.outline, can.fits, can.room)
+    record { can = (next.0, some_has _ _ next.0 can.at c.change_outline-outline.ensures.outline, can.fits, can.room) }
 
 pub perform_change-lines_changed-requires-clause-quiet : goal.perform_change-lines_changed-requires-clause-quiet
 perform_change-lines_changed-requires-clause-quiet c = λ is change.
@@ -58,11 +58,10 @@ loop-index-preserved c =
     let can = next_can turn next.0 (drop i all) (drop (i + 1) all) c.loop-index.lines_changed c.args.document.now c.loop-index.document c.args.views.now c.loop-index.views
     c.args.notes.now c.loop-index.notes so (drop_some all i next.0 next.1) c.requires.can next.1 in
     let performed = (rw c.turn_at-turn.ensures at c.perform_change-lines_changed.ensures) next.0 can.at in
-    let outline = some_has _ _ next.0 can.at c.change_outline-outline.ensures.outline in
-    (
+    let outline = some_has _ _ next.0 can.at c.change_outline-outline.ensures.outline in (
       performed_next turn next.0 (drop i all) (drop (i + 1) all) c.loop-index.lines_changed c.args.document.now c.loop-index.document c.args.views.now c.loop-index.views
-      c.args.notes.now c.loop-index.notes so (drop_some all i next.0 next.1) c.perform_change-lines_changed.result _ _ _
-      c.positions_after_a_step.ensures.cells_follow_bytes (ap (λ n. nat_lt 1 n) count) (ap (λ n. i + 1 == n) count ∙ last_is all i within) performed,
+          c.args.notes.now c.loop-index.notes so (drop_some all i next.0 next.1) c.perform_change-lines_changed.result _ _ _
+          c.positions_after_a_step.ensures.cells_follow_bytes (ap (λ n. nat_lt 1 n) count) (ap (λ n. i + 1 == n) count ∙ last_is all i within) performed,
       c.caret_by-caret.ensures ∙ caret_next all i next.0 c.change_outline-outline.result c.loop-index.caret next.1 outline c.loop-index.invariant.1,
     )
 
