@@ -1,4 +1,4 @@
-use Rattle.std.proofs.Common.{◌≡◌, ◌+◌, ◌∙◌, ◌<◌, ◌^◌, length, sym, arith}
+use Rattle.std.proofs.Common.{◌∙◌, sym, arith}
 use Rattle.ed_model.specs.Session.{text_of}
 use Rattle.scene.proofs.StepScenes.{length_text}
 use Rattle.scene.proofs.LatestStep.{ends_small}
