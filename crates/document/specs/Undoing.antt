@@ -1,8 +1,8 @@
 -- What undo and redo perform, and what each of their changes needs.
-use Rattle.std.specs.Prelude.{◌≡◌, ℕ, List, [], length, Option, Some, None}
+use Rattle.std.specs.Prelude.{◌≡◌, ℕ, if◌then◌else◌, not, Bool, List, [], length, Option, Some, None}
 use Rattle.ed_model.specs.declared.plan.LineEndTypes.{LineEndTypes}
 use Rattle.ed_model.specs.Steps as model
-use Rattle.ed_model.specs.History.{History, Change, TextStep, ContainerStep, undo_changes, redo_changes, undone, redone}
+use Rattle.ed_model.specs.History.{History, Change, TextStep, ContainerStep, at_save_point, undo_changes, redo_changes, undone, redone}
 use Rattle.ed_model.specs.InverseLaws.{Fits}
 use Rattle.ed_model.specs.Session.{text_of}
 use Rattle.line_index.specs.RoomLaws.{lines_for_insertion, lines_for_deletion}
@@ -24,6 +24,14 @@ changes_of Redo h = redo_changes h
 abbrev pub history_behind : Direction → History → History
 history_behind Undo h = undone h
 history_behind Redo h = redone h
+
+-- whether one of the two is so, and the other not
+abbrev pub is_other : Bool → Bool → Bool
+is_other was is = if was then not is else is
+
+-- whether the save point is reached or left by it
+abbrev pub save_point_told : Direction → History → Bool
+save_point_told direction h = is_other (at_save_point h) (at_save_point (history_behind direction h))
 
 -- a change, its bytes told by their number
 abbrev pub outline_of : Change → ChangeOutline

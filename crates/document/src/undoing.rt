@@ -1,7 +1,7 @@
 //! Undo and redo of a document: their changes one by one, and the history behind them.
 
 ghost use Rattle.std.specs.Prelude.{◌≡◌, ◌<◌, ◌≤◌, ◌+◌, ℕ, List, length, slice_get, Some, IsSomeAnd};
-ghost use Rattle.ed_model.specs.History.{TextStep as Text, inverse_change};
+ghost use Rattle.ed_model.specs.History.{TextStep as Text, at_save_point, inverse_change};
 ghost use Rattle.ed_model.specs.Performing.{document_after};
 ghost use Rattle.ed_model.specs.Session.{text_of};
 ghost use Rattle.ed_model.specs.Steps.{Step};
@@ -9,7 +9,7 @@ ghost use Rattle.line_index.specs.StepEdits.{SmallLines, change_of as change_of_
 ghost use Rattle.undo_history.specs.Records.{change_of, HasItsBytes};
 ghost use Rattle.document.specs.Kept.{TakesRoom};
 ghost use Rattle.document.specs.TextSteps.{bytes_out};
-ghost use Rattle.document.specs.Undoing.{changes_of, history_behind, outline_of, bytes_in, room_of_step, room_of_change, CanMake, IsLentOf};
+ghost use Rattle.document.specs.Undoing.{changes_of, history_behind, save_point_told, outline_of, bytes_in, room_of_step, room_of_change, CanMake, IsLentOf};
 
 use crate::kept::Document;
 use crate::making::make_step;
@@ -62,6 +62,7 @@ fn inverse(kind: ChangeKind) -> ChangeKind
 }
 
 // The change that is performed at `index`, its bytes lent from the history.
+#[inline(always)]
 fn change_at(history: &UndoHistory, direction: Direction, index: usize) -> LentChange
     requires there { index < length (changes_of direction history.now.history) }
     ensures change { slice_get (changes_of direction history.now.history) index ≡ Some (change_of result.kind result.bytes.now) }
@@ -112,6 +113,28 @@ impl Document {
         match direction {
             Direction::Undo => self.history.undo_len(),
             Direction::Redo => self.history.redo_len(),
+        }
+    }
+
+    /// Whether the document counts as unmodified behind undo or redo; where there is nothing to undo or redo, whether it does now.
+    pub fn is_at_save_point_behind(&self, direction: Direction) -> bool
+        ensures { result ≡ at_save_point (history_behind direction self.now.document.history) }
+    {
+        match direction {
+            Direction::Undo => self.history.undo_gets_to_save_point(),
+            Direction::Redo => self.history.redo_gets_to_save_point(),
+        }
+    }
+
+    /// Whether the save point is reached or left by undo or redo, so that the views that watch are told.
+    pub fn is_save_point_told(&self, direction: Direction) -> bool
+        ensures { result ≡ save_point_told direction self.now.document.history }
+    {
+        let is_there = self.is_at_save_point_behind(direction);
+        if self.history.is_at_save_point() {
+            !is_there
+        } else {
+            is_there
         }
     }
 

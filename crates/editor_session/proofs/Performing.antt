@@ -418,8 +418,8 @@ module _ (s : SessionState) (task : Task) (bytes : List ℕ) (kept : IsKept s) (
       steps = subst (λ d. AreStepsOf (text_of d) (text_steps (changes_of direction d.history))) (sym kept_at.is) steps;
       room = (subst (λ d. HasRoom kept_at.k (room_of_changes d.line_end_types (changes_of direction d.history))) (sym kept_at.is) there).0;
       watched = watched_here;
-      note_room = subst (λ d. notes_of_history (watchers d s.views) (bits_of direction) (changes_of direction d.history) ≤ notes.note_room) (sym kept_at.is)
-          (subst (λ (x : Session). notes_of_history (watching x.views r.document) (bits_of direction) (changes_of direction r.document.history) ≤ notes.note_room) session_is n);
+      note_room = subst (λ d. notes_of_history (watchers d s.views) direction d.history ≤ notes.note_room) (sym kept_at.is)
+          (subst (λ (x : Session). notes_of_history (watching x.views r.document) direction r.document.history ≤ notes.note_room) session_is n);
       text_room = subst (λ d. bytes_of_changes (watchers d s.views) (bits_of direction) (changes_of direction d.history) ≤ notes.text_room) (sym kept_at.is)
           (subst (λ (x : Session). bytes_of_changes (watching x.views r.document) (bits_of direction) (changes_of direction r.document.history) ≤ notes.text_room) session_is b);
     }

@@ -36,7 +36,7 @@ pub record CanGo (direction : Direction) (views : Entries KeptView) (notes : Gat
   pub steps : AreStepsOf (text_of k.document) (text_steps (changes_of direction k.document.history))
   pub room : HasTextRoom k (room_of_changes k.document.line_end_types (changes_of direction k.document.history))
   pub watched : IsWatched k.document views
-  pub note_room : notes_of_history (watchers k.document views) (bits_of direction) (changes_of direction k.document.history) ≤ notes.note_room
+  pub note_room : notes_of_history (watchers k.document views) direction k.document.history ≤ notes.note_room
   pub text_room : bytes_of_changes (watchers k.document views) (bits_of direction) (changes_of direction k.document.history) ≤ notes.text_room
 
 -- the steps fit the text, and the views stand well on it

@@ -68,7 +68,7 @@ clipboard_of_plan (plan.Edit change value after) = clipboard_need after
 clipboard_of_plan other = 0
 
 abbrev pub notes_of_history_of : Direction → Request → ℕ
-notes_of_history_of direction r = notes_of_history (watching r.session.views r.document) (bits_of direction) (changes_of direction r.document.history)
+notes_of_history_of direction r = notes_of_history (watching r.session.views r.document) direction r.document.history
 
 abbrev pub bytes_of_history_of : Direction → Request → ℕ
 bytes_of_history_of direction r = bytes_of_changes (watching r.session.views r.document) (bits_of direction) (changes_of direction r.document.history)

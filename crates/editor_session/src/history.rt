@@ -21,7 +21,6 @@ ghost use Rattle.editor_session.specs.Tasks.{IsTask};
 ghost use Rattle.editor_session.specs.Unheard.{unrecorded, going, no_notes, IsSent};
 
 use crate::edits::set_caret;
-use crate::need::history;
 use crate::ready::reserve;
 use document::{Direction, Document};
 use document_table::DocumentTable;
@@ -31,7 +30,7 @@ use ed_view::View;
 use id_table::IdTable;
 use message_requests::SessionState;
 use notify::NoteList;
-use scene::{caret_after, perform_history};
+use scene::{history_need, perform_history};
 use std::alloc::AllocError;
 
 /// Performs undo or redo in the document of an id, and returns where that leaves the caret, if it makes a step of the text.
@@ -55,9 +54,7 @@ fn go_in(
     let Some(document) = documents.get_mut(document) else {
         unreachable!()
     };
-    let place = caret_after(document, direction);
-    perform_history(document, views, notes, direction);
-    place
+    perform_history(document, views, notes, direction)
 }
 
 /// The same, after which the caret of the view of an id stands there.
@@ -107,7 +104,7 @@ fn go_with_room(
     ensures watched { IsWatched document.new.document views.new }
     ensures next { views.new.next ≡ views.old.next }
 {
-    let need = history(document, views, direction);
+    let need = history_need(document, views, direction);
     if !need.is_counted() {
         return Err(AllocError);
     }
@@ -117,9 +114,7 @@ fn go_with_room(
     let Ok(()) = reserve(document, need.document) else {
         return Err(AllocError);
     };
-    let place = caret_after(document, direction);
-    perform_history(document, views, notes, direction);
-    Ok(place)
+    Ok(perform_history(document, views, notes, direction))
 }
 
 /// The same in the document of an id, which is looked up once for all of it.

@@ -159,7 +159,7 @@ fn conversion(document: &Document, views: &IdTable<View>, to: LineEnd) -> Need
 pub(crate) fn history(document: &Document, views: &IdTable<View>, direction: Direction) -> Need
     requires named { AreNamed views.now.entries }
     ensures { let changes = changes_of direction document.now.document.history in let vs = watchers document.now.document views.now in
-        result ≡ record no_need { notes = capped_notes (notes_of_history vs (bits_of direction) changes) (bytes_of_changes vs (bits_of direction) changes); document = capped_room (room_of_changes document.now.document.line_end_types changes) } }
+        result ≡ record no_need { notes = capped_notes (notes_of_history vs direction document.now.document.history) (bytes_of_changes vs (bits_of direction) changes); document = capped_room (room_of_changes document.now.document.line_end_types changes) } }
 {
     let need = history_need(document, views, direction);
     Need {

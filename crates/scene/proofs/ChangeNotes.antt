@@ -1,6 +1,6 @@
 -- The notes of changes that undo or redo performs: no more than was told before.
-use Rattle.std.proofs.Common.{◌≡◌, ℕ, ◌+◌, ◌*◌, ◌≤◌, Bool, true, false, cond, List, [], ◌∷◌, ◌++◌, length, refl, ap, ◌∙◌, arith, length-append}
-use Rattle.std.specs.Prelude.{ℤ, filter, filter_map, bit_or, nat_lt}
+use Rattle.std.proofs.Common.{◌≡◌, ℕ, zero, suc, ◌+◌, ◌*◌, ◌≤◌, Bool, true, false, cond, List, [], ◌∷◌, ◌++◌, length, refl, ap, ◌∙◌, subst, arith, length-append}
+use Rattle.std.specs.Prelude.{ℤ, filter, filter_map, bit_or, nat_lt, slice_get, Some}
 use Rattle.std.proofs.lemmas.List.{length-map}
 use Rattle.ed_types.specs.Notices.{Notice}
 use Rattle.ed_model.specs.Numbers.{meets, growth}
@@ -45,10 +45,20 @@ every_more Undo (Delete p bytes) m h = meets_left m 0x19A2 0x41DA3 h
 every_more Redo (Insert p bytes) m h = meets_left m 0x15C1 0x41DC3 h
 every_more Redo (Delete p bytes) m h = meets_left m 0x19C2 0x41DC3 h
 
--- where no view hears of any change, none hears of the step
-pub none_of_all : (direction : Direction) (s : Step) (views : List View) → hearers (every_kind (bits_of direction)) views ≡ 0 → hearers (performed_kinds (bits_of direction) s) views ≡ 0
-none_of_all direction s views none =
+container_more : (direction : Direction) (m : ℕ) → meets m (container_kinds (bits_of direction)) ≡ true → meets m (every_kind (bits_of direction)) ≡ true
+container_more Undo m h = meets_left m 0x411A0 0x41DA3 h
+container_more Redo m h = meets_left m 0x411C0 0x41DC3 h
+
+-- where no view hears of any kind of change, none hears of these
+pub none_of_all : (direction : Direction) (cs : List Change) (views : List View) → hearers (every_kind (bits_of direction)) views ≡ 0 → notes_of_changes views (bits_of direction) cs ≡ 0
+none_of_all direction [] views none = refl
+none_of_all direction (TextStep s ∷ cs) views none =
     let few = hearers_more (performed_kinds (bits_of direction) s) (every_kind (bits_of direction)) views (every_more direction s) in
+    let rest = none_of_all direction cs views none in
+    omega arith
+none_of_all direction (ContainerStep token coalesce ∷ cs) views none =
+    let few = hearers_more (container_kinds (bits_of direction)) (every_kind (bits_of direction)) views (container_more direction) in
+    let rest = none_of_all direction cs views none in
     omega arith
 
 -- Each note has no more hearers than the change.
@@ -122,13 +132,13 @@ hear_alike_still who several last changed (TextStep s) scene =
     }
 hear_alike_still who several last changed (ContainerStep token coalesce) scene = record { hear = λ k. refl; count = refl }
 
-note_alike : (who : ℕ) (c : Change) (a b : List View) → HearAlike a b → notes_of_change a who c ≡ notes_of_change b who c
-note_alike who (TextStep s) a b alike = ap (λ n. 2 * n) (alike.hear (performed_kinds who s))
-note_alike who (ContainerStep token coalesce) a b alike = alike.hear (container_kinds who)
+note_alike : (who : ℕ) (c : Change) (a b : List View) → ((k : ℕ) → hearers k a ≡ hearers k b) → notes_of_change a who c ≡ notes_of_change b who c
+note_alike who (TextStep s) a b hear = ap (λ n. 2 * n) (hear (performed_kinds who s))
+note_alike who (ContainerStep token coalesce) a b hear = hear (container_kinds who)
 
 pub notes_alike : (who : ℕ) (cs : List Change) (a b : List View) → HearAlike a b → notes_of_changes a who cs ≡ notes_of_changes b who cs
 notes_alike who [] a b alike = refl
-notes_alike who (c ∷ cs) a b alike = let x = note_alike who c a b alike in let y = notes_alike who cs a b alike in rw (x, y) refl
+notes_alike who (c ∷ cs) a b alike = let x = note_alike who c a b alike.hear in let y = notes_alike who cs a b alike in rw (x, y) refl
 
 byte_alike : (who : ℕ) (c : Change) (a b : List View) → HearAlike a b → bytes_of_change a who c ≡ bytes_of_change b who c
 byte_alike who (TextStep s) a b alike = ap (λ n. cond (nat_lt 0 n) (length (step_bytes s)) 0) (alike.hear (performed_kinds who s))
@@ -137,3 +147,19 @@ byte_alike who (ContainerStep token coalesce) a b alike = refl
 pub bytes_alike : (who : ℕ) (cs : List Change) (a b : List View) → HearAlike a b → bytes_of_changes a who cs ≡ bytes_of_changes b who cs
 bytes_alike who [] a b alike = refl
 bytes_alike who (c ∷ cs) a b alike = let x = byte_alike who c a b alike in let y = bytes_alike who cs a b alike in rw (x, y) refl
+
+-- Where no view heard of any of the changes, and those that watch hear as those did, none hears of one of them.
+
+among_all : (who : ℕ) (cs : List Change) (i : ℕ) (c : Change) (views : List View) → slice_get cs i ≡ Some c → notes_of_change views who c ≤ notes_of_changes views who cs
+among_all who [] i c views at = absurd (cc)
+among_all who (x ∷ cs) zero c views at =
+    let same : x ≡ c = cc in
+    subst (λ y. notes_of_change views who y ≤ notes_of_changes views who (x ∷ cs)) same (omega arith)
+among_all who (x ∷ cs) (suc i) c views at = let rest = among_all who cs i c views at in omega arith
+
+pub still_none : (who : ℕ) (cs : List Change) (i : ℕ) (c : Change) (a b : List View) → ((k : ℕ) → hearers k a ≡ hearers k b) → slice_get cs i ≡ Some c
+    → notes_of_changes b who cs ≡ 0 → notes_of_change a who c ≡ 0
+still_none who cs i c a b hear at none =
+    let few = among_all who cs i c b at in
+    let same = note_alike who c a b hear in
+    omega arith

@@ -11,7 +11,7 @@ use Rattle.document.specs.Kept.{document_room, no_room, amount_sum, room_sum}
 use Rattle.scene.specs.declared.need.NoteRoom.{NoteRoom}
 use Rattle.scene.specs.declared.undoing.HistoryNeed.{HistoryNeed}
 use Rattle.scene.specs.Needs.{note_room}
-use Rattle.scene.specs.Undoing.{notes_of_change, bytes_of_change, notes_of_changes, bytes_of_changes, notes_of_history, free_behind, room_beside, room_of_changes, rooms_beside, capped, capped_room, capped_notes}
+use Rattle.scene.specs.Undoing.{notes_of_change, bytes_of_change, notes_of_changes, bytes_of_changes, free_behind, room_beside, room_of_changes, rooms_beside, capped, capped_room, capped_notes}
 
 -- an amount so far, what is left, and the whole
 abbrev pub IsSum : ℕ → ℕ → ℕ → Type 0
@@ -29,8 +29,8 @@ sum_next n c rest whole so = let e = so.1 in (omega arith, omega arith)
 sum_all : (n whole : ℕ) → IsSum n 0 whole → n ≡ capped whole
 sum_all n whole so = let e = so.1 in let h : n < 2 ^ 64 = so.0 in omega arith
 
-pub record IsNeededSoFar (views : List View) (who : ℕ) (types : LineEndTypes) (free : ℕ) (rest all : List Change) (need : HistoryNeed) : Type 0 where
-  pub notes : IsSum need.notes.notes (notes_of_changes views who rest) (notes_of_history views who all)
+pub record IsNeededSoFar (views : List View) (who : ℕ) (types : LineEndTypes) (told free : ℕ) (rest all : List Change) (need : HistoryNeed) : Type 0 where
+  pub notes : IsSum need.notes.notes (notes_of_changes views who rest) (notes_of_changes views who all + told)
   pub texts : IsSum need.notes.bytes (bytes_of_changes views who rest) (bytes_of_changes views who all)
   pub text : IsSum need.document.text (rooms_beside types free rest).text (room_of_changes types all).text
   pub lines : IsSum need.document.lines (rooms_beside types free rest).lines (room_of_changes types all).lines
@@ -41,10 +41,10 @@ pub record IsNeededSoFar (views : List View) (who : ℕ) (types : LineEndTypes) 
 abbrev pub history_need : NoteRoom → DocumentRoom → HistoryNeed
 history_need notes document = record { notes = notes; document = document }
 
-pub needed_none : (views : List View) (who : ℕ) (types : LineEndTypes) (all : List Change) → length views < 2 ^ 64
-    → IsNeededSoFar views who types 0 all all (history_need (note_room (length views) 0) no_room)
-needed_none views who types all h = record {
-  notes = sum_start (length views) (notes_of_changes views who all) h;
+pub needed_none : (views : List View) (who : ℕ) (types : LineEndTypes) (told : ℕ) (all : List Change) → told < 2 ^ 64
+    → IsNeededSoFar views who types told 0 all all (history_need (note_room told 0) no_room)
+needed_none views who types told all h = record {
+  notes = sum_start told (notes_of_changes views who all) h;
   texts = sum_none (bytes_of_changes views who all);
   text = sum_none (room_of_changes types all).text;
   lines = sum_none (room_of_changes types all).lines;
@@ -53,18 +53,18 @@ needed_none views who types all h = record {
   bytes = sum_none (room_of_changes types all).bytes;
 }
 
-pub needed_next : (views : List View) (who : ℕ) (types : LineEndTypes) (free : ℕ) (c : Change) (rest after all : List Change) (need : HistoryNeed)
-    → IsNeededSoFar views who types free rest all need → rest ≡ c ∷ after
-    → IsNeededSoFar views who types (free_behind free c) after all (history_need
+pub needed_next : (views : List View) (who : ℕ) (types : LineEndTypes) (told free : ℕ) (c : Change) (rest after all : List Change) (need : HistoryNeed)
+    → IsNeededSoFar views who types told free rest all need → rest ≡ c ∷ after
+    → IsNeededSoFar views who types told (free_behind free c) after all (history_need
     (note_room (amount_sum need.notes.notes (notes_of_change views who c)) (amount_sum need.notes.bytes (bytes_of_change views who c)))
     (room_sum need.document (room_beside types free c)))
-needed_next views who types free c rest after all need so e =
-    let so = subst (λ cs. IsNeededSoFar views who types free cs all need) e so in
+needed_next views who types told free c rest after all need so e =
+    let so = subst (λ cs. IsNeededSoFar views who types told free cs all need) e so in
     let room = room_beside types free c in
     let left = rooms_beside types (free_behind free c) after in
     let whole = room_of_changes types all in
     record {
-      notes = sum_next need.notes.notes (notes_of_change views who c) (notes_of_changes views who after) (notes_of_history views who all) so.notes;
+      notes = sum_next need.notes.notes (notes_of_change views who c) (notes_of_changes views who after) (notes_of_changes views who all + told) so.notes;
       texts = sum_next need.notes.bytes (bytes_of_change views who c) (bytes_of_changes views who after) (bytes_of_changes views who all) so.texts;
       text = sum_next need.document.text room.text left.text whole.text so.text;
       lines = sum_next need.document.lines room.lines left.lines whole.lines so.lines;
@@ -73,21 +73,21 @@ needed_next views who types free c rest after all need so e =
       bytes = sum_next need.document.bytes room.bytes left.bytes whole.bytes so.bytes;
     }
 
-pub needed_notes : (views : List View) (who : ℕ) (types : LineEndTypes) (free : ℕ) (rest all : List Change) (need : HistoryNeed)
-    → IsNeededSoFar views who types free rest all need → rest ≡ [] → need.notes ≡ capped_notes (notes_of_history views who all) (bytes_of_changes views who all)
-needed_notes views who types free rest all need so e =
-    let so = subst (λ cs. IsNeededSoFar views who types free cs all need) e so in
-    let a = sum_all need.notes.notes (notes_of_history views who all) so.notes in
+pub needed_notes : (views : List View) (who : ℕ) (types : LineEndTypes) (told free : ℕ) (rest all : List Change) (need : HistoryNeed)
+    → IsNeededSoFar views who types told free rest all need → rest ≡ [] → need.notes ≡ capped_notes (notes_of_changes views who all + told) (bytes_of_changes views who all)
+needed_notes views who types told free rest all need so e =
+    let so = subst (λ cs. IsNeededSoFar views who types told free cs all need) e so in
+    let a = sum_all need.notes.notes (notes_of_changes views who all + told) so.notes in
     let b = sum_all need.notes.bytes (bytes_of_changes views who all) so.texts in
-    ap (λ n. note_room n need.notes.bytes) a ∙ ap (λ n. note_room (capped (notes_of_history views who all)) n) b
+    ap (λ n. note_room n need.notes.bytes) a ∙ ap (λ n. note_room (capped (notes_of_changes views who all + told)) n) b
 
 same_room : (a a' b b' c c' d d' e e' : ℕ) → a ≡ a' → b ≡ b' → c ≡ c' → d ≡ d' → e ≡ e' → document_room a b c d e ≡ document_room a' b' c' d' e'
 same_room a a' b b' c c' d d' e e' p q r s t = cc
 
-pub needed_room : (views : List View) (who : ℕ) (types : LineEndTypes) (free : ℕ) (rest all : List Change) (need : HistoryNeed)
-    → IsNeededSoFar views who types free rest all need → rest ≡ [] → need.document ≡ capped_room (room_of_changes types all)
-needed_room views who types free rest all need so e =
-    let so = subst (λ cs. IsNeededSoFar views who types free cs all need) e so in
+pub needed_room : (views : List View) (who : ℕ) (types : LineEndTypes) (told free : ℕ) (rest all : List Change) (need : HistoryNeed)
+    → IsNeededSoFar views who types told free rest all need → rest ≡ [] → need.document ≡ capped_room (room_of_changes types all)
+needed_room views who types told free rest all need so e =
+    let so = subst (λ cs. IsNeededSoFar views who types told free cs all need) e so in
     let whole = room_of_changes types all in
     same_room _ _ _ _ _ _ _ _ _ _ (sum_all need.document.text whole.text so.text) (sum_all need.document.lines whole.lines so.lines)
     (sum_all need.document.insertions whole.insertions so.insertions) (sum_all need.document.steps whole.steps so.steps) (sum_all need.document.bytes whole.bytes so.bytes)
@@ -99,14 +99,14 @@ one_change [] c l e = absurd (omega arith)
 one_change (x ∷ []) c l e = let same : x ≡ c = get_or_from_slice_get (x ∷ []) 0 c x e in ap (λ y. y ∷ []) same
 one_change (x ∷ y ∷ rest) c l e = absurd (omega arith)
 
-pub notes_of_one : (views : List View) (who : ℕ) (cs : List Change) (c : Change) (need : NoteRoom) → cs ≡ c ∷ [] → need ≡ note_room (notes_of_change views who c) (bytes_of_change views who c)
-    → note_room (amount_sum need.notes (length views)) (amount_sum need.bytes 0) ≡ capped_notes (notes_of_history views who cs) (bytes_of_changes views who cs)
-notes_of_one views who cs c need e is =
+pub notes_of_one : (views : List View) (who told : ℕ) (cs : List Change) (c : Change) (need : NoteRoom) → cs ≡ c ∷ [] → need ≡ note_room (notes_of_change views who c) (bytes_of_change views who c)
+    → note_room (amount_sum need.notes told) (amount_sum need.bytes 0) ≡ capped_notes (notes_of_changes views who cs + told) (bytes_of_changes views who cs)
+notes_of_one views who told cs c need e is =
     let n : need.notes ≡ notes_of_change views who c = ap (λ (r : NoteRoom). r.notes) is in
     let b : need.bytes ≡ bytes_of_change views who c = ap (λ (r : NoteRoom). r.bytes) is in
-    let told : amount_sum need.notes (length views) ≡ capped (notes_of_history views who (c ∷ [])) = omega arith in
+    let notes : amount_sum need.notes told ≡ capped (notes_of_changes views who (c ∷ []) + told) = omega arith in
     let shared : amount_sum need.bytes 0 ≡ capped (bytes_of_changes views who (c ∷ [])) = omega arith in
-    rw e (ap (λ x. note_room x (amount_sum need.bytes 0)) told ∙ ap (λ x. note_room (capped (notes_of_history views who (c ∷ []))) x) shared)
+    rw e (ap (λ x. note_room x (amount_sum need.bytes 0)) notes ∙ ap (λ x. note_room (capped (notes_of_changes views who (c ∷ []) + told)) x) shared)
 
 pub room_of_one : (types : LineEndTypes) (cs : List Change) (c : Change) (need : DocumentRoom) → cs ≡ c ∷ [] → need ≡ room_of_change types c
     → room_sum no_room need ≡ capped_room (room_of_changes types cs)

@@ -1,8 +1,8 @@
 -- What was performed of undo or redo, and what is still to be performed.
-use Rattle.std.proofs.Common.{◌≡◌, ℕ, ◌+◌, ◌-◌, ◌<◌, ◌≤◌, Bool, true, false, List, [], ◌∷◌, ◌++◌, map, length, drop, get_or, refl, ap, sym, ◌∙◌, subst, arith}
-use Rattle.std.specs.Prelude.{◌==◌, ◌&&◌, bit_and, not, nat_lt, slice_get, Some}
+use Rattle.std.proofs.Common.{◌≡◌, ℕ, ◌+◌, ◌-◌, ◌<◌, ◌≤◌, Bool, true, false, List, [], ◌∷◌, ◌++◌, map, length, drop, get_or, refl, ap, sym, ◌∙◌, subst, arith, inl, inr}
+use Rattle.std.specs.Prelude.{◌==◌, ◌&&◌, ◌||◌, bit_and, not, nat_lt, slice_get, Some}
 use Rattle.std.proofs.lemmas.List.{length-drop}
-use Rattle.std.proofs.lemmas.Bool.{eq-eqb, ne_eqb, eqb-true}
+use Rattle.std.proofs.lemmas.Bool.{and_parts, eq-eqb, ne_eqb, eqb-true, or_cases}
 use Rattle.std.proofs.lemmas.Option.{slice_get-get_or}
 use Rattle.ed_types.specs.Notices.{Notice}
 use Rattle.ed_model.specs.Notes.{bit_if, multi_step, told, blank, save_point_reached, save_point_left}
@@ -17,15 +17,15 @@ use Rattle.notify.specs.Gathered.{Gathered}
 use Rattle.ed_view.specs.Kept.{KeptView}
 use Rattle.document.specs.declared.undoing.Direction.{Direction}
 use Rattle.document.specs.Kept.{Kept, HasTextRoom, TakesRoom}
-use Rattle.document.specs.Undoing.{changes_of, room_of_change}
+use Rattle.document.specs.Undoing.{changes_of, is_other, room_of_change, save_point_told}
 use Rattle.scene.specs.declared.performing.Turn.{Turn}
 use Rattle.scene.specs.Scenes.{views_of, scene_in, watchers, IsWatched}
 use Rattle.scene.specs.Hearing.{hearers, masks_of}
-use Rattle.scene.specs.Undoing.{bits_of, every_kind, notes_of_changes, bytes_of_changes, free_behind, freed_by, room_of_changes, rooms_beside}
+use Rattle.scene.specs.Undoing.{bits_of, every_kind, notes_of_changes, notes_of_change, bytes_of_changes, free_behind, freed_by, room_of_changes, rooms_beside, save_point_notes}
 use Rattle.scene.specs.Turns.{several_bits, CanPerform, IsPerformed}
 use Rattle.scene.specs.Performed.{CanPerformAll, AreAllPerformed}
 use Rattle.scene.proofs.KindLemmas.{none_by_masks}
-use Rattle.scene.proofs.ChangeNotes.{HearAlike, hear_alike_still, notes_alike, bytes_alike, performed_few}
+use Rattle.scene.proofs.ChangeNotes.{HearAlike, hear_alike_still, notes_alike, bytes_alike, none_of_all, performed_few, still_none}
 use Rattle.scene.proofs.ChangeSteps.{LeavesRoom, leaves_all, leaves_next, leaves_none, next_fits, steps_left}
 
 pub record IsPerformedSoFar (direction : Direction) (rest : List Change) (changed : Bool) (old : Kept) (views : Entries KeptView) (gathered : Gathered)
@@ -41,7 +41,8 @@ pub record IsPerformedSoFar (direction : Direction) (rest : List Change) (change
   pub free : ℕ
   pub room : LeavesRoom old.room now.room free (room_of_changes old.document.line_end_types (changes_of direction old.document.history))
       (rooms_beside old.document.line_end_types free rest)
-  pub notes : notes_of_changes (watchers now.document views') (bits_of direction) rest + length (watchers now.document views') ≤ gathered'.note_room
+  pub notes : notes_of_changes (watchers now.document views') (bits_of direction) rest
+      + save_point_notes (save_point_told direction old.document.history) (length (watchers now.document views')) ≤ gathered'.note_room
   pub hear : (k : ℕ) → hearers k (watchers now.document views') ≡ hearers k (watchers old.document views)
   pub note_room : gathered'.note_room + length gathered'.notes ≡ gathered.note_room + length gathered.notes
   pub text_room : gathered'.text_room + bytes_of_changes (watchers old.document views) (bits_of direction) (changes_of direction old.document.history)
@@ -69,14 +70,30 @@ performed_none direction old views gathered can = record {
   view_room = refl;
 }
 
--- where it was answered that no view hears of any change, none does
-pub still_quiet : (direction : Direction) (rest : List Change) (changed : Bool) (old now : Kept) (views views' : Entries KeptView) (gathered gathered' : Gathered) (several quiet : Bool)
+-- where it is known that no view hears of any change, they need no notes
+pub quiet_notes : (direction : Direction) (k : Kept) (views : Entries KeptView) (gathered : Gathered) (several quiet : Bool) → CanPerformAll direction k views gathered
+    → quiet ≡ (gathered.note_room == 0 || (several && (bit_and (masks_of (watchers k.document views)) (every_kind (bits_of direction)) == 0))) → quiet ≡ true
+    → notes_of_changes (watchers k.document views) (bits_of direction) (changes_of direction k.document.history) ≡ 0
+quiet_notes direction k views gathered several quiet can e is =
+    let W = watchers k.document views in
+    let who = bits_of direction in
+    let all = changes_of direction k.document.history in
+    elim (or_cases (gathered.note_room == 0) (several && (bit_and (masks_of W) (every_kind who) == 0)) (sym e ∙ is)) [
+      | inl full ↦
+          let none = eqb-true gathered.note_room 0 full in
+          let there : notes_of_changes W who all + save_point_notes (save_point_told direction k.document.history) (length W) ≤ gathered.note_room = can.notes in
+          omega arith
+      | inr apart ↦ none_of_all direction all W (none_by_masks (every_kind who) W (eqb-true _ 0 (and_parts several (bit_and (masks_of W) (every_kind who) == 0) apart).1))
+    ]
+
+-- and so does the one whose turn it is
+pub still_quiet : (direction : Direction) (rest : List Change) (changed : Bool) (old now : Kept) (views views' : Entries KeptView) (gathered gathered' : Gathered) (i : ℕ) (c : Change)
     → IsPerformedSoFar direction rest changed old views gathered now views' gathered'
-    → quiet ≡ (several && (bit_and (masks_of (watchers old.document views)) (every_kind (bits_of direction)) == 0)) → quiet ≡ true
-    → hearers (every_kind (bits_of direction)) (watchers now.document views') ≡ 0
-still_quiet direction rest changed old now views views' gathered gathered' true quiet so e is =
-    so.hear (every_kind (bits_of direction)) ∙ none_by_masks (every_kind (bits_of direction)) (watchers old.document views) (eqb-true _ 0 (sym e ∙ is))
-still_quiet direction rest changed old now views views' gathered gathered' false quiet so e is = absurd (let wrong : false ≡ true = sym e ∙ is in cc)
+    → notes_of_changes (watchers old.document views) (bits_of direction) (changes_of direction old.document.history) ≡ 0
+    → slice_get (changes_of direction now.document.history) i ≡ Some c → notes_of_change (watchers now.document views') (bits_of direction) c ≡ 0
+still_quiet direction rest changed old now views views' gathered gathered' i c so none at =
+    still_none (bits_of direction) (changes_of direction old.document.history) i c (watchers now.document views') (watchers old.document views) so.hear
+    (subst (λ h. slice_get (changes_of direction h) i ≡ Some c) so.history at) none
 
 -- The change whose turn it is.
 
@@ -97,7 +114,7 @@ module _ (turn : Turn) (c : Change) (rest after : List Change) (changed : Bool) 
       → CanPerform turn now views' gathered' c
   next_can can at =
       let room = subst (λ cs. LeavesRoom old.room now.room so.free (room_of_changes old.document.line_end_types (changes_of turn.direction old.document.history)) (rooms_beside old.document.line_end_types so.free cs)) e so.room in
-      let notes = subst (λ cs. notes_of_changes (watchers now.document views') (bits_of turn.direction) cs + length (watchers now.document views') ≤ gathered'.note_room) e so.notes in
+      let notes = subst (λ cs. notes_of_changes (watchers now.document views') (bits_of turn.direction) cs + save_point_notes (save_point_told turn.direction old.document.history) (length (watchers now.document views')) ≤ gathered'.note_room) e so.notes in
       let texts = so.text_room ∙ ap (λ cs. gathered.text_room + bytes_of_changes (watchers now.document views') (bits_of turn.direction) cs) e in
       let there = can.texts in
       let text = room.text in
@@ -155,15 +172,16 @@ module _ (turn : Turn) (c : Change) (rest after : List Change) (changed : Bool) 
         let W = watchers now.document views' in
         let types = old.document.line_end_types in
         let document : new.document ≡ performed.document = ap (λ (s : Scene). s.document) p.scene in
-        let told : length gathered''.notes ≡ length performed.notes = ap (λ (s : Scene). length s.notes) p.scene in
+        let put : length gathered''.notes ≡ length performed.notes = ap (λ (s : Scene). length s.notes) p.scene in
         let few = performed_few turn.direction turn.several turn.last changed' c before in
-        let notes = subst (λ cs. notes_of_changes W who cs + length W ≤ gathered'.note_room) e so.notes in
+        let told = save_point_told turn.direction old.document.history in
+        let notes = subst (λ cs. notes_of_changes W who cs + save_point_notes told (length W) ≤ gathered'.note_room) e so.notes in
         let texts = so.text_room ∙ ap (λ cs. gathered.text_room + bytes_of_changes W who cs) e in
         let room = p.note_room in
         let text_room = p.text_room in
         let same_notes = notes_alike who after (watchers new.document views'') W alike in
         let same_bytes = bytes_alike who after (watchers new.document views'') W alike in
-        let count = alike.count in
+        let same_told = ap (save_point_notes told) alike.count in
         record {
           scene = scene_next ∙ so.scene;
           watched = p.watched;
@@ -191,7 +209,7 @@ performed_all direction rest changed old now views views' gathered gathered' so 
     let who = bits_of direction in
     let all = changes_of direction old.document.history in
     let bits = bit_if (nat_lt 1 (length all)) multi_step in
-    let notes = subst (λ cs. notes_of_changes (watchers now.document views') who cs + length (watchers now.document views') ≤ gathered'.note_room) e so.notes in
+    let notes = subst (λ cs. notes_of_changes (watchers now.document views') who cs + save_point_notes (save_point_told direction old.document.history) (length (watchers now.document views')) ≤ gathered'.note_room) e so.notes in
     let texts = so.text_room ∙ ap (λ cs. gathered.text_room + bytes_of_changes (watchers now.document views') who cs) e in
     record {
       scene = ap (λ cs. changes_performed who bits changed cs (scene_in now.document views'.entries gathered'.notes)) (sym e) ∙ so.scene;
@@ -223,3 +241,10 @@ reached views false h = absurd (cc)
 pub left : (views : List View) (is : Bool) → is ≡ false → save_point_change views (not is) is ≡ told views (blank save_point_left)
 left views false h = refl
 left views true h = absurd (cc)
+
+-- if one is so and the other not, all are told
+pub told_if_other : (was is : Bool) (count : ℕ) → was ≡ not is → save_point_notes (is_other was is) count ≡ count
+told_if_other true true count e = absurd (cc)
+told_if_other true false count e = refl
+told_if_other false true count e = refl
+told_if_other false false count e = absurd (cc)

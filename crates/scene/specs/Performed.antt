@@ -10,16 +10,16 @@ use Rattle.notify.specs.Gathered.{Gathered}
 use Rattle.ed_view.specs.Kept.{KeptView}
 use Rattle.document.specs.declared.undoing.Direction.{Direction}
 use Rattle.document.specs.Kept.{Kept, HasTextRoom, TakesRoom}
-use Rattle.document.specs.Undoing.{changes_of}
+use Rattle.document.specs.Undoing.{changes_of, save_point_told}
 use Rattle.scene.specs.Scenes.{scene_in, watchers, IsWatched}
-use Rattle.scene.specs.Undoing.{bits_of, bytes_of_changes, notes_of_history, room_of_changes}
+use Rattle.scene.specs.Undoing.{bits_of, bytes_of_changes, notes_of_history, room_of_changes, save_point_notes}
 
 -- they are steps of the text one after another, and there is room for them and for the notes that tell of the save point
 pub record CanPerformAll (direction : Direction) (k : Kept) (views : Entries KeptView) (gathered : Gathered) : Type 0 where
   pub steps : AreStepsOf (text_of k.document) (text_steps (changes_of direction k.document.history))
   pub room : HasTextRoom k (room_of_changes k.document.line_end_types (changes_of direction k.document.history))
   pub watched : IsWatched k.document views
-  pub notes : notes_of_history (watchers k.document views) (bits_of direction) (changes_of direction k.document.history) ≤ gathered.note_room
+  pub notes : notes_of_history (watchers k.document views) direction k.document.history ≤ gathered.note_room
   pub texts : bytes_of_changes (watchers k.document views) (bits_of direction) (changes_of direction k.document.history) ≤ gathered.text_room
 
 -- they are performed, the history is as it was, and there is room for the notes that tell of the save point
@@ -31,7 +31,7 @@ pub record AreAllPerformed (direction : Direction) (k : Kept) (views : Entries K
   pub history : k'.document.history ≡ k.document.history
   pub watched : IsWatched k'.document views'
   pub room : TakesRoom k.room k'.room (room_of_changes k.document.line_end_types (changes_of direction k.document.history))
-  pub left : length (watchers k'.document views') ≤ gathered'.note_room
+  pub left : save_point_notes (save_point_told direction k.document.history) (length (watchers k'.document views')) ≤ gathered'.note_room
   pub note_room : gathered'.note_room + length gathered'.notes ≡ gathered.note_room + length gathered.notes
   pub text_room : gathered'.text_room + bytes_of_changes (watchers k.document views) (bits_of direction) (changes_of direction k.document.history)
       ≡ gathered.text_room

@@ -1,8 +1,8 @@
 -- Undo and redo: the bits of their notes, and what they need.
-use Rattle.std.specs.Prelude.{ℕ, ◌+◌, ◌-◌, ◌*◌, ◌^◌, min, true, List, [], ◌∷◌, length, bit_or, Option, Some, None}
+use Rattle.std.specs.Prelude.{ℕ, ◌+◌, ◌-◌, ◌*◌, ◌^◌, ◌<◌, if◌then◌else◌, min, Bool, true, List, [], ◌∷◌, length, bit_or, Option, Some, None}
 use Rattle.ed_model.specs.declared.plan.LineEndTypes.{LineEndTypes}
 use Rattle.ed_model.specs.Steps.{Step, Insert, Delete, step_bytes}
-use Rattle.ed_model.specs.History.{Change, TextStep, ContainerStep}
+use Rattle.ed_model.specs.History.{History, Change, TextStep, ContainerStep}
 use Rattle.ed_model.specs.Session.{View}
 use Rattle.ed_model.specs.Notes as notes
 use Rattle.ed_model.specs.Performing.{last_bits, place_behind}
@@ -15,8 +15,9 @@ use Rattle.selection.specs.declared.movements.Movement.{Movement}
 use Rattle.selection.specs.declared.movements.Movement.TheVariants.{Inserted, Deleted}
 use Rattle.document.specs.Kept.{document_room, no_room, amount_sum}
 use Rattle.document.specs.TextSteps.{bytes_out}
-use Rattle.document.specs.Undoing.{room_of_change}
+use Rattle.document.specs.Undoing.{changes_of, room_of_change, save_point_told}
 use Rattle.scene.specs.declared.need.NoteRoom.{NoteRoom}
+use Rattle.scene.specs.declared.undoing.HistoryNeed.{HistoryNeed}
 use Rattle.scene.specs.Hearing.{step_kinds, hearers, bytes_shared}
 use Rattle.scene.specs.Needs.{note_room}
 
@@ -99,9 +100,14 @@ rooms_beside types free (c ∷ cs) = both_rooms (room_beside types free c) (room
 abbrev pub room_of_changes : LineEndTypes → List Change → DocumentRoom
 room_of_changes types cs = rooms_beside types 0 cs
 
--- with the notes that the save point is reached or left
-abbrev pub notes_of_history : List View → ℕ → List Change → ℕ
-notes_of_history views who cs = notes_of_changes views who cs + length views
+-- how many notes tell so many views that the save point is reached or left: none where it is neither
+abbrev pub save_point_notes : Bool → ℕ → ℕ
+save_point_notes told count = if told then count else 0
+
+-- all notes of undo or redo
+abbrev pub notes_of_history : List View → Direction → History → ℕ
+notes_of_history views direction h =
+    notes_of_changes views (bits_of direction) (changes_of direction h) + save_point_notes (save_point_told direction h) (length views)
 
 -- an amount, or the greatest that can be asked for
 abbrev pub capped : ℕ → ℕ
@@ -113,7 +119,23 @@ capped_room need = document_room (capped need.text) (capped need.lines) (capped 
 abbrev pub capped_notes : ℕ → ℕ → NoteRoom
 capped_notes notes bytes = note_room (capped notes) (capped bytes)
 
+-- no amount is the greatest that can be asked for, at which sums stop
+pub record IsCounted (need : HistoryNeed) : Type 0 where
+  pub notes : need.notes.notes < 2 ^ 64 - 1
+  pub note_bytes : need.notes.bytes < 2 ^ 64 - 1
+  pub text : need.document.text < 2 ^ 64 - 1
+  pub lines : need.document.lines < 2 ^ 64 - 1
+  pub insertions : need.document.insertions < 2 ^ 64 - 1
+  pub steps : need.document.steps < 2 ^ 64 - 1
+  pub bytes : need.document.bytes < 2 ^ 64 - 1
+
 -- where the caret goes, by the latest step of the text, if there is one
 abbrev pub place_behind_any : Option Step → Option ℕ
 place_behind_any None = None
 place_behind_any (Some step) = Some (place_behind step)
+
+-- where it goes by a change and, where that is no step of the text, by those before it
+abbrev pub place_by : ChangeOutline → Option ℕ → Option ℕ
+place_by (outline.Insert place count) before = Some (place + count)
+place_by (outline.Delete place count) before = Some place
+place_by (outline.Container token) before = before

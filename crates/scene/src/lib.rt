@@ -22,4 +22,4 @@ pub use need::{NoteRoom, leaving_need, note_need};
 pub use regrouping::regroup;
 pub use steps::{StepBits, make_step, step_heard};
 pub use telling::{Audience, NoteText, attempt, count_hearers, count_watchers, tell};
-pub use undoing::{HistoryNeed, caret_after, history_need, perform_history};
+pub use undoing::{HistoryNeed, history_need, perform_history};

@@ -12,7 +12,7 @@ ghost use Rattle.document.specs.TextSteps.{step_in, IsStepOn};
 ghost use Rattle.document.specs.Undoing.{outline_of};
 ghost use Rattle.scene.specs.Scenes.{watchers, AreNamed};
 ghost use Rattle.scene.specs.Hearing.{hearers};
-ghost use Rattle.scene.specs.Undoing.{bits_of, all_bits as every_bit, container_kinds, performed_kinds, every_kind, outline_kinds, outline_movement};
+ghost use Rattle.scene.specs.Undoing.{bits_of, all_bits as every_bit, container_kinds, performed_kinds, every_kind, notes_of_change, outline_kinds, outline_movement};
 ghost use Rattle.scene.specs.Turns.{change_at, bits_behind, CanPerform, CanTellAfter, IsToldBefore, IsPerformed};
 
 use crate::moving::follow;
@@ -152,7 +152,7 @@ fn tell_before_change(
 ) -> bool
     requires can { (step : Step) × CanPerform turn document.now views.now notes.old (Text step) }
     requires outline { IsSomeAnd (change_at turn document.now.document.history) (λ change. outline ≡ outline_of change) }
-    requires quiet { quiet ≡ true → hearers (every_kind (bits_of turn.direction)) (watchers document.now.document views.now) ≡ 0 }
+    requires quiet { quiet ≡ true → (change : Change) → change_at turn document.now.document.history ≡ Some change → notes_of_change (watchers document.now.document views.now) (bits_of turn.direction) change ≡ 0 }
     ensures { (step : Step) → change_at turn document.now.document.history ≡ Some (Text step) → IsToldBefore (bits_of turn.direction) (watchers document.now.document views.now) result notes.old notes.new step }
 {
     if quiet {
@@ -211,7 +211,7 @@ fn perform_step(
 ) -> bool
     requires can { (step : Step) × CanPerform turn document.old views.old notes.old (Text step) }
     requires outline { IsSomeAnd (change_at turn document.old.document.history) (λ change. outline ≡ outline_of change) }
-    requires quiet { quiet ≡ true → hearers (every_kind (bits_of turn.direction)) (watchers document.old.document views.old) ≡ 0 }
+    requires quiet { quiet ≡ true → (change : Change) → change_at turn document.old.document.history ≡ Some change → notes_of_change (watchers document.old.document views.old) (bits_of turn.direction) change ≡ 0 }
     ensures { (step : Step) → change_at turn document.old.document.history ≡ Some (Text step) → IsPerformed turn lines_changed result document.old views.old notes.old document.new views.new notes.new (Text step) }
 {
     edits_of_steps();
@@ -269,21 +269,22 @@ fn perform_container(
     );
 }
 
-/// Performs a change; `quiet` says that no view that watches is known to hear of any. Answers whether by now the number of lines
-/// is changed.
+/// Performs a change of this outline; `quiet` says that no view that watches is known to hear of it. Answers whether by now the
+/// number of lines is changed.
 pub(crate) fn perform_change(
     document: &mut Document,
     views: &mut IdTable<View>,
     notes: &mut NoteList,
     turn: Turn,
+    outline: ChangeOutline,
     quiet: bool,
     lines_changed: bool,
 ) -> bool
     requires can { (change : Change) × CanPerform turn document.old views.old notes.old change }
-    requires quiet { quiet ≡ true → hearers (every_kind (bits_of turn.direction)) (watchers document.old.document views.old) ≡ 0 }
+    requires outline { IsSomeAnd (change_at turn document.old.document.history) (λ change. outline ≡ outline_of change) }
+    requires quiet { quiet ≡ true → (change : Change) → change_at turn document.old.document.history ≡ Some change → notes_of_change (watchers document.old.document views.old) (bits_of turn.direction) change ≡ 0 }
     ensures { (change : Change) → change_at turn document.old.document.history ≡ Some change → IsPerformed turn lines_changed result document.old views.old notes.old document.new views.new notes.new change }
 {
-    let outline = document.change_outline(turn.direction, turn.index);
     if let ChangeOutline::Container { token } = outline {
         perform_container(document, views, notes, turn, token, lines_changed);
         return lines_changed;

@@ -1,6 +1,6 @@
 //! Undo and redo: a transaction performed, and what that needs.
 
-ghost use Rattle.std.specs.Prelude.{◌≡◌, ◌≤◌, ◌<◌, ◌+◌, ◌-◌, ◌++◌, ◌==◌, ◌&&◌, bit_and, nat_lt, length, map, not, reverse};
+ghost use Rattle.std.specs.Prelude.{◌≡◌, ◌≤◌, ◌<◌, ◌+◌, ◌-◌, ◌++◌, ◌==◌, ◌&&◌, ◌||◌, true, bit_and, nat_lt, length, map, not, reverse};
 ghost use Rattle.ed_model.specs.History.{Change, latest_text_step};
 ghost use Rattle.ed_model.specs.Session.{text_of};
 ghost use Rattle.ed_model.specs.SoundLaws.{AreStepsOf};
@@ -8,13 +8,13 @@ ghost use Rattle.ed_model.specs.UndoPlans.{text_steps};
 ghost use Rattle.ed_model.specs.Performing.{save_point_change, transaction_performed};
 ghost use Rattle.id_table.specs.Entries.{id_of};
 ghost use Rattle.document.specs.Kept.{HasTextRoom, TakesRoom};
-ghost use Rattle.document.specs.Undoing.{changes_of, history_behind, outline_of};
+ghost use Rattle.document.specs.Undoing.{changes_of, history_behind, is_other, outline_of, room_of_change, save_point_told};
 ghost use Rattle.scene.specs.Scenes.{scene_in, watchers, AreNamed, IsWatched};
 ghost use Rattle.scene.specs.Hearing.{masks_of};
 ghost use Rattle.scene.specs.Needs.{note_room};
-ghost use Rattle.scene.specs.Turns.{turn_of};
+ghost use Rattle.scene.specs.Turns.{turn_of, ChangeFits};
 ghost use Rattle.scene.specs.Performed.{CanPerformAll, AreAllPerformed};
-ghost use Rattle.scene.specs.Undoing.{bits_of, every_kind, free_behind, notes_of_change, bytes_of_change, bytes_of_changes, notes_of_history, room_of_changes, capped_room, capped_notes, place_behind_any};
+ghost use Rattle.scene.specs.Undoing.{bits_of, every_kind, free_behind, notes_of_change, bytes_of_change, bytes_of_changes, notes_of_history, room_of_changes, save_point_notes, IsCounted, capped_room, capped_notes, place_behind_any, place_by};
 
 use crate::need::{NoteRoom, told_need};
 use crate::performing::{Turn, kinds_of, kinds_of_all, perform_change};
@@ -38,6 +38,22 @@ pub struct HistoryNeed {
     pub document: DocumentRoom,
 }
 
+impl HistoryNeed {
+    /// Whether no amount is the greatest, at which sums stop.
+    #[inline]
+    pub fn is_counted(&self) -> bool
+        ensures { result ≡ true → IsCounted self.now }
+    {
+        self.notes.notes < usize::MAX
+            && self.notes.bytes < usize::MAX
+            && self.document.text < usize::MAX
+            && self.document.lines < usize::MAX
+            && self.document.insertions < usize::MAX
+            && self.document.steps < usize::MAX
+            && self.document.bytes < usize::MAX
+    }
+}
+
 // The turn of the change at `index`, of `count`.
 fn turn_at(direction: Direction, index: usize, count: usize) -> Turn
     requires { index < count }
@@ -51,33 +67,59 @@ fn turn_at(direction: Direction, index: usize, count: usize) -> Turn
     }
 }
 
-// Whether none of the views that watch hears of any change, so that none has to be asked at each. Of one change it is not asked
-// here.
-fn is_quiet(document: &Document, views: &IdTable<View>, direction: Direction, count: usize) -> bool
+// Whether it is known that no view that watches hears of any change, so that none has to be asked at each: there is no room for
+// a note, or the changes are several, and no mask has a bit of what they are told under. Of one change the masks are not asked.
+fn is_quiet(
+    document: &Document,
+    views: &IdTable<View>,
+    notes: &NoteList,
+    direction: Direction,
+    count: usize,
+) -> bool
     requires named { AreNamed views.now.entries }
-    ensures { result ≡ (nat_lt 1 count && (bit_and (masks_of (watchers document.now.document views.now)) (every_kind (bits_of direction)) == 0)) }
+    ensures { result ≡ (notes.now.note_room == 0 || (nat_lt 1 count && (bit_and (masks_of (watchers document.now.document views.now)) (every_kind (bits_of direction)) == 0))) }
 {
-    count > 1 && survey(document, views).masks & kinds_of_all(direction) == 0
+    notes.is_full() || (count > 1 && survey(document, views).masks & kinds_of_all(direction) == 0)
 }
 
-// Performs the changes one after the other. The history stays.
+// Where the caret goes by a change of this outline, for which there is room: behind what it puts in, or where it deletes. By a
+// container's step it stays where it goes by the changes before.
+fn caret_by(document: &Document, outline: ChangeOutline, before: Option<usize>) -> Option<usize>
+    requires can { (change : Change) × (outline ≡ outline_of change) × ChangeFits change (text_of document.now.document) × HasTextRoom document.now (room_of_change document.now.document.line_end_types change) }
+    ensures { result ≡ place_by outline before }
+{
+    let _ = document.len(); // it says that no place runs out of numbers
+    match outline {
+        ChangeOutline::Insert { place, count } => Some(place + count),
+        ChangeOutline::Delete { place, .. } => Some(place),
+        ChangeOutline::Container { .. } => before,
+    }
+}
+
+// Performs the changes one after the other, and returns where that leaves the caret, if one is a step of the text. The history
+// stays.
 fn perform_changes(
     document: &mut Document,
     views: &mut IdTable<View>,
     notes: &mut NoteList,
     direction: Direction,
-)
+) -> Option<usize>
     requires can { CanPerformAll direction document.old views.old notes.old }
     ensures all { AreAllPerformed direction document.old views.old notes.old document.new views.new notes.new }
+    ensures caret { result ≡ place_behind_any (latest_text_step (reverse (changes_of direction document.old.document.history))) }
 {
     positions_after_a_step();
     let count = document.change_count(direction);
-    let quiet = is_quiet(document, views, direction, count);
+    let quiet = is_quiet(document, views, notes, direction, count);
     let mut lines_changed = false;
+    let mut caret = None;
     for index in 0..count {
         let turn = turn_at(direction, index, count);
-        lines_changed = perform_change(document, views, notes, turn, quiet, lines_changed);
+        let outline = document.change_outline(direction, index);
+        caret = caret_by(document, outline, caret);
+        lines_changed = perform_change(document, views, notes, turn, outline, quiet, lines_changed);
     }
+    caret
 }
 
 // Tells each view that watches that the save point is reached, if the document `is_there`, or else that it is left. It stands
@@ -115,7 +157,7 @@ fn tell_save_point(
     is_there: bool,
 )
     requires named { AreNamed views.now.entries }
-    requires room { length (watchers document.now.document views.now) ≤ notes.old.note_room }
+    requires room { save_point_notes (is_other was_there is_there) (length (watchers document.now.document views.now)) ≤ notes.old.note_room }
     ensures notes { notes.new.notes ≡ notes.old.notes ++ save_point_change (watchers document.now.document views.now) was_there is_there }
     ensures note_room { notes.new.note_room + length notes.new.notes ≡ notes.old.note_room + length notes.old.notes }
     ensures text_room { notes.new.text_room ≡ notes.old.text_room }
@@ -128,19 +170,21 @@ fn tell_save_point(
 
 /// Performs undo or redo, `SCI_UNDO` and `SCI_REDO`: the changes of the transaction one after the other, each told of to the views
 /// that watch and hear it, and followed by all that watch; then all that watch are told if the save point is reached or left by
-/// it. The caret of no view is set. There must be room for all of it.
+/// it. The caret of no view is set. Returns where the caret of the view that asked for it goes: behind what its latest step of the
+/// text puts in, or where that deletes; `None` if no change is a step of the text. There must be room for all of it.
 pub fn perform_history(
     document: &mut Document,
     views: &mut IdTable<View>,
     notes: &mut NoteList,
     direction: Direction,
-)
+) -> Option<usize>
     requires steps { AreStepsOf (text_of document.old.document) (text_steps (changes_of direction document.old.document.history)) }
     requires room { HasTextRoom document.old (room_of_changes document.old.document.line_end_types (changes_of direction document.old.document.history)) }
     requires watched { IsWatched document.old.document views.old }
-    requires notes { notes_of_history (watchers document.old.document views.old) (bits_of direction) (changes_of direction document.old.document.history) ≤ notes.old.note_room }
+    requires notes { notes_of_history (watchers document.old.document views.old) direction document.old.document.history ≤ notes.old.note_room }
     requires texts { bytes_of_changes (watchers document.old.document views.old) (bits_of direction) (changes_of direction document.old.document.history) ≤ notes.old.text_room }
     ensures scene { scene_in document.new.document views.new.entries notes.new.notes ≡ transaction_performed (bits_of direction) (changes_of direction document.old.document.history) (history_behind direction document.old.document.history) (scene_in document.old.document views.old.entries notes.old.notes) }
+    ensures caret { result ≡ place_behind_any (latest_text_step (reverse (changes_of direction document.old.document.history))) }
     ensures watched { IsWatched document.new.document views.new }
     ensures room_left { TakesRoom document.old.room document.new.room (room_of_changes document.old.document.line_end_types (changes_of direction document.old.document.history)) }
     ensures note_room_left { notes.new.note_room + length notes.new.notes ≡ notes.old.note_room + length notes.old.notes }
@@ -150,10 +194,11 @@ pub fn perform_history(
     ensures view_room { views.new.room ≡ views.old.room }
 {
     let was_there = document.history().is_at_save_point();
-    perform_changes(document, views, notes, direction);
+    let caret = perform_changes(document, views, notes, direction);
     document.finish_history(direction);
     let is_there = document.history().is_at_save_point();
     tell_save_point(document, views, notes, was_there, is_there);
+    caret
 }
 
 // What a change needs of the notes, by its outline, where some view that watches hears one of its kinds.
@@ -218,18 +263,29 @@ fn beside(free: usize, need: DocumentRoom) -> DocumentRoom
     }
 }
 
+// How many notes tell that the save point is reached or left, where so many views watch: none where it is neither.
+fn save_point_need(document: &Document, direction: Direction, count: usize) -> usize
+    ensures { result ≡ save_point_notes (save_point_told direction document.now.document.history) count }
+{
+    if document.is_save_point_told(direction) {
+        count
+    } else {
+        0
+    }
+}
+
 // What undo or redo of one change needs: that of the change, and no loop that adds up.
 fn need_of_one(document: &Document, views: &IdTable<View>, direction: Direction) -> HistoryNeed
     requires named { AreNamed views.now.entries }
     requires one { length (changes_of direction document.now.document.history) ≡ 1 }
-    ensures notes { result.notes ≡ capped_notes (notes_of_history (watchers document.now.document views.now) (bits_of direction) (changes_of direction document.now.document.history)) (bytes_of_changes (watchers document.now.document views.now) (bits_of direction) (changes_of direction document.now.document.history)) }
+    ensures notes { result.notes ≡ capped_notes (notes_of_history (watchers document.now.document views.now) direction document.now.document.history) (bytes_of_changes (watchers document.now.document views.now) (bits_of direction) (changes_of direction document.now.document.history)) }
     ensures document { result.document ≡ capped_room (room_of_changes document.now.document.line_end_types (changes_of direction document.now.document.history)) }
 {
     let watched = survey(document, views);
     let (outline, room) = document.change_with_need(direction, 0);
     let notes = change_note_need(document, views, direction, outline, watched.masks);
     let told = NoteRoom {
-        notes: watched.count,
+        notes: save_point_need(document, direction, watched.count),
         bytes: 0,
     };
     HistoryNeed {
@@ -241,7 +297,7 @@ fn need_of_one(document: &Document, views: &IdTable<View>, direction: Direction)
 /// Returns what undo or redo needs at most. What goes out of the text makes room for what comes later.
 pub fn history_need(document: &Document, views: &IdTable<View>, direction: Direction) -> HistoryNeed
     requires named { AreNamed views.now.entries }
-    ensures notes { result.notes ≡ capped_notes (notes_of_history (watchers document.now.document views.now) (bits_of direction) (changes_of direction document.now.document.history)) (bytes_of_changes (watchers document.now.document views.now) (bits_of direction) (changes_of direction document.now.document.history)) }
+    ensures notes { result.notes ≡ capped_notes (notes_of_history (watchers document.now.document views.now) direction document.now.document.history) (bytes_of_changes (watchers document.now.document views.now) (bits_of direction) (changes_of direction document.now.document.history)) }
     ensures document { result.document ≡ capped_room (room_of_changes document.now.document.line_end_types (changes_of direction document.now.document.history)) }
 {
     let count = document.change_count(direction);
@@ -251,7 +307,7 @@ pub fn history_need(document: &Document, views: &IdTable<View>, direction: Direc
     let watched = survey(document, views);
     let mut need = HistoryNeed {
         notes: NoteRoom {
-            notes: watched.count,
+            notes: save_point_need(document, direction, watched.count),
             bytes: 0,
         },
         document: DocumentRoom::none(),
@@ -267,22 +323,4 @@ pub fn history_need(document: &Document, views: &IdTable<View>, direction: Direc
         free = free_behind(free, outline);
     }
     need
-}
-
-/// Returns where undo or redo leaves the caret of the view that asked for it: behind what its latest step of the text puts in, or
-/// where that deletes. `None` if no change is a step of the text. There must be room for the changes.
-pub fn caret_after(document: &Document, direction: Direction) -> Option<usize>
-    requires steps { AreStepsOf (text_of document.now.document) (text_steps (changes_of direction document.now.document.history)) }
-    requires room { HasTextRoom document.now (room_of_changes document.now.document.line_end_types (changes_of direction document.now.document.history)) }
-    ensures { result ≡ place_behind_any (latest_text_step (reverse (changes_of direction document.now.document.history))) }
-{
-    let _ = document.len(); // it says that no place runs out of numbers
-    for index in (0..document.change_count(direction)).rev() {
-        match document.change_outline(direction, index) {
-            ChangeOutline::Insert { place, count } => return Some(place + count),
-            ChangeOutline::Delete { place, .. } => return Some(place),
-            ChangeOutline::Container { .. } => {}
-        }
-    }
-    None
 }

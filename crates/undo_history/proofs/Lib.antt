@@ -7,3 +7,4 @@ pub mod Pushing
 pub mod Reading
 pub mod Joins
 pub mod Latest
+pub mod SavePoint

@@ -2,6 +2,7 @@
 
 ghost use Rattle.std.specs.Prelude.{true, false, [], ◌∷◌, ◌++◌, ◌≡◌, ◌≤◌, ◌<◌, ◌+◌, ◌*◌, ◌^◌, ◌==◌, if◌then◌else◌, max, length, take, slice_get, OnOk, OnErr, IsOk};
 ghost use Rattle.ed_model.specs.History.{at_save_point, can_undo, can_redo, sealed_outside_groups, with_change, joins, begins_transaction, appended, TextStep, with_container_step, group_begun, group_ended, saved, emptied, collecting_set, undone, redone, reachable, undo_changes, redo_changes, inverse_change};
+ghost use Rattle.ed_model.specs.Numbers.{is_number};
 ghost use Rattle.undo_history.specs.Kept.{fresh, HasRoom};
 ghost use Rattle.undo_history.specs.Steps.{step_of};
 ghost use Rattle.undo_history.specs.Dropping.{without_future, without_undone};
@@ -81,10 +82,28 @@ impl UndoHistory {
     pub fn is_at_save_point(&self) -> bool
         ensures { result ≡ at_save_point self.now.history }
     {
-        match self.save_point {
-            Some(place) => place == self.transactions,
-            None => false,
+        is_place(self.save_point, self.transactions)
+    }
+
+    /// Whether the document counts as unmodified once an undo has taken back the last transaction; where there is none, whether it
+    /// does now.
+    #[inline]
+    pub fn undo_gets_to_save_point(&self) -> bool
+        ensures { result ≡ at_save_point (undone self.now.history) }
+    {
+        is_place(self.save_point, self.transactions.saturating_sub(1))
+    }
+
+    /// Whether the document counts as unmodified once a redo has made the next transaction again; where there is none, whether it
+    /// does now.
+    #[inline]
+    pub fn redo_gets_to_save_point(&self) -> bool
+        ensures { result ≡ at_save_point (redone self.now.history) }
+    {
+        if self.past == self.steps.len() {
+            return self.is_at_save_point();
         }
+        is_place(self.save_point, self.transactions + 1)
     }
 
     /// Whether there is a transaction to undo, outside groups.
@@ -473,6 +492,16 @@ impl UndoHistory {
         self.transactions = transactions_after(self.transactions, joined);
         self.step_room -= 1;
         self.byte_room -= bytes.len();
+    }
+}
+
+// Whether the save point is that behind so many transactions.
+fn is_place(save_point: Option<usize>, transactions: usize) -> bool
+    ensures { result ≡ is_number transactions save_point }
+{
+    match save_point {
+        Some(place) => place == transactions,
+        None => false,
     }
 }
 

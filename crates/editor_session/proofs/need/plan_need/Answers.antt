@@ -46,7 +46,7 @@ pub returns-in-Undo : goal.returns-in-Undo
 returns-in-Undo c =
     let a = c.args in
     record {
-      enough = λ r about. (let need : Session → Document → Need = λ s d. record no_need { notes = capped_notes (notes_of_history (watching s.views d) (bits_of Undo) (changes_of Undo d.history)) (bytes_of_changes (watching s.views d) (bits_of Undo) (changes_of Undo d.history)); document = capped_room (room_of_changes d.line_end_types (changes_of Undo d.history)) } in
+      enough = λ r about. (let need : Session → Document → Need = λ s d. record no_need { notes = capped_notes (notes_of_history (watching s.views d) Undo d.history) (bytes_of_changes (watching s.views d) (bits_of Undo) (changes_of Undo d.history)); document = capped_room (room_of_changes d.line_end_types (changes_of Undo d.history)) } in
           subst (λ p. NeedsTask r p false c.history.result) (sym c.in-Undo.is) (undo_needs r c.history.result (c.history.ensures ∙ ap (λ s. need s a.document.now.document) (sym about.session) ∙ ap (need r.session) (sym about.document))));
     }
 
@@ -54,7 +54,7 @@ pub returns-in-Redo : goal.returns-in-Redo
 returns-in-Redo c =
     let a = c.args in
     record {
-      enough = λ r about. (let need : Session → Document → Need = λ s d. record no_need { notes = capped_notes (notes_of_history (watching s.views d) (bits_of Redo) (changes_of Redo d.history)) (bytes_of_changes (watching s.views d) (bits_of Redo) (changes_of Redo d.history)); document = capped_room (room_of_changes d.line_end_types (changes_of Redo d.history)) } in
+      enough = λ r about. (let need : Session → Document → Need = λ s d. record no_need { notes = capped_notes (notes_of_history (watching s.views d) Redo d.history) (bytes_of_changes (watching s.views d) (bits_of Redo) (changes_of Redo d.history)); document = capped_room (room_of_changes d.line_end_types (changes_of Redo d.history)) } in
           subst (λ p. NeedsTask r p false c.history-in-Redo.result) (sym c.in-Redo.is) (redo_needs r c.history-in-Redo.result (c.history-in-Redo.ensures ∙ ap (λ s. need s a.document.now.document) (sym about.session) ∙ ap (need r.session) (sym about.document))));
     }
 

@@ -1,4 +1,4 @@
-use Rattle.std.proofs.Common.{◌≡◌, ℕ, List, false, ap, sym, ◌∙◌, arith, subst}
+use Rattle.std.proofs.Common.{◌≡◌, ◌*◌, ℕ, List, false, ap, sym, ◌∙◌, arith, subst}
 use Rattle.std.proofs.lemmas.List.{append-nil}
 use Rattle.ed_model.specs.Steps.{Step}
 use Rattle.ed_model.specs.History.{TextStep}
@@ -9,7 +9,6 @@ use Rattle.scene.specs.Hearing.{hearers}
 use Rattle.scene.specs.Undoing.{bits_of, all_bits, outline_kinds, performed_kinds}
 use Rattle.scene.specs.Turns.{IsToldBefore}
 use Rattle.scene.proofs.KindLemmas.{unheard_before}
-use Rattle.scene.proofs.ChangeNotes.{none_of_all}
 use Rattle.scene.proofs.ChangeSteps.{some_has, step_same, outline_kinds_are}
 use Rattle.scene.proofs.performing.tell_before_change.Goals as goal
 
@@ -31,7 +30,8 @@ returns-then-quiet c =
     let can = c.requires.can.1 in
     let W = watchers c.args.document.now.document c.args.views.now in
     let who = bits_of c.args.turn.direction in
-    let none = none_of_all c.args.turn.direction s W (c.requires.quiet c.if-quiet.true) in
+    let e : 2 * hearers (performed_kinds who s) W ≡ 0 = c.requires.quiet c.if-quiet.true (TextStep s) can.at in
+    let none : hearers (performed_kinds who s) W ≡ 0 = omega arith in
     λ step e. subst (IsToldBefore who W false c.args.notes.now c.args.notes.now) (step_same _ s step can.at e) (untold who s W c.args.notes.now none)
 
 pub returns-then-count_hearers-eq0 : goal.returns-then-count_hearers-eq0

@@ -1,8 +1,8 @@
-use Rattle.std.proofs.Common.{◌+◌, drop, arith}
+use Rattle.std.proofs.Common.{◌+◌, drop, length, arith}
 use Rattle.std.proofs.lemmas.List.{drop_all}
-use Rattle.document.specs.Undoing.{changes_of}
+use Rattle.document.specs.Undoing.{changes_of, save_point_told}
 use Rattle.scene.specs.Scenes.{watchers}
-use Rattle.scene.specs.Undoing.{bits_of}
+use Rattle.scene.specs.Undoing.{bits_of, save_point_notes}
 use Rattle.scene.proofs.ChangeSteps.{drop_some, some_has}
 use Rattle.scene.proofs.PerformedSoFar.{there}
 use Rattle.scene.proofs.NeededSoFar.{needed_next, needed_notes, needed_room}
@@ -19,7 +19,7 @@ loop-index-preserved c =
     let D = some_has _ _ next.0 next.1 c.change_with_need-outline.ensures.need in
     let N = c.change_note_need-notes.ensures next.0 O in
     let F = c.free_behind-free.ensures next.0 O in
-    rw (c.plus.ensures, c.plus-in-loop-index.ensures, N, c.beside.ensures, D, F) (needed_next (watchers d c.args.views.now) (bits_of c.args.direction) d.line_end_types c.loop-index.free next.0 (drop i all) (drop (i + 1) all) all
+    rw (c.plus.ensures, c.plus-in-loop-index.ensures, N, c.beside.ensures, D, F) (needed_next (watchers d c.args.views.now) (bits_of c.args.direction) d.line_end_types (save_point_notes (save_point_told c.args.direction d.history) (length (watchers d c.args.views.now))) c.loop-index.free next.0 (drop i all) (drop (i + 1) all) all
     c.loop-index.need c.loop-index.invariant (drop_some all i next.0 next.1))
 
 pub returns : goal.returns
@@ -30,7 +30,8 @@ returns c =
     let none = drop_all c.loop-index.index all (omega arith) in
     let W = watchers d c.args.views.now in
     let who = bits_of c.args.direction in
+    let told = save_point_notes (save_point_told c.args.direction d.history) (length W) in
     record {
-      notes = needed_notes W who d.line_end_types c.loop-index.free (drop c.loop-index.index all) all c.loop-index.need c.loop-index.invariant none;
-      document = needed_room W who d.line_end_types c.loop-index.free (drop c.loop-index.index all) all c.loop-index.need c.loop-index.invariant none;
+      notes = needed_notes W who d.line_end_types told c.loop-index.free (drop c.loop-index.index all) all c.loop-index.need c.loop-index.invariant none;
+      document = needed_room W who d.line_end_types told c.loop-index.free (drop c.loop-index.index all) all c.loop-index.need c.loop-index.invariant none;
     }

@@ -1,7 +1,7 @@
-use Rattle.std.proofs.Common.{arith}
-use Rattle.document.specs.Undoing.{changes_of}
+use Rattle.std.proofs.Common.{length, arith}
+use Rattle.document.specs.Undoing.{changes_of, save_point_told}
 use Rattle.scene.specs.Scenes.{watchers}
-use Rattle.scene.specs.Undoing.{bits_of}
+use Rattle.scene.specs.Undoing.{bits_of, save_point_notes}
 use Rattle.scene.proofs.ChangeSteps.{some_has}
 use Rattle.scene.proofs.PerformedSoFar.{there}
 use Rattle.scene.proofs.NeededSoFar.{one_change, notes_of_one, room_of_one}
@@ -14,8 +14,10 @@ returns-clause-notes c =
     let O = some_has _ _ next.0 next.1 c.change_with_need-outline.ensures.outline in
     let N = c.change_note_need-notes.ensures next.0 O in
     let one = one_change all next.0 c.requires.one next.1 in
-    rw (c.plus.ensures, c.survey-watched.ensures.count)
-    (notes_of_one (watchers c.args.document.now.document c.args.views.now) (bits_of c.args.direction) all next.0 c.change_note_need-notes.result one N)
+    let W = watchers c.args.document.now.document c.args.views.now in
+    let told = save_point_notes (save_point_told c.args.direction c.args.document.now.document.history) (length W) in
+    rw (c.plus.ensures, c.save_point_need.ensures, c.survey-watched.ensures.count)
+    (notes_of_one W (bits_of c.args.direction) told all next.0 c.change_note_need-notes.result one N)
 
 pub returns-clause-document : goal.returns-clause-document
 returns-clause-document c =

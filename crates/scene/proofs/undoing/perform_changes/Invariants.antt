@@ -1,10 +1,12 @@
-use Rattle.std.proofs.Common.{drop}
+use Rattle.std.proofs.Common.{◌≡◌, drop}
 use Rattle.document.specs.Undoing.{changes_of}
+use Rattle.scene.proofs.LatestStep.{behind_first}
 use Rattle.scene.proofs.PerformedSoFar.{IsPerformedSoFar}
 use Rattle.scene.proofs.undoing.perform_changes.Given as goal
 
--- what is left of the changes takes the scene to where all of them take it
+-- what is left of the changes takes the scene to where all of them take it, and the caret goes where those before take it
 abbrev pub invariant-loop-index : goal.invariant-loop-index
 invariant-loop-index l =
-    IsPerformedSoFar l.fn.direction (drop l.index (changes_of l.fn.direction l.fn.document.document.history)) l.lines_changed
-    l.fn.document l.fn.views l.fn.notes l.document l.views l.notes
+    let all = changes_of l.fn.direction l.fn.document.document.history in
+    IsPerformedSoFar l.fn.direction (drop l.index all) l.lines_changed l.fn.document l.fn.views l.fn.notes l.document l.views l.notes
+    × (l.caret ≡ behind_first all l.index)
