@@ -1,5 +1,5 @@
 -- Whether undo and redo get to the save point.
-use Rattle.std.proofs.Common.{◌≡◌, ◌≤◌, ◌<◌, ◌+◌, ◌-◌, ℕ, List, [], ◌∷◌, length, drop, refl, ap, sym, ◌∙◌, arith, reverse, Bool}
+use Rattle.std.proofs.Common.{◌≡◌, ◌<◌, ◌+◌, ◌-◌, ℕ, List, [], ◌∷◌, length, drop, refl, ap, sym, ◌∙◌, arith, reverse, Bool}
 use Rattle.std.specs.Prelude.{Option}
 use Rattle.std.proofs.lemmas.List.{length-drop, length-reverse, drop_all}
 use Rattle.ed_model.specs.Numbers.{is_number}
