@@ -8,6 +8,7 @@
 #![tactic(auto)]
 
 mod asking;
+mod by_task;
 mod changes;
 mod edits;
 mod find;
@@ -27,6 +28,7 @@ mod ready;
 mod run;
 mod sending;
 mod session;
+mod short_way;
 
 pub use laws::marked_messages_are_free;
 pub use run::Run;
