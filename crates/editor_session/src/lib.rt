@@ -15,6 +15,7 @@ mod find;
 mod handing_out;
 mod history;
 mod laws;
+mod left;
 mod lending;
 mod need;
 mod opening;

@@ -9,12 +9,13 @@ ghost use Rattle.ed_model.specs.Table.{table};
 ghost use Rattle.message_requests.specs.Requested.{session_in};
 ghost use Rattle.session_changes.specs.Kept.{IsKept};
 ghost use Rattle.editor_session.specs.Answers.{AnswersBy, message_with};
+ghost use Rattle.editor_session.specs.Left.{told, IsLeft};
 ghost use Rattle.editor_session.specs.Plans.{is_free};
 
 use crate::asking::ask;
-use crate::by_task::do_by_task;
 use crate::find::find;
-use crate::short_way::{answer, do_shortly};
+use crate::left::{answer, keep_made, whole};
+use crate::short_way::{do_apart, do_shortly};
 use document::Document;
 use ed_model::{Plan, plans_are_fit};
 use ed_types::{Bytes, Kind, Refusal, Reply};
@@ -50,6 +51,30 @@ fn hand_out(
     Ok(Reply::quiet(alloc, value, Bytes::new(text)))
 }
 
+/// The same, left in a place.
+///
+/// # Errors
+///
+/// `OutOfMemory` where memory is refused. The place is then as it was.
+#[inline(never)]
+fn hand_out_to(
+    alloc: Global,
+    document: &Document,
+    value: i64,
+    start: usize,
+    count: usize,
+    reply: &mut Reply,
+) -> Result<i64, Refusal>
+    requires range { start + count ≤ length document.now.document.cells }
+    ensures reply { IfOk (told result reply.new) (λ whole. whole ≡ response value (slice_range (text_of document.now.document) start (start + count)) []) }
+    ensures place { IsLeft result reply.old reply.new }
+    ensures refused { IfErr (told result reply.new) (λ refusal. refusal ≡ OutOfMemory) }
+    ensures free { count ≡ 0 → IsOk result }
+{
+    let made = hand_out(alloc, document, value, start, count);
+    keep_made(reply, made)
+}
+
 /// Whether the view of a message hears of it, since it records.
 #[inline(always)]
 fn is_recorded(kind: Kind, request: &Request) -> bool
@@ -58,13 +83,63 @@ fn is_recorded(kind: Kind, request: &Request) -> bool
     request.view.records() && kind.columns().r
 }
 
-/// Answers a message to the view of an id by its plan. It stands apart, so that a plain question sets up nothing of it.
+/// Answers a message to the view of an id by its plan: the value is returned, and the text and the notes of its reply take the place
+/// of another's. It stands apart, so that a plain question sets up nothing of it.
+///
+/// # Errors
+///
+/// The refusal of the message table; `OutOfMemory` where memory is refused. The session and the place are then as they were.
+#[inline(never)]
+pub(crate) fn answer_into(
+    alloc: Global,
+    state: &mut SessionState,
+    view: u32,
+    number: u32,
+    w: i64,
+    l: i64,
+    text: &[u8],
+    reply: &mut Reply,
+) -> Result<i64, Refusal>
+    requires kept { IsKept state.old }
+    ensures answer { AnswersBy (table (session_in state.old) view (message_with number w l text.now)) (session_in state.old) (session_in state.new) (told result reply.new) }
+    ensures refused { IfErr (table (session_in state.old) view (message_with number w l text.now)) (λ refusal. result ≡ Err refusal) }
+    ensures place { IsLeft result reply.old reply.new }
+    ensures kept { IsKept state.new }
+    ensures free { is_free (session_in state.old) view (message_with number w l text.now) ≡ true → IfErr result (λ refusal. refusal ≢ OutOfMemory) }
+{
+    // The laws that a plan's numbers are in range, and that no refusal is for want of memory.
+    plans_are_fit();
+    let (kind, request) = match find(state, view, number, w, l, text) {
+        Ok(found) => found,
+        Err(refusal) => return Err(refusal),
+    };
+    let document = request.document.id();
+    let is_recorded = is_recorded(kind, &request);
+    // A plan is not small: it stays where it is made.
+    match &frequent_plan_of(kind, &request) {
+        Ok(plan) if is_recorded => do_apart(
+            alloc, state, document, view, number, w, l, text, plan, true, reply,
+        ),
+        Ok(
+            Plan::HandOut {
+                value,
+                start,
+                count,
+            },
+        ) => hand_out_to(alloc, request.document, *value, *start, *count, reply),
+        Ok(plan) => do_shortly(
+            alloc, state, document, view, number, w, l, text, plan, reply,
+        ),
+        Err(refusal) => Err(*refusal),
+    }
+}
+
+/// Answers a message to the view of an id by its plan.
 ///
 /// # Errors
 ///
 /// The refusal of the message table; `OutOfMemory` where memory is refused. The session is then as it was.
-#[inline(never)]
-pub(crate) fn answer_by_plan(
+fn answer_by_plan(
     alloc: Global,
     state: &mut SessionState,
     view: u32,
@@ -79,33 +154,11 @@ pub(crate) fn answer_by_plan(
     ensures kept { IsKept state.new }
     ensures free { is_free (session_in state.old) view (message_with number w l text.now) ≡ true → IfErr result (λ refusal. refusal ≢ OutOfMemory) }
 {
-    // The laws that a plan's numbers are in range, and that no refusal is for want of memory.
-    plans_are_fit();
-    let (kind, request) = match find(state, view, number, w, l, text) {
-        Ok(found) => found,
-        Err(refusal) => return Err(refusal),
-    };
-    let document = request.document.id();
-    let is_recorded = is_recorded(kind, &request);
-    // A plan is not small: it stays where it is made.
-    let planned = frequent_plan_of(kind, &request);
-    let plan = match &planned {
-        Ok(
-            Plan::HandOut {
-                value,
-                start,
-                count,
-            },
-        ) if !is_recorded => return hand_out(alloc, request.document, *value, *start, *count),
-        Ok(plan) => plan,
-        Err(refusal) => return Err(*refusal),
-    };
-    if is_recorded {
-        return do_by_task(
-            alloc, state, document, view, number, w, l, text, *plan, true,
-        );
+    let mut reply = answer(alloc, 0);
+    match answer_into(alloc, state, view, number, w, l, text, &mut reply) {
+        Ok(value) => Ok(whole(alloc, value, reply)),
+        Err(refusal) => Err(refusal),
     }
-    do_shortly(alloc, state, document, view, number, w, l, text, plan)
 }
 
 /// Answers a message to the view of an id.
