@@ -14,7 +14,7 @@ pub ok_told : (r : Result ℤ Refusal) (left : Response) (made : Result Response
 ok_told (Ok value) left made is h = refl
 ok_told (Err refusal) left made is h = subst IsOk (sym is) h
 
-abbrev refusing : (R : Type 0) → Refusal → Result R Refusal
+abbrev pub refusing : (R : Type 0) → Refusal → Result R Refusal
 refusing R refusal = Err refusal
 
 pub refused_too : {S : Type 0} (says : Result S Refusal) (refusal : Refusal) → IfErr says (λ r. refusing ℤ refusal ≡ Err r) → IfErr says (λ r. refusing Response refusal ≡ Err r)

@@ -1,4 +1,4 @@
-use Rattle.std.proofs.Common.{rules, ◌≡◌, ◌⊎◌, true, Ok, Err, sym, ap, subst, ◌∙◌, to_z, of_z, w64}
+use Rattle.std.proofs.Common.{rules, ◌≡◌, ◌⊎◌, ℤ, true, Ok, Err, sym, ap, subst, ◌∙◌, to_z, of_z, w64}
 use Rattle.std.specs.Prelude.{◌≢◌, IfErr}
 use Rattle.ed_types.specs.declared.refusal.Refusal.TheVariants.{OutOfMemory}
 use Rattle.ed_model.specs.Performing.{quiet}
@@ -7,13 +7,14 @@ use Rattle.message_requests.specs.Requested.{session_in}
 use Rattle.editor_session.specs.Answers.{AnswersBy, message_with}
 use Rattle.editor_session.specs.Left.{told}
 use Rattle.editor_session.specs.Plans.{is_free}
-use Rattle.editor_session.proofs.Leaving.{refused_too}
+use Rattle.editor_session.proofs.Leaving.{refusing, refused_too}
 use Rattle.editor_session.proofs.sending.answer_by_plan.Goals as goal
 
 pub whole-requires : goal.whole-requires
 whole-requires c =
     let left = c.answer_into.new.reply in
-    subst (λ v. (left.value ≡ v) ⊎ (left ≡ quiet left.value)) (search rules) c.in-Ok.ensures.place
+    let value : c.in-Ok.value ≡ to_z w64 (of_z w64 c.in-Ok.value) = search rules in
+    record { place = subst (λ v. (left.value ≡ v) ⊎ (left ≡ quiet left.value)) value c.in-Ok.ensures.place }
 
 pub returns-in-Ok-clause-answer : goal.returns-in-Ok-clause-answer
 returns-in-Ok-clause-answer c =
@@ -38,11 +39,11 @@ returns-in-Err-clause-refused c =
     let a = c.args in
     let s = session_in a.state.now in
     let same : message_with a.number (to_z w64 (of_z w64 a.w)) (to_z w64 (of_z w64 a.l)) a.text.now ≡ message_with a.number a.w a.l a.text.now = search rules in
-    refused_too (table s a.view (message_with a.number a.w a.l a.text.now)) c.in-Err.refusal (subst (λ x. IfErr (table s a.view x) _) same c.in-Err.ensures.refused)
+    refused_too (table s a.view (message_with a.number a.w a.l a.text.now)) c.in-Err.refusal (subst (λ x. IfErr (table s a.view x) (λ r. refusing ℤ c.in-Err.refusal ≡ Err r)) same c.in-Err.ensures.refused)
 
 pub returns-in-Err-clause-free : goal.returns-in-Err-clause-free
 returns-in-Err-clause-free c =
     let a = c.args in
     let s = session_in a.state.now in
     let same : message_with a.number (to_z w64 (of_z w64 a.w)) (to_z w64 (of_z w64 a.l)) a.text.now ≡ message_with a.number a.w a.l a.text.now = search rules in
-    subst (λ x. is_free s a.view x ≡ true → IfErr (Err c.in-Err.refusal) (λ refusal. refusal ≢ OutOfMemory)) same c.in-Err.ensures.free
+    subst (λ x. is_free s a.view x ≡ true → c.in-Err.refusal ≢ OutOfMemory) same c.in-Err.ensures.free

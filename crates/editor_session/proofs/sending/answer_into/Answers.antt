@@ -36,23 +36,23 @@ do_apart-requires-clause-task c =
       fit = fit_of kind r (search rules) (c.plans_are_fit.ensures.in_range kind r c.in-Ok.ensures.found.sound);
     }
 
-pub returns-then-is_recorded-clause-answer : goal.returns-then-is_recorded-clause-answer
-returns-then-is_recorded-clause-answer c =
+pub returns-in-Ok-frequent_plan_of-clause-answer : goal.returns-in-Ok-frequent_plan_of-clause-answer
+returns-in-Ok-frequent_plan_of-clause-answer c =
     let a = c.args in
     let s = session_in a.state.now in
     let same : message_with a.number (to_z w64 (of_z w64 a.w)) (to_z w64 (of_z w64 a.l)) a.text.now ≡ message_with a.number a.w a.l a.text.now = search rules in
     subst (λ x. AnswersBy (table s a.view x) s (session_in c.do_apart.new.state) (told c.do_apart.result c.do_apart.new.reply)) same c.do_apart.ensures.answer
 
-pub returns-then-is_recorded-clause-refused : goal.returns-then-is_recorded-clause-refused
-returns-then-is_recorded-clause-refused c =
+pub returns-in-Ok-frequent_plan_of-clause-refused : goal.returns-in-Ok-frequent_plan_of-clause-refused
+returns-in-Ok-frequent_plan_of-clause-refused c =
     let a = c.args in
     let kind = c.in-Ok.found.0 in
     let r = c.in-Ok.found.1 in
     let planned : plan_of kind r ≡ Ok c.in-Ok-frequent_plan_of.plan = search rules in
     with_a_plan _ (session_in a.state.now) a.view (message_with a.number (to_z w64 (of_z w64 a.w)) (to_z w64 (of_z w64 a.l)) a.text.now) (message_with a.number a.w a.l a.text.now) kind r c.in-Ok-frequent_plan_of.plan (search rules) c.in-Ok.ensures.found planned
 
-pub returns-then-is_recorded-clause-free : goal.returns-then-is_recorded-clause-free
-returns-then-is_recorded-clause-free c free =
+pub returns-in-Ok-frequent_plan_of-clause-free : goal.returns-in-Ok-frequent_plan_of-clause-free
+returns-in-Ok-frequent_plan_of-clause-free c free =
     let a = c.args in
     let s = session_in a.state.now in
     let same : message_with a.number (to_z w64 (of_z w64 a.w)) (to_z w64 (of_z w64 a.l)) a.text.now ≡ message_with a.number a.w a.l a.text.now = search rules in
@@ -69,8 +69,8 @@ returns-in-Ok-HandOut-clause-answer c =
     let same : message_with a.number (to_z w64 (of_z w64 a.w)) (to_z w64 (of_z w64 a.l)) a.text.now ≡ message_with a.number a.w a.l a.text.now = search rules in
     let is = ap (table (session_in a.state.now) a.view) (sym same)
     ∙ text_handed_out (session_in a.state.now) a.view (message_with a.number (to_z w64 (of_z w64 a.w)) (to_z w64 (of_z w64 a.l)) a.text.now) kind r h.value h.start h.count c.in-Ok.ensures.found planned unheard in
-    let reply : IfOk c.hand_out_to.result (λ x. x ≡ response h.value (slice_range (text_of r.document) h.start (h.start + h.count)) []) = search rules in
-    handed_so (table (session_in a.state.now) a.view (message_with a.number a.w a.l a.text.now)) (session_in a.state.now) (response h.value (slice_range (text_of r.document) h.start (h.start + h.count)) []) c.hand_out_to.result is reply c.hand_out_to.ensures.refused
+    let reply : IfOk (told c.hand_out_to.result c.hand_out_to.new.reply) (λ x. x ≡ response h.value (slice_range (text_of r.document) h.start (h.start + h.count)) []) = search rules in
+    handed_so (table (session_in a.state.now) a.view (message_with a.number a.w a.l a.text.now)) (session_in a.state.now) (response h.value (slice_range (text_of r.document) h.start (h.start + h.count)) []) (told c.hand_out_to.result c.hand_out_to.new.reply) is reply c.hand_out_to.ensures.refused
 
 pub returns-in-Ok-HandOut-clause-refused : goal.returns-in-Ok-HandOut-clause-refused
 returns-in-Ok-HandOut-clause-refused c =
@@ -106,23 +106,23 @@ do_shortly-requires-clause-task c =
     let m = message_with a.number (to_z w64 (of_z w64 a.w)) (to_z w64 (of_z w64 a.l)) a.text.now in
     unrecorded_task (session_in a.state.now) _ a.view m kind r _ c.in-Ok.ensures.found (search rules) (search rules) (search rules) (c.plans_are_fit.ensures.in_range kind r c.in-Ok.ensures.found.sound)
 
-pub returns-else-is_recorded-clause-answer : goal.returns-else-is_recorded-clause-answer
-returns-else-is_recorded-clause-answer c =
+pub returns-in-Ok-2-clause-answer : goal.returns-in-Ok-2-clause-answer
+returns-in-Ok-2-clause-answer c =
     let a = c.args in
     let s = session_in a.state.now in
     let same : message_with a.number (to_z w64 (of_z w64 a.w)) (to_z w64 (of_z w64 a.l)) a.text.now ≡ message_with a.number a.w a.l a.text.now = search rules in
     subst (λ x. AnswersBy (table s a.view x) s (session_in c.do_shortly.new.state) (told c.do_shortly.result c.do_shortly.new.reply)) same c.do_shortly.ensures.answer
 
-pub returns-else-is_recorded-clause-refused : goal.returns-else-is_recorded-clause-refused
-returns-else-is_recorded-clause-refused c =
+pub returns-in-Ok-2-clause-refused : goal.returns-in-Ok-2-clause-refused
+returns-in-Ok-2-clause-refused c =
     let a = c.args in
     let kind = c.in-Ok.found.0 in
     let r = c.in-Ok.found.1 in
-    let planned : plan_of kind r ≡ Ok c.in-Ok-frequent_plan_of.plan = search rules in
-    with_a_plan _ (session_in a.state.now) a.view (message_with a.number (to_z w64 (of_z w64 a.w)) (to_z w64 (of_z w64 a.l)) a.text.now) (message_with a.number a.w a.l a.text.now) kind r c.in-Ok-frequent_plan_of.plan (search rules) c.in-Ok.ensures.found planned
+    let planned : plan_of kind r ≡ Ok c.in-Ok-2.plan = search rules in
+    with_a_plan _ (session_in a.state.now) a.view (message_with a.number (to_z w64 (of_z w64 a.w)) (to_z w64 (of_z w64 a.l)) a.text.now) (message_with a.number a.w a.l a.text.now) kind r c.in-Ok-2.plan (search rules) c.in-Ok.ensures.found planned
 
-pub returns-else-is_recorded-clause-free : goal.returns-else-is_recorded-clause-free
-returns-else-is_recorded-clause-free c free =
+pub returns-in-Ok-2-clause-free : goal.returns-in-Ok-2-clause-free
+returns-in-Ok-2-clause-free c free =
     let a = c.args in
     let s = session_in a.state.now in
     let same : message_with a.number (to_z w64 (of_z w64 a.w)) (to_z w64 (of_z w64 a.l)) a.text.now ≡ message_with a.number a.w a.l a.text.now = search rules in
