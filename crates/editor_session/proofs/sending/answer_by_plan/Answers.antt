@@ -5,7 +5,6 @@ use Rattle.ed_model.specs.Performing.{quiet}
 use Rattle.ed_model.specs.Table.{table}
 use Rattle.message_requests.specs.Requested.{session_in}
 use Rattle.editor_session.specs.Answers.{AnswersBy, message_with}
-use Rattle.editor_session.specs.Left.{told}
 use Rattle.editor_session.specs.Plans.{is_free}
 use Rattle.editor_session.proofs.Leaving.{refusing, refused_too}
 use Rattle.editor_session.proofs.sending.answer_by_plan.Goals as goal

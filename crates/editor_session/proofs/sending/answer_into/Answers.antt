@@ -1,7 +1,7 @@
 use Rattle.std.proofs.Common.{rules, ◌≡◌, false, true, Ok, Err, refl, sym, ap, subst, ◌∙◌, to_z, of_z, w64}
 use Rattle.std.specs.Prelude.{◌&&◌, ◌+◌, ◌==◌, [], IfOk, IfErr, slice_range}
 use Rattle.ed_types.specs.Messages.{marks_of}
-use Rattle.ed_model.specs.declared.plan.Plan.TheVariants.{Answer, HandOut}
+use Rattle.ed_model.specs.declared.plan.Plan.TheVariants.{HandOut}
 use Rattle.ed_model.specs.Performing.{response}
 use Rattle.ed_model.specs.PlansFit.{IsFitPlanned}
 use Rattle.ed_model.specs.Session.{text_of}
@@ -10,7 +10,7 @@ use Rattle.message_requests.specs.Requested.{session_in}
 use Rattle.editor_session.specs.Answers.{AnswersBy, message_with}
 use Rattle.editor_session.specs.Left.{told}
 use Rattle.editor_session.specs.Plans.{is_free, planned_without_memory}
-use Rattle.editor_session.proofs.TableWay.{plain_answer, text_handed_out, handed_so, with_a_plan, never_refused, free_found, fit_of}
+use Rattle.editor_session.proofs.TableWay.{text_handed_out, handed_so, with_a_plan, never_refused, free_found, fit_of}
 use Rattle.editor_session.proofs.Unheard.{unrecorded_task}
 use Rattle.editor_session.proofs.sending.answer_into.Goals as goal
 

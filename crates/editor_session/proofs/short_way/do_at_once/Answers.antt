@@ -1,4 +1,4 @@
-use Rattle.std.proofs.Common.{rules, pos, ◌≡◌, false, true, [], Ok, sym, ap, subst, ◌∙◌, to_z, of_z, w64}
+use Rattle.std.proofs.Common.{rules, pos, ◌≡◌, false, true, [], Ok, ap, subst, ◌∙◌}
 use Rattle.ed_model.specs.declared.plan.Edit.TheVariants as edit
 use Rattle.ed_model.specs.declared.plan.Plan.TheVariants as plan
 use Rattle.ed_model.specs.Performing.{response}
