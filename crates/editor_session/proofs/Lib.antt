@@ -18,3 +18,4 @@ pub mod RunLemmas
 pub mod PlainChanges
 pub mod PlainEdits
 pub mod Going
+pub mod Leaving

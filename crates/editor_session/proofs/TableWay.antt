@@ -93,7 +93,7 @@ pub carried_so : (says : Result (Session × Response) Refusal) (old new : Sessio
 carried_so says old new (Ok x) ok same err = ok
 carried_so says old new (Err e) ok same err = (same, inl err)
 
-pub never_refused : (result : Result Response Refusal) → IsOk result → IfErr result (λ e. e ≢ OutOfMemory)
+pub never_refused : {R : Type 0} (result : Result R Refusal) → IsOk result → IfErr result (λ e. e ≢ OutOfMemory)
 never_refused (Ok x) h = tt
 never_refused (Err e) h = absurd (cc)
 

@@ -14,3 +14,4 @@ pub mod Opening
 pub mod PartLends
 pub mod Unheard
 pub mod PlainEdits
+pub mod Left

@@ -30,6 +30,7 @@ pub(crate) struct Task {
 /// # Errors
 ///
 /// `NoSuchView`, `UnknownMessage` or `NoSuchDocument`, whichever holds first.
+#[inline(always)]
 pub(crate) fn find<'a>(
     state: &'a SessionState,
     view: u32,

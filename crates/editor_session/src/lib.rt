@@ -8,12 +8,14 @@
 #![tactic(auto)]
 
 mod asking;
+mod by_task;
 mod changes;
 mod edits;
 mod find;
 mod handing_out;
 mod history;
 mod laws;
+mod left;
 mod lending;
 mod need;
 mod opening;
@@ -27,6 +29,7 @@ mod ready;
 mod run;
 mod sending;
 mod session;
+mod short_way;
 
 pub use laws::marked_messages_are_free;
 pub use run::Run;

@@ -36,6 +36,7 @@ use std::alloc::{AllocError, Global};
 /// # Errors
 ///
 /// `AllocError` where memory is refused. The document and the views are as they were, here too.
+#[inline(always)]
 fn change_with_room(
     alloc: Global,
     document: &mut Document,
@@ -73,6 +74,7 @@ fn change_with_room(
 /// # Errors
 ///
 /// `AllocError` where memory is refused. All documents and views are as they were, here too.
+#[inline(always)]
 fn change_with_room_in(
     alloc: Global,
     documents: &mut DocumentTable,
@@ -106,6 +108,7 @@ fn change_with_room_in(
 /// # Errors
 ///
 /// `AllocError` where memory is refused. The session is as it was, here too.
+#[inline(always)]
 fn change_making_room(
     alloc: Global,
     state: &mut SessionState,
@@ -138,7 +141,7 @@ fn change_making_room(
 /// # Errors
 ///
 /// `OutOfMemory` where memory is refused. The session is as it was, here too.
-#[inline(never)]
+#[inline(always)]
 pub(crate) fn change_at_once(
     alloc: Global,
     state: &mut SessionState,

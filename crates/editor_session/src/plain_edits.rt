@@ -47,6 +47,7 @@ pub(crate) fn is_plain(source: Source, follow: Follow) -> bool
 /// # Errors
 ///
 /// `AllocError` where memory is refused. The document and the views are as they were, here too.
+#[inline(always)]
 fn replace_with_room(
     document: &mut Document,
     views: &mut IdTable<View>,
@@ -85,6 +86,7 @@ fn replace_with_room(
 /// # Errors
 ///
 /// `AllocError` where memory is refused. All documents and views are as they were, here too.
+#[inline(always)]
 fn replace_with_room_in(
     documents: &mut DocumentTable,
     views: &mut IdTable<View>,
@@ -139,6 +141,7 @@ fn follow_in_views(views: &mut IdTable<View>, view: u32, follow: Follow)
 /// # Errors
 ///
 /// `AllocError` where memory is refused. The session is as it was, here too.
+#[inline(always)]
 fn replace_making_room(
     state: &mut SessionState,
     document: u32,
@@ -185,7 +188,7 @@ fn replace_making_room(
 /// # Errors
 ///
 /// `OutOfMemory` where memory is refused. The session is as it was, here too.
-#[inline(never)]
+#[inline(always)]
 pub(crate) fn replace_at_once(
     state: &mut SessionState,
     document: u32,

@@ -16,6 +16,7 @@ use message_requests::SessionState;
 use session_changes::change_view;
 
 /// Whether a change of a view takes no memory, whatever the view is.
+#[inline(always)]
 pub(crate) fn is_light(change: ViewChange) -> bool
     ensures { result ≡ not (takes_fold_room change) }
 {
@@ -30,7 +31,7 @@ pub(crate) fn is_light(change: ViewChange) -> bool
 }
 
 /// Changes the view of an id, which is on the document of that id, where that takes no memory.
-#[inline(never)]
+#[inline(always)]
 pub(crate) fn change_lightly(state: &mut SessionState, document: u32, view: u32, change: ViewChange)
     requires kept { IsKept state.old }
     requires sent { IsSent (session_in state.old) document view (plan.ChangeView change) }

@@ -7,6 +7,7 @@ ghost use Rattle.ed_model.specs.Performing.{quiet, response};
 ghost use Rattle.ed_model.specs.Table.{table, limited, opened, closed};
 ghost use Rattle.editor_session.specs.Answers.{AnswersBy, message_with};
 ghost use Rattle.editor_session.specs.Asked.{reply_to, value_to};
+ghost use Rattle.editor_session.specs.Left.{told, IsLeft};
 ghost use Rattle.editor_session.specs.Plans.{is_free};
 ghost use Rattle.editor_session.specs.Lent.{lent_range};
 
@@ -14,7 +15,7 @@ use crate::asking::ask;
 use crate::lending::{document_with, lend};
 use crate::opening::{close, open};
 use crate::reading::read;
-use crate::sending::{answer_by_plan, answer_message};
+use crate::sending::{answer_into, answer_message};
 use document_table::DocumentTable;
 use ed_model::soundness_is_kept;
 use ed_types::{Limits, Message, Refusal, Reply};
@@ -187,23 +188,27 @@ impl Session {
     }
 
     /// Sends a message that is no plain question, or was asked in vain: it goes the longer way at once, which serves for all messages.
+    /// The value of its reply is returned, and the reply's text and notes take the place of those of `reply`; where neither has any,
+    /// nothing is written.
     ///
     /// # Errors
     ///
-    /// As of `send`.
-    pub fn send_by_plan(
+    /// As of `send`. `reply` is then as it was, too.
+    pub fn send_into(
         &mut self,
         view: u32,
         number: u32,
         w: i64,
         l: i64,
         text: &[u8],
-    ) -> Result<Reply, Refusal>
-        ensures answer { AnswersBy (table self.old view (message_with number w l text.now)) self.old self.new result }
+        reply: &mut Reply,
+    ) -> Result<i64, Refusal>
+        ensures answer { AnswersBy (table self.old view (message_with number w l text.now)) self.old self.new (told result reply.new) }
         ensures refused { IfErr (table self.old view (message_with number w l text.now)) (λ refusal. result ≡ Err refusal) }
+        ensures place { IsLeft result reply.old reply.new }
         ensures free { is_free self.old view (message_with number w l text.now) ≡ true → IfErr result (λ refusal. refusal ≢ OutOfMemory) }
     {
-        answer_by_plan(self.alloc, &mut self.state, view, number, w, l, text)
+        answer_into(self.alloc, &mut self.state, view, number, w, l, text, reply)
     }
 
     /// Asks a view a plain question, as GETLENGTH or GETCHARAT: a message that is answered by a number of the document or of the view

@@ -95,12 +95,14 @@ impl Held {
             *value = answer;
             return DONE;
         }
-        match self.session.send_by_plan(view, number, w, l, text) {
-            Ok(reply) => {
-                *value = reply.value();
-                self.value = reply.value();
-                self.reply = reply;
+        match self
+            .session
+            .send_into(view, number, w, l, text, &mut self.reply)
+        {
+            Ok(told) => {
                 self.read.clear();
+                self.value = told;
+                *value = told;
                 DONE
             }
             Err(refusal) => number_of(refusal),

@@ -2,10 +2,13 @@
 //!
 //! A plan is found before anything changes: `plan_of` reads a `Request` and answers the model's plan. One function a message stands in
 //! `text_plans` and `state_plans`; here is which message has which plan, and what questions are answered without one.
+//! `frequent_plan_of` has the same plans, and finds those of frequent messages sooner.
 #![tactic(auto)]
 
 mod asking;
+mod frequent;
 mod plan;
 
 pub use asking::{handed_of, question_of, text_question_of, value_of};
+pub use frequent::frequent_plan_of;
 pub use plan::plan_of;

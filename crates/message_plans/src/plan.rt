@@ -16,6 +16,7 @@ use text_plans::{key_plans, selection_plans, target_plans, texts};
 /// # Errors
 ///
 /// The first refusal that holds of the message, as the model's table has it.
+#[inline(never)]
 pub fn plan_of(kind: Kind, r: &Request) -> Planned
     requires sound { IsSoundRequest r.now }
     ensures { result ≡ plan_of kind r.now }

@@ -1,204 +1,48 @@
-use Rattle.std.proofs.Common.{rules, ◌≡◌, false, true, Ok, Err, refl, sym, ap, subst, ◌∙◌, to_z, of_z, w64}
-use Rattle.std.specs.Prelude.{◌&&◌, ◌+◌, ◌==◌, [], IfOk, IfErr, slice_range}
-use Rattle.ed_types.specs.Messages.{marks_of}
-use Rattle.ed_model.specs.declared.plan.Plan.TheVariants.{Answer, HandOut}
-use Rattle.ed_model.specs.Performing.{response}
-use Rattle.ed_model.specs.PlansFit.{IsFitPlanned}
-use Rattle.ed_model.specs.Session.{text_of}
-use Rattle.ed_model.specs.Table.{table, plan_of}
+use Rattle.std.proofs.Common.{rules, ◌≡◌, ◌⊎◌, ℤ, true, Ok, Err, sym, ap, subst, ◌∙◌, to_z, of_z, w64}
+use Rattle.std.specs.Prelude.{◌≢◌, IfErr}
+use Rattle.ed_types.specs.declared.refusal.Refusal.TheVariants.{OutOfMemory}
+use Rattle.ed_model.specs.Performing.{quiet}
+use Rattle.ed_model.specs.Table.{table}
 use Rattle.message_requests.specs.Requested.{session_in}
 use Rattle.editor_session.specs.Answers.{AnswersBy, message_with}
-use Rattle.editor_session.specs.Plans.{is_free, planned_without_memory}
-use Rattle.editor_session.proofs.Going.{some_so, none_so, task_stays}
-use Rattle.editor_session.proofs.TableWay.{plain_answer, text_handed_out, handed_so, with_a_plan, never_refused, free_found, fit_of}
-use Rattle.editor_session.proofs.Unheard.{unrecorded_task}
+use Rattle.editor_session.specs.Plans.{is_free}
+use Rattle.editor_session.proofs.Leaving.{refusing, refused_too}
 use Rattle.editor_session.proofs.sending.answer_by_plan.Goals as goal
 
-pub returns-in-Ok-Answer-clause-answer : goal.returns-in-Ok-Answer-clause-answer
-returns-in-Ok-Answer-clause-answer c =
+pub whole-requires : goal.whole-requires
+whole-requires c =
+    let left = c.answer_into.new.reply in
+    let value : c.in-Ok.value ≡ to_z w64 (of_z w64 c.in-Ok.value) = search rules in
+    record { place = subst (λ v. (left.value ≡ v) ⊎ (left ≡ quiet left.value)) value c.in-Ok.ensures.place }
+
+pub returns-in-Ok-clause-answer : goal.returns-in-Ok-clause-answer
+returns-in-Ok-clause-answer c =
     let a = c.args in
-    let kind = c.in-Ok.found.0 in
-    let r = c.in-Ok.found.1 in
-    let planned : plan_of kind r ≡ Ok (Answer c.in-Ok-Answer.value) = search rules in
-    let unheard : (r.view.records && (marks_of kind).r) ≡ false = search rules in
+    let n = session_in c.answer_into.new.state in
     let same : message_with a.number (to_z w64 (of_z w64 a.w)) (to_z w64 (of_z w64 a.l)) a.text.now ≡ message_with a.number a.w a.l a.text.now = search rules in
-    ap (table (session_in a.state.now) a.view) (sym same)
-    ∙ plain_answer (session_in a.state.now) a.view (message_with a.number (to_z w64 (of_z w64 a.w)) (to_z w64 (of_z w64 a.l)) a.text.now) kind r c.in-Ok-Answer.value c.in-Ok.ensures.found planned unheard
-    ∙ ap (λ x. Ok (session_in a.state.now, x)) (search rules)
+    let value : to_z w64 (of_z w64 c.in-Ok.value) ≡ c.in-Ok.value = search rules in
+    ap (table (session_in a.state.now) a.view) (sym same) ∙ c.in-Ok.ensures.answer ∙ ap (λ v. Ok (n, record c.answer_into.new.reply { value = v })) (sym value) ∙ ap (λ x. Ok (n, x)) (sym c.whole.ensures)
 
-pub returns-in-Ok-Answer-clause-refused : goal.returns-in-Ok-Answer-clause-refused
-returns-in-Ok-Answer-clause-refused c =
-    let a = c.args in
-    let answer = returns-in-Ok-Answer-clause-answer c in
-    rw answer (search rules)
+pub returns-in-Ok-clause-refused : goal.returns-in-Ok-clause-refused
+returns-in-Ok-clause-refused c = subst (λ t. IfErr t (λ refusal. Ok c.whole.result ≡ Err refusal)) (sym (returns-in-Ok-clause-answer c)) tt
 
-pub returns-in-Err-plan_of-clause-free : goal.returns-in-Err-plan_of-clause-free
-returns-in-Err-plan_of-clause-free c free =
-    let kind = c.in-Ok.found.0 in
-    let r = c.in-Ok.found.1 in
-    let planned : plan_of kind r ≡ Err c.in-Err-plan_of.refusal = search rules in
-    subst (IsFitPlanned r) planned (c.plans_are_fit.ensures.in_range kind r c.in-Ok.ensures.found.sound)
-
-pub do_by_task-requires-clause-task : goal.do_by_task-requires-clause-task
-do_by_task-requires-clause-task c =
-    let kind = c.in-Ok.found.0 in
-    let r = c.in-Ok.found.1 in
-    record {
-      kind = kind;
-      request = r;
-      found = c.in-Ok.ensures.found;
-      planned = search rules;
-      view_id = refl;
-      document_id = search rules;
-      recorded = search rules;
-      fit = fit_of kind r (search rules) (c.plans_are_fit.ensures.in_range kind r c.in-Ok.ensures.found.sound);
-    }
-
-pub returns-then-is_recorded-clause-answer : goal.returns-then-is_recorded-clause-answer
-returns-then-is_recorded-clause-answer c =
+pub returns-in-Err-clause-answer : goal.returns-in-Err-clause-answer
+returns-in-Err-clause-answer c =
     let a = c.args in
     let s = session_in a.state.now in
     let same : message_with a.number (to_z w64 (of_z w64 a.w)) (to_z w64 (of_z w64 a.l)) a.text.now ≡ message_with a.number a.w a.l a.text.now = search rules in
-    subst (λ x. AnswersBy (table s a.view x) s (session_in c.do_by_task.new.state) c.do_by_task.result) same c.do_by_task.ensures.answer
+    subst (λ x. AnswersBy (table s a.view x) s (session_in c.answer_into.new.state) (Err c.in-Err.refusal)) same c.in-Err.ensures.answer
 
-pub returns-then-is_recorded-clause-refused : goal.returns-then-is_recorded-clause-refused
-returns-then-is_recorded-clause-refused c =
-    let a = c.args in
-    let kind = c.in-Ok.found.0 in
-    let r = c.in-Ok.found.1 in
-    let planned : plan_of kind r ≡ Ok c.in-Ok-plan_of.plan = search rules in
-    with_a_plan _ (session_in a.state.now) a.view (message_with a.number (to_z w64 (of_z w64 a.w)) (to_z w64 (of_z w64 a.l)) a.text.now) (message_with a.number a.w a.l a.text.now) kind r c.in-Ok-plan_of.plan (search rules) c.in-Ok.ensures.found planned
-
-pub returns-then-is_recorded-clause-free : goal.returns-then-is_recorded-clause-free
-returns-then-is_recorded-clause-free c free =
+pub returns-in-Err-clause-refused : goal.returns-in-Err-clause-refused
+returns-in-Err-clause-refused c =
     let a = c.args in
     let s = session_in a.state.now in
     let same : message_with a.number (to_z w64 (of_z w64 a.w)) (to_z w64 (of_z w64 a.l)) a.text.now ≡ message_with a.number a.w a.l a.text.now = search rules in
-    never_refused c.do_by_task.result (c.do_by_task.ensures.free (subst (λ x. is_free s a.view x ≡ true) (sym same) free))
+    refused_too (table s a.view (message_with a.number a.w a.l a.text.now)) c.in-Err.refusal (subst (λ x. IfErr (table s a.view x) (λ r. refusing ℤ c.in-Err.refusal ≡ Err r)) same c.in-Err.ensures.refused)
 
-pub returns-in-Ok-HandOut-clause-answer : goal.returns-in-Ok-HandOut-clause-answer
-returns-in-Ok-HandOut-clause-answer c =
+pub returns-in-Err-clause-free : goal.returns-in-Err-clause-free
+returns-in-Err-clause-free c =
     let a = c.args in
-    let kind = c.in-Ok.found.0 in
-    let r = c.in-Ok.found.1 in
-    let h = c.in-Ok-HandOut in
-    let planned : plan_of kind r ≡ Ok (HandOut h.value h.start h.count) = search rules in
-    let unheard : (r.view.records && (marks_of kind).r) ≡ false = search rules in
+    let s = session_in a.state.now in
     let same : message_with a.number (to_z w64 (of_z w64 a.w)) (to_z w64 (of_z w64 a.l)) a.text.now ≡ message_with a.number a.w a.l a.text.now = search rules in
-    let is = ap (table (session_in a.state.now) a.view) (sym same)
-    ∙ text_handed_out (session_in a.state.now) a.view (message_with a.number (to_z w64 (of_z w64 a.w)) (to_z w64 (of_z w64 a.l)) a.text.now) kind r h.value h.start h.count c.in-Ok.ensures.found planned unheard in
-    let reply : IfOk c.hand_out.result (λ x. x ≡ response h.value (slice_range (text_of r.document) h.start (h.start + h.count)) []) = search rules in
-    handed_so (table (session_in a.state.now) a.view (message_with a.number a.w a.l a.text.now)) (session_in a.state.now) (response h.value (slice_range (text_of r.document) h.start (h.start + h.count)) []) c.hand_out.result is reply c.hand_out.ensures.refused
-
-pub returns-in-Ok-HandOut-clause-refused : goal.returns-in-Ok-HandOut-clause-refused
-returns-in-Ok-HandOut-clause-refused c =
-    let a = c.args in
-    let kind = c.in-Ok.found.0 in
-    let r = c.in-Ok.found.1 in
-    let h = c.in-Ok-HandOut in
-    let planned : plan_of kind r ≡ Ok (HandOut h.value h.start h.count) = search rules in
-    let unheard : (r.view.records && (marks_of kind).r) ≡ false = search rules in
-    let same : message_with a.number (to_z w64 (of_z w64 a.w)) (to_z w64 (of_z w64 a.l)) a.text.now ≡ message_with a.number a.w a.l a.text.now = search rules in
-    let is = ap (table (session_in a.state.now) a.view) (sym same)
-    ∙ text_handed_out (session_in a.state.now) a.view (message_with a.number (to_z w64 (of_z w64 a.w)) (to_z w64 (of_z w64 a.l)) a.text.now) kind r h.value h.start h.count c.in-Ok.ensures.found planned unheard in
-    subst (λ t. IfErr t (λ refusal. c.hand_out.result ≡ Err refusal)) (sym is) tt
-
-pub returns-in-Ok-HandOut-clause-free : goal.returns-in-Ok-HandOut-clause-free
-returns-in-Ok-HandOut-clause-free c free =
-    let a = c.args in
-    let kind = c.in-Ok.found.0 in
-    let r = c.in-Ok.found.1 in
-    let h = c.in-Ok-HandOut in
-    let planned : plan_of kind r ≡ Ok (HandOut h.value h.start h.count) = search rules in
-    let same : message_with a.number (to_z w64 (of_z w64 a.w)) (to_z w64 (of_z w64 a.l)) a.text.now ≡ message_with a.number a.w a.l a.text.now = search rules in
-    let parts = free_found (session_in a.state.now) a.view (message_with a.number (to_z w64 (of_z w64 a.w)) (to_z w64 (of_z w64 a.l)) a.text.now) kind r c.in-Ok.ensures.found (subst (λ x. is_free (session_in a.state.now) a.view x ≡ true) (sym same) free) in
-    let none : (h.count == 0) ≡ true = subst (λ p. planned_without_memory r p ≡ true) planned parts.0 in
-    let zero : h.count ≡ 0 = search rules in
-    never_refused c.hand_out.result (c.hand_out.ensures.free zero)
-
-pub do_at_once-requires-clause-sent : goal.do_at_once-requires-clause-sent
-do_at_once-requires-clause-sent c =
-    let a = c.args in
-    let kind = c.in-Ok.found.0 in
-    let r = c.in-Ok.found.1 in
-    let m = message_with a.number (to_z w64 (of_z w64 a.w)) (to_z w64 (of_z w64 a.l)) a.text.now in
-    record {
-      message = m;
-      task = unrecorded_task (session_in a.state.now) _ a.view m kind r _ c.in-Ok.ensures.found (search rules) (search rules) (search rules) (c.plans_are_fit.ensures.in_range kind r c.in-Ok.ensures.found.sound);
-      text_is = refl;
-    }
-
-pub returns-in-Ok-Some-clause-answer : goal.returns-in-Ok-Some-clause-answer
-returns-in-Ok-Some-clause-answer c =
-    let a = c.args in
-    let s = session_in a.state.now in
-    let kind = c.in-Ok.found.0 in
-    let r = c.in-Ok.found.1 in
-    let m = message_with a.number (to_z w64 (of_z w64 a.w)) (to_z w64 (of_z w64 a.l)) a.text.now in
-    let same : m ≡ message_with a.number a.w a.l a.text.now = search rules in
-    ap (table s a.view) (sym same) ∙ some_so c.do_at_once.result c.in-Ok-Some.field-0 c.in-Ok-Some.value _ c.in-Ok-Some.is (search rules) c.do_at_once.ensures.done m (unrecorded_task s _ a.view m kind r _ c.in-Ok.ensures.found (search rules) (search rules) (search rules) (c.plans_are_fit.ensures.in_range kind r c.in-Ok.ensures.found.sound)) refl ∙ ap (λ x. Ok (session_in c.do_at_once.new.state, x)) (search rules)
-
-pub returns-in-Ok-Some-clause-refused : goal.returns-in-Ok-Some-clause-refused
-returns-in-Ok-Some-clause-refused c =
-    let a = c.args in
-    let kind = c.in-Ok.found.0 in
-    let r = c.in-Ok.found.1 in
-    let planned : plan_of kind r ≡ Ok c.in-Ok-plan_of.plan = search rules in
-    with_a_plan _ (session_in a.state.now) a.view (message_with a.number (to_z w64 (of_z w64 a.w)) (to_z w64 (of_z w64 a.l)) a.text.now) (message_with a.number a.w a.l a.text.now) kind r c.in-Ok-plan_of.plan (search rules) c.in-Ok.ensures.found planned
-
-pub returns-in-Err-do_at_once-clause-refused : goal.returns-in-Err-do_at_once-clause-refused
-returns-in-Err-do_at_once-clause-refused c =
-    let a = c.args in
-    let kind = c.in-Ok.found.0 in
-    let r = c.in-Ok.found.1 in
-    let planned : plan_of kind r ≡ Ok c.in-Ok-plan_of.plan = search rules in
-    with_a_plan _ (session_in a.state.now) a.view (message_with a.number (to_z w64 (of_z w64 a.w)) (to_z w64 (of_z w64 a.l)) a.text.now) (message_with a.number a.w a.l a.text.now) kind r c.in-Ok-plan_of.plan (search rules) c.in-Ok.ensures.found planned
-
-pub returns-in-Err-do_at_once-clause-free : goal.returns-in-Err-do_at_once-clause-free
-returns-in-Err-do_at_once-clause-free c free =
-    let a = c.args in
-    let s = session_in a.state.now in
-    let kind = c.in-Ok.found.0 in
-    let r = c.in-Ok.found.1 in
-    let m = message_with a.number (to_z w64 (of_z w64 a.w)) (to_z w64 (of_z w64 a.l)) a.text.now in
-    let same : m ≡ message_with a.number a.w a.l a.text.now = search rules in
-    let bad : false ≡ true = c.in-Err-do_at_once.ensures.free m (unrecorded_task s _ a.view m kind r _ c.in-Ok.ensures.found (search rules) (search rules) (search rules) (c.plans_are_fit.ensures.in_range kind r c.in-Ok.ensures.found.sound)) refl (subst (λ x. is_free s a.view x ≡ true) (sym same) free) in
-    absurd (cc)
-
-pub do_by_task-requires-in-Ok-None-clause-task : goal.do_by_task-requires-in-Ok-None-clause-task
-do_by_task-requires-in-Ok-None-clause-task c =
-    let a = c.args in
-    let s = session_in a.state.now in
-    let kind = c.in-Ok.found.0 in
-    let r = c.in-Ok.found.1 in
-    let m = message_with a.number (to_z w64 (of_z w64 a.w)) (to_z w64 (of_z w64 a.l)) a.text.now in
-    let stays : session_in c.do_at_once.new.state ≡ s = none_so c.do_at_once.result c.in-Ok-None.field-0 _ c.in-Ok-None.is (search rules) c.do_at_once.ensures.left in
-    task_stays s (session_in c.do_at_once.new.state) a.view m _ stays (unrecorded_task s _ a.view m kind r _ c.in-Ok.ensures.found (search rules) (search rules) (search rules) (c.plans_are_fit.ensures.in_range kind r c.in-Ok.ensures.found.sound))
-
-pub returns-in-Ok-None-clause-answer : goal.returns-in-Ok-None-clause-answer
-returns-in-Ok-None-clause-answer c =
-    let a = c.args in
-    let s = session_in a.state.now in
-    let n = session_in c.do_by_task-in-Ok-None.new.state in
-    let m = message_with a.number (to_z w64 (of_z w64 a.w)) (to_z w64 (of_z w64 a.l)) a.text.now in
-    let same : m ≡ message_with a.number a.w a.l a.text.now = search rules in
-    let stays : session_in c.do_at_once.new.state ≡ s = none_so c.do_at_once.result c.in-Ok-None.field-0 _ c.in-Ok-None.is (search rules) c.do_at_once.ensures.left in
-    subst (λ x. AnswersBy (table s a.view x) s n c.do_by_task-in-Ok-None.result) same
-    (subst (λ x. AnswersBy (table x a.view m) x n c.do_by_task-in-Ok-None.result) stays c.do_by_task-in-Ok-None.ensures.answer)
-
-pub returns-in-Ok-None-clause-refused : goal.returns-in-Ok-None-clause-refused
-returns-in-Ok-None-clause-refused c =
-    let a = c.args in
-    let kind = c.in-Ok.found.0 in
-    let r = c.in-Ok.found.1 in
-    let planned : plan_of kind r ≡ Ok c.in-Ok-plan_of.plan = search rules in
-    with_a_plan _ (session_in a.state.now) a.view (message_with a.number (to_z w64 (of_z w64 a.w)) (to_z w64 (of_z w64 a.l)) a.text.now) (message_with a.number a.w a.l a.text.now) kind r c.in-Ok-plan_of.plan (search rules) c.in-Ok.ensures.found planned
-
-pub returns-in-Ok-None-clause-free : goal.returns-in-Ok-None-clause-free
-returns-in-Ok-None-clause-free c free =
-    let a = c.args in
-    let s = session_in a.state.now in
-    let m = message_with a.number (to_z w64 (of_z w64 a.w)) (to_z w64 (of_z w64 a.l)) a.text.now in
-    let same : m ≡ message_with a.number a.w a.l a.text.now = search rules in
-    let stays : session_in c.do_at_once.new.state ≡ s = none_so c.do_at_once.result c.in-Ok-None.field-0 _ c.in-Ok-None.is (search rules) c.do_at_once.ensures.left in
-    never_refused c.do_by_task-in-Ok-None.result (c.do_by_task-in-Ok-None.ensures.free (subst (λ x. is_free x a.view m ≡ true) (sym stays) (subst (λ x. is_free s a.view x ≡ true) (sym same) free)))
+    subst (λ x. is_free s a.view x ≡ true → c.in-Err.refusal ≢ OutOfMemory) same c.in-Err.ensures.free

@@ -5,7 +5,7 @@ use Rattle.editor_session.specs.Answers.{AnswersBy, message_with}
 use Rattle.editor_session.specs.Plans.{is_free}
 use Rattle.editor_session.specs.Tasks.{IsFound}
 use Rattle.editor_session.proofs.TableWay.{carried_so}
-use Rattle.editor_session.proofs.sending.do_by_task.Goals as goal
+use Rattle.editor_session.proofs.by_task.do_by_task.Goals as goal
 
 pub carry_out-requires-clause-task : goal.carry_out-requires-clause-task
 carry_out-requires-clause-task c =

@@ -1,32 +1,13 @@
-use Rattle.std.proofs.Common.{rules, pos, ◌≡◌, false, true, [], Ok, sym, ap, subst, ◌∙◌, to_z, of_z, w64}
+use Rattle.std.proofs.Common.{rules, pos, ◌≡◌, false, true, [], Ok, ap, subst, ◌∙◌}
 use Rattle.ed_model.specs.declared.plan.Edit.TheVariants as edit
 use Rattle.ed_model.specs.declared.plan.Plan.TheVariants as plan
 use Rattle.ed_model.specs.Performing.{response}
 use Rattle.document.specs.declared.undoing.Direction.TheVariants as direction
-use Rattle.notify.specs.Gathered.{Gathered}
 use Rattle.message_requests.specs.Requested.{session_in}
 use Rattle.editor_session.specs.Tasks.{IsTask}
 use Rattle.editor_session.specs.Unheard.{unrecorded}
 use Rattle.editor_session.proofs.Going.{never_free}
-use Rattle.editor_session.proofs.sending.do_at_once.Goals as goal
-
-pub change_lightly-requires-clause-sent : goal.change_lightly-requires-clause-sent
-change_lightly-requires-clause-sent c =
-    let a = c.args in
-    let p = c.in-ChangeView in
-    let sent = c.requires.sent in
-    record { message = sent.message; value = p.value; task = subst (λ x. IsTask (session_in a.state.now) a.view sent.message (unrecorded a.document a.view x)) p.is sent.task }
-
-pub returns-in-ChangeView-clause-done : goal.returns-in-ChangeView-clause-done
-returns-in-ChangeView-clause-done c = λ m task text_is.
-    let a = c.args in
-    let p = c.in-ChangeView in
-    let s' = session_in c.change_lightly.new.state in
-    let same : p.value ≡ to_z w64 (of_z w64 p.value) = search rules in
-    let none : [] ≡ a.notes.now.notes = sym (ap (λ (g : Gathered). g.notes) c.requires.empty) in
-    c.change_lightly.ensures.answer m p.value (subst (λ x. IsTask (session_in a.state.now) a.view m (unrecorded a.document a.view x)) p.is task)
-    ∙ ap (λ v. Ok (s', response v [] [])) same
-    ∙ ap (λ ns. Ok (s', response (to_z w64 (of_z w64 p.value)) [] ns)) none
+use Rattle.editor_session.proofs.short_way.do_at_once.Goals as goal
 
 pub change_at_once-requires-clause-sent : goal.change_at_once-requires-clause-sent
 change_at_once-requires-clause-sent c =

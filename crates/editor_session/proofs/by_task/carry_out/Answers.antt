@@ -4,7 +4,7 @@ use Rattle.editor_session.specs.Answers.{message_with}
 use Rattle.editor_session.specs.Tasks.{IsAskedBy}
 use Rattle.editor_session.proofs.TableWay.{free_task}
 use Rattle.editor_session.proofs.Performing.{asked_by}
-use Rattle.editor_session.proofs.sending.carry_out.Goals as goal
+use Rattle.editor_session.proofs.by_task.carry_out.Goals as goal
 
 pub returns-in_default-clause-free : goal.returns-in_default-clause-free
 returns-in_default-clause-free c free =

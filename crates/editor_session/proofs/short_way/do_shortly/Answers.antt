@@ -1,0 +1,56 @@
+use Rattle.std.proofs.Common.{rules, ◌≡◌, true, Ok, sym, ap, subst, ◌∙◌, to_z, of_z, w64}
+use Rattle.ed_model.specs.Performing.{quiet}
+use Rattle.ed_model.specs.Table.{table}
+use Rattle.message_requests.specs.Requested.{session_in}
+use Rattle.editor_session.specs.Answers.{AnswersBy, message_with}
+use Rattle.editor_session.specs.Left.{told}
+use Rattle.editor_session.specs.Plans.{is_free}
+use Rattle.editor_session.specs.Tasks.{IsTask}
+use Rattle.editor_session.specs.Unheard.{unrecorded}
+use Rattle.editor_session.proofs.TableWay.{plain_answer}
+use Rattle.editor_session.proofs.short_way.do_shortly.Goals as goal
+
+pub returns-in-Answer-clause-answer : goal.returns-in-Answer-clause-answer
+returns-in-Answer-clause-answer c =
+    let a = c.args in
+    let s = session_in a.state.now in
+    let t = c.requires.task in
+    let answered : quiet c.in-Answer.value ≡ c.answer.result = search rules in
+    plain_answer s a.view (message_with a.number a.w a.l a.text.now) t.kind t.request c.in-Answer.value t.found (t.planned ∙ ap (λ x. Ok x) c.in-Answer.is) (sym t.recorded)
+    ∙ ap (λ x. Ok (s, x)) (answered ∙ sym c.keep.ensures.whole ∙ ap (λ v. record c.keep.new.reply { value = v }) (search rules))
+
+pub change_lightly-requires-clause-sent : goal.change_lightly-requires-clause-sent
+change_lightly-requires-clause-sent c =
+    let a = c.args in
+    let p = c.in-ChangeView in
+    let m = message_with a.number a.w a.l a.text.now in
+    record { message = m; value = p.value; task = subst (λ x. IsTask (session_in a.state.now) a.view m (unrecorded a.document a.view x)) p.is c.requires.task }
+
+pub returns-in-ChangeView-clause-answer : goal.returns-in-ChangeView-clause-answer
+returns-in-ChangeView-clause-answer c =
+    let a = c.args in
+    let p = c.in-ChangeView in
+    let m = message_with a.number a.w a.l a.text.now in
+    let answered : quiet p.value ≡ c.answer-in-ChangeView.result = search rules in
+    c.change_lightly.ensures.answer m p.value (subst (λ x. IsTask (session_in a.state.now) a.view m (unrecorded a.document a.view x)) p.is c.requires.task)
+    ∙ ap (λ x. Ok (session_in c.change_lightly.new.state, x)) (answered ∙ sym c.keep-in-ChangeView.ensures.whole ∙ ap (λ v. record c.keep-in-ChangeView.new.reply { value = v }) (search rules))
+
+pub do_as-requires-clause-task : goal.do_as-requires-clause-task
+do_as-requires-clause-task c =
+    let a = c.args in
+    let same : message_with a.number a.w a.l a.text.now ≡ message_with a.number (to_z w64 (of_z w64 a.w)) (to_z w64 (of_z w64 a.l)) a.text.now = search rules in
+    subst (λ x. IsTask (session_in a.state.now) a.view x (unrecorded a.document a.view a.plan.now)) same c.requires.task
+
+pub returns-in_default-clause-answer : goal.returns-in_default-clause-answer
+returns-in_default-clause-answer c =
+    let a = c.args in
+    let s = session_in a.state.now in
+    let same : message_with a.number (to_z w64 (of_z w64 a.w)) (to_z w64 (of_z w64 a.l)) a.text.now ≡ message_with a.number a.w a.l a.text.now = search rules in
+    subst (λ x. AnswersBy (table s a.view x) s (session_in c.do_as.new.state) (told c.do_as.result c.do_as.new.reply)) same c.do_as.ensures.answer
+
+pub returns-in_default-clause-free : goal.returns-in_default-clause-free
+returns-in_default-clause-free c free =
+    let a = c.args in
+    let s = session_in a.state.now in
+    let same : message_with a.number (to_z w64 (of_z w64 a.w)) (to_z w64 (of_z w64 a.l)) a.text.now ≡ message_with a.number a.w a.l a.text.now = search rules in
+    c.do_as.ensures.free (subst (λ x. is_free s a.view x ≡ true) (sym same) free)

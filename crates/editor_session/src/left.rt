@@ -1,0 +1,70 @@
+//! Where a reply is left: in a place of the caller's, who keeps the value apart.
+
+ghost use Rattle.std.specs.Prelude.{◌≡◌, ◌==◌, ◌&&◌, ◌⊎◌, length};
+ghost use Rattle.ed_model.specs.Performing.{quiet};
+ghost use Rattle.editor_session.specs.Left.{told, is_value_alone, IsLeft};
+
+use ed_types::{Bytes, Refusal, Reply};
+use std::alloc::Global;
+
+/// The reply of a value alone. Takes no memory.
+#[inline(always)]
+pub(crate) fn answer(alloc: Global, value: i64) -> Reply
+    ensures { result ≡ quiet value }
+{
+    Reply::quiet(alloc, value, Bytes::empty(alloc))
+}
+
+/// Whether a reply has neither a text nor notes.
+#[inline(always)]
+fn is_value_alone(reply: &Reply) -> bool
+    ensures { result ≡ is_value_alone reply.now }
+{
+    reply.text().is_empty() && reply.note_count() == 0
+}
+
+/// Puts a reply in the place of another. It stands apart, since it is seldom needed.
+#[inline(never)]
+fn put(reply: &mut Reply, new: Reply)
+    ensures { reply.new ≡ new }
+{
+    *reply = new;
+}
+
+/// Leaves a reply in the place of another, and returns its value. Where neither has a text or notes, nothing is written.
+#[inline(always)]
+pub(crate) fn keep(reply: &mut Reply, new: Reply) -> i64
+    ensures whole { record reply.new { value = result } ≡ new }
+    ensures place { (reply.new.value ≡ result) ⊎ (reply.new ≡ quiet reply.new.value) }
+{
+    let value = new.value();
+    if is_value_alone(&new) && is_value_alone(reply) {
+        return value;
+    }
+    put(reply, new);
+    value
+}
+
+/// The same with a reply that may have been refused.
+#[inline(always)]
+pub(crate) fn keep_made(reply: &mut Reply, made: Result<Reply, Refusal>) -> Result<i64, Refusal>
+    ensures told { told result reply.new ≡ made }
+    ensures place { IsLeft result reply.old reply.new }
+{
+    match made {
+        Ok(new) => Ok(keep(reply, new)),
+        Err(refusal) => Err(refusal),
+    }
+}
+
+/// The whole reply, of what was left and its value.
+pub(crate) fn whole(alloc: Global, value: i64, reply: Reply) -> Reply
+    requires place { (reply.value ≡ value) ⊎ (reply ≡ quiet reply.value) }
+    ensures { result ≡ record reply { value = value } }
+{
+    if is_value_alone(&reply) {
+        answer(alloc, value)
+    } else {
+        reply
+    }
+}

@@ -1,0 +1,50 @@
+//! The plan of a message, found soonest for the messages that are sent most.
+
+ghost use Rattle.std.specs.Prelude.{◌≡◌};
+ghost use Rattle.ed_model.specs.PlansFit.{IsSoundRequest};
+ghost use Rattle.ed_model.specs.Table.{plan_of};
+
+use crate::plan::plan_of;
+use ed_model::Planned;
+use ed_types::Kind;
+use message_requests::Request;
+use state_plans::{folding_plans, line_plans, style_plans, undo_plans};
+use text_plans::{key_plans, selection_plans, target_plans, texts};
+
+/// The plan of a message, as `plan_of` has it. The match of frequent messages here sets up nothing of what the others need; these are
+/// left to `plan_of`.
+///
+/// # Errors
+///
+/// As of `plan_of`.
+pub fn frequent_plan_of(kind: Kind, r: &Request) -> Planned
+    requires sound { IsSoundRequest r.now }
+    ensures { result ≡ plan_of kind r.now }
+{
+    match kind {
+        Kind::InsertText => texts::insert_text(r),
+        Kind::AddText => texts::add_text(r),
+        Kind::AppendText => texts::append_text(r),
+        Kind::DeleteRange => texts::delete_range(r),
+        Kind::ReplaceSel => selection_plans::replace_sel(r),
+        Kind::Clear => selection_plans::clear(r),
+        Kind::DeleteBack => key_plans::delete_back(r),
+        Kind::NewLine => key_plans::new_line(r),
+        Kind::Undo => undo_plans::undo(r),
+        Kind::Redo => undo_plans::redo(r),
+        Kind::GotoPos | Kind::SetEmptySelection => selection_plans::go_to_pos(r),
+        Kind::SetCurrentPos => selection_plans::set_current_pos(r),
+        Kind::SetAnchor => selection_plans::set_anchor(r),
+        Kind::SetSel => selection_plans::set_sel(r),
+        Kind::SetTargetRange => target_plans::set_target_range(r),
+        Kind::ReplaceTarget => target_plans::replace_target(r),
+        Kind::MarkerAdd => line_plans::marker_add(r),
+        Kind::MarkerDelete => line_plans::marker_delete(r),
+        Kind::StartStyling => style_plans::start_styling(r),
+        Kind::SetStyling => style_plans::set_styling(r),
+        Kind::SetIndicatorCurrent => style_plans::set_indicator_current(r),
+        Kind::IndicatorFillRange => style_plans::indicator_fill_range(r),
+        Kind::SetFoldLevel => folding_plans::set_fold_level(r),
+        _ => plan_of(kind, r),
+    }
+}
