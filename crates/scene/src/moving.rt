@@ -2,12 +2,13 @@
 
 ghost use Rattle.std.specs.Prelude.{◌≡◌, map};
 ghost use Rattle.id_table.specs.Entries.{id_of};
+ghost use Rattle.line_index.specs.StepEdits.{SmallLines, edits_of};
 ghost use Rattle.scene.specs.Scenes.{views_of, AreNamed};
 ghost use Rattle.scene.specs.Following.{followed_at, CanFollowInTurn};
 
 use ed_view::View;
 use id_table::IdTable;
-use line_index::LineEdit;
+use line_index::{LineChange, LineEdit};
 use selection::Movement;
 
 /// Moves the views of the ids as a step does, one after the other. The edits are what it did to lines.
@@ -25,4 +26,46 @@ pub(crate) fn follow(ids: &[u32], views: &mut IdTable<View>, movement: Movement,
             view.moved(movement, edits);
         }
     }
+}
+
+// Moves the views of the ids as a step does that came to lines or took some. It stands apart, so that edits are set up only where
+// there are some.
+#[inline(never)]
+fn follow_edits(ids: &[u32], views: &mut IdTable<View>, movement: Movement, change: LineChange)
+    requires small { SmallLines change.old_lines × SmallLines change.new_lines }
+    requires named { AreNamed views.old.entries }
+    requires can { CanFollowInTurn movement (edits_of change) ids.now (views_of views.old.entries) }
+    ensures views { views_of views.new.entries ≡ followed_at movement (edits_of change) ids.now (views_of views.old.entries) }
+    ensures named { AreNamed views.new.entries }
+    ensures next { views.new.next ≡ views.old.next }
+    ensures room { views.new.room ≡ views.old.room }
+    ensures ids { map id_of views.new.entries ≡ map id_of views.old.entries }
+{
+    let edits = change.edits();
+    follow(ids, views, movement, edits.as_slice());
+}
+
+/// Moves the views of the ids as a step does, one after the other, by what it did to lines. After a step that leaves the lines as
+/// they were, no edits are made.
+#[inline(always)]
+pub(crate) fn follow_change(
+    ids: &[u32],
+    views: &mut IdTable<View>,
+    movement: Movement,
+    change: LineChange,
+)
+    requires small { SmallLines change.old_lines × SmallLines change.new_lines }
+    requires named { AreNamed views.old.entries }
+    requires can { CanFollowInTurn movement (edits_of change) ids.now (views_of views.old.entries) }
+    ensures views { views_of views.new.entries ≡ followed_at movement (edits_of change) ids.now (views_of views.old.entries) }
+    ensures named { AreNamed views.new.entries }
+    ensures next { views.new.next ≡ views.old.next }
+    ensures room { views.new.room ≡ views.old.room }
+    ensures ids { map id_of views.new.entries ≡ map id_of views.old.entries }
+{
+    if change.is_quiet() {
+        follow(ids, views, movement, &[]);
+        return;
+    }
+    follow_edits(ids, views, movement, change);
 }

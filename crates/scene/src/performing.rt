@@ -15,7 +15,7 @@ ghost use Rattle.scene.specs.Hearing.{hearers};
 ghost use Rattle.scene.specs.Undoing.{bits_of, all_bits as every_bit, container_kinds, performed_kinds, every_kind, notes_of_change, outline_kinds, outline_movement};
 ghost use Rattle.scene.specs.Turns.{change_at, bits_behind, CanPerform, CanTellAfter, IsToldBefore, IsPerformed};
 
-use crate::moving::follow;
+use crate::moving::follow_change;
 use crate::step_notes::{
     BEFORE_DELETE, BEFORE_INSERT, DELETE_TEXT, INSERT_TEXT, MODIFIED, tell_coming, tell_made,
 };
@@ -226,9 +226,8 @@ fn perform_step(
     tell_after_change(
         document, views, notes, turn, hears, changed, old_lines, lines,
     );
-    let edits = change.edits();
     let movement = movement_of_change(outline);
-    follow(document.views(), views, movement, edits.as_slice());
+    follow_change(document.views(), views, movement, change);
     changed
 }
 

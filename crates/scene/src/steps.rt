@@ -13,7 +13,7 @@ ghost use Rattle.scene.specs.Scenes.{scene_in, watchers, AreNamed, IsWatched};
 ghost use Rattle.scene.specs.Hearing.{hearers, step_kinds, made_kinds, bytes_shared, left_note, user_bits as bits_of_user};
 ghost use Rattle.scene.specs.StepNotes.{IsSmallStep};
 
-use crate::moving::follow;
+use crate::moving::follow_change;
 use crate::step_notes::{
     PERFORMED_USER, START_ACTION, kind_after, kind_before, movement_of, share_bytes, tell_coming,
     tell_made,
@@ -163,8 +163,7 @@ pub fn step_heard(
     tell_made(
         document, views, notes, hears, bits.after, old_lines, lines, step,
     );
-    let edits = change.edits();
-    follow(document.views(), views, movement_of(step), edits.as_slice());
+    follow_change(document.views(), views, movement_of(step), change);
 }
 
 // The bits of a step of a message.

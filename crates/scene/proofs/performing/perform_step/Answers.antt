@@ -50,8 +50,8 @@ tell_after_change-requires-clause-can c =
     } in
     rw (after, old_lines, lines) (s, text_of d, can.at, able)
 
-pub follow-requires-clause-can : goal.follow-requires-clause-can
-follow-requires-clause-can c =
+pub follow_change-requires-clause-can : goal.follow_change-requires-clause-can
+follow_change-requires-clause-can c =
     let s = c.requires.can.0 in
     let can = c.requires.can.1 in
     let d = c.args.document.now.document in
@@ -62,7 +62,7 @@ follow-requires-clause-can c =
     let O = some_has _ _ (TextStep s) can.at c.requires.outline in
     let M = c.movement_of_change-movement.ensures ∙ ap outline_movement O ∙ outline_movement_is s in
     let change = c.make_change-change.ensures.lines s can.at in
-    let E : c.as_slice.result.now ≡ step_edits s d = c.as_slice.ensures ∙ c.edits-edits.ensures ∙ ap edits_of change in
+    let E : edits_of c.make_change-change.result ≡ step_edits s d = ap edits_of change in
     let V : c.views.result.now ≡ d.views = c.views.ensures ∙ ap (λ (x : Document). x.views) after in
     let within = ends_in_text s (text_of d) can.fits in
     let text = length_text d in
@@ -108,24 +108,24 @@ returns c =
     let O = some_has _ _ (TextStep s) can.at c.requires.outline in
     let M = c.movement_of_change-movement.ensures ∙ ap outline_movement O ∙ outline_movement_is s in
     let change = c.make_change-change.ensures.lines s can.at in
-    let E : c.as_slice.result.now ≡ step_edits s d = c.as_slice.ensures ∙ c.edits-edits.ensures ∙ ap edits_of change in
+    let E : edits_of c.make_change-change.result ≡ step_edits s d = ap edits_of change in
     let V : c.views.result.now ≡ d.views = c.views.ensures ∙ ap (λ (x : Document). x.views) after in
     let within = ends_in_text s (text_of d) can.fits in
     let put = (rw (after, old_lines, lines) at c.tell_after_change.ensures) s can.at in
     let told = heard_last (heard W (before_note who s)) [] (heard W (after_note bits grown s))
     c.args.notes.now c.tell_before_change-hears.new.notes c.tell_after_change.new.notes (tb.notes ∙ sym (append-nil (c.args.notes.now.notes ++ heard W (before_note who s)))) (omega arith)
     put (omega arith) in
-    let views = (rw (M, E, V) at c.follow.ensures.views) ∙ watched_after s d c.args.views.now can.watched c.moves_are_those_of_steps.ensures.view within in
-    λ step e. subst (λ x. IsPerformed turn c.args.lines_changed changed c.args.document.now c.args.views.now c.args.notes.now c.make_change-change.new.self c.follow.new.views c.tell_after_change.new.notes (TextStep x)) (step_same _ s step can.at e) (record {
+    let views = (rw (M, E, V) at c.follow_change.ensures.views) ∙ watched_after s d c.args.views.now can.watched c.moves_are_those_of_steps.ensures.view within in
+    λ step e. subst (λ x. IsPerformed turn c.args.lines_changed changed c.args.document.now c.args.views.now c.args.notes.now c.make_change-change.new.self c.follow_change.new.views c.tell_after_change.new.notes (TextStep x)) (step_same _ s step can.at e) (record {
       lines = rw (old_lines, lines) at c.is_changed-changed.ensures;
       scene = same_scene _ _ _ _ _ _ after views told.notes;
-      watched = subst (λ x. IsWatched x c.follow.new.views) (sym after)
-          (watched_again s d d.history c.args.views.now c.follow.new.views c.steps_keep_views_standing.ensures can.watched views c.follow.ensures.named c.follow.ensures.next);
+      watched = subst (λ x. IsWatched x c.follow_change.new.views) (sym after)
+          (watched_again s d d.history c.args.views.now c.follow_change.new.views c.steps_keep_views_standing.ensures can.watched views c.follow_change.ensures.named c.follow_change.ensures.next);
       room = c.make_change-change.ensures.room_left s can.at;
       freed = c.make_change-change.ensures.text_freed s can.at;
       note_room = told.note_room;
       text_room = rw told.text_room tb.text_room;
-      ids = c.follow.ensures.ids;
-      next = c.follow.ensures.next;
-      view_room = c.follow.ensures.room;
+      ids = c.follow_change.ensures.ids;
+      next = c.follow_change.ensures.next;
+      view_room = c.follow_change.ensures.room;
     })

@@ -49,8 +49,8 @@ tell_made-requires-clause-can c =
     (λ m h. h) on c.tell_before-hears.ensures.unheard c.tell_before-hears.ensures.shared (omega arith) in
     rw (after, old_lines, lines) (text_of d, can)
 
-pub follow-requires : goal.follow-requires
-follow-requires c =
+pub follow_change-requires : goal.follow_change-requires
+follow_change-requires c =
     let d = c.args.document.now.document in
     let s = step_in c.args.step (text_of d) in
     let on = on_text c.args.step d c.requires.fits in
@@ -58,7 +58,7 @@ follow-requires c =
     let after = rw same at c.step-change.ensures.document in
     let change = rw same at c.step-change.ensures.lines in
     let M = c.movement_of.ensures (text_of d) on in
-    let E : c.as_slice.result.now ≡ step_edits s d = c.as_slice.ensures ∙ c.edits-edits.ensures ∙ ap edits_of change in
+    let E : edits_of c.step-change.result ≡ step_edits s d = ap edits_of change in
     let V : c.views.result.now ≡ d.views = c.views.ensures ∙ ap (λ (x : Document). x.views) after in
     let small = small_step d.line_end_types c.args.step (length d.cells) c.args.document.now.room.text c.requires.fits c.requires.room.0 c.len.ensures.small in
     let count = count_is c.args.step (text_of d) on in
@@ -68,6 +68,7 @@ follow-requires c =
     let room = c.requires.room.1 in
     let cells = c.len.ensures.small in
     record {
+      small = c.step-change.ensures.small;
       named = c.requires.watched.named;
       can = rw (M, E, V) (watched_can (movement_of s) (step_edits s d) d c.args.views.now c.requires.watched
           (λ v stands. stands_can s d v c.moves_are_those_of_steps.ensures.fit c.edits_of_steps.ensures.few (end_within c.args.step (text_of d) on) (omega arith) (omega arith) stands));
@@ -94,9 +95,9 @@ returns-clause-scene c =
     ((rw (after, old_lines, lines) at c.tell_made.ensures) (text_of d) can) c.requires.notes in
     let M = c.movement_of.ensures (text_of d) on in
     let change = rw same at c.step-change.ensures.lines in
-    let E : c.as_slice.result.now ≡ step_edits s d = c.as_slice.ensures ∙ c.edits-edits.ensures ∙ ap edits_of change in
+    let E : edits_of c.step-change.result ≡ step_edits s d = ap edits_of change in
     let V : c.views.result.now ≡ d.views = c.views.ensures ∙ ap (λ (x : Document). x.views) after in
-    let views = (rw (M, E, V) at c.follow.ensures.views)
+    let views = (rw (M, E, V) at c.follow_change.ensures.views)
     ∙ watched_after s d c.args.views.now c.requires.watched c.moves_are_those_of_steps.ensures.view (end_within c.args.step (text_of d) on) in
     same_scene _ _ _ _ _ _ after views told.notes
 
@@ -109,12 +110,12 @@ returns-clause-watched c =
     let after = rw same at c.step-change.ensures.document in
     let M = c.movement_of.ensures (text_of d) on in
     let change = rw same at c.step-change.ensures.lines in
-    let E : c.as_slice.result.now ≡ step_edits s d = c.as_slice.ensures ∙ c.edits-edits.ensures ∙ ap edits_of change in
+    let E : edits_of c.step-change.result ≡ step_edits s d = ap edits_of change in
     let V : c.views.result.now ≡ d.views = c.views.ensures ∙ ap (λ (x : Document). x.views) after in
-    let views = (rw (M, E, V) at c.follow.ensures.views)
+    let views = (rw (M, E, V) at c.follow_change.ensures.views)
     ∙ watched_after s d c.args.views.now c.requires.watched c.moves_are_those_of_steps.ensures.view (end_within c.args.step (text_of d) on) in
-    subst (λ x. IsWatched x c.follow.new.views) (sym after)
-    (watched_again s d d.history c.args.views.now c.follow.new.views c.steps_keep_views_standing.ensures c.requires.watched views c.follow.ensures.named c.follow.ensures.next)
+    subst (λ x. IsWatched x c.follow_change.new.views) (sym after)
+    (watched_again s d d.history c.args.views.now c.follow_change.new.views c.steps_keep_views_standing.ensures c.requires.watched views c.follow_change.ensures.named c.follow_change.ensures.next)
 
 pub returns-clause-note_room_left : goal.returns-clause-note_room_left
 returns-clause-note_room_left c =
