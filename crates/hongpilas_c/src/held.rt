@@ -95,7 +95,10 @@ impl Held {
             *value = answer;
             return DONE;
         }
-        match self.session.send_into(view, number, w, l, text, &mut self.reply) {
+        match self
+            .session
+            .send_into(view, number, w, l, text, &mut self.reply)
+        {
             Ok(told) => {
                 self.read.clear();
                 self.value = told;
