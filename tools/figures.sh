@@ -64,6 +64,8 @@ nanos "GETCHARAT, far apart" "a byte asked for" 20
 nanos "LINEFROMPOSITION, far apart" "a line asked for" 120
 nanos "GETTEXTRANGE of 40 bytes, far apart" "40 bytes handed out, far apart" 60
 nanos "GETTEXTRANGE of 40 bytes, one behind the other" "40 bytes handed out, one behind the other" 60
+nanos "the same read into a buffer (Session::read), far apart" "40 bytes read, far apart" 60
+nanos "the same, one behind the other" "40 bytes read, one behind the other" 60
 repeat hand_out $sixteen
 whole "GETTEXT of 16 MiB" "the whole text handed out" ""
 ratio "GETTEXT of 16 MiB, beside a copy" "the whole text handed out" "as many bytes copied" 1 1.1

@@ -1,8 +1,8 @@
 //! Sessions: bytes typed, questions about places, and whole texts in and out.
 
 use crate::sessions::{
-    LINE, Series, far_apart, measure, measure_once, measure_ranges, measure_typing, open, open_on,
-    send,
+    LINE, Series, far_apart, measure, measure_once, measure_ranges, measure_reads, measure_typing,
+    open, open_on, send,
 };
 use bench_support::{repeated, tell};
 use ed_types::Kind;
@@ -75,6 +75,14 @@ pub fn look_up(
         session,
         view,
         "40 bytes handed out, one behind the other",
+        near,
+    )?;
+    measure_reads(rt, session, view, "40 bytes read, far apart", ranges)?;
+    measure_reads(
+        rt,
+        session,
+        view,
+        "40 bytes read, one behind the other",
         near,
     )
 }

@@ -114,6 +114,19 @@ pub fn send_ranges(session: &mut Session, view: u32, series: Series) -> i64 {
     sum
 }
 
+/// Reads a series whose `l` goes with `w` into a buffer, and answers the sum of the values: -1 for what is not read.
+pub fn read_ranges(session: &Session, view: u32, series: Series, into: &mut Vec<u8>) -> i64 {
+    let mut sum = 0i64;
+    let mut w = 0i64;
+    for _ in 0..series.count {
+        let l = w.wrapping_add(series.l);
+        let value = session.read(view, series.kind.number(), w, l, into);
+        sum = sum.wrapping_add(value.unwrap_or(-1));
+        w = next_place(series, w);
+    }
+    sum
+}
+
 /// Types bytes at the caret, a newline each 40, one message each, and answers the sum of the values.
 pub fn type_bytes(session: &mut Session, view: u32, count: usize) -> i64 {
     let mut sum = 0i64;
@@ -154,6 +167,21 @@ pub fn measure_ranges(
 ) -> io::Result<()> {
     let start = Instant::now(rt)?;
     let sum = send_ranges(session, view, series);
+    tell(rt, what, start, series.count)?;
+    println!(rt; "{what}: {sum}")
+}
+
+/// Reads a series whose `l` goes with `w` into a buffer, and tells how long a message took.
+pub fn measure_reads(
+    rt: &HostRuntime,
+    session: &Session,
+    view: u32,
+    what: &str,
+    series: Series,
+) -> io::Result<()> {
+    let mut bytes = Vec::new(rt.alloc());
+    let start = Instant::now(rt)?;
+    let sum = read_ranges(session, view, series, &mut bytes);
     tell(rt, what, start, series.count)?;
     println!(rt; "{what}: {sum}")
 }
