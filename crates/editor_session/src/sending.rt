@@ -15,11 +15,12 @@ ghost use Rattle.editor_session.specs.Plans.{is_free};
 use crate::asking::ask;
 use crate::find::find;
 use crate::left::{answer, keep_made, whole};
+use crate::reading::read;
 use crate::short_way::{do_apart, do_shortly};
 use document::Document;
 use ed_model::{Plan, plans_are_fit};
 use ed_types::{Bytes, Kind, Refusal, Reply};
-use message_plans::frequent_plan_of;
+use message_plans::{frequent_plan_of, text_question_of};
 use message_requests::{Request, SessionState};
 use std::alloc::Global;
 
@@ -161,6 +162,35 @@ fn answer_by_plan(
     }
 }
 
+/// Answers a message that hands out bytes of the document: they are read into memory that becomes the reply's. Where nothing is read, it
+/// goes by its plan. It stands apart, so that other messages set up no buffer.
+///
+/// # Errors
+///
+/// The refusal of the message table; `OutOfMemory` where memory is refused. The session is then as it was.
+#[inline(never)]
+fn answer_text_question(
+    alloc: Global,
+    state: &mut SessionState,
+    view: u32,
+    number: u32,
+    w: i64,
+    l: i64,
+    text: &[u8],
+) -> Result<Reply, Refusal>
+    requires kept { IsKept state.old }
+    ensures answer { AnswersBy (table (session_in state.old) view (message_with number w l text.now)) (session_in state.old) (session_in state.new) result }
+    ensures refused { IfErr (table (session_in state.old) view (message_with number w l text.now)) (λ refusal. result ≡ Err refusal) }
+    ensures kept { IsKept state.new }
+    ensures free { is_free (session_in state.old) view (message_with number w l text.now) ≡ true → IfErr result (λ refusal. refusal ≢ OutOfMemory) }
+{
+    let mut bytes = Vec::new(alloc);
+    match read(alloc, state, view, number, w, l, &mut bytes) {
+        Some(value) => Ok(Reply::quiet(alloc, value, Bytes::new(bytes))),
+        None => answer_by_plan(alloc, state, view, number, w, l, text),
+    }
+}
+
 /// Answers a message to the view of an id.
 ///
 /// # Errors
@@ -181,8 +211,11 @@ pub(crate) fn answer_message(
     ensures kept { IsKept state.new }
     ensures free { is_free (session_in state.old) view (message_with number w l text.now) ≡ true → IfErr result (λ refusal. refusal ≢ OutOfMemory) }
 {
-    match ask(state, view, number, w, l) {
-        Some(value) => Ok(answer(alloc, value)),
+    if let Some(value) = ask(state, view, number, w, l) {
+        return Ok(answer(alloc, value));
+    }
+    match text_question_of(number) {
+        Some(_) => answer_text_question(alloc, state, view, number, w, l, text),
         None => answer_by_plan(alloc, state, view, number, w, l, text),
     }
 }

@@ -39,3 +39,24 @@ returns-in-None-clause-free c =
     let s = session_in a.state.now in
     let same : message_with a.number (to_z w64 (of_z w64 a.w)) (to_z w64 (of_z w64 a.l)) a.text.now ≡ message_with a.number a.w a.l a.text.now = search rules in
     subst (λ x. is_free s a.view x ≡ true → IfErr c.answer_by_plan.result (λ refusal. refusal ≢ OutOfMemory)) same c.answer_by_plan.ensures.free
+
+pub returns-in-Some-text_question_of-clause-answer : goal.returns-in-Some-text_question_of-clause-answer
+returns-in-Some-text_question_of-clause-answer c =
+    let a = c.args in
+    let s = session_in a.state.now in
+    let same : message_with a.number (to_z w64 (of_z w64 a.w)) (to_z w64 (of_z w64 a.l)) a.text.now ≡ message_with a.number a.w a.l a.text.now = search rules in
+    subst (λ x. AnswersBy (table s a.view x) s (session_in c.answer_text_question.new.state) c.answer_text_question.result) same c.answer_text_question.ensures.answer
+
+pub returns-in-Some-text_question_of-clause-refused : goal.returns-in-Some-text_question_of-clause-refused
+returns-in-Some-text_question_of-clause-refused c =
+    let a = c.args in
+    let s = session_in a.state.now in
+    let same : message_with a.number (to_z w64 (of_z w64 a.w)) (to_z w64 (of_z w64 a.l)) a.text.now ≡ message_with a.number a.w a.l a.text.now = search rules in
+    subst (λ x. IfErr (table s a.view x) (λ refusal. c.answer_text_question.result ≡ Err refusal)) same c.answer_text_question.ensures.refused
+
+pub returns-in-Some-text_question_of-clause-free : goal.returns-in-Some-text_question_of-clause-free
+returns-in-Some-text_question_of-clause-free c =
+    let a = c.args in
+    let s = session_in a.state.now in
+    let same : message_with a.number (to_z w64 (of_z w64 a.w)) (to_z w64 (of_z w64 a.l)) a.text.now ≡ message_with a.number a.w a.l a.text.now = search rules in
+    subst (λ x. is_free s a.view x ≡ true → IfErr c.answer_text_question.result (λ refusal. refusal ≢ OutOfMemory)) same c.answer_text_question.ensures.free
