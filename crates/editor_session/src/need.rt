@@ -80,6 +80,7 @@ impl Need {
     pub(crate) fn is_counted(&self) -> bool
         ensures counted { result ≡ true → IsCounted self.now }
         ensures none { self.now ≡ no_need → result ≡ true }
+        ensures all { IsCounted self.now → result ≡ true }
     {
         self.text < usize::MAX
             && self.notes.notes < usize::MAX

@@ -42,7 +42,8 @@ impl HistoryNeed {
     /// Whether no amount is the greatest, at which sums stop.
     #[inline]
     pub fn is_counted(&self) -> bool
-        ensures { result ≡ true → IsCounted self.now }
+        ensures counted { result ≡ true → IsCounted self.now }
+        ensures all { IsCounted self.now → result ≡ true }
     {
         self.notes.notes < usize::MAX
             && self.notes.bytes < usize::MAX
