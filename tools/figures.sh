@@ -47,10 +47,10 @@ ratio() {
     row "$1" "$quotient" times "$5"
 }
 
-# more WHAT NAME OTHER AIM: by how many nanoseconds the one took longer in the middle than the other.
+# more WHAT NAME OTHER THIRD AIM: by how many nanoseconds the one took longer in the middle than the two others together.
 more() {
-    difference=$(echo "$(middle "$2" 3) $(middle "$3" 3)" | awk '{ print "-", $1 - $2, "-" }')
-    row "$1" "$difference" ns "$4"
+    difference=$(echo "$(middle "$2" 3) $(middle "$3" 3) $(middle "$4" 3)" | awk '{ print "-", $1 - $2 - $3, "-" }')
+    row "$1" "$difference" ns "$5"
 }
 
 row "what" "least middle greatest" "" "aim"
@@ -103,11 +103,12 @@ repeat levels 1000000
 nanos "SETFOLDLEVEL on a million lines" "a fold level set" 40
 
 repeat searches $sixteen 100000
+nanos "SETTARGETRANGE" "a target set" ""
 for way in "with case" "in any case"; do
     whole "SEARCHINTARGET over 16 MiB, rare, $way" "a rare pattern $way" ""
     whole "the same without a session" "a rare pattern $way, without a session" ""
-    nanos "SEARCHINTARGET, common, $way" "a match found $way" ""
-    more "more than without a session" "a match found $way" "a match found $way, without a session" 200
+    nanos "SETTARGETRANGE and SEARCHINTARGET, common, $way" "a match found $way" ""
+    more "SEARCHINTARGET alone, more than without a session" "a match found $way" "a target set" "a match found $way, without a session" 200
 done
 for lines in $four $eight $sixteen; do
     repeat line_ends $lines

@@ -30,6 +30,8 @@ TOLD = re.compile(r"^(?:note: )?\S+:\d+:\d+: .*", re.M)
 # What `rt ci` prints of a crate that it proves, of one that an earlier run on this machine proved, and last.
 PROVED = re.compile(r"^rt: (\w+) (?:proved$|is kept: )", re.M)
 ENDED = re.compile(r"^\d+ passed, (\d+) failed$", re.M)
+# How many bodies a group has at most: a group is tried by one processor, and the last one to end is waited for.
+MOST = 12
 
 
 class Body:
@@ -123,13 +125,13 @@ def checked(crate, bodies, only):
 
 
 def batches(bodies):
-    """The bodies in groups, no two of a group in one function; what stands in no function's body is left out."""
+    """The bodies in groups of MOST at most, no two of a group in one function; what stands in no function's body is left out."""
     groups = []
     for body in bodies:
         functions = body.functions()
         if functions is None:
             continue
-        group = next((it for it in groups if not functions & it[1]), None)
+        group = next((it for it in groups if len(it[0]) < MOST and not functions & it[1]), None)
         if group is None:
             group = ([], set())
             groups.append(group)

@@ -1,6 +1,6 @@
 //! Sessions: searches in the target, beside the same searches without a session, replacements, and line ends converted.
 
-use crate::sessions::{LINE, argument, measure_once, open_on, send};
+use crate::sessions::{LINE, LINE_SIZE, Series, argument, measure, measure_once, open_on, send};
 use bench_support::{repeated, tell};
 use ed_types::Kind;
 use editor_session::Session;
@@ -130,6 +130,18 @@ fn find_both_ways(rt: &HostRuntime, text: &[u8], count: usize) -> io::Result<()>
     find_both(rt, rare, common, 0, text, count)
 }
 
+/// Sets the target from line to line, as searches from match to match do before each.
+fn set_targets(rt: &HostRuntime, session: &mut Session, view: u32, count: usize) -> io::Result<()> {
+    let series = Series {
+        kind: Kind::SetTargetRange,
+        count,
+        stride: argument(LINE_SIZE),
+        size: i64::MAX,
+        l: i64::MAX,
+    };
+    measure(rt, session, view, "a target set", series, &[])
+}
+
 /// Searches a text with case and in any case, by messages and without a session.
 pub fn searches(
     rt: &HostRuntime,
@@ -138,6 +150,7 @@ pub fn searches(
     count: usize,
 ) -> io::Result<()> {
     let view = open_on(rt, session, LINE, lines)?;
+    set_targets(rt, session, view, count)?;
     search_with_case(rt, session, view, count)?;
     search_in_any_case(rt, session, view, count)?;
     let text = repeated(rt.alloc(), LINE, lines)?;
