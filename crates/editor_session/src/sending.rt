@@ -116,8 +116,9 @@ pub(crate) fn answer_into(
     };
     let document = request.document.id();
     let is_recorded = is_recorded(kind, &request);
-    // A plan is not small: it stays where it is made.
-    match &frequent_plan_of(kind, &request) {
+    // A plan is not small: it stays where it is made, for which it has a name.
+    let planned = frequent_plan_of(kind, &request);
+    match &planned {
         Ok(plan) if is_recorded => do_apart(
             alloc, state, document, view, number, w, l, text, plan, true, reply,
         ),

@@ -1,4 +1,5 @@
-//! Edits: the plans of messages that change the text.
+//! Edits: the plans of messages that change the text. They go into the functions that call them, since a plan is not small: it is
+//! then made where it is wanted, and not copied from function to function.
 
 ghost use Rattle.std.specs.Prelude.{◌≡◌, ◌≤◌, ◌+◌, ◌&&◌, ◌||◌, nat_le, nat_lt, length, pos};
 ghost use Rattle.ed_model.specs.Session.{limit_of};
@@ -54,6 +55,7 @@ impl Replacement {
 }
 
 /// Whether the document is read-only, and the edit has a step that it keeps out.
+#[inline(always)]
 fn is_kept_out(r: &Request, count: usize, added: usize) -> bool
     ensures { result ≡ (r.now.document.read_only && (nat_lt 0 count || nat_lt 0 added)) }
 {
@@ -61,6 +63,7 @@ fn is_kept_out(r: &Request, count: usize, added: usize) -> bool
 }
 
 /// Whether so many bytes more keep within a limit.
+#[inline(always)]
 fn fits(left: usize, added: usize, limit: u64) -> bool
     ensures { result ≡ nat_le (left + added) limit }
 {
@@ -68,6 +71,7 @@ fn fits(left: usize, added: usize, limit: u64) -> bool
 }
 
 /// Whether neither a deletion of `count` bytes nor an insertion of `added` bytes behind it takes the text past its limit.
+#[inline(always)]
 fn keeps_limit(r: &Request, count: usize, added: usize) -> bool
     requires range { count ≤ size r.now }
     ensures { result ≡ keeps_limit (limit_of r.now.session.limits r.now.document) (size r.now) count added }
@@ -78,6 +82,7 @@ fn keeps_limit(r: &Request, count: usize, added: usize) -> bool
 }
 
 /// What an edit comes to, kept out or not, and within the limit or not.
+#[inline(always)]
 fn edit_if(kept_out: bool, within: bool, edit: Plan) -> Planned
     ensures { result ≡ edit_if kept_out within edit }
 {
@@ -97,6 +102,7 @@ fn edit_if(kept_out: bool, within: bool, edit: Plan) -> Planned
 /// # Errors
 ///
 /// `TooLong` where one of its steps takes the text past its limit.
+#[inline(always)]
 pub fn edit_plan(r: &Request, replacement: Replacement, value: i64, follow: Follow) -> Planned
     requires range { replacement.start + replacement.count ≤ size r.now }
     requires added { replacement.added ≡ length (source_bytes r.now replacement.source) }
@@ -125,6 +131,7 @@ pub fn edit_plan(r: &Request, replacement: Replacement, value: i64, follow: Foll
 }
 
 /// The plan of an edit that replaces bytes, answers 0, and is followed by nothing.
+#[inline(always)]
 pub fn replace_plan(r: &Request, replacement: Replacement) -> Planned
     requires range { replacement.start + replacement.count ≤ size r.now }
     requires added { replacement.added ≡ length (source_bytes r.now replacement.source) }
@@ -134,6 +141,7 @@ pub fn replace_plan(r: &Request, replacement: Replacement) -> Planned
 }
 
 /// The plan of an edit that replaces bytes, answers 0, and leaves anchor and caret behind what it put in.
+#[inline(always)]
 pub fn replace_and_go(r: &Request, replacement: Replacement) -> Planned
     requires range { replacement.start + replacement.count ≤ size r.now }
     requires added { replacement.added ≡ length (source_bytes r.now replacement.source) }

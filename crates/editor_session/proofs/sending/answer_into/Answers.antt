@@ -14,11 +14,11 @@ use Rattle.editor_session.proofs.TableWay.{text_handed_out, handed_so, with_a_pl
 use Rattle.editor_session.proofs.Unheard.{unrecorded_task}
 use Rattle.editor_session.proofs.sending.answer_into.Goals as goal
 
-pub returns-in-Err-frequent_plan_of-clause-free : goal.returns-in-Err-frequent_plan_of-clause-free
-returns-in-Err-frequent_plan_of-clause-free c free =
+pub returns-in-Err-planned-clause-free : goal.returns-in-Err-planned-clause-free
+returns-in-Err-planned-clause-free c free =
     let kind = c.in-Ok.found.0 in
     let r = c.in-Ok.found.1 in
-    let planned : plan_of kind r ≡ Err c.in-Err-frequent_plan_of.refusal = search rules in
+    let planned : plan_of kind r ≡ Err c.in-Err-planned.refusal = search rules in
     subst (IsFitPlanned r) planned (c.plans_are_fit.ensures.in_range kind r c.in-Ok.ensures.found.sound)
 
 pub do_apart-requires-clause-task : goal.do_apart-requires-clause-task
@@ -36,23 +36,23 @@ do_apart-requires-clause-task c =
       fit = fit_of kind r (search rules) (c.plans_are_fit.ensures.in_range kind r c.in-Ok.ensures.found.sound);
     }
 
-pub returns-in-Ok-frequent_plan_of-clause-answer : goal.returns-in-Ok-frequent_plan_of-clause-answer
-returns-in-Ok-frequent_plan_of-clause-answer c =
+pub returns-in-Ok-planned-clause-answer : goal.returns-in-Ok-planned-clause-answer
+returns-in-Ok-planned-clause-answer c =
     let a = c.args in
     let s = session_in a.state.now in
     let same : message_with a.number (to_z w64 (of_z w64 a.w)) (to_z w64 (of_z w64 a.l)) a.text.now ≡ message_with a.number a.w a.l a.text.now = search rules in
     subst (λ x. AnswersBy (table s a.view x) s (session_in c.do_apart.new.state) (told c.do_apart.result c.do_apart.new.reply)) same c.do_apart.ensures.answer
 
-pub returns-in-Ok-frequent_plan_of-clause-refused : goal.returns-in-Ok-frequent_plan_of-clause-refused
-returns-in-Ok-frequent_plan_of-clause-refused c =
+pub returns-in-Ok-planned-clause-refused : goal.returns-in-Ok-planned-clause-refused
+returns-in-Ok-planned-clause-refused c =
     let a = c.args in
     let kind = c.in-Ok.found.0 in
     let r = c.in-Ok.found.1 in
-    let planned : plan_of kind r ≡ Ok c.in-Ok-frequent_plan_of.plan = search rules in
-    with_a_plan _ (session_in a.state.now) a.view (message_with a.number (to_z w64 (of_z w64 a.w)) (to_z w64 (of_z w64 a.l)) a.text.now) (message_with a.number a.w a.l a.text.now) kind r c.in-Ok-frequent_plan_of.plan (search rules) c.in-Ok.ensures.found planned
+    let planned : plan_of kind r ≡ Ok c.in-Ok-planned.plan = search rules in
+    with_a_plan _ (session_in a.state.now) a.view (message_with a.number (to_z w64 (of_z w64 a.w)) (to_z w64 (of_z w64 a.l)) a.text.now) (message_with a.number a.w a.l a.text.now) kind r c.in-Ok-planned.plan (search rules) c.in-Ok.ensures.found planned
 
-pub returns-in-Ok-frequent_plan_of-clause-free : goal.returns-in-Ok-frequent_plan_of-clause-free
-returns-in-Ok-frequent_plan_of-clause-free c free =
+pub returns-in-Ok-planned-clause-free : goal.returns-in-Ok-planned-clause-free
+returns-in-Ok-planned-clause-free c free =
     let a = c.args in
     let s = session_in a.state.now in
     let same : message_with a.number (to_z w64 (of_z w64 a.w)) (to_z w64 (of_z w64 a.l)) a.text.now ≡ message_with a.number a.w a.l a.text.now = search rules in
