@@ -1,11 +1,23 @@
 -- What a change of a view asks for: lines that there are, and room to fold.
-use Rattle.std.specs.Prelude.{ℕ, ◌+◌, ◌<◌, ◌≤◌, ◌≡◌, if◌then◌else◌}
+use Rattle.std.specs.Prelude.{Bool, true, false, ℕ, ◌+◌, ◌<◌, ◌≤◌, ◌≡◌, if◌then◌else◌}
 use Rattle.ed_model.specs.declared.plan.ViewChange.{ViewChange}
-use Rattle.ed_model.specs.declared.plan.ViewChange.TheVariants.{ShowLines, HideLines, SetExpanded, Contract, Expand, EnsureVisible}
+use Rattle.ed_model.specs.declared.plan.ViewChange.TheVariants.{Select, SetTarget, SetSearchFlags, SetMask, SetIndicator, SetIndicatorValue, SetPasteConversion, SetRecording, ShowLines, HideLines, SetExpanded, Contract, Expand, EnsureVisible}
 use Rattle.ed_model.specs.Requests.{Request, line_total}
 use Rattle.ed_model.specs.PlansFit.{IsFitViewChange}
 use Rattle.contraction.specs.ViewLines.{FoldRoom}
 use Rattle.ed_view.specs.declared.folding.FoldNeed.{FoldNeed}
+
+-- whether it shows and hides no lines, and so asks for nothing
+abbrev pub is_setting : ViewChange → Bool
+is_setting (Select anchor caret) = true
+is_setting (SetTarget start past) = true
+is_setting (SetSearchFlags flags) = true
+is_setting (SetMask mask) = true
+is_setting (SetIndicator indicator) = true
+is_setting (SetIndicatorValue value) = true
+is_setting (SetPasteConversion on) = true
+is_setting (SetRecording on) = true
+is_setting other = false
 
 -- the lines that the change names are among so many
 abbrev pub IsWithin : ℕ → ViewChange → Type 0

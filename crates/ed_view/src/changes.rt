@@ -1,13 +1,30 @@
 //! What messages set in a view.
 
-ghost use Rattle.std.specs.Prelude.{◌≡◌, length};
+ghost use Rattle.std.specs.Prelude.{◌≡◌, true, ℕ, List, length};
 ghost use Rattle.ed_model.specs.Changes.{changed_view};
-ghost use Rattle.ed_view.specs.Folding.{IsWithin, fold_need, HasFoldRoom, LeavesFoldRoom};
+ghost use Rattle.ed_view.specs.Folding.{is_setting, IsWithin, fold_need, HasFoldRoom, LeavesFoldRoom};
 
 use crate::view::{Target, View};
 use contraction::Levels;
 use ed_model::ViewChange;
 use selection::Selection;
+
+/// Whether a change is one of a setting: it shows and hides no lines, and so reads no levels and needs no room.
+pub fn is_setting(change: ViewChange) -> bool
+    ensures { result ≡ is_setting change }
+{
+    matches!(
+        change,
+        ViewChange::Select { .. }
+            | ViewChange::SetTarget { .. }
+            | ViewChange::SetSearchFlags { .. }
+            | ViewChange::SetMask { .. }
+            | ViewChange::SetIndicator { .. }
+            | ViewChange::SetIndicatorValue { .. }
+            | ViewChange::SetPasteConversion { .. }
+            | ViewChange::SetRecording { .. }
+    )
+}
 
 impl View {
     /// Sets anchor and caret.
@@ -66,13 +83,10 @@ impl View {
         self.records = on;
     }
 
-    /// Makes a planned change. The lines that it names must be there, and the room that it needs.
-    pub fn change(&mut self, levels: &Levels, change: ViewChange)
-        requires levels { length levels.now ≡ length self.old.view.flags }
-        requires within { IsWithin (length self.old.view.flags) change }
-        requires room { HasFoldRoom self.old.room (fold_need (length self.old.view.flags) change) }
-        ensures view { self.new.view ≡ changed_view levels.now change self.old.view }
-        ensures room_left { LeavesFoldRoom self.old.room self.new.room (fold_need (length self.old.view.flags) change) }
+    /// Makes a planned change of a setting: it shows and hides no lines.
+    pub fn set(&mut self, change: ViewChange)
+        requires setting { is_setting change ≡ true }
+        ensures { (levels : List ℕ) → self.new ≡ record self.old { view = changed_view levels change self.old.view } }
     {
         match change {
             ViewChange::Select { anchor, caret } => self.select(Selection { anchor, caret }),
@@ -83,12 +97,29 @@ impl View {
             ViewChange::SetIndicatorValue { value } => self.set_indicator_value(value),
             ViewChange::SetPasteConversion { on } => self.set_paste_conversion(on),
             ViewChange::SetRecording { on } => self.set_recording(on),
+            _ => {}
+        }
+    }
+
+    /// Makes a planned change. The lines that it names must be there, and the room that it needs.
+    pub fn change(&mut self, levels: &Levels, change: ViewChange)
+        requires levels { length levels.now ≡ length self.old.view.flags }
+        requires within { IsWithin (length self.old.view.flags) change }
+        requires room { HasFoldRoom self.old.room (fold_need (length self.old.view.flags) change) }
+        ensures view { self.new.view ≡ changed_view levels.now change self.old.view }
+        ensures room_left { LeavesFoldRoom self.old.room self.new.room (fold_need (length self.old.view.flags) change) }
+    {
+        if is_setting(change) {
+            return self.set(change);
+        }
+        match change {
             ViewChange::ShowLines { first, past } => self.show(first, past),
             ViewChange::HideLines { first, past } => self.hide(first, past),
             ViewChange::SetExpanded { line, on } => self.set_expanded(line, on),
             ViewChange::Contract { line } => self.contract(levels, line),
             ViewChange::Expand { line } => self.expand(levels, line),
             ViewChange::EnsureVisible { line } => self.ensure_visible(levels, line),
+            _ => {}
         }
     }
 }

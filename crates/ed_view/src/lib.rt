@@ -12,6 +12,7 @@ mod laws;
 mod moving;
 mod view;
 
+pub use changes::is_setting;
 pub use folding::FoldNeed;
 pub use laws::{fit_changes_are_within, moves_are_those_of_steps};
 pub use view::{Target, View};

@@ -1,6 +1,6 @@
 //! Changes of a view: its settings, its selection, and which lines it shows.
 
-ghost use Rattle.std.specs.Prelude.{◌≡◌, false, map, length, IsOk, OnOk, IsSome, IsSomeAnd};
+ghost use Rattle.std.specs.Prelude.{◌≡◌, ℕ, List, true, false, map, length, IsOk, OnOk, IsSome, IsSomeAnd};
 ghost use Rattle.ed_model.specs.Session.{lines_in};
 ghost use Rattle.ed_model.specs.Requests.{Request};
 ghost use Rattle.ed_model.specs.Changes.{changed_view, view_change_performed};
@@ -8,13 +8,14 @@ ghost use Rattle.id_table.specs.Entries.{value_at};
 ghost use Rattle.scene.specs.Scenes.{views_of, AreNamed};
 ghost use Rattle.message_requests.specs.Requested.{session_in};
 ghost use Rattle.session_changes.specs.Kept.{IsKept, ViewsRise};
+ghost use Rattle.ed_view.specs.Folding.{is_setting};
 ghost use Rattle.session_changes.specs.Asked.{IsAsked, CanChangeView};
 ghost use Rattle.session_changes.specs.Folding.{takes_fold_room, HasFoldRoomAt, IsRoomAtMostAt, levels_of, changed_at, CanChange};
 
 use contraction::Levels;
 use document::Document;
 use ed_model::ViewChange;
-use ed_view::{View, fit_changes_are_within};
+use ed_view::{View, fit_changes_are_within, is_setting};
 use id_table::IdTable;
 use message_requests::SessionState;
 use std::alloc::AllocError;
@@ -91,8 +92,27 @@ fn change_in(views: &mut IdTable<View>, view: u32, levels: &Levels, change: View
     view.change(levels, change);
 }
 
-/// Changes the view of an id, for which there is room; its document is that of the other id. All else stays as it is.
-pub fn change_view(state: &mut SessionState, document: u32, view: u32, change: ViewChange)
+/// Changes a setting of the view of an id: no levels are read.
+#[inline(always)]
+fn set_in(views: &mut IdTable<View>, view: u32, change: ViewChange)
+    requires setting { is_setting change ≡ true }
+    requires there { IsSome (value_at views.old.entries view) }
+    requires named { AreNamed views.old.entries }
+    requires rise { ViewsRise views.old }
+    ensures views { (levels : List ℕ) → views_of views.new.entries ≡ changed_at view (changed_view levels change) (views_of views.old.entries) }
+    ensures named { AreNamed views.new.entries }
+    ensures next { views.new.next ≡ views.old.next }
+{
+    let Some(view) = views.get_mut(view) else {
+        unreachable!()
+    };
+    view.set(change);
+}
+
+/// Changes the view of an id, for which there is room, by the levels of the document of the other id, which is its own. It stands
+/// apart from what sets something alone.
+#[inline(never)]
+fn change_by_levels(state: &mut SessionState, document: u32, view: u32, change: ViewChange)
     requires kept { IsKept state.old }
     requires can { CanChangeView (session_in state.old) document view change }
     requires room { HasFoldRoomAt state.old.views.entries view change }
@@ -112,4 +132,22 @@ pub fn change_view(state: &mut SessionState, document: u32, view: u32, change: V
         unreachable!()
     };
     change_in(views, view, &levels_of(document), change);
+}
+
+/// Changes the view of an id, for which there is room; its document is that of the other id. All else stays as it is.
+#[inline]
+pub fn change_view(state: &mut SessionState, document: u32, view: u32, change: ViewChange)
+    requires kept { IsKept state.old }
+    requires can { CanChangeView (session_in state.old) document view change }
+    requires room { HasFoldRoomAt state.old.views.entries view change }
+    ensures changed { (r : Request) → IsAsked (session_in state.old) document view r → session_in state.new ≡ view_change_performed r change }
+    ensures limits { state.new.limits ≡ state.old.limits }
+    ensures documents { state.new.documents ≡ state.old.documents }
+    ensures views { AreNamed state.new.views.entries }
+{
+    if is_setting(change) {
+        set_in(&mut state.views, view, change)
+    } else {
+        change_by_levels(state, document, view, change)
+    }
 }
