@@ -39,9 +39,9 @@ pub belongs_by_outlines : (kind : ChangeKind) (bytes : List ℕ) (cs : List Chan
 belongs_by_outlines (Text kind place) bytes [] = or_true (goes_on_after (step_of kind place bytes) None)
 belongs_by_outlines (Text kind place) bytes (TextStep step ∷ cs) = or_false (goes_on_after (step_of kind place bytes) (Some step)) ∙ after_text kind place bytes step
 belongs_by_outlines (Text kind place) bytes (ContainerStep token coalesce ∷ cs) = belongs_by_outlines (Text kind place) bytes cs
-belongs_by_outlines (Container t c) bytes [] = or_true c
-belongs_by_outlines (Container t c) bytes (TextStep step ∷ cs) = or_false c
-belongs_by_outlines (Container t c) bytes (ContainerStep token coalesce ∷ cs) = belongs_by_outlines (Container t c) bytes cs
+belongs_by_outlines (Container c t) bytes [] = or_true c
+belongs_by_outlines (Container c t) bytes (TextStep step ∷ cs) = or_false c
+belongs_by_outlines (Container c t) bytes (ContainerStep token coalesce ∷ cs) = belongs_by_outlines (Container c t) bytes cs
 
 -- Whether a change joins.
 

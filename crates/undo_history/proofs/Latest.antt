@@ -1,15 +1,15 @@
 -- The latest step of the text in the last transaction, looked for from the end; and how many steps that transaction has.
-use Rattle.std.proofs.Common.{◌≡◌, ◌≤◌, ◌<◌, ◌+◌, ◌-◌, ℕ, suc, List, [], ◌∷◌, length, take, drop, get_or, refl, ap, sym, ◌∙◌, arith, reverse, ℤ, Bool, true, false}
+use Rattle.std.proofs.Common.{◌≡◌, ◌<◌, ◌+◌, ◌-◌, ℕ, suc, List, [], ◌∷◌, length, take, drop, get_or, refl, ap, ◌∙◌, arith, reverse, ℤ, Bool, true, false}
 use Rattle.std.specs.Prelude.{Option, Some, None, slice_range, if◌then◌else◌}
-use Rattle.std.proofs.lemmas.List.{length-take, length-drop, length-take-le, drop_more}
-use Rattle.ed_model.specs.History.{Change, TextStep, ContainerStep, Transaction, latest_text_step, first_changes}
+use Rattle.std.proofs.lemmas.List.{length-take, length-drop, drop_more}
+use Rattle.ed_model.specs.History.{TextStep, Transaction, latest_text_step, first_changes}
 use Rattle.ed_model.specs.Steps as model
 use Rattle.undo_history.specs.declared.records.StepKind.{StepKind}
 use Rattle.undo_history.specs.declared.records.StepKind.TheVariants.{Insert, Delete}
 use Rattle.undo_history.specs.declared.records.ChangeKind.TheVariants.{Text, Container}
 use Rattle.undo_history.specs.declared.records.StepRecord.{StepRecord}
 use Rattle.undo_history.specs.Steps.{step_of}
-use Rattle.undo_history.specs.Records.{Entry, alone, joined, pushed, transactions, entry, entry_in, entries_in, change_of, bytes_end, last_end, last_count, joined_count, next_count, begins_or_none, EndsInOrder}
+use Rattle.undo_history.specs.Records.{pushed, transactions, entry, entry_in, entries_in, change_of, bytes_end, last_end, last_count, joined_count, next_count, begins_or_none, EndsInOrder}
 use Rattle.undo_history.specs.Joining.{outline, outline_of, outline_if_any}
 use Rattle.undo_history.proofs.Lists.{latest_first}
 use Rattle.undo_history.proofs.Transactions.{changes_start, changes_join, last_count_start, last_count_join, joined_count_start, joined_count_join}
@@ -59,18 +59,18 @@ latest_found rs bytes i r kind place o h e k =
     ∙ ap outline_if_any (found (step_of kind place part) r.starts r.is_sealed ts)
     ∙ ap (λ s. Some s) (outlined kind place part ∙ ap (λ n. outline kind place n) count)
 
-pub latest_passed : (rs : List StepRecord) (bytes : List ℕ) (i : ℕ) (r : StepRecord) (token : ℤ) (coalesce : Bool) → i < length rs → r ≡ get_or rs i r → r.kind ≡ Container token coalesce → r.starts ≡ false →
+pub latest_passed : (rs : List StepRecord) (bytes : List ℕ) (i : ℕ) (r : StepRecord) (coalesce : Bool) (token : ℤ) → i < length rs → r ≡ get_or rs i r → r.kind ≡ Container coalesce token → r.starts ≡ false →
     latest rs bytes (i + 1) ≡ latest rs bytes i
-latest_passed rs bytes i r token coalesce h e k n =
+latest_passed rs bytes i r coalesce token h e k n =
     let part = slice_range bytes (last_end bytes_end 0 (take i rs)) r.bytes_end in
     let ts = transactions (reverse (take i (entries_in rs bytes))) in
     ap (λ t. latest_text_step (first_changes (transactions t))) (one_more rs bytes i r h e)
     ∙ ap latest_text_step (changes_join (entry_in r part) ts n)
     ∙ ap (λ x. latest_text_step (change_of x part ∷ first_changes ts)) k
 
-pub latest_none : (rs : List StepRecord) (bytes : List ℕ) (i : ℕ) (r : StepRecord) (token : ℤ) (coalesce : Bool) → i < length rs → r ≡ get_or rs i r → r.kind ≡ Container token coalesce → r.starts ≡ true →
+pub latest_none : (rs : List StepRecord) (bytes : List ℕ) (i : ℕ) (r : StepRecord) (coalesce : Bool) (token : ℤ) → i < length rs → r ≡ get_or rs i r → r.kind ≡ Container coalesce token → r.starts ≡ true →
     latest rs bytes (i + 1) ≡ None
-latest_none rs bytes i r token coalesce h e k y =
+latest_none rs bytes i r coalesce token h e k y =
     let part = slice_range bytes (last_end bytes_end 0 (take i rs)) r.bytes_end in
     let ts = transactions (reverse (take i (entries_in rs bytes))) in
     ap (λ t. latest_text_step (first_changes (transactions t))) (one_more rs bytes i r h e)

@@ -1,5 +1,5 @@
 -- The steps that undo and redo perform, by their places among all steps.
-use Rattle.std.proofs.Common.{◌≡◌, ◌≤◌, ◌<◌, ◌+◌, ◌-◌, ℕ, zero, suc, List, [], ◌∷◌, ◌++◌, length, take, drop, map, get_or, refl, ap, sym, subst, ◌∙◌, arith, reverse, Bool, true, false, inl, inr}
+use Rattle.std.proofs.Common.{◌≡◌, ◌≤◌, ◌<◌, ◌+◌, ◌-◌, ℕ, zero, suc, List, [], ◌∷◌, length, take, drop, map, get_or, refl, ap, sym, subst, ◌∙◌, arith, reverse, Bool, false, inl, inr}
 use Rattle.std.specs.Prelude.{Option, Some, slice_get, slice_range, ◌==◌}
 use Rattle.std.proofs.lemmas.List.{length-map, length-reverse, length-take-le, length-drop, get_or-map, get_or-reverse, get_or-take, get_or-drop, drop-drop, reverse-reverse, take-append-drop}
 use Rattle.std.proofs.lemmas.Bool.Decides.{nat_tests}
@@ -9,7 +9,7 @@ use Rattle.undo_history.specs.Records.{Entry, entry, entry_in, entries_in, chang
 use Rattle.undo_history.specs.Reading as reading
 use Rattle.undo_history.specs.Reading.{changes_in}
 use Rattle.undo_history.proofs.Parts.{part_read, parts_length, last_end_read, last_of_front, fronts_rise}
-use Rattle.undo_history.proofs.Lists.{read_at, reverse_more, latest_first}
+use Rattle.undo_history.proofs.Lists.{read_at, reverse_more}
 use Rattle.undo_history.proofs.Transactions.{change_in, is_or_not, last_count_start, last_count_join, last_count_some, last_count_within, joined_count_start, joined_count_join, next_count_within, begins_front}
 use Rattle.undo_history.proofs.Moving.{changes_to_undo, changes_to_redo}
 use Rattle.undo_history.proofs.Sealing.{entries_length}

@@ -1,9 +1,9 @@
 -- What sealing comes to, and the tests of a history.
 use Rattle.std.proofs.Common.{◌≡◌, ◌≤◌, ◌<◌, ◌+◌, ◌-◌, ℕ, zero, suc, List, [], ◌∷◌, length, take, drop, set, get_or, refl, ap, ap₂, sym, ◌∙◌, arith, reverse, Bool, true, false}
-use Rattle.std.specs.Prelude.{Option, Some, ◌==◌, nat_lt, slice_range, if◌then◌else◌}
-use Rattle.std.proofs.lemmas.List.{length-reverse, length-take-le, length-drop}
+use Rattle.std.specs.Prelude.{Option, nat_lt, slice_range, if◌then◌else◌}
+use Rattle.std.proofs.lemmas.List.{length-reverse, length-drop}
 use Rattle.std.proofs.lemmas.Bool.Decides.{nat_tests}
-use Rattle.ed_model.specs.History.{Transaction, History, can_redo, seal_first, with_last_sealed, sealed_outside_groups, undone, redone}
+use Rattle.ed_model.specs.History.{Transaction, can_redo, seal_first, with_last_sealed, sealed_outside_groups, undone, redone}
 use Rattle.undo_history.specs.declared.records.StepRecord.{StepRecord}
 use Rattle.undo_history.specs.Records.{Entry, entry, entry_in, entries_in, alone, joined, pushed, transactions, history_of, read_parts, bytes_end, changed_at, sealed_record, with_sealed, BeginsOne, EndsInOrder, IsInOrder}
 use Rattle.undo_history.proofs.Parts.{parts_length}

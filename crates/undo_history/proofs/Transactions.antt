@@ -1,7 +1,7 @@
 -- Entries as transactions: where the last one begins, where the next one ends, and what stands on either side of a start.
-use Rattle.std.proofs.Common.{◌≡◌, ◌≤◌, ◌<◌, ◌+◌, ◌-◌, ℕ, zero, suc, List, [], ◌∷◌, ◌++◌, length, take, drop, map, refl, ap, sym, subst, ◌∙◌, arith, reverse, Bool, true, false, append-nil, append_assoc, ◌⊎◌, inl, inr}
+use Rattle.std.proofs.Common.{◌≡◌, ◌≤◌, ◌<◌, ℕ, suc, List, [], ◌∷◌, ◌++◌, length, take, drop, map, refl, ap, sym, subst, ◌∙◌, arith, reverse, Bool, true, false, append-nil, append_assoc, ◌⊎◌, inl, inr}
 use Rattle.std.specs.Prelude.{if◌then◌else◌}
-use Rattle.std.proofs.lemmas.List.{reverse-append, reverse-reverse, length-append, length-reverse, length-take-le, length-drop}
+use Rattle.std.proofs.lemmas.List.{reverse-append, length-append, length-reverse, length-take-le}
 use Rattle.ed_model.specs.History.{Change, Transaction, first_changes}
 use Rattle.undo_history.specs.Records.{Entry, alone, joined, pushed, transactions, last_count, joined_count, next_count, BeginsOne}
 use Rattle.undo_history.proofs.Lists.{reverse_more}

@@ -32,4 +32,4 @@ steps_go_on step earlier = by_kinds step.kind earlier.kind step earlier
 abbrev pub belongs_after : ChangeKind → ℕ → Option StepOutline → Bool
 belongs_after kind count None = true
 belongs_after (Text kind place) count (Some earlier) = steps_go_on (outline kind place count) earlier
-belongs_after (Container token coalesce) count (Some earlier) = coalesce
+belongs_after (Container coalesce token) count (Some earlier) = coalesce

@@ -31,12 +31,12 @@ bytes_end r = r.bytes_end
 
 abbrev pub change_of : ChangeKind → List ℕ → Change
 change_of (Text kind place) bytes = TextStep (step_of kind place bytes)
-change_of (Container token coalesce) bytes = ContainerStep token coalesce
+change_of (Container coalesce token) bytes = ContainerStep token coalesce
 
 -- a container's step has no bytes
 abbrev pub HasItsBytes : ChangeKind → List ℕ → Type 0
 HasItsBytes (Text kind place) bytes = Unit {0}
-HasItsBytes (Container token coalesce) bytes = bytes ≡ []
+HasItsBytes (Container coalesce token) bytes = bytes ≡ []
 
 -- a change with its marks
 pub record Entry : Type 0 where

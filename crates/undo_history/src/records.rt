@@ -21,8 +21,8 @@ pub enum StepKind {
 pub enum ChangeKind {
     /// A step of the text at a place, in bytes.
     Text { kind: StepKind, place: usize },
-    /// A container's own step, known by its token.
-    Container { token: i64, coalesce: bool },
+    /// A container's own step, known by its token. The mark comes first, so that a record has 32 bytes, and not 40.
+    Container { coalesce: bool, token: i64 },
 }
 
 /// A change as a history lends it: what was done, the bytes of that step, where a container's step has none, and whether it is

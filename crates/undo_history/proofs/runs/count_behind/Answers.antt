@@ -1,4 +1,4 @@
-use Rattle.std.proofs.Common.{◌≡◌, ◌+◌, ◌-◌, ◌∙◌, [], ap, sym, arith, get_or, drop}
+use Rattle.std.proofs.Common.{◌≡◌, [], ap, sym, arith, get_or, drop}
 use Rattle.std.proofs.lemmas.List.{get_or_default, drop_all}
 use Rattle.undo_history.specs.declared.records.StepRecord.{StepRecord}
 use Rattle.undo_history.specs.Records.{entries_in, next_count, joined_count}

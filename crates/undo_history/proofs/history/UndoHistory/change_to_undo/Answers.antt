@@ -5,7 +5,7 @@ use Rattle.ed_model.specs.History.{undo_changes}
 use Rattle.undo_history.specs.declared.records.StepRecord.{StepRecord}
 use Rattle.undo_history.specs.Kept.{Kept}
 use Rattle.undo_history.specs.Reading.{changes_in}
-use Rattle.undo_history.specs.Records.{entries_in, history_of, last_count, change_of}
+use Rattle.undo_history.specs.Records.{entries_in, last_count, change_of}
 use Rattle.undo_history.proofs.Latest.{no_step}
 use Rattle.undo_history.proofs.Reading.{undo_length, undo_within, undo_read, undo_last}
 use Rattle.undo_history.proofs.Sealing.{entries_length}

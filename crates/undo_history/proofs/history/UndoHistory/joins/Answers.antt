@@ -1,4 +1,4 @@
-use Rattle.std.proofs.Common.{◌≡◌, ◌-◌, ◌∙◌, ap, sym, arith, get_or, length, take, reverse, true, false}
+use Rattle.std.proofs.Common.{◌≡◌, ◌-◌, ◌∙◌, ap, sym, arith, get_or, length, take, reverse, false}
 use Rattle.std.specs.Prelude.{nat_lt}
 use Rattle.std.proofs.lemmas.List.{get_or_default}
 use Rattle.ed_model.specs.History.{joins, at_save_point, belongs, latest_text_step, first_changes}

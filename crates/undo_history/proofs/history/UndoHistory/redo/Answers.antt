@@ -1,4 +1,4 @@
-use Rattle.std.proofs.Common.{◌≡◌, ◌+◌, ◌-◌, ◌≤◌, ◌<◌, ◌∙◌, ap, ap₂, arith, length, drop}
+use Rattle.std.proofs.Common.{◌≡◌, ◌+◌, ◌≤◌, ◌<◌, ◌∙◌, ap, ap₂, arith, length, drop}
 use Rattle.ed_model.specs.History.{redone}
 use Rattle.undo_history.specs.Kept.{Kept, kept}
 use Rattle.undo_history.specs.Records.{entries_in, history_of, next_count}
