@@ -1,8 +1,8 @@
 -- The smallest range with all changed styles, when one style after another is written.
-use Rattle.std.proofs.Common.{◌≡◌, ◌≤◌, ◌<◌, ◌+◌, ◌-◌, ℕ, zero, suc, List, [], ◌∷◌, ◌++◌, length, take, drop, get_or, Bool, true, false, refl, eq-eqb, ap, ap₂, sym, ◌∙◌, arith, append_assoc}
+use Rattle.std.proofs.Common.{◌≡◌, ◌<◌, ◌+◌, ◌-◌, ℕ, zero, suc, List, [], ◌∷◌, ◌++◌, length, take, drop, get_or, Bool, true, false, refl, eq-eqb, ap, ap₂, sym, ◌∙◌, arith, append_assoc}
 use Rattle.std.specs.Prelude.{Option, Some, None, if◌then◌else◌, not, ◌==◌, slice_index, unwrap_or, filter}
 use Rattle.std.specs.List.{range_with_len, last_or}
-use Rattle.std.proofs.lemmas.List.{length-append, length-take-le, drop_more, drop-drop, take-append-drop, append-nil}
+use Rattle.std.proofs.lemmas.List.{length-append, length-take-le, drop_more, take-append-drop, append-nil}
 use Rattle.ed_model.specs.Indicators.{changed_places, changed_range, extent}
 use Rattle.cell_buffer.specs.Buffer.{overwritten, widened}
 

@@ -1,5 +1,5 @@
 -- The counters of both gap buffers stay within the promised cost.
-use Rattle.std.proofs.Common.{◌≡◌, ℕ, zero, suc, Bool, true, false, inl, inr, refl, ap, ◌∙◌, arith}
+use Rattle.std.proofs.Common.{◌≡◌, ℕ, zero, suc, true, false, inl, inr, ap, ◌∙◌, arith}
 use Rattle.split_vector.specs.Split.{gap_after, moved_after, gap_closed, moved_closed}
 use Rattle.cell_buffer.specs.Buffer.{Buffer, stored, CostsAtMost, CostsBoth}
 

@@ -1,7 +1,7 @@
 -- Bytes and styles as cells: `paired` against take, drop, ++ and the words of the definitions.
 use Rattle.std.proofs.Common.{◌≡◌, ◌≤◌, ◌<◌, ◌+◌, ℕ, zero, suc, List, [], ◌∷◌, ◌++◌, length, take, drop, set, replicate, get_or, refl, ap, sym, ◌∙◌, arith, append_assoc}
 use Rattle.std.specs.Prelude.{Some, slice_get}
-use Rattle.std.proofs.lemmas.List.{length-take-le, length-drop, length-append, length-take, length-replicate, set_at, length-map, take_at, drop_at, drop_all, append-nil, drop_more, drop-drop, take-append-drop}
+use Rattle.std.proofs.lemmas.List.{length-take-le, length-drop, length-append, length-take, length-replicate, set_at, length-map, append-nil, drop_more, drop-drop, take-append-drop}
 use Rattle.ed_model.specs.Text.{bytes_of, styles_of, plain_cells}
 use Rattle.ed_model.specs.Steps.{Insert, edited_cells}
 use Rattle.ed_model.specs.Changes.{restyled}

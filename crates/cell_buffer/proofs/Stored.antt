@@ -1,16 +1,15 @@
 -- The bytes and the stored styles as cells: what is read of both, and what is done to both.
-use Rattle.std.proofs.Common.{◌≡◌, ◌≤◌, ◌<◌, ◌+◌, ◌-◌, ℕ, zero, suc, List, [], ◌∷◌, ◌++◌, length, take, drop, map, replicate, get_or, min, Bool, true, false, inl, inr, refl, ap, sym, ◌∙◌, arith, append_assoc, append-nil}
+use Rattle.std.proofs.Common.{◌≡◌, ◌≤◌, ◌<◌, ◌+◌, ◌-◌, ℕ, zero, suc, List, [], ◌∷◌, ◌++◌, length, take, drop, replicate, get_or, Bool, true, false, refl, ap, sym, ◌∙◌, arith, append-nil}
 use Rattle.std.specs.Prelude.{Some, slice_get, slice_range}
-use Rattle.std.proofs.lemmas.List.{length-append, length-take, length-drop, length-replicate, length-map, take_all, take-append-le, drop-append-le}
+use Rattle.std.proofs.lemmas.List.{length-append, length-take, length-drop, length-map, take_all, take-append-le, drop-append-le}
 use Rattle.std.proofs.Math.Seq.{take-append-add, drop-append-add}
-use Rattle.std.proofs.lemmas.Bool.{cases_lt}
-use Rattle.ed_model.specs.Text.{Cell, bytes_of, styles_of, plain_cell, plain_cells}
+use Rattle.ed_model.specs.Text.{bytes_of, styles_of, plain_cell, plain_cells}
 use Rattle.ed_model.specs.Steps.{Insert, edited_cells}
 use Rattle.ed_model.specs.Changes.{restyled}
 use Rattle.ed_model.specs.Indicators.{changed_range}
 use Rattle.split_vector.specs.Split.{inserted, deleted}
 use Rattle.cell_buffer.specs.Buffer.{paired, cells_of, stored, overwritten}
-use Rattle.cell_buffer.proofs.Pairs.{pairs_length, pairs_bytes, pairs_styles, plain_pairs, byte_read, style_read, inserted_pairs, inserted_pairs_length, deleted_pairs, deleted_pairs_length, overwritten_pairs, overwritten_length, read_item}
+use Rattle.cell_buffer.proofs.Pairs.{pairs_length, pairs_bytes, pairs_styles, plain_pairs, style_read, inserted_pairs, deleted_pairs, overwritten_pairs, overwritten_length, read_item}
 
 -- Plain cells.
 

@@ -1,5 +1,5 @@
 -- What a list of insertions and deletions of cells moves in all, in each of the two gap buffers.
-use Rattle.std.specs.Prelude.{ℕ, ◌≡◌, ◌+◌, ◌-◌, ◌≤◌, Bool, true, List, [], ◌∷◌}
+use Rattle.std.specs.Prelude.{ℕ, ◌≡◌, ◌+◌, ◌-◌, ◌≤◌, true, List, [], ◌∷◌}
 use Rattle.cell_buffer.specs.Buffer.{Buffer, CostsBoth}
 
 -- a call that puts so many cells in at a place or takes so many out from there on, by what it leaves

@@ -1,12 +1,12 @@
 -- What a header's children become, when it is contracted or expanded.
-use Rattle.std.proofs.Common.{◌≡◌, ℕ, zero, suc, ◌+◌, ◌-◌, ◌<◌, ◌≤◌, Bool, true, false, not, ◌&&◌, ◌||◌, cond, ltb, leb, eqb, List, [], ◌∷◌, ◌++◌, length, get_or, map, sym, refl, ap, ◌∙◌, ◌⊎◌, inl, inr, arith, le_refl}
+use Rattle.std.proofs.Common.{◌≡◌, ℕ, zero, suc, ◌+◌, ◌-◌, ◌<◌, ◌≤◌, Bool, true, false, not, ◌&&◌, ◌||◌, cond, ltb, leb, List, length, map, sym, refl, ap, ◌∙◌, inl, inr, arith, le_refl}
 use Rattle.std.specs.List.{range_with_len, list_all}
-use Rattle.std.proofs.lemmas.Bool.{cases_lt, cases_eq, cases_Bool, and_parts, and_from, false≢true, not-true, leb-true, le-leb, lt-leb, ltb-true, lt-ltb, le-ltb}
+use Rattle.std.proofs.lemmas.Bool.{cases_eq, cases_Bool, and_parts, and_from, false≢true, not-true, leb-true, le-leb, ltb-true, lt-ltb, le-ltb}
 use Rattle.std.proofs.lemmas.List.{get_or-set_other, length-set}
 use Rattle.std.proofs.lemmas.List.Folds.{list_all-append}
 use Rattle.std.proofs.lemmas.List.FromFn.{length-map-range_with_len, get_or-map-range_with_len}
 use Rattle.ed_model.specs.Rows.{Flags, fresh_flags}
-use Rattle.ed_model.specs.Folding.{flags_at, is_expanded, with_visible, with_expanded, is_between, lines_shown, lines_hidden, contracted, expanded, is_open_between, is_header, is_child, last_child}
+use Rattle.ed_model.specs.Folding.{flags_at, is_expanded, with_visible, with_expanded, is_between, lines_shown, lines_hidden, expanded, is_open_between, is_header, is_child, last_child}
 use Rattle.contraction.proofs.LineSets.{same_tests}
 use Rattle.contraction.specs.Folding.{is_closed, closed_at, behind_closed}
 use Rattle.contraction.proofs.Outside.{range-append}

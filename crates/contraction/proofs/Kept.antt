@@ -1,6 +1,6 @@
 -- The flags that two sets of lines stand for.
-use Rattle.std.proofs.Common.{◌≡◌, ℕ, zero, suc, ◌+◌, ◌-◌, ◌*◌, ◌<◌, ◌≤◌, max, Bool, true, false, not, ◌&&◌, ◌||◌, cond, ltb, leb, eqb, List, [], ◌∷◌, ◌++◌, length, get_or, set, take, drop, map, replicate, filter, count_by, refl, sym, ap, ◌∙◌, ◌⊎◌, inl, inr, arith, add-one}
-use Rattle.std.specs.List.{range_with_len, list_all}
+use Rattle.std.proofs.Common.{◌≡◌, ℕ, zero, suc, ◌+◌, ◌-◌, ◌*◌, ◌<◌, ◌≤◌, max, Bool, true, false, not, cond, eqb, List, [], ◌∷◌, length, get_or, set, take, map, replicate, filter, count_by, refl, sym, ap, ◌∙◌, ◌⊎◌, inl, inr, arith}
+use Rattle.std.specs.List.{range_with_len}
 use Rattle.std.specs.Prelude.{slice_get, unwrap_or, Result, Ok, Err, OnOk}
 use Rattle.std.proofs.lemmas.Bool.{cases_lt, cases_eq, eq-eqb, ne_eqb, false≢true}
 use Rattle.std.proofs.lemmas.List.Folds.{list_all_at}
@@ -14,7 +14,7 @@ use Rattle.ed_model.specs.Rows.{Flags, fresh_flags}
 use Rattle.ed_model.specs.Folding.{flags_at, is_visible, is_expanded, with_visible, with_expanded}
 use Rattle.ed_model.specs.DisplayLines.{display_line, line_shown, all_visible}
 use Rattle.partitioning.specs.Partitions.{Partitions, ArePartitions, IsLastAtMost}
-use Rattle.contraction.specs.LineSets.{starts_at, holds, lines_outside}
+use Rattle.contraction.specs.LineSets.{holds, lines_outside}
 use Rattle.contraction.specs.ViewLines.{ViewLines, view_lines, flags_kept, room_in_all, contracted_lines}
 use Rattle.split_vector.specs.Split.{most_room}
 

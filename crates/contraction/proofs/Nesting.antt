@@ -1,9 +1,9 @@
 -- The last child of a line, and how folds lie in one another.
-use Rattle.std.proofs.Common.{◌≡◌, ℕ, zero, suc, ◌+◌, ◌-◌, ◌<◌, ◌≤◌, Bool, true, false, not, ◌&&◌, cond, ltb, leb, List, [], ◌∷◌, length, Option, Some, None, sym, refl, ap, ◌∙◌, ◌⊎◌, inl, inr, arith, le_refl}
+use Rattle.std.proofs.Common.{◌≡◌, ℕ, zero, suc, ◌+◌, ◌-◌, ◌<◌, ◌≤◌, Bool, true, false, cond, leb, List, length, Option, Some, None, refl, inl, inr, arith, le_refl}
 use Rattle.std.specs.Prelude.{find}
 use Rattle.std.specs.List.{range_with_len}
 use Rattle.std.proofs.lemmas.Bool.{cases_lt, cases_eq, leb-true, leb-false}
-use Rattle.ed_model.specs.Folding.{number_at, line_before, last_child, last_child_at}
+use Rattle.ed_model.specs.Folding.{number_at, line_before, last_child}
 
 -- the first of a range that passes, or none
 abbrev pub Found : (ℕ → Bool) → ℕ → ℕ → Option ℕ → Type 0

@@ -1,13 +1,12 @@
 -- How many markers there are.
-use Rattle.std.proofs.Common.{◌≡◌, ℕ, zero, suc, ◌+◌, ◌<◌, ◌≤◌, Bool, true, false, cond, List, [], ◌∷◌, ◌++◌, length, get_or, set, refl, ap, sym, ◌∙◌, arith, length-append}
-use Rattle.std.specs.Prelude.{◌==◌, not, filter, Option, Some, None, slice_index_or}
+use Rattle.std.proofs.Common.{◌≡◌, ℕ, zero, suc, ◌+◌, ◌<◌, Bool, true, false, cond, List, [], ◌∷◌, ◌++◌, length, get_or, set, refl, ap, sym, arith, length-append}
+use Rattle.std.specs.Prelude.{◌==◌, not, filter, Some, None, slice_index_or}
 use Rattle.std.proofs.lemmas.List.Sums.{sum_by-cons}
 use Rattle.std.proofs.lemmas.Bool.{eqb-true, eqb-false, eq-eqb, ne_eqb}
-use Rattle.ed_types.specs.Notices.{Notice}
-use Rattle.ed_model.specs.Notes.{heard, change_note, change_marker}
+use Rattle.ed_model.specs.Notes.{heard}
 use Rattle.ed_model.specs.Rows.{Row, Marker, fresh_row}
 use Rattle.ed_model.specs.Session.{Document, View}
-use Rattle.ed_model.specs.Changes.{with_markers, new_markers, with_new_markers, without_markers, marker_count, marker_note, all_markers_note, line_with_handle}
+use Rattle.ed_model.specs.Changes.{new_markers, with_new_markers, without_markers, marker_count, marker_note, line_with_handle}
 use Rattle.document_changes.specs.Lines.{marker_notice}
 
 pub choose_true : {X : Type 0} (b : Bool) (x y : X) → b ≡ true → cond b x y ≡ x

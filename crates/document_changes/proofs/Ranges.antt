@@ -1,5 +1,5 @@
 -- Ranges of changed places lie in what changed.
-use Rattle.std.proofs.Common.{◌≡◌, ℕ, suc, zero, take, ◌+◌, ◌-◌, ◌<◌, ◌≤◌, ◌^◌, Bool, true, false, cond, List, [], ◌∷◌, length, get_or, refl, ap, sym, ◌∙◌, subst, arith}
+use Rattle.std.proofs.Common.{◌≡◌, ℕ, suc, zero, take, ◌+◌, ◌<◌, ◌≤◌, ◌^◌, Bool, true, false, cond, List, [], ◌∷◌, length, refl, ap, arith}
 use Rattle.std.specs.Prelude.{◌==◌, not, filter, slice_index, slice_index_or, unwrap_or, Option, Some, None, IfSome}
 use Rattle.std.specs.List.{AllByRecursion, range_with_len, last_or}
 use Rattle.ed_model.specs.Indicators.{changed_places, changed_range, extent}

@@ -1,5 +1,5 @@
 -- States of lines are the same or not.
-use Rattle.std.proofs.Common.{◌≡◌, ℕ, ◌≤◌, Bool, true, false, cond, List, [], refl, ap, sym, ◌∙◌, subst, arith}
+use Rattle.std.proofs.Common.{◌≡◌, Bool, true, false, refl, ap, arith}
 use Rattle.std.specs.Prelude.{ℤ, pos, negsuc, int_le, nat_le, ◌&&◌}
 use Rattle.std.proofs.Math.Nat.{le_antisymm}
 use lib.Dec.{T, leb→le, le→leb}

@@ -1,5 +1,5 @@
 -- Changes that leave the text, and the views where they are.
-use Rattle.std.proofs.Common.{◌≡◌, ℕ, Bool, true, false, List, [], ◌∷◌, ◌++◌, map, length, take, drop, replicate, refl, ap, sym, ◌∙◌, subst}
+use Rattle.std.proofs.Common.{◌≡◌, ℕ, false, List, [], ◌∷◌, ◌++◌, map, length, take, drop, replicate, refl, ap, sym, ◌∙◌}
 use Rattle.std.specs.List.{AllByRecursion}
 use Rattle.std.proofs.lemmas.List.{map-append, length-map, take-append-drop}
 use Rattle.std.proofs.lemmas.Bool.{cond_both}
@@ -9,13 +9,13 @@ use Rattle.ed_model.specs.Text.{Cell, bytes_of}
 use Rattle.ed_model.specs.Lines.{line_count}
 use Rattle.ed_model.specs.Session.{Document, View, text_of, lines_in, keeps_no_styles}
 use Rattle.ed_model.specs.Changes.{changed_document, changed_lines, change_told, restyled, styled}
-use Rattle.ed_model.specs.SoundLaws.{StandsOn, IsViewOn, occurrences}
+use Rattle.ed_model.specs.SoundLaws.{occurrences}
 use Rattle.id_table.specs.Entries.{Entries}
 use Rattle.notify.specs.Gathered.{Gathered}
 use Rattle.ed_view.specs.Kept.{KeptView}
 use Rattle.scene.specs.Scenes.{views_of, watchers, StandsIfOn, IsWatched}
 use Rattle.document_changes.specs.Changed.{AreTold, IsChanged}
-use Rattle.document_changes.specs.Needs.{is_quiet, is_of_types}
+use Rattle.document_changes.specs.Needs.{is_of_types}
 
 -- what views stand on stays
 pub record KeepsPlaces (old new : Document) : Type 0 where

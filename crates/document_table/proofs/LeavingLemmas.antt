@@ -1,11 +1,11 @@
 -- The documents of a table after one became another, or went.
-use Rattle.std.proofs.Common.{◌≡◌, ◌≢◌, ℕ, zero, suc, ◌<◌, ◌==◌, Bool, true, false, cond, List, [], ◌∷◌, map, Option, Some, None, refl, sym, ap, ◌∙◌, option_map, eq-eqb}
-use Rattle.std.specs.Prelude.{not, nat_lt, find, filter, IfSome, IsSomeAnd}
+use Rattle.std.proofs.Common.{◌≡◌, ◌≢◌, ℕ, ◌==◌, Bool, true, false, cond, List, [], ◌∷◌, Some, None, refl, sym, ap, ◌∙◌, option_map, eq-eqb}
+use Rattle.std.specs.Prelude.{not, nat_lt, find}
 use Rattle.std.proofs.lemmas.Bool.{eqb-true, ne_eqb}
 use Rattle.ed_model.specs.Session.{Document, references}
 use Rattle.document.specs.Kept.{Kept}
 use Rattle.id_table.specs.Entries.{Entry, entry, value_at, with_value_at, without_id}
-use Rattle.document_table.specs.Leaving.{document_in, documents_in, let_go, left_over, left_over_of, SameRoom, KeepsRoom}
+use Rattle.document_table.specs.Leaving.{document_in, documents_in, let_go, SameRoom, KeepsRoom}
 
 abbrev pub document_of : Kept → Document
 document_of k = k.document

@@ -1,10 +1,10 @@
 -- What is left of documents where one loses a reference, against the model's change of them all.
-use Rattle.std.proofs.Common.{◌≡◌, ◌≢◌, ℕ, ◌+◌, ◌<◌, ◌≤◌, ◌==◌, Bool, true, false, cond, List, [], ◌∷◌, map, Option, Some, None, refl, sym, ap, ◌∙◌, arith, eq-eqb, option_map}
-use Rattle.std.specs.Prelude.{not, nat_lt}
+use Rattle.std.proofs.Common.{◌≡◌, ℕ, ◌+◌, ◌<◌, ◌==◌, Bool, true, false, cond, List, [], ◌∷◌, map, Option, Some, None, refl, arith, option_map}
+use Rattle.std.specs.Prelude.{nat_lt}
 use Rattle.std.specs.List.{AllByRecursion}
 use Rattle.std.proofs.lemmas.Bool.{eqb-true, eqb-false, ne_eqb, lt-ltb}
 use Rattle.ed_model.specs.Session.{Document, references, living}
-use Rattle.id_table.specs.Entries.{Entry, Rise, entry, id_of, value_of, value_at, with_value_at, without_id}
+use Rattle.id_table.specs.Entries.{Entry, Rise, id_of, value_of, value_at, with_value_at, without_id}
 use Rattle.document_table.specs.Leaving.{let_go, left_over, left_over_of, IsChangedAlike, LeavesTheLiving}
 
 abbrev pub is_referenced : Entry Document → Type 0

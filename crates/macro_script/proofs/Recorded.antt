@@ -1,8 +1,8 @@
 -- What is added of a reply is all that the view recorded in it.
-use Rattle.std.proofs.Common.{◌≡◌, ◌≤◌, ℕ, Bool, true, false, cond, List, [], ◌∷◌, ◌++◌, length, map, drop, zero, suc, ◌+◌, refl, ap, sym, ◌∙◌, subst, arith}
-use Rattle.std.specs.Prelude.{◌==◌, ◌&&◌, ◌<◌, slice_get, filter, find, Option, Some, None}
+use Rattle.std.proofs.Common.{◌≡◌, ◌≤◌, ℕ, Bool, true, false, cond, List, [], ◌∷◌, ◌++◌, length, map, drop, zero, suc, ◌+◌, refl, ap, sym, subst, arith}
+use Rattle.std.specs.Prelude.{◌<◌, slice_get, filter, find, Some}
 use Rattle.std.proofs.lemmas.List.{append-nil}
-use Rattle.ed_types.specs.Notices.{Notice, Response}
+use Rattle.ed_types.specs.Notices.{Notice}
 use Rattle.ed_types.specs.declared.message.Message.{Message}
 use Rattle.ed_model.specs.Recording.{told_message}
 use Rattle.macro_script.specs.Recorded.{sending, is_recording, sends_for, RecordsAll}

@@ -1,12 +1,11 @@
 -- Lists of views that are alike: of the same ids and documents, and the same views of the documents that `Own` tells of.
 use Rattle.std.proofs.Common.{◌≡◌, ℕ, ◌+◌, ◌<◌, ◌≤◌, Bool, true, false, cond, List, [], ◌∷◌, map, refl, ap, sym, ◌∙◌, subst, arith, Option, Some, None}
-use Rattle.std.specs.Prelude.{◌==◌, filter, filter_map, option_map}
+use Rattle.std.specs.Prelude.{◌==◌, filter_map, option_map}
 use Rattle.std.specs.List.{AllByRecursion, cons_option}
-use Rattle.std.proofs.lemmas.Bool.{eqb-true, eqb-false, eq-eqb}
-use Rattle.ed_model.specs.Session.{View, Document, view_at, with_view, watching}
+use Rattle.std.proofs.lemmas.Bool.{eqb-true, eqb-false}
+use Rattle.ed_model.specs.Session.{View, view_at}
 use Rattle.ed_model.specs.SoundLaws.{Rise, IsViewOn}
 use Rattle.run_laws.specs.IsolationLaws.{views_on}
-use Rattle.run_laws.proofs.Finding.{either}
 
 module _ (Own : ℕ → Type 0) where
   pub record IsAlike (v w : View) : Type 0 where

@@ -1,10 +1,8 @@
 -- A handle that has gone stays away.
-use Rattle.std.proofs.Common.{◌≡◌, ℕ, ◌+◌, ◌≤◌, ◌<◌, Bool, List, refl, ap, ◌∙◌, sym, subst, arith, Option, Some}
-use Rattle.ed_types.specs.declared.kind.Kind.{Kind}
+use Rattle.std.proofs.Common.{◌≡◌, ℕ, ◌+◌, ◌≤◌, List, ap, ◌∙◌, sym, subst, arith, Some}
 use Rattle.ed_model.specs.declared.plan.DocumentChange.{DocumentChange}
 use Rattle.ed_model.specs.Steps.{Step}
-use Rattle.ed_model.specs.History.{History}
-use Rattle.ed_model.specs.Session.{Session, Document, document_at, text_of}
+use Rattle.ed_model.specs.Session.{Document, document_at, text_of}
 use Rattle.ed_model.specs.Performing.{document_after}
 use Rattle.ed_model.specs.Changes.{changed_document}
 use Rattle.ed_model.specs.SoundLaws.{CommandKeepsSound}

@@ -1,6 +1,6 @@
 -- The next ids, and the ids of documents and views, command by command.
 use Rattle.std.proofs.Common.{◌≡◌, ℕ, ◌+◌, ◌≤◌, ◌<◌, nat_lt, cond, Bool, true, false, List, [], ◌∷◌, ◌++◌, length, map, refl, ap, ◌∙◌, sym, subst, arith, Option, Some, None, Result, Ok, Err}
-use Rattle.std.specs.Prelude.{ℤ, ◌==◌, find, filter, not, nat_le, ◌||◌, option_map}
+use Rattle.std.specs.Prelude.{◌==◌, find, filter, not, nat_le, ◌||◌, option_map}
 use Rattle.std.specs.Option.{option_or}
 use Rattle.std.proofs.lemmas.Bool.{eqb-true, ne_eqb}
 use Rattle.std.proofs.lemmas.List.Folds.{find-append}
@@ -11,7 +11,6 @@ use Rattle.ed_types.specs.declared.refusal.Refusal.TheVariants.{TooMany}
 use Rattle.ed_types.specs.declared.script.Command.{Command}
 use Rattle.ed_types.specs.declared.script.Command.TheVariants.{OpenView, CloseView, LoadFile, SendMessage, Expect}
 use Rattle.ed_types.specs.declared.script.Outcome.{Outcome}
-use Rattle.ed_types.specs.Notices.{Response}
 use Rattle.ed_model.specs.declared.plan.Follow.{Follow}
 use Rattle.ed_model.specs.declared.plan.Follow.TheVariants as follow
 use Rattle.ed_model.specs.declared.plan.DocumentChange.{DocumentChange}
@@ -23,14 +22,14 @@ use Rattle.ed_model.specs.declared.plan.SessionChange.TheVariants as session_cha
 use Rattle.ed_model.specs.declared.plan.Plan.{Plan}
 use Rattle.ed_model.specs.declared.plan.Plan.TheVariants as plan
 use Rattle.ed_model.specs.Steps.{Step}
-use Rattle.ed_model.specs.History.{Change, TextStep, ContainerStep, History, undo_changes, redo_changes, undone, redone, latest_text_step}
+use Rattle.ed_model.specs.History.{Change, TextStep, ContainerStep, History, undo_changes, redo_changes, undone, redone}
 use Rattle.ed_model.specs.Session.{Session, Document, View, document_at, view_at, with_view, new_document, new_view, attached_to}
 use Rattle.ed_model.specs.Requests.{Request, Planned}
 use Rattle.ed_model.specs.Edits.{steps_of}
 use Rattle.ed_model.specs.FoldingPlans.{levels}
 use Rattle.ed_model.specs.Notes as notes
 use Rattle.ed_model.specs.Performing.{Scene, scene_of, session_of, step_made, steps_made, sealed_scene, edit_made, followed, with_caret, with_target, caret_behind, moved_view, view_after, transaction_performed, changes_performed, change_performed, changes_lines, is_last, history_performed}
-use Rattle.ed_model.specs.Changes.{changed_lines, changed_view, session_changed, with_attached, attached, with_new_document}
+use Rattle.ed_model.specs.Changes.{changed_lines, changed_view, session_changed, with_attached, with_new_document}
 use Rattle.ed_model.specs.Table.{table, answered, plan_of, performed, request, opened, closed_view}
 use Rattle.ed_model.specs.TableLaws.{Answered}
 use Rattle.ed_model.specs.Run.{Running, after_command, after_opening, after_closing, after_message, loaded, file_at, set_text_message, run_to, outcomes}

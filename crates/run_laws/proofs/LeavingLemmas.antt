@@ -1,43 +1,29 @@
 -- What a message that is not about documents leaves of the views and documents that are not its own.
-use Rattle.std.proofs.Common.{◌≡◌, ℕ, ◌==◌, nat_lt, cond, Bool, true, false, List, [], ◌∷◌, ◌++◌, length, map, refl, ap, ◌∙◌, sym, subst, Option, Some, None, Result, Ok, Err}
+use Rattle.std.proofs.Common.{◌≡◌, ℕ, ◌==◌, nat_lt, cond, Bool, true, false, List, [], ◌∷◌, length, map, refl, ap, ◌∙◌, sym, subst, Option, Some, None}
 use Rattle.std.specs.Prelude.{reverse, pos}
 use Rattle.std.specs.List.{AllByRecursion}
 use Rattle.std.proofs.lemmas.Bool.{eqb-true}
-use Rattle.ed_types.specs.declared.kind.Kind.{Kind}
-use Rattle.ed_types.specs.declared.message.Message.{Message}
-use Rattle.ed_types.specs.declared.refusal.Refusal.{Refusal}
-use Rattle.ed_types.specs.Notices.{Notice, Response}
-use Rattle.ed_types.specs.Messages.{kind_of}
 use Rattle.ed_model.specs.declared.plan.Edit.{Edit}
-use Rattle.ed_model.specs.declared.plan.Edit.TheVariants as edit
-use Rattle.ed_model.specs.declared.plan.Source.{Source}
-use Rattle.ed_model.specs.declared.plan.Source.TheVariants as source
 use Rattle.ed_model.specs.declared.plan.Follow.{Follow}
 use Rattle.ed_model.specs.declared.plan.Follow.TheVariants as follow
 use Rattle.ed_model.specs.declared.plan.DocumentChange.{DocumentChange}
 use Rattle.ed_model.specs.declared.plan.DocumentChange.TheVariants as document_change
 use Rattle.ed_model.specs.declared.plan.ViewChange.{ViewChange}
 use Rattle.ed_model.specs.declared.plan.ViewChange.TheVariants as view_change
-use Rattle.ed_model.specs.declared.plan.SessionChange.{SessionChange}
 use Rattle.ed_model.specs.declared.plan.SessionChange.TheVariants as session_change
 use Rattle.ed_model.specs.declared.plan.Plan.{Plan}
 use Rattle.ed_model.specs.declared.plan.Plan.TheVariants as plan
-use Rattle.ed_model.specs.Numbers.{growth}
 use Rattle.ed_model.specs.Steps.{Step}
-use Rattle.ed_model.specs.History.{History, Change, TextStep, ContainerStep, undo_changes, redo_changes, undone, redone, latest_text_step, at_save_point, begins_transaction}
-use Rattle.ed_model.specs.Session.{Session, Document, View, document_at, view_at, with_document, with_view, watching, lines_in}
+use Rattle.ed_model.specs.History.{History, Change, TextStep, ContainerStep, undo_changes, redo_changes, undone, redone, latest_text_step}
+use Rattle.ed_model.specs.Session.{Session, Document, View, document_at, with_view}
 use Rattle.ed_model.specs.Notes as notes
-use Rattle.ed_model.specs.Requests.{Request, Planned, text}
-use Rattle.ed_model.specs.LineEnds.{conversion_steps}
-use Rattle.ed_model.specs.Edits.{steps_of, source_bytes}
+use Rattle.ed_model.specs.Requests.{Request, text}
+use Rattle.ed_model.specs.Edits.{steps_of}
 use Rattle.ed_model.specs.FoldingPlans.{levels}
-use Rattle.ed_model.specs.Performing.{Scene, scene_of, session_of, document_after, moved_view, view_after, step_heard, step_made, steps_made, sealed_scene, edit_made, followed, with_caret, with_target, caret_behind, leaving, change_performed, changes_performed, changes_lines, is_last, transaction_performed, save_point_change, history_performed, place_behind}
-use Rattle.ed_model.specs.Changes.{changed_document, changed_lines, changed_view, change_told}
-use Rattle.ed_model.specs.Table.{table, answered, with_recording, plan_of, performed, request, table_from_view, table_from_kind, table_from_document}
-use Rattle.ed_model.specs.TableLaws.{Answered}
-use Rattle.ed_model.specs.SoundLaws.{IsSound, IsViewOn, ListsItsViews, CommandKeepsSound}
-use Rattle.ed_model.specs.PlansFit.{IsSoundRequest}
-use Rattle.run_laws.proofs.Finding.{either, document_id, replaced_other}
+use Rattle.ed_model.specs.Performing.{Scene, scene_of, session_of, moved_view, view_after, step_made, steps_made, sealed_scene, edit_made, followed, with_caret, caret_behind, change_performed, changes_performed, changes_lines, is_last, history_performed, place_behind}
+use Rattle.ed_model.specs.Changes.{changed_lines, changed_view}
+use Rattle.ed_model.specs.Table.{performed}
+use Rattle.run_laws.proofs.Finding.{either, replaced_other}
 use Rattle.run_laws.proofs.Going.{own_after, own_id}
 use Rattle.run_laws.proofs.IdLemmas.{view_change_ids}
 use Rattle.run_laws.proofs.PlanShapes.{Leave, KeepsTo}

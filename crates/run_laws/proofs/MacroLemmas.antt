@@ -1,11 +1,10 @@
 -- Recordings: a view that records goes on recording, hears of each message once, and what it recorded can be sent again.
-use Rattle.std.proofs.Common.{◌≡◌, ℕ, ◌==◌, nat_lt, cond, Bool, true, false, List, [], ◌∷◌, ◌++◌, length, map, refl, ap, ◌∙◌, sym, subst, inl, inr, Option, Some, None, Result, Ok, Err}
+use Rattle.std.proofs.Common.{◌≡◌, ℕ, ◌==◌, nat_lt, cond, Bool, true, false, List, [], ◌∷◌, ◌++◌, length, map, refl, ap, ◌∙◌, sym, subst, inl, inr, Option, Some, None, Ok, Err}
 use Rattle.std.specs.Prelude.{◌⊎◌, IfOk, ℤ, ◌&&◌, filter, flat_map, reverse, option_map}
 use Rattle.std.specs.List.{AllByRecursion}
-use Rattle.std.proofs.lemmas.Bool.{eqb-true, eq-eqb, ne_eqb, and_parts}
+use Rattle.std.proofs.lemmas.Bool.{eqb-true, eq-eqb, and_parts}
 use Rattle.ed_types.specs.declared.kind.Kind.TheVariants.{StartRecord, StopRecord}
 use Rattle.ed_types.specs.declared.script.Outcome.{Outcome}
-use Rattle.ed_types.specs.declared.script.Outcome.TheVariants.{Opened, Closed, Replied, Refused, Expected}
 use Rattle.ed_types.specs.Messages.{marks_of}
 use Rattle.ed_types.specs.declared.refusal.Refusal.TheVariants.{NoSuchView, UnknownMessage, NoSuchDocument}
 use Rattle.ed_types.specs.declared.kind.Kind.{Kind}
@@ -13,52 +12,43 @@ use Rattle.ed_types.specs.declared.message.Message.{Message}
 use Rattle.ed_types.specs.declared.refusal.Refusal.{Refusal}
 use Rattle.ed_types.specs.Notices.{Notice, Response}
 use Rattle.ed_types.specs.Messages.{kind_of}
-use Rattle.ed_model.specs.declared.plan.Edit.{Edit}
-use Rattle.ed_model.specs.declared.plan.Edit.TheVariants as edit
-use Rattle.ed_model.specs.declared.plan.Source.{Source}
-use Rattle.ed_model.specs.declared.plan.Source.TheVariants as source
 use Rattle.ed_model.specs.declared.plan.Follow.{Follow}
 use Rattle.ed_model.specs.declared.plan.Follow.TheVariants as follow
 use Rattle.ed_model.specs.declared.plan.DocumentChange.{DocumentChange}
 use Rattle.ed_model.specs.declared.plan.DocumentChange.TheVariants as document_change
 use Rattle.ed_model.specs.declared.plan.ViewChange.{ViewChange}
 use Rattle.ed_model.specs.declared.plan.ViewChange.TheVariants as view_change
-use Rattle.ed_model.specs.declared.plan.SessionChange.{SessionChange}
 use Rattle.ed_model.specs.declared.plan.SessionChange.TheVariants as session_change
 use Rattle.ed_model.specs.declared.plan.Plan.{Plan}
 use Rattle.ed_model.specs.declared.plan.Plan.TheVariants as plan
-use Rattle.ed_model.specs.Numbers.{growth}
 use Rattle.ed_model.specs.Steps.{Step}
-use Rattle.ed_model.specs.History.{History, Change, TextStep, ContainerStep, undo_changes, redo_changes, undone, redone, latest_text_step, at_save_point, begins_transaction}
-use Rattle.ed_model.specs.Session.{Session, Document, View, document_at, view_at, with_document, with_view, watching, lines_in}
+use Rattle.ed_model.specs.History.{Change, TextStep, ContainerStep, undo_changes, redo_changes, latest_text_step}
+use Rattle.ed_model.specs.Session.{Session, Document, View, document_at, view_at, with_view}
 use Rattle.ed_model.specs.Notes as notes
 use Rattle.ed_model.specs.Requests.{Request, Planned, text}
-use Rattle.ed_model.specs.LineEnds.{conversion_steps}
-use Rattle.ed_model.specs.Edits.{steps_of, source_bytes}
+use Rattle.ed_model.specs.Edits.{steps_of}
 use Rattle.ed_model.specs.FoldingPlans.{levels}
-use Rattle.ed_model.specs.Performing.{Scene, scene_of, session_of, document_after, moved_view, view_after, step_heard, step_made, steps_made, sealed_scene, edit_made, followed, with_caret, with_target, caret_behind, leaving, change_performed, changes_performed, changes_lines, is_last, transaction_performed, save_point_change, history_performed, place_behind}
-use Rattle.ed_model.specs.Changes.{changed_document, changed_lines, changed_view, change_told}
-use Rattle.ed_model.specs.Table.{table, answered, with_recording, plan_of, performed, request, table_from_view, table_from_kind, table_from_document}
+use Rattle.ed_model.specs.Performing.{Scene, scene_of, session_of, moved_view, view_after, step_made, steps_made, sealed_scene, edit_made, followed, with_caret, caret_behind, change_performed, changes_performed, changes_lines, is_last, place_behind}
+use Rattle.ed_model.specs.Changes.{changed_lines, changed_view}
+use Rattle.ed_model.specs.Table.{table, answered, with_recording, plan_of, performed, request}
 use Rattle.ed_model.specs.TableLaws.{Answered}
-use Rattle.ed_model.specs.SoundLaws.{IsSound, IsViewOn, ListsItsViews, CommandKeepsSound}
-use Rattle.ed_model.specs.PlansFit.{IsSoundRequest}
+use Rattle.ed_model.specs.SoundLaws.{IsSound}
 use Rattle.ed_model.specs.Session.{attached_to, new_document}
-use Rattle.ed_model.specs.Changes.{with_attached, with_new_document, session_changed}
+use Rattle.ed_model.specs.Changes.{with_attached, with_new_document}
 use Rattle.ed_model.specs.Recording.{told_message, recorded_messages, replies_in}
 use Rattle.ed_model.specs.Table.{record_note}
 use Rattle.ed_model.specs.TableLaws.{LeavesSession, QueriesLeaveTheSession}
 use Rattle.ed_model.specs.Run.{Running, starting, after_command, after_message, outcomes, run_to}
 use Rattle.ed_model.specs.SoundLaws.{MessageKeepsSound, IsSoundInEveryStateFrom}
-use Rattle.run_laws.specs.MessageKinds.{is_about_recording}
 use Rattle.run_laws.specs.IsolationLaws.{Sending, sent}
-use Rattle.run_laws.specs.MacroLaws.{not_recording, without_recording, sent_to, CanStandBetween, recorded_of, RecordingsCanBeReplayed}
+use Rattle.run_laws.specs.MacroLaws.{not_recording, without_recording, sent_to, CanStandBetween, RecordingsCanBeReplayed}
 use Rattle.run_laws.proofs.Finding.{either, view_id}
 use Rattle.run_laws.proofs.TableWays.{of_table, table_at}
 use Rattle.run_laws.proofs.PlanShapes.{Leave, KeepsTo, IsShaped, leave_of, plan_is_shaped, recorded_is_not_about_recording}
 use Rattle.run_laws.proofs.Alike.{changed_found, found_once}
 use Rattle.run_laws.proofs.IdLemmas.{view_change_ids}
-use Rattle.run_laws.proofs.NoteLemmas.{IsNoRecord, NoRecords, plans_tell_no_record}
-use Rattle.run_laws.proofs.RecordingLemmas.{Same, is_same, Like, table_after_both}
+use Rattle.run_laws.proofs.NoteLemmas.{NoRecords, plans_tell_no_record}
+use Rattle.run_laws.proofs.RecordingLemmas.{Same, Like, table_after_both}
 
 -- The view is there and records.
 abbrev Records : ℕ → List View → Type 0

@@ -1,47 +1,28 @@
 -- No plan tells of a recording: that note is the recorder's own.
-use Rattle.std.proofs.Common.{◌≡◌, ℕ, ◌==◌, nat_lt, cond, Bool, true, false, List, [], ◌∷◌, ◌++◌, length, map, refl, ap, ◌∙◌, sym, subst, Option, Some, None, Result, Ok, Err}
-use Rattle.std.specs.Prelude.{ℤ, pos, negsuc, bit_or, filter, ◌&&◌, reverse, slice_index_or}
+use Rattle.std.proofs.Common.{◌≡◌, ℕ, ◌==◌, nat_lt, cond, Bool, true, false, List, [], ◌∷◌, ◌++◌, length, refl, Option, Some, None}
+use Rattle.std.specs.Prelude.{ℤ, pos, negsuc, bit_or, filter, ◌&&◌, slice_index_or}
 use Rattle.std.specs.List.{AllByRecursion}
-use Rattle.ed_types.specs.declared.kind.Kind.{Kind}
-use Rattle.ed_types.specs.declared.message.Message.{Message}
-use Rattle.ed_types.specs.declared.refusal.Refusal.{Refusal}
-use Rattle.ed_types.specs.Notices.{Notice, Response}
-use Rattle.ed_types.specs.Messages.{kind_of}
-use Rattle.ed_model.specs.declared.plan.Edit.{Edit}
-use Rattle.ed_model.specs.declared.plan.Edit.TheVariants as edit
-use Rattle.ed_model.specs.declared.plan.Source.{Source}
-use Rattle.ed_model.specs.declared.plan.Source.TheVariants as source
-use Rattle.ed_model.specs.declared.plan.Follow.{Follow}
-use Rattle.ed_model.specs.declared.plan.Follow.TheVariants as follow
+use Rattle.ed_types.specs.Notices.{Notice}
 use Rattle.ed_model.specs.declared.plan.DocumentChange.{DocumentChange}
 use Rattle.ed_model.specs.declared.plan.DocumentChange.TheVariants as document_change
-use Rattle.ed_model.specs.declared.plan.ViewChange.{ViewChange}
-use Rattle.ed_model.specs.declared.plan.ViewChange.TheVariants as view_change
-use Rattle.ed_model.specs.declared.plan.SessionChange.{SessionChange}
-use Rattle.ed_model.specs.declared.plan.SessionChange.TheVariants as session_change
 use Rattle.ed_model.specs.declared.plan.Plan.{Plan}
 use Rattle.ed_model.specs.declared.plan.Plan.TheVariants as plan
 use Rattle.ed_model.specs.Numbers.{growth}
 use Rattle.ed_model.specs.Steps.{Step, Insert, Delete}
-use Rattle.ed_model.specs.History.{History, Change, TextStep, ContainerStep, undo_changes, redo_changes, undone, redone, latest_text_step, at_save_point, begins_transaction}
-use Rattle.ed_model.specs.Session.{text_of, Session, Document, View, document_at, view_at, with_document, with_view, watching, lines_in}
+use Rattle.ed_model.specs.History.{History, Change, TextStep, ContainerStep, undo_changes, redo_changes, undone, redone, at_save_point, begins_transaction}
+use Rattle.ed_model.specs.Session.{text_of, Document, View, watching, lines_in}
 use Rattle.ed_model.specs.Notes as notes
-use Rattle.ed_model.specs.Requests.{Request, Planned, text}
-use Rattle.ed_model.specs.LineEnds.{conversion_steps}
-use Rattle.ed_model.specs.Edits.{steps_of, source_bytes}
-use Rattle.ed_model.specs.FoldingPlans.{levels}
-use Rattle.ed_model.specs.Performing.{Scene, scene_of, session_of, document_after, moved_view, view_after, step_heard, step_made, steps_made, sealed_scene, edit_made, followed, with_caret, with_target, caret_behind, leaving, change_performed, changes_performed, changes_lines, is_last, transaction_performed, save_point_change, history_performed, place_behind}
-use Rattle.ed_model.specs.Changes.{changed_document, changed_lines, changed_view, change_told}
-use Rattle.ed_model.specs.Table.{table, answered, with_recording, plan_of, performed, request, table_from_view, table_from_kind, table_from_document}
-use Rattle.ed_model.specs.TableLaws.{Answered}
-use Rattle.ed_model.specs.SoundLaws.{IsSound, IsViewOn, ListsItsViews, CommandKeepsSound}
-use Rattle.ed_model.specs.PlansFit.{IsSoundRequest}
+use Rattle.ed_model.specs.Requests.{Request}
+use Rattle.ed_model.specs.Edits.{steps_of}
+use Rattle.ed_model.specs.Performing.{Scene, scene_of, document_after, step_heard, step_made, steps_made, sealed_scene, edit_made, leaving, change_performed, changes_performed, changes_lines, is_last, save_point_change, history_performed}
+use Rattle.ed_model.specs.Changes.{changed_document, change_told}
+use Rattle.ed_model.specs.Table.{performed}
 use Rattle.ed_model.specs.Numbers.{meets}
 use Rattle.ed_model.specs.Lines.{start_of_line}
 use Rattle.ed_model.specs.Text.{styles_of}
 use Rattle.ed_model.specs.Indicators.{changed_range}
-use Rattle.ed_model.specs.Performing.{last_bits, container_note, response}
-use Rattle.ed_model.specs.Changes.{line_note, marker_note, all_markers_note, fold_note, range_notes, state_note, line_with_handle, document_row, marker_count, is_same}
+use Rattle.ed_model.specs.Performing.{last_bits, container_note}
+use Rattle.ed_model.specs.Changes.{line_note, marker_note, range_notes, line_with_handle, document_row, marker_count, is_same}
 use Rattle.run_laws.proofs.Finding.{either}
 
 abbrev pub IsNoRecord : Notice → Type 0

@@ -1,19 +1,16 @@
 -- What the plan of each message may be, kind by kind, and what it hangs on.
-use Rattle.std.proofs.Common.{◌≡◌, ℕ, Bool, true, false, cond, List, refl, ap, Option, Some, None, Result, Ok, Err}
-use Rattle.std.specs.Prelude.{ℤ, nat_lt}
+use Rattle.std.proofs.Common.{◌≡◌, ℕ, Bool, true, false, cond, List, refl, ap, Option, Some, None, Ok, Err}
+use Rattle.std.specs.Prelude.{nat_lt}
 use Rattle.ed_types.specs.declared.kind.Kind.{Kind}
 use Rattle.ed_types.specs.declared.kind.Kind.TheVariants as kinds
-use Rattle.ed_types.specs.declared.message.Message.{Message}
-use Rattle.ed_types.specs.declared.refusal.Refusal.{Refusal}
 use Rattle.ed_types.specs.declared.refusal.Refusal.TheVariants.{OutOfMemory, NoSuchDocument, TooMany}
 use Rattle.ed_model.specs.declared.plan.Follow.TheVariants as follow
 use Rattle.ed_model.specs.declared.plan.DocumentChange.TheVariants as document_change
 use Rattle.ed_model.specs.declared.plan.ViewChange.TheVariants as view_change
-use Rattle.ed_model.specs.declared.plan.SessionChange.{SessionChange}
 use Rattle.ed_model.specs.declared.plan.SessionChange.TheVariants as session_change
 use Rattle.ed_model.specs.declared.plan.Plan.{Plan}
 use Rattle.ed_model.specs.declared.plan.Plan.TheVariants as plan
-use Rattle.ed_model.specs.Session.{Session, View, Document, references}
+use Rattle.ed_model.specs.Session.{View, Document, references}
 use Rattle.ed_model.specs.Requests.{Request, Planned, with_argument, with_line}
 use Rattle.ed_model.specs.Requests.{change_session}
 use Rattle.ed_model.specs.TargetPlans.{found_target}
@@ -22,7 +19,7 @@ use Rattle.ed_model.specs.SessionPlans.{with_reference, release_of}
 use Rattle.ed_types.specs.Messages.{marks_of}
 use Rattle.ed_model.specs.LineEnds.{converted}
 use Rattle.ed_model.specs.Edits.{converted_if}
-use Rattle.ed_model.specs.Table.{plan_of, request}
+use Rattle.ed_model.specs.Table.{plan_of}
 use Rattle.run_laws.specs.MessageKinds.{is_copying, is_about_documents, is_about_recording, is_saving}
 
 -- Whether a plan may take bytes to the clipboard, may make, attach, hold or release documents, may start or stop a recording, and may

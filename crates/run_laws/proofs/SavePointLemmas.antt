@@ -1,7 +1,7 @@
 -- The text of the save point stays where undo and redo find it, whatever is done meanwhile.
-use Rattle.std.proofs.Common.{◌≡◌, ℕ, zero, suc, ◌+◌, ◌-◌, ◌≤◌, ◌<◌, nat_lt, cond, Bool, true, false, List, [], ◌∷◌, ◌++◌, length, map, take, drop, replicate, refl, ap, ◌∙◌, sym, subst, arith, inl, inr, Option, Some, None, Result, Ok, Err}
+use Rattle.std.proofs.Common.{◌≡◌, ℕ, zero, suc, ◌+◌, ◌-◌, ◌≤◌, ◌<◌, nat_lt, cond, Bool, true, false, List, [], ◌∷◌, ◌++◌, length, take, drop, replicate, refl, ap, ◌∙◌, sym, subst, arith, inl, inr, Option, Some, None, Result, Ok, Err}
 use Rattle.std.specs.Prelude.{◌⊎◌, ℤ, pos, ◌==◌, ◌&&◌, ◌||◌, not, nat_le, reverse}
-use Rattle.std.proofs.lemmas.Bool.{cases_lt, eqb-true, eqb-false, eq-eqb, leb-true, and_parts, ltb-true}
+use Rattle.std.proofs.lemmas.Bool.{cases_lt, eqb-true, eqb-false, leb-true, and_parts, ltb-true}
 use Rattle.std.proofs.lemmas.List.{length-map}
 use Rattle.ed_types.specs.declared.kind.Kind.{Kind}
 use Rattle.ed_types.specs.declared.kind.Kind.TheVariants.{GetModify, SetText}
@@ -17,10 +17,10 @@ use Rattle.ed_model.specs.declared.plan.Plan.{Plan}
 use Rattle.ed_model.specs.declared.plan.Plan.TheVariants as plan
 use Rattle.ed_model.specs.Numbers.{is_number, flag}
 use Rattle.ed_model.specs.Text.{Cell, bytes_of}
-use Rattle.ed_model.specs.Steps.{Step, edited, edited_cells}
+use Rattle.ed_model.specs.Steps.{Step, edited}
 use Rattle.ed_model.specs.StepLaws.{CellsFollowBytes}
 use Rattle.ed_model.specs.LineEnds.{after_steps}
-use Rattle.ed_model.specs.History.{History, Change, Transaction, TextStep, ContainerStep, at_save_point, joins, appended, begins_transaction, reachable, seal_first, sealed_outside_groups, with_container_step, undo_changes, redo_changes, undone, undone_to, redone, redone_from, can_undo, can_redo, collecting_set, first_changes}
+use Rattle.ed_model.specs.History.{History, Change, Transaction, TextStep, ContainerStep, at_save_point, joins, appended, begins_transaction, reachable, seal_first, sealed_outside_groups, with_container_step, undo_changes, redo_changes, undone, undone_to, redone, redone_from, collecting_set, first_changes}
 use Rattle.ed_model.specs.HistoryLaws.{SameButForSeals, SealsChangeNoChange, GroupBegunChangesNoChange, GroupEndedChangesNoChange, AppendKeepsAllButThePast, AppendJoins, NothingJoinsNone, AppendCounts, NotCollectingAppendsNothing}
 use Rattle.ed_model.specs.UndoPlans.{text_steps}
 use Rattle.ed_model.specs.Session.{Session, Document, View, document_at, view_at, text_of, keeps_no_styles}
@@ -30,9 +30,9 @@ use Rattle.ed_model.specs.Performing.{Scene, scene_of, document_after, step_made
 use Rattle.ed_model.specs.Changes.{changed_document, restyled, styled}
 use Rattle.ed_model.specs.InverseLaws.{Fits, FitInTurn, after_undo, after_redo, UndoMakesItsSteps, RedoMakesItsSteps, UndoThenRedoGivesBackTheText}
 use Rattle.ed_model.specs.UndoLaws.{undone_text, redone_text, BegunStepIsOneTransactionMore, JoinedStepKeepsEarlierTexts, BegunContainerStepIsOneTransactionMore, JoinedContainerStepKeepsEarlierTexts, UndoKeepsEarlierTexts, RedoIsOneTransactionMore, SealsKeepEarlierTexts}
-use Rattle.ed_model.specs.Table.{table, request, answered, with_recording, record_note, plan_of, opened, closed_view}
+use Rattle.ed_model.specs.Table.{table, request, with_recording, record_note, opened, closed_view}
 use Rattle.ed_model.specs.TableLaws.{Answered}
-use Rattle.ed_model.specs.SoundLaws.{IsSound, IsSoundDocument, FitsText, AreStepsOf, CommandKeepsSound}
+use Rattle.ed_model.specs.SoundLaws.{IsSound, IsSoundDocument, AreStepsOf, CommandKeepsSound}
 use Rattle.ed_model.specs.PlansFit.{IsSoundRequest, IsFitPlan, PlansFit, EditStepsFit, UndoStepsFit, RedoStepsFit}
 use Rattle.ed_model.specs.Run.{Running, after_command, after_opening, after_closing, after_message, loaded, file_at, set_text_message, run_to}
 use Rattle.run_laws.specs.MessageKinds.{is_saving}
@@ -40,7 +40,7 @@ use Rattle.run_laws.specs.SavePointLaws.{SetsNoSavePoint, IsCollected, KeepsTheS
 use Rattle.run_laws.proofs.Finding.{either, document_id, found_all, found_below}
 use Rattle.run_laws.proofs.TableWays.{table_at}
 use Rattle.run_laws.proofs.PlanShapes.{Leave, KeepsTo, IsShaped, leave_of, plan_is_shaped}
-use Rattle.run_laws.proofs.Going.{own_after, AllFrom, From, AnsweredFrom, OpenedFrom, ClosedFrom, Sent, table_from, opening_from, closing_from, all_same}
+use Rattle.run_laws.proofs.Going.{own_after, AllFrom, From, AnsweredFrom, OpenedFrom, ClosedFrom, table_from, opening_from, closing_from, all_same}
 use Rattle.run_laws.proofs.IdLemmas.{document_ids_never_come_back, next_document_rises}
 
 -- The laws of the history that this rests on.

@@ -1,15 +1,11 @@
 -- Refusals and references.
-use Rattle.std.proofs.Common.{◌≡◌, ℕ, ◌+◌, ◌<◌, Bool, true, false, cond, List, [], ◌∷◌, ◌++◌, length, refl, ap, ◌∙◌, sym, subst, arith, Option, Some, None, Result, Ok, Err}
-use Rattle.std.specs.Prelude.{◌||◌, nat_lt, nat_le}
+use Rattle.std.proofs.Common.{◌≡◌, ℕ, ◌+◌, ◌<◌, Bool, true, false, cond, List, [], ◌∷◌, length, subst, arith, Option, Some, None, Result, Ok, Err}
 use Rattle.std.specs.List.{AllByRecursion}
 use Rattle.ed_types.specs.declared.kind.Kind.{Kind}
-use Rattle.ed_types.specs.declared.message.Message.{Message}
 use Rattle.ed_types.specs.declared.refusal.Refusal.{Refusal}
 use Rattle.ed_types.specs.declared.refusal.Refusal.TheVariants.{OutOfMemory}
-use Rattle.ed_types.specs.Notices.{Response}
-use Rattle.ed_model.specs.Session.{Session, View, Document, view_at, references}
+use Rattle.ed_model.specs.Session.{Session, View, Document, view_at}
 use Rattle.ed_model.specs.Requests.{Request, Planned}
-use Rattle.ed_model.specs.TableLaws.{Answered}
 use Rattle.ed_model.specs.SoundLaws.{IsSound, IsSoundDocument, IsViewOn, ListsItsViews}
 use Rattle.ed_model.specs.Table.{table, answered, plan_of, request, opened, closed_view}
 use Rattle.run_laws.specs.RefusalLaws.{MessagesNeverWantMemory, OpeningNeverWantsMemory, ClosingNeverWantsMemory}

@@ -1,19 +1,16 @@
 -- A document without styles: no change gives a cell one.
-use Rattle.std.proofs.Common.{◌≡◌, ℕ, zero, suc, ◌≤◌, cond, Bool, true, false, List, [], ◌∷◌, ◌++◌, length, map, take, drop, replicate, refl, ap, sym, subst, arith}
+use Rattle.std.proofs.Common.{◌≡◌, ℕ, zero, suc, List, [], ◌∷◌, ◌++◌, take, drop, replicate, refl, sym, subst, arith}
 use Rattle.std.specs.List.{AllByRecursion}
 use Rattle.ed_model.specs.declared.plan.DocumentChange.{DocumentChange}
 use Rattle.ed_model.specs.declared.plan.DocumentChange.TheVariants as change
 use Rattle.ed_model.specs.Text.{Cell, plain_cells}
 use Rattle.ed_model.specs.Steps.{Step, Insert, Delete, edited_cells}
-use Rattle.ed_model.specs.History.{History}
-use Rattle.ed_model.specs.Session.{Session, Document, keeps_no_styles, new_session}
-use Rattle.ed_model.specs.Performing.{document_after}
+use Rattle.ed_model.specs.Session.{Document, new_session}
 use Rattle.ed_model.specs.Changes.{changed_document, styled}
 use Rattle.ed_model.specs.Run.{starting}
 use Rattle.ed_model.specs.SoundLaws.{CommandKeepsSound, NewSessionIsSound}
 use Rattle.ed_model.specs.PlansFit.{PlansFit}
 use Rattle.run_laws.specs.StyleLaws.{HasNoStyles, DocumentsWithoutStylesHaveNone}
-use Rattle.run_laws.proofs.Going.{IsMadeNew}
 use Rattle.run_laws.proofs.Invariants.{run_holds}
 
 abbrev Plain : List Cell → Type 0

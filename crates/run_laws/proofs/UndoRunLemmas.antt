@@ -1,35 +1,32 @@
 -- UNDO and REDO over commands: the messages that act are answered, and all others leave the document alone.
-use Rattle.std.proofs.Common.{◌≡◌, ℕ, zero, suc, ◌+◌, ◌≤◌, ◌<◌, cond, Bool, true, false, List, [], ◌∷◌, length, refl, ap, ◌∙◌, sym, subst, arith, inl, inr, Option, Some, None, Result, Ok, Err}
-use Rattle.std.specs.Prelude.{◌⊎◌, not}
+use Rattle.std.proofs.Common.{◌≡◌, ℕ, zero, suc, ◌≤◌, ◌<◌, cond, Bool, true, false, List, [], ◌∷◌, length, refl, ap, ◌∙◌, sym, subst, arith, inl, inr, Option, Some, None, Result, Ok, Err}
 use Rattle.ed_types.specs.declared.kind.Kind.{Kind}
 use Rattle.ed_types.specs.declared.kind.Kind.TheVariants.{Undo, Redo}
-use Rattle.ed_types.specs.declared.limits.Limits.{Limits}
 use Rattle.ed_types.specs.declared.message.Message.{Message}
 use Rattle.ed_types.specs.declared.refusal.Refusal.{Refusal}
 use Rattle.ed_types.specs.declared.refusal.Refusal.TheVariants.{TooLong}
 use Rattle.ed_types.specs.declared.script.Command.{Command}
 use Rattle.ed_types.specs.declared.script.Command.TheVariants.{OpenView, CloseView, LoadFile, SendMessage, Expect}
 use Rattle.ed_types.specs.Notices.{Response}
-use Rattle.ed_types.specs.Messages.{kind_of, marks_of}
+use Rattle.ed_types.specs.Messages.{kind_of}
 use Rattle.ed_model.specs.declared.plan.Plan.{Plan}
 use Rattle.ed_model.specs.History.{Change, can_undo, can_redo, undo_changes, redo_changes}
 use Rattle.ed_model.specs.declared.plan.Plan.TheVariants as plan
 use Rattle.ed_model.specs.Session.{Session, View, Document, view_at, document_at, text_of, new_session, limit_of}
-use Rattle.ed_model.specs.Requests.{Request, Planned, size}
+use Rattle.ed_model.specs.Requests.{Request, size}
 use Rattle.ed_model.specs.Edits.{stays_within}
 use Rattle.ed_model.specs.UndoPlans.{act_on_history, text_steps}
-use Rattle.ed_model.specs.Table.{table, answered, plan_of, request, opened, closed}
+use Rattle.ed_model.specs.Table.{table, answered, request, opened, closed}
 use Rattle.ed_model.specs.TableLaws.{Answered, LeavesSession, QueriesLeaveTheSession}
 use Rattle.ed_model.specs.SoundLaws.{IsSound, CommandKeepsSound, IsSoundInEveryState}
-use Rattle.ed_model.specs.EarlierTextLaws.{latest_with}
-use Rattle.ed_model.specs.RunUndoLaws.{sessions_of, states_of, UndoGoesBackInEveryRun}
+use Rattle.ed_model.specs.RunUndoLaws.{UndoGoesBackInEveryRun}
 use Rattle.ed_model.specs.UndoLaws.{undone_text}
-use Rattle.ed_model.specs.UndoMessageLaws.{IsNeverTooLong, UndoIsNeverTooLong, RedoIsNeverTooLong}
-use Rattle.ed_model.specs.RepeatedUndoLaws.{IsLeftAlone, LeavesAlone, LeavesOthersAlone, MessagesLeaveOtherDocumentsAlone, OpeningLeavesDocumentsAlone, ClosingLeavesDocumentsAlone, IsAnswered, AreAnswered, HasText, UndosGoBackThenRedosGoOn, UndoMessagesGoBack}
+use Rattle.ed_model.specs.UndoMessageLaws.{UndoIsNeverTooLong, RedoIsNeverTooLong}
+use Rattle.ed_model.specs.RepeatedUndoLaws.{IsLeftAlone, LeavesAlone, MessagesLeaveOtherDocumentsAlone, OpeningLeavesDocumentsAlone, ClosingLeavesDocumentsAlone, AreAnswered, HasText, UndosGoBackThenRedosGoOn, UndoMessagesGoBack}
 use Rattle.ed_model.specs.PlansFit.{PlansFit}
 use Rattle.ed_model.specs.Run.{Running, starting, after_command, after_opening, after_closing, after_message, loaded, file_at, set_text_message, run_to}
 use Rattle.run_laws.specs.UndoRunLaws.{Acts, GoesToOthers, GoesAside, Act, UndoGoesBackOverCommands}
-use Rattle.run_laws.proofs.Finding.{found_below, document_id}
+use Rattle.run_laws.proofs.Finding.{found_below}
 use Rattle.run_laws.proofs.TableWays.{of_table, table_at}
 use Rattle.run_laws.proofs.IdLemmas.{document_ids_never_come_back, next_document_rises}
 

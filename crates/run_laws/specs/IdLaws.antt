@@ -4,7 +4,7 @@ use Rattle.std.specs.Prelude.{◌≡◌, ℕ, ◌<◌, ◌≤◌, List, [], ◌�
 use Rattle.ed_types.specs.declared.script.Command.{Command}
 use Rattle.ed_types.specs.declared.script.Outcome.{Outcome}
 use Rattle.ed_types.specs.declared.script.Outcome.TheVariants.{Opened, Closed, Replied, Refused, Expected}
-use Rattle.ed_model.specs.Session.{Session, document_at, view_at}
+use Rattle.ed_model.specs.Session.{document_at, view_at}
 use Rattle.ed_model.specs.SoundLaws.{IsSound, Rise}
 use Rattle.ed_model.specs.Run.{Running, run_to, outcomes}
 

@@ -1,5 +1,5 @@
 -- Documents are apart: messages to views of other documents do nothing to a document, its views and what these are answered.
-use Rattle.std.specs.Prelude.{◌≡◌, ℕ, ◌==◌, not, Bool, true, false, if◌then◌else◌, List, [], ◌∷◌, map, filter, Option, Some, None}
+use Rattle.std.specs.Prelude.{◌≡◌, ℕ, ◌==◌, not, Bool, true, false, List, [], ◌∷◌, map, filter, Option, Some, None}
 use Rattle.std.specs.List.{AllByRecursion}
 use Rattle.ed_types.specs.declared.kind.Kind.{Kind}
 use Rattle.ed_types.specs.declared.message.Message.{Message}

@@ -1,5 +1,5 @@
 -- The save point: whenever a document counts as unmodified again, its text is that of the save point.
-use Rattle.std.specs.Prelude.{◌≡◌, ◌⊎◌, ℕ, true, false, ℤ, pos, List, [], ◌∷◌, Option, Some, None, Ok}
+use Rattle.std.specs.Prelude.{◌≡◌, ◌⊎◌, ℕ, true, false, pos, List, [], ◌∷◌, Option, Some, None, Ok}
 use Rattle.ed_types.specs.declared.kind.Kind.{Kind}
 use Rattle.ed_types.specs.declared.kind.Kind.TheVariants.{GetModify}
 use Rattle.ed_types.specs.declared.message.Message.{Message}

@@ -1,5 +1,5 @@
 -- One call after the other, the bytes and then the styles.
-use Rattle.std.proofs.Common.{arith, ◌≡◌, ◌∙◌, ℕ, ◌+◌, ◌-◌, ◌≤◌, true, List, [], ◌∷◌}
+use Rattle.std.proofs.Common.{arith, ◌≡◌, ◌∙◌, ◌+◌, ◌-◌, ◌≤◌, true, List, [], ◌∷◌}
 use Rattle.cell_buffer.specs.Buffer.{Buffer}
 use Rattle.cell_buffer.specs.SumLaws.{Edited, EachCosts, buffer_after, sum_of_costs}
 use Rattle.cell_buffer.proofs.laws.costs_add_up.Goals as goal

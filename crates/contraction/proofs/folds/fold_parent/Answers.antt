@@ -1,4 +1,4 @@
-use Rattle.std.proofs.Common.{◌+◌, ◌-◌, sym, ◌∙◌, arith}
+use Rattle.std.proofs.Common.{◌-◌, sym, ◌∙◌, arith}
 use Rattle.ed_model.specs.Folding.{is_parent_of}
 use Rattle.contraction.proofs.FoldLines.{last_here, last_earlier}
 use Rattle.contraction.proofs.folds.fold_parent.Goals as goal

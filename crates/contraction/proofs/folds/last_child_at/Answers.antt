@@ -1,4 +1,4 @@
-use Rattle.std.proofs.Common.{◌<◌, ◌+◌, leb, length, sym, ◌∙◌, arith}
+use Rattle.std.proofs.Common.{◌<◌, leb, length, ◌∙◌, arith}
 use Rattle.std.proofs.lemmas.Bool.{lt-leb}
 use Rattle.ed_model.specs.Folding.{number_at}
 use Rattle.contraction.proofs.FoldLines.{first_later}

@@ -1,4 +1,4 @@
-use Rattle.std.proofs.Common.{◌≡◌, ℕ, ◌+◌, ◌||◌, refl, sym, ap, ◌∙◌, inl, inr, arith, le_refl}
+use Rattle.std.proofs.Common.{◌≡◌, ◌||◌, refl, sym, ap, ◌∙◌, inl, inr, arith, le_refl}
 use Rattle.std.proofs.lemmas.Bool.{cases_lt}
 use Rattle.ed_model.specs.Folding.{is_between}
 use Rattle.contraction.specs.LineSets.{holds}

@@ -1,4 +1,4 @@
-use Rattle.std.proofs.Common.{◌≡◌, ◌+◌, min, sym, ap, ◌∙◌, arith}
+use Rattle.std.proofs.Common.{◌≡◌, ◌+◌, min, sym, ◌∙◌, arith}
 use Rattle.contraction.proofs.Outside.{nth_outside}
 use Rattle.contraction.proofs.line_set.nth_line_outside.Goals as goal
 

@@ -1,6 +1,5 @@
-use Rattle.std.proofs.Common.{◌≡◌, length, refl, ap, arith, length-append}
-use Rattle.ed_types.specs.Notices.{Notice}
-use Rattle.ed_model.specs.Session.{View, new_view}
+use Rattle.std.proofs.Common.{length, refl, ap, arith, length-append}
+use Rattle.ed_model.specs.Session.{new_view}
 use Rattle.ed_model.specs.Changes.{change_told}
 use Rattle.scene.specs.Scenes.{watchers}
 use Rattle.document_changes.proofs.change.change_document.Goals as goal

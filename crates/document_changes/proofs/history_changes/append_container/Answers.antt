@@ -1,4 +1,4 @@
-use Rattle.std.proofs.Common.{◌≡◌, List, [], refl, sym, ap, ◌∙◌, subst, w64}
+use Rattle.std.proofs.Common.{List, [], refl, sym, ap, ◌∙◌, subst, w64}
 use Rattle.std.specs.Prelude.{◌&&◌, ℤ}
 use Rattle.std.proofs.lemmas.Int.{to_z-of_z}
 use Rattle.ed_types.specs.Notices.{Notice}

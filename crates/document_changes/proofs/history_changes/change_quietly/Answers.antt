@@ -1,4 +1,3 @@
-use Rattle.std.proofs.Common.{◌≡◌}
 use Rattle.document_changes.proofs.Told.{changed_quietly}
 use Rattle.document_changes.proofs.history_changes.change_quietly.Goals as goal
 

@@ -1,4 +1,4 @@
-use Rattle.std.proofs.Common.{◌≡◌, refl, ap}
+use Rattle.std.proofs.Common.{refl, ap}
 use Rattle.ed_model.specs.declared.plan.DocumentChange.TheVariants as change
 use Rattle.document.specs.Kept.{Kept}
 use Rattle.document_changes.proofs.Unmoved.{is_changed}

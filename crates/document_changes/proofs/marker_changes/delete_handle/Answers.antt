@@ -1,8 +1,7 @@
-use Rattle.std.proofs.Common.{◌≡◌, ◌<◌, List, [], length, refl, sym, ap, ◌∙◌, subst, arith}
-use Rattle.std.specs.Prelude.{◌==◌}
+use Rattle.std.proofs.Common.{List, [], refl, sym, ap, ◌∙◌, subst, arith}
 use Rattle.ed_types.specs.Notices.{Notice}
 use Rattle.ed_model.specs.declared.plan.DocumentChange.TheVariants as change
-use Rattle.ed_model.specs.Changes.{changed_document, marker_count, line_with_handle, without_markers}
+use Rattle.ed_model.specs.Changes.{changed_document, line_with_handle}
 use Rattle.ed_model.specs.Notes.{heard}
 use Rattle.scene.specs.Scenes.{watchers}
 use Rattle.document_changes.specs.Changed.{AreTold}

@@ -1,11 +1,8 @@
-use Rattle.std.proofs.Common.{◌≡◌, ◌<◌, ◌^◌, [], length, refl, sym, ap, ◌∙◌, subst, arith}
-use Rattle.std.proofs.lemmas.List.{length-map}
+use Rattle.std.proofs.Common.{[], length, refl, subst, arith}
 use Rattle.std.specs.Prelude.{Option, slice_index_or}
 use Rattle.ed_model.specs.declared.plan.DocumentChange.TheVariants as change
-use Rattle.ed_model.specs.Changes.{changed_document, range_notes}
+use Rattle.ed_model.specs.Changes.{range_notes}
 use Rattle.ed_model.specs.Notes.{change_indicator}
-use Rattle.ed_model.specs.Text.{Cell, styles_of}
-use Rattle.document.specs.Kept.{Kept}
 use Rattle.scene.specs.Scenes.{watchers}
 use Rattle.document_changes.specs.Changed.{AreTold}
 use Rattle.document_changes.proofs.Ranges.{range_small, values_length}

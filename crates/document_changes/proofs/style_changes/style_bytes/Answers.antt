@@ -1,8 +1,8 @@
-use Rattle.std.proofs.Common.{◌≡◌, ◌<◌, ◌^◌, take, length, refl, sym, ap, ◌∙◌, subst, arith}
+use Rattle.std.proofs.Common.{take, refl, ap, ◌∙◌, subst, arith}
 use Rattle.std.proofs.lemmas.List.{length-map}
 use Rattle.std.specs.Prelude.{Option}
 use Rattle.ed_model.specs.declared.plan.DocumentChange.TheVariants as change
-use Rattle.ed_model.specs.Changes.{changed_document, range_notes, styled}
+use Rattle.ed_model.specs.Changes.{range_notes, styled}
 use Rattle.ed_model.specs.Notes.{change_style}
 use Rattle.ed_model.specs.Text.{Cell, styles_of}
 use Rattle.document.specs.Kept.{Kept}

@@ -1,4 +1,4 @@
-use Rattle.std.proofs.Common.{◌≡◌, ap}
+use Rattle.std.proofs.Common.{ap}
 use Rattle.ed_types.specs.Notices.{Notice}
 use Rattle.document_changes.proofs.telling.change_note.Goals as goal
 

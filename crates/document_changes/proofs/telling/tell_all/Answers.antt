@@ -1,4 +1,4 @@
-use Rattle.std.proofs.Common.{◌≡◌, []}
+use Rattle.std.proofs.Common.{[]}
 use Rattle.ed_types.specs.Heard.{with_text}
 use Rattle.ed_model.specs.Notes.{blank}
 use Rattle.scene.specs.Scenes.{watchers}

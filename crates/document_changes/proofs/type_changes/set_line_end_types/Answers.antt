@@ -1,5 +1,3 @@
-use Rattle.std.proofs.Common.{◌≡◌}
-use Rattle.ed_model.specs.declared.plan.DocumentChange.TheVariants as change
 use Rattle.ed_model.specs.Carry.{regrouped}
 use Rattle.ed_model.specs.Rows.{rows_together}
 use Rattle.ed_model.specs.Session.{text_of}

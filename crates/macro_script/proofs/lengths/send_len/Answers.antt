@@ -1,6 +1,6 @@
 use Rattle.std.proofs.Common.{arith, ◌+◌, ◌≡◌, ◌≤◌, SomeIff, ℕ, length, ap, subst, SFits, w64, to_z-of_z, rules}
 use Rattle.ed_types.specs.declared.message.Message.{Message}
-use Rattle.ed_model.specs.Spelling.{spelled_int, spelled_bytes}
+use Rattle.ed_model.specs.Spelling.{spelled_int}
 use Rattle.ed_model.specs.Listing.{listed_command}
 use Rattle.macro_script.specs.Recorded.{sending}
 use Rattle.macro_script.proofs.ListedLengths.{length-send}

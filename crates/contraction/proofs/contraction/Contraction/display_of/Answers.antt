@@ -1,4 +1,4 @@
-use Rattle.std.proofs.Common.{◌<◌, ◌+◌, sym, ◌∙◌, arith}
+use Rattle.std.proofs.Common.{◌<◌, arith}
 use Rattle.contraction.proofs.Kept.{lines_of, display_in}
 use Rattle.contraction.proofs.contraction.Contraction.display_of.Goals as goal
 

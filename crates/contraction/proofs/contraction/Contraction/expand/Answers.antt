@@ -1,6 +1,6 @@
-use Rattle.std.proofs.Common.{◌≡◌, ◌+◌, ◌<◌, ◌≤◌, length, sym, ap, ◌∙◌, arith}
+use Rattle.std.proofs.Common.{◌+◌, ◌≤◌, ap, ◌∙◌, arith}
 use Rattle.ed_model.specs.Folding.{last_child, lines_shown}
-use Rattle.contraction.proofs.Expanding.{Passed, size_now, passed_start, passed_next, passed_all}
+use Rattle.contraction.proofs.Expanding.{size_now, passed_start, passed_next, passed_all}
 use Rattle.contraction.proofs.contraction.Contraction.expand.Goals as goal
 
 pub children-init : goal.children-init

@@ -1,4 +1,4 @@
-use Rattle.std.proofs.Common.{◌<◌, not, sym, ap, ◌∙◌, arith}
+use Rattle.std.proofs.Common.{not, sym, ap, ◌∙◌, arith}
 use Rattle.contraction.proofs.Kept.{lines_of, expanded_in}
 use Rattle.contraction.proofs.contraction.Contraction.expanded.Goals as goal
 

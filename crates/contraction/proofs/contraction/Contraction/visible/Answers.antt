@@ -1,4 +1,4 @@
-use Rattle.std.proofs.Common.{◌<◌, not, sym, ap, ◌∙◌, arith}
+use Rattle.std.proofs.Common.{not, sym, ap, ◌∙◌, arith}
 use Rattle.contraction.proofs.Kept.{lines_of, visible_in}
 use Rattle.contraction.proofs.contraction.Contraction.visible.Goals as goal
 

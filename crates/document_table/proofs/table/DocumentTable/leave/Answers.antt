@@ -1,7 +1,5 @@
 -- The view has left the document, which stays, or goes.
-use Rattle.std.proofs.Common.{sym, ap, ◌∙◌}
-use Rattle.id_table.specs.Entries.{Entries}
-use Rattle.document.specs.Kept.{Kept}
+use Rattle.std.proofs.Common.{sym}
 use Rattle.ed_model.specs.Session.{left_by}
 use Rattle.document_table.proofs.LeavingLemmas.{nothing_there, still_there, gone, other_with, other_gone, room_with, room_without}
 use Rattle.document_table.proofs.table.DocumentTable.leave.Goals as goal

@@ -1,6 +1,5 @@
 -- A reference is given back to the document, which stays, or goes.
-use Rattle.std.proofs.Common.{sym, ap, ◌∙◌}
-use Rattle.id_table.specs.Entries.{Entries}
+use Rattle.std.proofs.Common.{sym, ap}
 use Rattle.document.specs.Kept.{Kept}
 use Rattle.document_table.specs.Leaving.{released}
 use Rattle.document_table.proofs.LeavingLemmas.{nothing_there, still_there, gone, other_with, other_gone, room_with, room_without, same_room}

@@ -1,4 +1,4 @@
-use Rattle.std.proofs.Common.{◌≡◌, ◌++◌, [], ◌∙◌, ap, sym, subst, true, false, append-nil}
+use Rattle.std.proofs.Common.{◌≡◌, ◌++◌, ◌∙◌, ap, sym, true, append-nil}
 use Rattle.ed_model.specs.Listing.{keeps_limits}
 use Rattle.macro_script.specs.Recorded.{sends_for, recorded_sends}
 use Rattle.macro_script.proofs.recorder.Recorder.feed.Goals as goal

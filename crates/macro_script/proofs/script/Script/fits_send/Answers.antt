@@ -1,4 +1,4 @@
-use Rattle.std.proofs.Common.{rules, ◌≡◌, ◌+◌, ◌≤◌, ◌∷◌, ◌++◌, [], ◌∙◌, ap, sym, subst, true, false, ℤ, nat_lt, length, SFits, w64, to_z, of_z, to_z-of_z}
+use Rattle.std.proofs.Common.{rules, ◌≡◌, ◌+◌, ◌≤◌, ◌∷◌, ◌++◌, [], ◌∙◌, ap, sym, true, ℤ, nat_lt, length, SFits, w64, to_z, of_z, to_z-of_z}
 use Rattle.ed_types.specs.declared.script.Command.{Command}
 use Rattle.ed_model.specs.Listing.{listing, listed_command, keeps_limits}
 use Rattle.macro_script.specs.Recorded.{sending}
