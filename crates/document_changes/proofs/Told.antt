@@ -2,21 +2,24 @@
 use Rattle.std.proofs.Common.{◌≡◌, ℕ, ◌-◌, ◌<◌, ◌≤◌, true, false, List, [], ◌∷◌, ◌++◌, length, refl, ap, sym, subst, arith}
 use Rattle.std.specs.Prelude.{◌==◌, filter, bit_or, Option, Some, None}
 use Rattle.std.proofs.lemmas.List.{append-nil, length-map}
-use Rattle.std.proofs.lemmas.Bool.{eqb-true}
+use Rattle.std.proofs.lemmas.Bool.{eqb-true, cond_both}
 use Rattle.ed_types.specs.Notices.{Notice}
 use Rattle.ed_model.specs.declared.plan.DocumentChange.{DocumentChange}
 use Rattle.ed_model.specs.declared.plan.DocumentChange.TheVariants as change
 use Rattle.ed_model.specs.Session.{Document, View}
-use Rattle.ed_model.specs.Notes.{told, heard, range_note, performed_user}
+use Rattle.ed_model.specs.Notes.{told, heard, range_note, performed_user, change_style}
+use Rattle.ed_model.specs.Indicators.{changed_range}
+use Rattle.ed_model.specs.Text.{styles_of}
 use Rattle.ed_model.specs.Numbers.{meets}
-use Rattle.ed_model.specs.Changes.{changed_document, change_told, range_notes}
+use Rattle.ed_model.specs.Changes.{changed_document, change_told, range_notes, marker_count, document_row}
 use Rattle.id_table.specs.Entries.{Entries}
 use Rattle.notify.specs.Gathered.{Gathered}
 use Rattle.ed_view.specs.Kept.{KeptView}
 use Rattle.scene.specs.Scenes.{watchers, IsWatched}
 use Rattle.scene.specs.Hearing.{hearers}
 use Rattle.document_changes.specs.Changed.{AreTold, IsChanged}
-use Rattle.document_changes.specs.Needs.{is_quiet, is_of_types}
+use Rattle.document_changes.specs.Lines.{level_notice, marker_notice}
+use Rattle.document_changes.specs.Needs.{is_quiet, is_of_types, is_frequent, notes_of_change}
 use Rattle.document_changes.proofs.Unmoved.{is_changed}
 
 -- nothing is told
@@ -77,3 +80,31 @@ pub changed_quietly : (text : List ℕ) (what : DocumentChange) (sender : ℕ) (
 changed_quietly text what sender old new views notes h w made =
     is_changed text what sender old new views notes notes (quiet_lines what h) w made
     (λ v _. rw (quiet_told v (watchers old views) old new what h) (told_nothing notes))
+
+-- Frequent changes of which nobody hears.
+
+unheard : (views : List View) (n : Notice) → hearers n.kind views ≡ 0 → heard views n ≡ []
+unheard views n none = ap (λ vs. told vs n) (none_of (filter (λ (v : View). meets v.mask n.kind) views) none)
+
+unheard_range : (bits : ℕ) (changed : Option (ℕ × ℕ)) (views : List View) → hearers (bit_or bits performed_user) views ≡ 0 → range_notes bits changed views ≡ []
+unheard_range bits None views none = refl
+unheard_range bits (Some range) views none = unheard views (range_note (bit_or bits performed_user) range.0 range.1) none
+
+frequent_told : (v : View) (views : List View) (old new : Document) (what : DocumentChange) → is_frequent what ≡ true → notes_of_change what old.history views ≡ 0 → change_told v views old new what ≡ []
+frequent_told v views old new (change.AddMarker line number) h none =
+    cond_both (marker_count old.rows == marker_count new.rows) [] (heard views (marker_notice old line)) (λ ns. ns ≡ []) (λ _. refl) (λ _. unheard views (marker_notice old line) none)
+frequent_told v views old new (change.SetLevel line level) h none =
+    let before = (document_row old line).level in
+    cond_both (before == level) [] (heard views (level_notice line level before)) (λ ns. ns ≡ []) (λ _. refl) (λ _. unheard views (level_notice line level before) none)
+frequent_told v views old new (change.StyleRun count style) h none = unheard_range change_style (changed_range (styles_of old.cells) (styles_of new.cells)) views none
+frequent_told v views old new _ h none = absurd (cc)
+
+frequent_lines : (what : DocumentChange) → is_frequent what ≡ true → is_of_types what ≡ false
+frequent_lines (change.SetLineEndTypes to) h = absurd (cc)
+frequent_lines _ h = refl
+
+pub changed_unheard : (text : List ℕ) (what : DocumentChange) (sender : ℕ) (old new : Document) (views : Entries KeptView) (notes : Gathered) → is_frequent what ≡ true
+    → notes_of_change what old.history (watchers old views) ≡ 0 → IsWatched old views → new ≡ changed_document text what old → IsChanged text what sender old new views views notes notes
+changed_unheard text what sender old new views notes h none w made =
+    is_changed text what sender old new views notes notes (frequent_lines what h) w made
+    (λ v _. rw (frequent_told v (watchers old views) old new what h none) (told_nothing notes))

@@ -92,3 +92,10 @@ is_quiet other = false
 abbrev pub is_of_types : DocumentChange → Bool
 is_of_types (change.SetLineEndTypes to) = true
 is_of_types other = false
+
+-- whether it is one of those that are made most: a marker that comes alone, a fold level, the style of a run
+abbrev pub is_frequent : DocumentChange → Bool
+is_frequent (change.AddMarker line number) = true
+is_frequent (change.SetLevel line level) = true
+is_frequent (change.StyleRun count style) = true
+is_frequent other = false

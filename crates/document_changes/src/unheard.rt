@@ -1,0 +1,89 @@
+//! Frequent changes of which nobody hears, made without anything that notes need.
+
+ghost use Rattle.std.specs.Prelude.{◌≡◌, ◌<◌, ◌+◌, ◌≤◌, ◌^◌, [], List, ℕ, true, false, length};
+ghost use Rattle.ed_model.specs.declared.plan.DocumentChange.TheVariants as change;
+ghost use Rattle.ed_model.specs.Changes.{changed_document};
+ghost use Rattle.ed_model.specs.Session.{lines_in};
+ghost use Rattle.document.specs.Changes.{CanStyle};
+ghost use Rattle.notify.specs.Gathered.{Gathered};
+ghost use Rattle.scene.specs.Scenes.{watchers, IsWatched};
+ghost use Rattle.document_changes.specs.Changed.{IsChanged};
+ghost use Rattle.document_changes.specs.Fit.{IsFitChange};
+ghost use Rattle.document_changes.specs.Needs.{IsReady, is_frequent, notes_of_change};
+
+use crate::need::change_note_need;
+use document::Document;
+use ed_model::DocumentChange;
+use ed_view::View;
+use id_table::IdTable;
+
+// Puts a marker on a line, unless memory for it is refused.
+#[inline(always)]
+fn add_marker(document: &mut Document, line: usize, number: u32) -> bool
+    requires line { line < lines_in document.old.document }
+    requires number { number < 32 }
+    requires handles { document.old.document.next_handle + 1 < 2 ^ 32 }
+    ensures made { result ≡ true → document.new.document ≡ changed_document [] (change.AddMarker line number) document.old.document }
+    ensures room_is_there { 0 < document.old.spare.markers → result ≡ true }
+    ensures same { result ≡ false → document.new.document ≡ document.old.document }
+{
+    let Ok(()) = document.reserve_markers(1) else {
+        return false;
+    };
+    document.add_marker_reserved(line, number);
+    true
+}
+
+// Sets the fold level of a line, unless memory for it is refused.
+#[inline(always)]
+fn set_level(document: &mut Document, line: usize, level: u32) -> bool
+    requires line { line < lines_in document.old.document }
+    ensures made { result ≡ true → document.new.document ≡ changed_document [] (change.SetLevel line level) document.old.document }
+    ensures room_is_there { line < document.old.spare.levels → result ≡ true }
+    ensures same { result ≡ false → document.new.document ≡ document.old.document }
+{
+    let _ = document.line_count(); // it says that lines are few
+    let Ok(()) = document.reserve_levels(line + 1) else {
+        return false;
+    };
+    document.set_level(line, level);
+    true
+}
+
+// Puts one style on the bytes from where the document is styled up to, and moves that behind them, unless memory for styles is refused.
+#[inline(always)]
+fn style_run(document: &mut Document, count: usize, style: u32) -> bool
+    requires within { document.old.document.end_styled + count ≤ length document.old.document.cells }
+    requires style { style ≤ 255 }
+    ensures made { result ≡ true → document.new.document ≡ changed_document [] (change.StyleRun count style) document.old.document }
+    ensures room_is_there { CanStyle document.old → result ≡ true }
+    ensures same { result ≡ false → document.new.document ≡ document.old.document }
+{
+    let Ok(()) = document.reserve_styles() else {
+        return false;
+    };
+    document.style_run(count, style as u8);
+    true
+}
+
+/// Makes a change that is one of the frequent ones, where no view is told of it, and returns whether it did. Where there is no room for
+/// it, memory is taken; where that is refused, and of all other changes, none is made, and the document is as it was.
+#[inline(always)]
+pub fn change_unheard(document: &mut Document, views: &IdTable<View>, change: DocumentChange) -> bool
+    requires fits { IsFitChange document.old.document change }
+    requires watched { IsWatched document.old.document views.now }
+    ensures made { result ≡ true → (text : List ℕ) (sender : ℕ) (notes : Gathered) → IsChanged text change sender document.old.document document.new.document views.now views.now notes notes }
+    ensures only { result ≡ true → is_frequent change ≡ true }
+    ensures room_is_there { is_frequent change ≡ true → notes_of_change change document.old.document.history (watchers document.old.document views.now) ≡ 0 → IsReady document.old change [] → result ≡ true }
+    ensures same { result ≡ false → document.new.document ≡ document.old.document }
+{
+    if change_note_need(document, views, change) > 0 {
+        return false;
+    }
+    match change {
+        DocumentChange::AddMarker { line, number } => add_marker(document, line, number),
+        DocumentChange::SetLevel { line, level } => set_level(document, line, level),
+        DocumentChange::StyleRun { count, style } => style_run(document, count, style),
+        _ => false,
+    }
+}
