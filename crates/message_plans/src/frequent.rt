@@ -1,11 +1,12 @@
-//! The plan of a message, found soonest for the messages that are sent most.
+//! The plan of a message, found soonest for the messages that are sent most, and the changes of a document that are.
 
 ghost use Rattle.std.specs.Prelude.{◌≡◌};
 ghost use Rattle.ed_model.specs.PlansFit.{IsSoundRequest};
 ghost use Rattle.ed_model.specs.Table.{plan_of};
+ghost use Rattle.message_plans.specs.Frequent.{frequent_change_of, change_asked};
 
 use crate::plan::plan_of;
-use ed_model::Planned;
+use ed_model::{DocumentChange, Plan, Planned};
 use ed_types::Kind;
 use message_requests::Request;
 use state_plans::{folding_plans, line_plans, style_plans, undo_plans};
@@ -46,5 +47,37 @@ pub fn frequent_plan_of(kind: Kind, r: &Request) -> Planned
         Kind::IndicatorFillRange => style_plans::indicator_fill_range(r),
         Kind::SetFoldLevel => folding_plans::set_fold_level(r),
         _ => plan_of(kind, r),
+    }
+}
+
+/// The message with this number, if it is one of those that change a document and are sent most.
+#[inline(always)]
+pub fn frequent_change_of(number: u32) -> Option<Kind>
+    ensures { result ≡ frequent_change_of number }
+{
+    match number {
+        2033 => Some(Kind::SetStyling),
+        2043 => Some(Kind::MarkerAdd),
+        2222 => Some(Kind::SetFoldLevel),
+        _ => None,
+    }
+}
+
+/// The change that the plan of such a message makes, and the value that it answers. `None` for all other messages, and where it is refused
+/// or changes nothing.
+#[inline(always)]
+pub fn change_of(kind: Kind, r: &Request) -> Option<(DocumentChange, i64)>
+    requires sound { IsSoundRequest r.now }
+    ensures { result ≡ change_asked kind r.now }
+{
+    let planned = match kind {
+        Kind::SetStyling => style_plans::set_styling(r),
+        Kind::MarkerAdd => line_plans::marker_add(r),
+        Kind::SetFoldLevel => folding_plans::set_fold_level(r),
+        _ => return None,
+    };
+    match planned {
+        Ok(Plan::ChangeDocument { change, value }) => Some((change, value)),
+        _ => None,
     }
 }

@@ -1,0 +1,29 @@
+-- Messages that change a document and are sent most: a run's style, a marker that comes alone, a fold level. They are not recorded, and read no text of the message.
+use Rattle.std.specs.Prelude.{ℕ, ℤ, if◌then◌else◌, Bool, List, [], ◌∷◌, Ok, Option, Some, None, is_some}
+use Rattle.ed_types.specs.declared.kind.Kind.{Kind}
+use Rattle.ed_types.specs.declared.kind.Kind.TheVariants as kinds
+use Rattle.ed_types.specs.Messages.{number_of, kind_among}
+use Rattle.ed_model.specs.declared.plan.DocumentChange.{DocumentChange}
+use Rattle.ed_model.specs.declared.plan.Plan.TheVariants as plan
+use Rattle.ed_model.specs.Requests.{Request, Planned}
+use Rattle.ed_model.specs.Table.{plan_of}
+
+-- by rising numbers
+abbrev pub frequent_changes : List Kind
+frequent_changes = kinds.SetStyling ∷ kinds.MarkerAdd ∷ kinds.SetFoldLevel ∷ []
+
+-- the one that has the number
+abbrev pub frequent_change_of : ℕ → Option Kind
+frequent_change_of number = kind_among frequent_changes number
+
+abbrev pub is_frequent_change : Kind → Bool
+is_frequent_change kind = is_some (frequent_change_of (number_of kind))
+
+-- the change and the value of a plan that changes a document, and does nothing else
+abbrev pub change_planned : Planned → Option (DocumentChange × ℤ)
+change_planned (Ok (plan.ChangeDocument what value)) = Some (what, value)
+change_planned other = None
+
+-- those of the plan of a frequent change; none for all other messages, and where it is refused or changes nothing
+abbrev pub change_asked : Kind → Request → Option (DocumentChange × ℤ)
+change_asked kind r = if is_frequent_change kind then change_planned (plan_of kind r) else None
