@@ -19,3 +19,4 @@ pub mod PlainChanges
 pub mod PlainEdits
 pub mod Going
 pub mod Leaving
+pub mod FrequentChanges

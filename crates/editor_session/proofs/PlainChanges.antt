@@ -25,7 +25,7 @@ use Rattle.editor_session.proofs.Performing.{asked_by, answered_so, kept_at, of_
 use Rattle.editor_session.proofs.TableWay.{free_found}
 
 -- the session after a change in its tables
-changes_so : (what : DocumentChange) (view : ℕ) (text : List ℕ) (s s' : SessionState) (notes notes' : Gathered) (k : Kept) → IsChangedIn what view text k s.documents s.views notes s'.documents s'.views notes'
+pub changes_so : (what : DocumentChange) (view : ℕ) (text : List ℕ) (s s' : SessionState) (notes notes' : Gathered) (k : Kept) → IsChangedIn what view text k s.documents s.views notes s'.documents s'.views notes'
     → s'.clipboard ≡ s.clipboard → s'.documents.next ≡ s.documents.next → s'.views.next ≡ s.views.next → s'.limits ≡ s.limits → Changes what view text k s notes s' notes'
 changes_so what view text s s' notes notes' k done clipboard next_document next_view limits =
     record { session_after = rw (done.documents_after, done.views_after, clipboard, next_document, next_view, limits) refl; notes_after = done.notes_after }

@@ -65,6 +65,10 @@ pub record CanChangeOnceThereIsRoom (change : DocumentChange) (text : List ℕ) 
   pub read : bytes_read change ≤ length text
   pub watched : IsWatched k.document views
 
+-- it fits, and the views stand well on the document
+abbrev pub CanBeMade : DocumentChange → Entries KeptView → Kept → Type 0
+CanBeMade change views k = IsFitChange k.document change × IsWatched k.document views
+
 -- it is made on a document of the table
 pub record IsChangedIn (change : DocumentChange) (sender : ℕ) (text : List ℕ) (k : Kept) (documents : Entries Kept) (views : Entries KeptView) (notes : Gathered)
     (documents' : Entries Kept) (views' : Entries KeptView) (notes' : Gathered) : Type 0 where

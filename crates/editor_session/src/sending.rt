@@ -14,7 +14,8 @@ ghost use Rattle.editor_session.specs.Plans.{is_free};
 
 use crate::asking::ask;
 use crate::find::find;
-use crate::left::{answer, keep_made, whole};
+use crate::frequent::settle;
+use crate::left::{answer, keep, keep_made, whole};
 use crate::reading::read;
 use crate::short_way::{do_apart, do_shortly};
 use document::Document;
@@ -91,7 +92,7 @@ fn is_recorded(kind: Kind, request: &Request) -> bool
 ///
 /// The refusal of the message table; `OutOfMemory` where memory is refused. The session and the place are then as they were.
 #[inline(never)]
-pub(crate) fn answer_into(
+fn answer_into_by_plan(
     alloc: Global,
     state: &mut SessionState,
     view: u32,
@@ -136,6 +137,34 @@ pub(crate) fn answer_into(
     }
 }
 
+/// Answers a message to the view of an id: the value is returned, and the text and the notes of its reply take the place of another's.
+///
+/// # Errors
+///
+/// The refusal of the message table; `OutOfMemory` where memory is refused. The session and the place are then as they were.
+pub(crate) fn answer_into(
+    alloc: Global,
+    state: &mut SessionState,
+    view: u32,
+    number: u32,
+    w: i64,
+    l: i64,
+    text: &[u8],
+    reply: &mut Reply,
+) -> Result<i64, Refusal>
+    requires kept { IsKept state.old }
+    ensures answer { AnswersBy (table (session_in state.old) view (message_with number w l text.now)) (session_in state.old) (session_in state.new) (told result reply.new) }
+    ensures refused { IfErr (table (session_in state.old) view (message_with number w l text.now)) (λ refusal. result ≡ Err refusal) }
+    ensures place { IsLeft result reply.old reply.new }
+    ensures kept { IsKept state.new }
+    ensures free { is_free (session_in state.old) view (message_with number w l text.now) ≡ true → IfErr result (λ refusal. refusal ≢ OutOfMemory) }
+{
+    match settle(state, view, number, w, l) {
+        Some(value) => Ok(keep(reply, answer(alloc, value))),
+        None => answer_into_by_plan(alloc, state, view, number, w, l, text, reply),
+    }
+}
+
 /// Answers a message to the view of an id by its plan.
 ///
 /// # Errors
@@ -157,9 +186,36 @@ fn answer_by_plan(
     ensures free { is_free (session_in state.old) view (message_with number w l text.now) ≡ true → IfErr result (λ refusal. refusal ≢ OutOfMemory) }
 {
     let mut reply = answer(alloc, 0);
-    match answer_into(alloc, state, view, number, w, l, text, &mut reply) {
+    match answer_into_by_plan(alloc, state, view, number, w, l, text, &mut reply) {
         Ok(value) => Ok(whole(alloc, value, reply)),
         Err(refusal) => Err(refusal),
+    }
+}
+
+/// Answers a message: by its plan where it is more than a frequent change of which nobody hears.
+///
+/// # Errors
+///
+/// The refusal of the message table; `OutOfMemory` where memory is refused. The session is then as it was.
+#[inline(always)]
+fn settle_or_answer(
+    alloc: Global,
+    state: &mut SessionState,
+    view: u32,
+    number: u32,
+    w: i64,
+    l: i64,
+    text: &[u8],
+) -> Result<Reply, Refusal>
+    requires kept { IsKept state.old }
+    ensures answer { AnswersBy (table (session_in state.old) view (message_with number w l text.now)) (session_in state.old) (session_in state.new) result }
+    ensures refused { IfErr (table (session_in state.old) view (message_with number w l text.now)) (λ refusal. result ≡ Err refusal) }
+    ensures kept { IsKept state.new }
+    ensures free { is_free (session_in state.old) view (message_with number w l text.now) ≡ true → IfErr result (λ refusal. refusal ≢ OutOfMemory) }
+{
+    match settle(state, view, number, w, l) {
+        Some(value) => Ok(answer(alloc, value)),
+        None => answer_by_plan(alloc, state, view, number, w, l, text),
     }
 }
 
@@ -217,6 +273,6 @@ pub(crate) fn answer_message(
     }
     match text_question_of(number) {
         Some(_) => answer_text_question(alloc, state, view, number, w, l, text),
-        None => answer_by_plan(alloc, state, view, number, w, l, text),
+        None => settle_or_answer(alloc, state, view, number, w, l, text),
     }
 }

@@ -11,17 +11,17 @@ use Rattle.editor_session.proofs.sending.answer_by_plan.Goals as goal
 
 pub whole-requires : goal.whole-requires
 whole-requires c =
-    let left = c.answer_into.new.reply in
+    let left = c.answer_into_by_plan.new.reply in
     let value : c.in-Ok.value ≡ to_z w64 (of_z w64 c.in-Ok.value) = search rules in
     record { place = subst (λ v. (left.value ≡ v) ⊎ (left ≡ quiet left.value)) value c.in-Ok.ensures.place }
 
 pub returns-in-Ok-clause-answer : goal.returns-in-Ok-clause-answer
 returns-in-Ok-clause-answer c =
     let a = c.args in
-    let n = session_in c.answer_into.new.state in
+    let n = session_in c.answer_into_by_plan.new.state in
     let same : message_with a.number (to_z w64 (of_z w64 a.w)) (to_z w64 (of_z w64 a.l)) a.text.now ≡ message_with a.number a.w a.l a.text.now = search rules in
     let value : to_z w64 (of_z w64 c.in-Ok.value) ≡ c.in-Ok.value = search rules in
-    ap (table (session_in a.state.now) a.view) (sym same) ∙ c.in-Ok.ensures.answer ∙ ap (λ v. Ok (n, record c.answer_into.new.reply { value = v })) (sym value) ∙ ap (λ x. Ok (n, x)) (sym c.whole.ensures)
+    ap (table (session_in a.state.now) a.view) (sym same) ∙ c.in-Ok.ensures.answer ∙ ap (λ v. Ok (n, record c.answer_into_by_plan.new.reply { value = v })) (sym value) ∙ ap (λ x. Ok (n, x)) (sym c.whole.ensures)
 
 pub returns-in-Ok-clause-refused : goal.returns-in-Ok-clause-refused
 returns-in-Ok-clause-refused c = subst (λ t. IfErr t (λ refusal. Ok c.whole.result ≡ Err refusal)) (sym (returns-in-Ok-clause-answer c)) tt
@@ -31,7 +31,7 @@ returns-in-Err-clause-answer c =
     let a = c.args in
     let s = session_in a.state.now in
     let same : message_with a.number (to_z w64 (of_z w64 a.w)) (to_z w64 (of_z w64 a.l)) a.text.now ≡ message_with a.number a.w a.l a.text.now = search rules in
-    subst (λ x. AnswersBy (table s a.view x) s (session_in c.answer_into.new.state) (Err c.in-Err.refusal)) same c.in-Err.ensures.answer
+    subst (λ x. AnswersBy (table s a.view x) s (session_in c.answer_into_by_plan.new.state) (Err c.in-Err.refusal)) same c.in-Err.ensures.answer
 
 pub returns-in-Err-clause-refused : goal.returns-in-Err-clause-refused
 returns-in-Err-clause-refused c =

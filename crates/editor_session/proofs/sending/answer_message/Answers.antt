@@ -24,21 +24,21 @@ returns-in-None-clause-answer c =
     let a = c.args in
     let s = session_in a.state.now in
     let same : message_with a.number (to_z w64 (of_z w64 a.w)) (to_z w64 (of_z w64 a.l)) a.text.now ≡ message_with a.number a.w a.l a.text.now = search rules in
-    subst (λ x. AnswersBy (table s a.view x) s (session_in c.answer_by_plan.new.state) c.answer_by_plan.result) same c.answer_by_plan.ensures.answer
+    subst (λ x. AnswersBy (table s a.view x) s (session_in c.settle_or_answer.new.state) c.settle_or_answer.result) same c.settle_or_answer.ensures.answer
 
 pub returns-in-None-clause-refused : goal.returns-in-None-clause-refused
 returns-in-None-clause-refused c =
     let a = c.args in
     let s = session_in a.state.now in
     let same : message_with a.number (to_z w64 (of_z w64 a.w)) (to_z w64 (of_z w64 a.l)) a.text.now ≡ message_with a.number a.w a.l a.text.now = search rules in
-    subst (λ x. IfErr (table s a.view x) (λ refusal. c.answer_by_plan.result ≡ Err refusal)) same c.answer_by_plan.ensures.refused
+    subst (λ x. IfErr (table s a.view x) (λ refusal. c.settle_or_answer.result ≡ Err refusal)) same c.settle_or_answer.ensures.refused
 
 pub returns-in-None-clause-free : goal.returns-in-None-clause-free
 returns-in-None-clause-free c =
     let a = c.args in
     let s = session_in a.state.now in
     let same : message_with a.number (to_z w64 (of_z w64 a.w)) (to_z w64 (of_z w64 a.l)) a.text.now ≡ message_with a.number a.w a.l a.text.now = search rules in
-    subst (λ x. is_free s a.view x ≡ true → IfErr c.answer_by_plan.result (λ refusal. refusal ≢ OutOfMemory)) same c.answer_by_plan.ensures.free
+    subst (λ x. is_free s a.view x ≡ true → IfErr c.settle_or_answer.result (λ refusal. refusal ≢ OutOfMemory)) same c.settle_or_answer.ensures.free
 
 pub returns-in-Some-text_question_of-clause-answer : goal.returns-in-Some-text_question_of-clause-answer
 returns-in-Some-text_question_of-clause-answer c =

@@ -1,0 +1,109 @@
+-- Frequent changes of a document of which nobody hears.
+use Rattle.std.proofs.Common.{◌≡◌, ℕ, ℤ, ◌==◌, Bool, true, false, cond, List, [], ◌∷◌, refl, ap, sym, subst, ◌∙◌, Option, Some, None, Ok, Err, IfSome, IsSomeAnd}
+use Rattle.std.specs.List.{AllByRecursion}
+use Rattle.std.proofs.lemmas.Bool.{eqb-true}
+use Rattle.ed_types.specs.declared.kind.Kind.{Kind}
+use Rattle.ed_types.specs.declared.message.Message.{Message}
+use Rattle.ed_types.specs.Messages.{number_of, kind_of, marks_of}
+use Rattle.ed_types.specs.MessagesLaws.{EachKindIsFound}
+use Rattle.ed_model.specs.Changes.{changed_document}
+use Rattle.ed_model.specs.declared.plan.DocumentChange.{DocumentChange}
+use Rattle.ed_model.specs.declared.plan.Plan.TheVariants as plan
+use Rattle.ed_model.specs.Requests.{Request, Planned}
+use Rattle.ed_model.specs.Session.{Session, View, Document, view_at, document_at}
+use Rattle.ed_model.specs.Performing.{quiet}
+use Rattle.ed_model.specs.PlansFit.{PlansFit}
+use Rattle.ed_model.specs.SoundLaws.{IsSound, MessageKeepsSound}
+use Rattle.ed_model.specs.Table.{table, request, plan_of}
+use Rattle.id_table.specs.Entries.{value_at}
+use Rattle.document_changes.specs.Fit.{IsFitChange}
+use Rattle.message_plans.specs.Frequent.{frequent_changes, frequent_change_of, is_frequent_change, change_planned, change_asked}
+use Rattle.message_requests.specs.Requested.{session_in}
+use Rattle.message_requests.specs.declared.state.SessionState.{SessionState}
+use Rattle.scene.specs.Scenes.{AreNamed}
+use Rattle.session_changes.specs.Kept.{IsKept, DocumentsAreNamed}
+use Rattle.editor_session.specs.Answers.{message_with}
+use Rattle.editor_session.specs.Doing.{CanBeMade, Changes, IsChangedIn}
+use Rattle.editor_session.specs.Tasks.{IsTask}
+use Rattle.editor_session.specs.Unheard.{unrecorded, no_notes, IsSent}
+use Rattle.editor_session.proofs.Keeping.{kept_after_message, kept_with}
+use Rattle.editor_session.proofs.Performing.{asked_by, kept_at, for_kept, change_fits, watched_here}
+use Rattle.editor_session.proofs.PlainChanges.{changed_at_once, changes_so}
+use Rattle.editor_session.proofs.Questions.{IsPlain, plain, found_plain, unheard}
+use Rattle.editor_session.proofs.Replacing.{change_keeps_id}
+use Rattle.editor_session.proofs.TableWay.{is_found}
+use Rattle.editor_session.proofs.Unheard.{unrecorded_task}
+
+-- they are not recorded, and read no text
+all_plain : AllByRecursion IsPlain frequent_changes
+all_plain = (plain refl (λ r text. refl), (plain refl (λ r text. refl), (plain refl (λ r text. refl), tt)))
+
+decoded : EachKindIsFound → (number : ℕ) (kind : Kind) → frequent_change_of number ≡ Some kind → kind_of number ≡ Some kind
+decoded law number kind e =
+    subst (λ n. kind_of n ≡ Some kind) (eqb-true (number_of kind) number (found_plain number frequent_changes kind all_plain e).1) (law kind)
+
+planned : (b : Bool) (p : Planned) (what : DocumentChange) (value : ℤ) → cond b (change_planned p) None ≡ Some (what, value) → p ≡ Ok (plan.ChangeDocument what value)
+planned false p what value e = absurd (cc)
+planned true (Err refusal) what value e = absurd (cc)
+planned true (Ok (plan.ChangeDocument other number)) what value e =
+    let same : (other, number) ≡ (what, value) = cc in
+    ap (λ (x : DocumentChange × ℤ). Ok (plan.ChangeDocument x.0 x.1)) same
+planned true (Ok other) what value e = absurd (cc)
+
+-- the task of such a message, with whatever text
+pub frequent_task : PlansFit → EachKindIsFound → (s : Session) (view number : ℕ) (w l : ℤ) (kind : Kind) (v : View) (d : Document) (what : DocumentChange) (value : ℤ) → IsSound s → frequent_change_of number ≡ Some kind
+    → view_at s.views view ≡ Some v → document_at s.documents v.document ≡ Some d → change_asked kind (request s v d (message_with number w l [])) ≡ Some (what, value)
+    → (text : List ℕ) → IsTask s view (message_with number w l text) (unrecorded d.id view (plan.ChangeDocument what value))
+frequent_task fit law s view number w l kind v d what value sound is found there e text =
+    let m = message_with number w l text in
+    let r = request s v d m in
+    let bare = request s v d (message_with number w l []) in
+    let p = (found_plain number frequent_changes kind all_plain is).0 in
+    let made = p.any_text bare text ∙ planned (is_frequent_change kind) (plan_of kind bare) what value e in
+    let reached = is_found s view m v kind d sound found (decoded law number kind is) there in
+    unrecorded_task s d.id view m kind r (plan.ChangeDocument what value) reached made refl (unheard v.records (marks_of kind).r p.unrecorded) (fit kind r reached.sound)
+
+module _ (s : SessionState) (kept : IsKept s) (document view : ℕ) (what : DocumentChange) where
+  pub can_be_made : IsSent (session_in s) document view (plan.ChangeDocument what) → IsSomeAnd (value_at s.documents.entries document) (CanBeMade what s.views)
+  can_be_made sent =
+      let t = sent.task in
+      let r = t.request in
+      let task = unrecorded document view (plan.ChangeDocument what sent.value) in
+      let text = sent.message.text in
+      let by = asked_by s view sent.message task t in
+      let at = kept_at s task text kept r by in
+      for_kept s task text kept r by (CanBeMade what s.views)
+      (subst (λ d. IsFitChange d what) (sym at.is) (change_fits s task text kept r by what sent.value t.fit), watched_here s task text kept r by)
+
+  -- the table's answer to a message that asks for the change
+  pub made_quickly : (s' : SessionState) → IfSome (value_at s.documents.entries document) (λ k. (text : List ℕ) (sender : ℕ) → Changes what sender text k s no_notes s' no_notes)
+      → (m : Message) (value : ℤ) → IsTask (session_in s) view m (unrecorded document view (plan.ChangeDocument what value)) → table (session_in s) view m ≡ Ok (session_in s', quiet value)
+  made_quickly s' done m value t =
+      changed_at_once s kept document view m.text what m value t refl s' no_notes no_notes refl (at_text (value_at s.documents.entries document) done)
+    where
+      at_text : (o : Option _) → IfSome o (λ k. (text : List ℕ) (sender : ℕ) → Changes what sender text k s no_notes s' no_notes) → IfSome o (λ k. Changes what view m.text k s no_notes s' no_notes)
+      at_text None h = tt
+      at_text (Some k) h = h m.text view
+
+-- whether it was made or not
+pub same_id : (what : DocumentChange) (old new : Document) (made : Bool) → (made ≡ true → new ≡ changed_document [] what old) → (made ≡ false → new ≡ old) → new.id ≡ old.id
+same_id what old new true so not = ap (λ (d : Document). d.id) (so refl) ∙ change_keeps_id [] what old
+same_id what old new false so not = ap (λ (d : Document). d.id) (not refl)
+
+-- the session after such a change in its tables
+pub changes_quickly : (document : ℕ) (what : DocumentChange) (s s' : SessionState) → IfSome (value_at s.documents.entries document) (λ k. (text : List ℕ) (sender : ℕ) → IsChangedIn what sender text k s.documents s.views no_notes s'.documents s'.views no_notes)
+    → s'.clipboard ≡ s.clipboard → s'.documents.next ≡ s.documents.next → s'.views.next ≡ s.views.next → s'.limits ≡ s.limits → IfSome (value_at s.documents.entries document) (λ k. (text : List ℕ) (sender : ℕ) → Changes what sender text k s no_notes s' no_notes)
+changes_quickly document what s s' done clipboard next_document next_view limits = go (value_at s.documents.entries document) done
+  where
+    go : (o : Option _) → IfSome o (λ k. (text : List ℕ) (sender : ℕ) → IsChangedIn what sender text k s.documents s.views no_notes s'.documents s'.views no_notes) → IfSome o (λ k. (text : List ℕ) (sender : ℕ) → Changes what sender text k s no_notes s' no_notes)
+    go None h = tt
+    go (Some k) h = λ text sender. changes_so what sender text s s' no_notes no_notes k (h text sender) clipboard next_document next_view limits
+
+-- what holds of a session goes on holding
+pub kept_quickly : MessageKeepsSound → (s s' : SessionState) (document view : ℕ) (what : DocumentChange) (made : Bool) → IsKept s → IsSent (session_in s) document view (plan.ChangeDocument what)
+    → (made ≡ true → (m : Message) (value : ℤ) → IsTask (session_in s) view m (unrecorded document view (plan.ChangeDocument what value)) → table (session_in s) view m ≡ Ok (session_in s', quiet value))
+    → (made ≡ false → session_in s' ≡ session_in s) → s'.limits ≡ s.limits → DocumentsAreNamed s'.documents.entries → AreNamed s'.views.entries → IsKept s'
+kept_quickly law s s' document view what true kept sent answer same limits documents views =
+    kept_after_message law s s' view sent.message (quiet sent.value) kept (answer refl sent.message sent.value sent.task) limits documents views
+kept_quickly law s s' document view what false kept sent answer same limits documents views =
+    kept_with s s' kept (subst IsSound (sym (same refl)) kept.sound) limits documents views

@@ -1,0 +1,23 @@
+use Rattle.std.proofs.Common.{rules, ◌≡◌, Err, ap, subst, to_z, of_z, w64}
+use Rattle.std.specs.Prelude.{IfErr}
+use Rattle.ed_model.specs.Session.{Session}
+use Rattle.ed_model.specs.Table.{table}
+use Rattle.message_requests.specs.Requested.{session_in}
+use Rattle.editor_session.specs.Answers.{AnswersBy, message_with}
+use Rattle.editor_session.proofs.sending.settle_or_answer.Goals as goal
+
+pub returns-in-None-clause-answer : goal.returns-in-None-clause-answer
+returns-in-None-clause-answer c =
+    let a = c.args in
+    let n = c.answer_by_plan in
+    let same : message_with a.number (to_z w64 (of_z w64 a.w)) (to_z w64 (of_z w64 a.l)) a.text.now ≡ message_with a.number a.w a.l a.text.now = search rules in
+    subst (λ (s : Session). AnswersBy (table s a.view (message_with a.number a.w a.l a.text.now)) s (session_in n.new.state) n.result) c.in-None.ensures.same
+    (subst (λ m. AnswersBy (table (session_in c.settle.new.state) a.view m) (session_in c.settle.new.state) (session_in n.new.state) n.result) same n.ensures.answer)
+
+pub returns-in-None-clause-refused : goal.returns-in-None-clause-refused
+returns-in-None-clause-refused c =
+    let a = c.args in
+    let n = c.answer_by_plan in
+    let same : message_with a.number (to_z w64 (of_z w64 a.w)) (to_z w64 (of_z w64 a.l)) a.text.now ≡ message_with a.number a.w a.l a.text.now = search rules in
+    subst (λ (s : Session). IfErr (table s a.view (message_with a.number a.w a.l a.text.now)) (λ refusal. n.result ≡ Err refusal)) c.in-None.ensures.same
+    (subst (λ m. IfErr (table (session_in c.settle.new.state) a.view m) (λ refusal. n.result ≡ Err refusal)) same n.ensures.refused)

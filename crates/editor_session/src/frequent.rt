@@ -1,0 +1,172 @@
+//! Frequent changes of a document of which nobody hears: a run's style, a marker, a fold level. They are made without a plan, notes and a
+//! reply.
+
+ghost use Rattle.std.specs.Prelude.{◌≡◌, ℕ, ℤ, List, [], map, true, false, Ok, Some, IfNone, IfSome, IsSomeAnd};
+ghost use Rattle.ed_types.specs.declared.message.Message.{Message};
+ghost use Rattle.ed_model.specs.declared.plan.Plan.TheVariants as plan;
+ghost use Rattle.ed_model.specs.Performing.{quiet};
+ghost use Rattle.ed_model.specs.Session.{Document as ModelDocument};
+ghost use Rattle.ed_model.specs.SoundLaws.{Rise};
+ghost use Rattle.ed_model.specs.Table.{table};
+ghost use Rattle.id_table.specs.Entries.{value_at};
+ghost use Rattle.message_plans.specs.Frequent.{frequent_change_of};
+ghost use Rattle.message_requests.specs.Requested.{session_in, documents_in};
+ghost use Rattle.session_changes.specs.Kept.{IsKept, DocumentsAreNamed};
+ghost use Rattle.editor_session.specs.Answers.{message_with};
+ghost use Rattle.editor_session.specs.Doing.{CanBeMade, IsChangedIn};
+ghost use Rattle.editor_session.specs.Tasks.{IsTask};
+ghost use Rattle.editor_session.specs.Unheard.{unrecorded, no_notes, IsSent};
+
+use document_changes::change_unheard;
+use document_table::DocumentTable;
+use ed_model::{DocumentChange, plans_are_fit, soundness_is_kept};
+use ed_types::{Kind, kinds_and_numbers};
+use ed_view::View;
+use id_table::IdTable;
+use message_plans::{change_of, frequent_change_of};
+use message_requests::{Request, SentMessage, SessionState};
+
+/// What a frequent change is, and the value that its message answers.
+#[derive(Clone, Copy, Debug)]
+struct FrequentChange {
+    /// The id of the document.
+    document: u32,
+    change: DocumentChange,
+    value: i64,
+}
+
+/// Finds what this message to the view of an id changes. `None` where the table refuses it, or it changes nothing.
+#[inline(always)]
+fn find_change(
+    state: &SessionState,
+    view: u32,
+    kind: Kind,
+    number: u32,
+    w: i64,
+    l: i64,
+) -> Option<FrequentChange>
+    requires kept { IsKept state.now }
+    requires frequent { frequent_change_of number ≡ Some kind }
+    ensures { IfSome result (λ found. (text : List ℕ) → IsTask (session_in state.now) view (message_with number w l text) (unrecorded found.document view (plan.ChangeDocument found.change found.value))) }
+{
+    // The laws that each kind is found by its number, and that a plan's numbers are in range.
+    kinds_and_numbers();
+    plans_are_fit();
+    let Some(view) = state.views.get(view) else {
+        return None;
+    };
+    let id = view.document();
+    let Some(document) = state.documents.get(id) else {
+        return None;
+    };
+    // No such message reads a text.
+    let message = SentMessage {
+        number,
+        w,
+        l,
+        text: &[],
+    };
+    let request = Request {
+        session: state,
+        view,
+        document,
+        message,
+    };
+    let Some((change, value)) = change_of(kind, &request) else {
+        return None;
+    };
+    Some(FrequentChange {
+        document: id,
+        change,
+        value,
+    })
+}
+
+/// Makes a change in the document of an id, where nobody hears of it, and returns whether it did. Where not, because memory is refused too,
+/// all documents are as they were.
+#[inline(always)]
+fn change_quickly_in(
+    documents: &mut DocumentTable,
+    views: &IdTable<View>,
+    document: u32,
+    change: DocumentChange,
+) -> bool
+    requires can { IsSomeAnd (value_at documents.old.entries document) (CanBeMade change views.now) }
+    requires named { DocumentsAreNamed documents.old.entries }
+    requires rise { Rise 0 documents.old.next (map (λ (d : ModelDocument). d.id) (documents_in documents.old)) }
+    ensures changed { result ≡ true → IfSome (value_at documents.old.entries document) (λ k. (text : List ℕ) (sender : ℕ) → IsChangedIn change sender text k documents.old views.now no_notes documents.new views.now no_notes) }
+    ensures same { result ≡ false → documents_in documents.new ≡ documents_in documents.old }
+    ensures documents { DocumentsAreNamed documents.new.entries }
+    ensures next { documents.new.next ≡ documents.old.next }
+{
+    let Some(document) = documents.get_mut(document) else {
+        unreachable!()
+    };
+    change_unheard(document, views, change)
+}
+
+/// The same for the view of an id, whatever value is answered.
+#[inline(always)]
+fn change_quickly(
+    state: &mut SessionState,
+    document: u32,
+    view: u32,
+    change: DocumentChange,
+) -> bool
+    requires kept { IsKept state.old }
+    requires sent { IsSent (session_in state.old) document view (plan.ChangeDocument change) }
+    ensures answer { result ≡ true → (m : Message) (value : ℤ) → IsTask (session_in state.old) view m (unrecorded document view (plan.ChangeDocument change value)) → table (session_in state.old) view m ≡ Ok (session_in state.new, quiet value) }
+    ensures same { result ≡ false → session_in state.new ≡ session_in state.old }
+    ensures kept { IsKept state.new }
+{
+    // The law that the session stays sound.
+    soundness_is_kept();
+    let SessionState {
+        documents,
+        views,
+        ..
+    } = state;
+    change_quickly_in(documents, views, document, change)
+}
+
+/// Does what this message to the view of an id asks for, and returns the value that is answered, if that takes no more than a change of
+/// the document of which nobody hears. It stands apart, so that other messages set up nothing of it.
+#[inline(never)]
+fn settle_as(
+    state: &mut SessionState,
+    view: u32,
+    kind: Kind,
+    number: u32,
+    w: i64,
+    l: i64,
+) -> Option<i64>
+    requires kept { IsKept state.old }
+    requires frequent { frequent_change_of number ≡ Some kind }
+    ensures answer { IfSome result (λ value. (text : List ℕ) → table (session_in state.old) view (message_with number w l text) ≡ Ok (session_in state.new, quiet value)) }
+    ensures same { IfNone result (session_in state.new ≡ session_in state.old) }
+    ensures kept { IsKept state.new }
+{
+    let Some(found) = find_change(state, view, kind, number, w, l) else {
+        return None;
+    };
+    if change_quickly(state, found.document, view, found.change) {
+        Some(found.value)
+    } else {
+        None
+    }
+}
+
+/// Does what a message to the view of an id asks for, and returns the value that is answered, if it is one of the frequent changes of a
+/// document, the table does not refuse it, nobody hears of it, and there is memory for it. Of all others it does nothing.
+#[inline(always)]
+pub(crate) fn settle(state: &mut SessionState, view: u32, number: u32, w: i64, l: i64) -> Option<i64>
+    requires kept { IsKept state.old }
+    ensures answer { IfSome result (λ value. (text : List ℕ) → table (session_in state.old) view (message_with number w l text) ≡ Ok (session_in state.new, quiet value)) }
+    ensures same { IfNone result (session_in state.new ≡ session_in state.old) }
+    ensures kept { IsKept state.new }
+{
+    match frequent_change_of(number) {
+        Some(kind) => settle_as(state, view, kind, number, w, l),
+        None => None,
+    }
+}
