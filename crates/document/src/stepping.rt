@@ -45,6 +45,7 @@ impl Document {
     /// # Errors
     ///
     /// `AllocError` where memory is refused; the document is then as it was.
+    #[inline(always)]
     pub fn reserve(&mut self, need: DocumentRoom) -> Result<(), AllocError>
         requires wide { FitsWidth self.old.document (length self.old.document.cells + need.text) }
         ensures same { self.new.document ≡ self.old.document }

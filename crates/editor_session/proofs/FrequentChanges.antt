@@ -3,11 +3,13 @@ use Rattle.std.proofs.Common.{◌≡◌, ℕ, ℤ, ◌==◌, Bool, true, false, 
 use Rattle.std.specs.List.{AllByRecursion}
 use Rattle.std.proofs.lemmas.Bool.{eqb-true}
 use Rattle.ed_types.specs.declared.kind.Kind.{Kind}
+use Rattle.ed_types.specs.declared.kind.Kind.TheVariants as kinds
 use Rattle.ed_types.specs.declared.message.Message.{Message}
-use Rattle.ed_types.specs.Messages.{number_of, kind_of, marks_of}
+use Rattle.ed_types.specs.Messages.{number_of, kind_of, kind_among, marks_of}
 use Rattle.ed_types.specs.MessagesLaws.{EachKindIsFound}
 use Rattle.ed_model.specs.Changes.{changed_document}
 use Rattle.ed_model.specs.declared.plan.DocumentChange.{DocumentChange}
+use Rattle.ed_model.specs.declared.plan.Plan.{Plan}
 use Rattle.ed_model.specs.declared.plan.Plan.TheVariants as plan
 use Rattle.ed_model.specs.Requests.{Request, Planned}
 use Rattle.ed_model.specs.Session.{Session, View, Document, view_at, document_at}
@@ -17,7 +19,7 @@ use Rattle.ed_model.specs.SoundLaws.{IsSound, MessageKeepsSound}
 use Rattle.ed_model.specs.Table.{table, request, plan_of}
 use Rattle.id_table.specs.Entries.{value_at}
 use Rattle.document_changes.specs.Fit.{IsFitChange}
-use Rattle.message_plans.specs.Frequent.{frequent_changes, frequent_change_of, is_frequent_change, change_planned, change_asked}
+use Rattle.message_plans.specs.Frequent.{frequent_changes, frequent_change_of, is_frequent_change, change_planned, change_asked, transactions, transaction_of, performing, is_performed}
 use Rattle.message_requests.specs.Requested.{session_in}
 use Rattle.message_requests.specs.declared.state.SessionState.{SessionState}
 use Rattle.scene.specs.Scenes.{AreNamed}
@@ -35,12 +37,23 @@ use Rattle.editor_session.proofs.TableWay.{is_found}
 use Rattle.editor_session.proofs.Unheard.{unrecorded_task}
 
 -- they are not recorded, and read no text
-all_plain : AllByRecursion IsPlain frequent_changes
-all_plain = (plain refl (λ r text. refl), (plain refl (λ r text. refl), (plain refl (λ r text. refl), tt)))
+changes_plain : AllByRecursion IsPlain frequent_changes
+changes_plain = (plain refl (λ r text. refl), (plain refl (λ r text. refl), (plain refl (λ r text. refl), tt)))
 
-decoded : EachKindIsFound → (number : ℕ) (kind : Kind) → frequent_change_of number ≡ Some kind → kind_of number ≡ Some kind
-decoded law number kind e =
-    subst (λ n. kind_of n ≡ Some kind) (eqb-true (number_of kind) number (found_plain number frequent_changes kind all_plain e).1) (law kind)
+transactions_plain : AllByRecursion IsPlain transactions
+transactions_plain = (plain refl (λ r text. refl), (plain refl (λ r text. refl), tt))
+
+-- the task of one of some such messages, with whatever text, by its plan without one
+module _ (fit : PlansFit) (law : EachKindIsFound) (those : List Kind) (all : AllByRecursion IsPlain those) (s : Session) (view number : ℕ) (w l : ℤ) (kind : Kind) (v : View) (d : Document) where
+  plain_task : (what : Plan) → IsSound s → kind_among those number ≡ Some kind → view_at s.views view ≡ Some v → document_at s.documents v.document ≡ Some d
+      → plan_of kind (request s v d (message_with number w l [])) ≡ Ok what → (text : List ℕ) → IsTask s view (message_with number w l text) (unrecorded d.id view what)
+  plain_task what sound is found there e text =
+      let m = message_with number w l text in
+      let r = request s v d m in
+      let among = found_plain number those kind all is in
+      let decoded = subst (λ n. kind_of n ≡ Some kind) (eqb-true (number_of kind) number among.1) (law kind) in
+      let reached = is_found s view m v kind d sound found decoded there in
+      unrecorded_task s d.id view m kind r what reached (among.0.any_text (request s v d (message_with number w l [])) text ∙ e) refl (unheard v.records (marks_of kind).r among.0.unrecorded) (fit kind r reached.sound)
 
 planned : (b : Bool) (p : Planned) (what : DocumentChange) (value : ℤ) → cond b (change_planned p) None ≡ Some (what, value) → p ≡ Ok (plan.ChangeDocument what value)
 planned false p what value e = absurd (cc)
@@ -50,18 +63,23 @@ planned true (Ok (plan.ChangeDocument other number)) what value e =
     ap (λ (x : DocumentChange × ℤ). Ok (plan.ChangeDocument x.0 x.1)) same
 planned true (Ok other) what value e = absurd (cc)
 
--- the task of such a message, with whatever text
-pub frequent_task : PlansFit → EachKindIsFound → (s : Session) (view number : ℕ) (w l : ℤ) (kind : Kind) (v : View) (d : Document) (what : DocumentChange) (value : ℤ) → IsSound s → frequent_change_of number ≡ Some kind
-    → view_at s.views view ≡ Some v → document_at s.documents v.document ≡ Some d → change_asked kind (request s v d (message_with number w l [])) ≡ Some (what, value)
-    → (text : List ℕ) → IsTask s view (message_with number w l text) (unrecorded d.id view (plan.ChangeDocument what value))
-frequent_task fit law s view number w l kind v d what value sound is found there e text =
-    let m = message_with number w l text in
-    let r = request s v d m in
-    let bare = request s v d (message_with number w l []) in
-    let p = (found_plain number frequent_changes kind all_plain is).0 in
-    let made = p.any_text bare text ∙ planned (is_frequent_change kind) (plan_of kind bare) what value e in
-    let reached = is_found s view m v kind d sound found (decoded law number kind is) there in
-    unrecorded_task s d.id view m kind r (plan.ChangeDocument what value) reached made refl (unheard v.records (marks_of kind).r p.unrecorded) (fit kind r reached.sound)
+performed_so : (kind : Kind) (p : Planned) → is_performed kind p ≡ true → p ≡ Ok (performing kind)
+performed_so kinds.Undo (Ok plan.Undo) h = refl
+performed_so kinds.Redo (Ok plan.Redo) h = refl
+performed_so _ _ h = absurd (cc)
+
+module _ (fit : PlansFit) (law : EachKindIsFound) (s : Session) (view number : ℕ) (w l : ℤ) (kind : Kind) (v : View) (d : Document) where
+  pub frequent_task : (what : DocumentChange) (value : ℤ) → IsSound s → frequent_change_of number ≡ Some kind → view_at s.views view ≡ Some v → document_at s.documents v.document ≡ Some d
+      → change_asked kind (request s v d (message_with number w l [])) ≡ Some (what, value) → (text : List ℕ) → IsTask s view (message_with number w l text) (unrecorded d.id view (plan.ChangeDocument what value))
+  frequent_task what value sound is found there e =
+      plain_task fit law frequent_changes changes_plain s view number w l kind v d (plan.ChangeDocument what value) sound is found there
+      (planned (is_frequent_change kind) (plan_of kind (request s v d (message_with number w l []))) what value e)
+
+  pub transaction_task : IsSound s → transaction_of number ≡ Some kind → view_at s.views view ≡ Some v → document_at s.documents v.document ≡ Some d
+      → is_performed kind (plan_of kind (request s v d (message_with number w l []))) ≡ true → (text : List ℕ) → IsTask s view (message_with number w l text) (unrecorded d.id view (performing kind))
+  transaction_task sound is found there e =
+      plain_task fit law transactions transactions_plain s view number w l kind v d (performing kind) sound is found there
+      (performed_so kind (plan_of kind (request s v d (message_with number w l []))) e)
 
 module _ (s : SessionState) (kept : IsKept s) (document view : ℕ) (what : DocumentChange) where
   pub can_be_made : IsSent (session_in s) document view (plan.ChangeDocument what) → IsSomeAnd (value_at s.documents.entries document) (CanBeMade what s.views)

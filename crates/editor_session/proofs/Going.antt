@@ -1,5 +1,5 @@
 -- Undo and redo at once.
-use Rattle.std.proofs.Common.{◌≡◌, ℕ, ℤ, Option, Some, None, true, false, pos, [], refl, ap, sym, subst, Ok, Err, OnOk, OnErr, IfOk, IfSome, IsSomeAnd}
+use Rattle.std.proofs.Common.{◌≡◌, ◌∙◌, ◌+◌, ℕ, ℤ, max, arith, length, List, ◌∷◌, Option, Some, None, true, false, pos, [], refl, ap, sym, subst, Ok, Err, OnOk, OnErr, IfOk, IfSome, IsSomeAnd}
 use Rattle.std.specs.Prelude.{Result, IfNone}
 use Rattle.ed_types.specs.declared.message.Message.{Message}
 use Rattle.ed_model.specs.Performing.{history_performed, response}
@@ -13,7 +13,8 @@ use Rattle.document.specs.Undoing.{changes_of, history_behind}
 use Rattle.document.specs.declared.undoing.Direction.{Direction}
 use Rattle.document.specs.declared.undoing.Direction.TheVariants.{Undo, Redo}
 use Rattle.id_table.specs.Entries.{value_at}
-use Rattle.notify.specs.Gathered.{Gathered}
+use Rattle.ed_types.specs.Notices.{Notice}
+use Rattle.notify.specs.Gathered.{Gathered, gathered}
 use Rattle.scene.specs.Undoing.{bits_of}
 use Rattle.message_requests.specs.Requested.{session_in}
 use Rattle.message_requests.specs.declared.state.SessionState.{SessionState}
@@ -89,3 +90,17 @@ needs_some Redo r h = h
 pub never_free : (s : Session) (document view : ℕ) (m : Message) (direction : Direction) → IsTask s view m (unrecorded document view (going direction)) → is_free s view m ≡ true → false ≡ true
 never_free s document view m direction t free =
     needs_some direction t.request (subst (λ p. planned_without_memory t.request p ≡ true) t.planned (free_found s view m t.kind t.request t.found free).0)
+
+-- No notes came where there was room for none.
+
+none_of : (ns : List Notice) → length ns ≡ 0 → ns ≡ []
+none_of [] h = refl
+none_of (n ∷ ns) h = absurd (omega arith)
+
+pub none_told : (old between new : Gathered) (notes bytes : ℕ) → between ≡ record old { note_room = max old.note_room notes; text_room = max old.text_room bytes } → new.note_room + length new.notes ≡ between.note_room + length between.notes
+    → notes ≡ 0 → old ≡ no_notes → new.notes ≡ []
+none_told old between new notes bytes made left none empty =
+    let start : between ≡ gathered [] [] (max 0 notes) (max 0 bytes) = rw empty at made in
+    let room : between.note_room ≡ 0 = ap (λ (g : Gathered). g.note_room) start ∙ ap (max 0) none in
+    let some : length between.notes ≡ 0 = ap (λ (g : Gathered). length g.notes) start in
+    none_of new.notes (omega (arith, left, room, some))

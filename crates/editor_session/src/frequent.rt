@@ -1,5 +1,5 @@
-//! Frequent changes of a document of which nobody hears: a run's style, a marker, a fold level. They are made without a plan, notes and a
-//! reply.
+//! Frequent changes of a document of which nobody hears: a run's style, a marker, a fold level, undo and redo. They are made without a plan,
+//! notes and a reply.
 
 ghost use Rattle.std.specs.Prelude.{◌≡◌, ℕ, ℤ, List, [], map, true, false, Ok, Some, IfNone, IfSome, IsSomeAnd};
 ghost use Rattle.ed_types.specs.declared.message.Message.{Message};
@@ -9,22 +9,25 @@ ghost use Rattle.ed_model.specs.Session.{Document as ModelDocument};
 ghost use Rattle.ed_model.specs.SoundLaws.{Rise};
 ghost use Rattle.ed_model.specs.Table.{table};
 ghost use Rattle.id_table.specs.Entries.{value_at};
-ghost use Rattle.message_plans.specs.Frequent.{frequent_change_of};
+ghost use Rattle.message_plans.specs.Frequent.{frequent_change_of, transaction_of, performing};
 ghost use Rattle.message_requests.specs.Requested.{session_in, documents_in};
 ghost use Rattle.session_changes.specs.Kept.{IsKept, DocumentsAreNamed};
 ghost use Rattle.editor_session.specs.Answers.{message_with};
 ghost use Rattle.editor_session.specs.Doing.{CanBeMade, IsChangedIn};
 ghost use Rattle.editor_session.specs.Tasks.{IsTask};
-ghost use Rattle.editor_session.specs.Unheard.{unrecorded, no_notes, IsSent};
+ghost use Rattle.editor_session.specs.Unheard.{unrecorded, going, no_notes, IsSent};
 
+use crate::history::go_unheard;
+use document::Direction;
 use document_changes::change_unheard;
 use document_table::DocumentTable;
 use ed_model::{DocumentChange, plans_are_fit, soundness_is_kept};
 use ed_types::{Kind, kinds_and_numbers};
 use ed_view::View;
 use id_table::IdTable;
-use message_plans::{change_of, frequent_change_of};
+use message_plans::{change_of, frequent_change_of, is_performed, transaction_of};
 use message_requests::{Request, SentMessage, SessionState};
+use std::alloc::Global;
 
 /// What a frequent change is, and the value that its message answers.
 #[derive(Clone, Copy, Debug)]
@@ -156,17 +159,110 @@ fn settle_as(
     }
 }
 
+/// Finds the document whose history moves by undo or redo, sent to the view of an id. `None` where no transaction is performed.
+#[inline(always)]
+fn find_transaction(
+    state: &SessionState,
+    view: u32,
+    kind: Kind,
+    number: u32,
+    w: i64,
+    l: i64,
+) -> Option<u32>
+    requires kept { IsKept state.now }
+    requires transaction { transaction_of number ≡ Some kind }
+    ensures { IfSome result (λ document. (text : List ℕ) → IsTask (session_in state.now) view (message_with number w l text) (unrecorded document view (performing kind))) }
+{
+    // The laws that each kind is found by its number, and that a plan's numbers are in range.
+    kinds_and_numbers();
+    plans_are_fit();
+    let Some(view) = state.views.get(view) else {
+        return None;
+    };
+    let id = view.document();
+    let Some(document) = state.documents.get(id) else {
+        return None;
+    };
+    // Neither reads a text.
+    let message = SentMessage {
+        number,
+        w,
+        l,
+        text: &[],
+    };
+    let request = Request {
+        session: state,
+        view,
+        document,
+        message,
+    };
+    if is_performed(kind, &request) {
+        Some(id)
+    } else {
+        None
+    }
+}
+
+/// Which way the history moves by undo or redo.
+#[inline(always)]
+fn direction_of(kind: Kind) -> Direction
+    ensures { going result ≡ performing kind }
+{
+    match kind {
+        Kind::Undo => Direction::Undo,
+        _ => Direction::Redo,
+    }
+}
+
+/// Undoes or redoes a transaction of which nobody hears, by a message to the view of an id, and returns the value that is answered. It
+/// stands apart, as `settle_as` does.
+#[inline(never)]
+fn go_as(
+    alloc: Global,
+    state: &mut SessionState,
+    view: u32,
+    kind: Kind,
+    number: u32,
+    w: i64,
+    l: i64,
+) -> Option<i64>
+    requires kept { IsKept state.old }
+    requires transaction { transaction_of number ≡ Some kind }
+    ensures answer { IfSome result (λ value. (text : List ℕ) → table (session_in state.old) view (message_with number w l text) ≡ Ok (session_in state.new, quiet value)) }
+    ensures same { IfNone result (session_in state.new ≡ session_in state.old) }
+    ensures kept { IsKept state.new }
+{
+    let Some(document) = find_transaction(state, view, kind, number, w, l) else {
+        return None;
+    };
+    if go_unheard(alloc, state, document, view, direction_of(kind)) {
+        Some(0)
+    } else {
+        None
+    }
+}
+
 /// Does what a message to the view of an id asks for, and returns the value that is answered, if it is one of the frequent changes of a
 /// document, the table does not refuse it, nobody hears of it, and there is memory for it. Of all others it does nothing.
 #[inline(always)]
-pub(crate) fn settle(state: &mut SessionState, view: u32, number: u32, w: i64, l: i64) -> Option<i64>
+pub(crate) fn settle(
+    alloc: Global,
+    state: &mut SessionState,
+    view: u32,
+    number: u32,
+    w: i64,
+    l: i64,
+) -> Option<i64>
     requires kept { IsKept state.old }
     ensures answer { IfSome result (λ value. (text : List ℕ) → table (session_in state.old) view (message_with number w l text) ≡ Ok (session_in state.new, quiet value)) }
     ensures same { IfNone result (session_in state.new ≡ session_in state.old) }
     ensures kept { IsKept state.new }
 {
-    match frequent_change_of(number) {
-        Some(kind) => settle_as(state, view, kind, number, w, l),
+    if let Some(kind) = frequent_change_of(number) {
+        return settle_as(state, view, kind, number, w, l);
+    }
+    match transaction_of(number) {
+        Some(kind) => go_as(alloc, state, view, kind, number, w, l),
         None => None,
     }
 }

@@ -1,10 +1,10 @@
 //! Undo and redo in a document of the session: with the room that a task made, or at once.
 
-ghost use Rattle.std.specs.Prelude.{◌≡◌, pos, [], map, Ok, OnOk, OnErr, IfOk, IfErr, IfSome, IsSomeAnd, reverse};
+ghost use Rattle.std.specs.Prelude.{◌≡◌, pos, [], map, true, false, Ok, OnOk, OnErr, IfOk, IfErr, IfSome, IsSomeAnd, reverse};
 ghost use Rattle.ed_types.specs.declared.message.Message.{Message};
 ghost use Rattle.ed_types.specs.declared.refusal.Refusal.TheVariants.{OutOfMemory};
 ghost use Rattle.ed_model.specs.History.{latest_text_step};
-ghost use Rattle.ed_model.specs.Performing.{response, transaction_performed};
+ghost use Rattle.ed_model.specs.Performing.{quiet, response, transaction_performed};
 ghost use Rattle.ed_model.specs.Session.{Document as ModelDocument, text_of};
 ghost use Rattle.ed_model.specs.SoundLaws.{AreStepsOf, Rise};
 ghost use Rattle.ed_model.specs.Table.{table};
@@ -31,7 +31,7 @@ use id_table::IdTable;
 use message_requests::SessionState;
 use notify::NoteList;
 use scene::{history_need, perform_history};
-use std::alloc::AllocError;
+use std::alloc::{AllocError, Global};
 
 /// Performs undo or redo in the document of an id, and returns where that leaves the caret, if it makes a step of the text.
 fn go_in(
@@ -87,12 +87,13 @@ pub(crate) fn go(
 ///
 /// # Errors
 ///
-/// `AllocError` where memory is refused. The document and the views are as they were, here too.
+/// `AllocError` where memory is refused, and where it tells more than `most` notes. The document and the views are as they were, here too.
 fn go_with_room(
     document: &mut Document,
     views: &mut IdTable<View>,
     notes: &mut NoteList,
     direction: Direction,
+    most: usize,
 ) -> Result<Option<usize>, AllocError>
     requires steps { AreStepsOf (text_of document.old.document) (text_steps (changes_of direction document.old.document.history)) }
     requires watched { IsWatched document.old.document views.old }
@@ -103,9 +104,10 @@ fn go_with_room(
     ensures id { document.new.document.id ≡ document.old.document.id }
     ensures watched { IsWatched document.new.document views.new }
     ensures next { views.new.next ≡ views.old.next }
+    ensures unheard { OnOk result (most ≡ 0 → notes.old ≡ no_notes → notes.new.notes ≡ []) }
 {
     let need = history_need(document, views, direction);
-    if !need.is_counted() {
+    if !need.is_counted() || need.notes.notes > most {
         return Err(AllocError);
     }
     let Ok(()) = notes.reserve(need.notes.notes, need.notes.bytes) else {
@@ -121,13 +123,14 @@ fn go_with_room(
 ///
 /// # Errors
 ///
-/// `AllocError` where memory is refused. All documents and views are as they were, here too.
+/// As of `go_with_room`. All documents and views are as they were, here too.
 fn go_with_room_in(
     documents: &mut DocumentTable,
     views: &mut IdTable<View>,
     notes: &mut NoteList,
     document: u32,
     direction: Direction,
+    most: usize,
 ) -> Result<Option<usize>, AllocError>
     requires can { IsSomeAnd (value_at documents.old.entries document) (CanGoOnceThereIsRoom direction views.old) }
     requires named { DocumentsAreNamed documents.old.entries }
@@ -141,24 +144,26 @@ fn go_with_room_in(
     ensures rise { ViewsRise views.new }
     ensures next_document { documents.new.next ≡ documents.old.next }
     ensures next_view { views.new.next ≡ views.old.next }
+    ensures unheard { OnOk result (most ≡ 0 → notes.old ≡ no_notes → notes.new.notes ≡ []) }
 {
     let Some(document) = documents.get_mut(document) else {
         unreachable!()
     };
-    go_with_room(document, views, notes, direction)
+    go_with_room(document, views, notes, direction, most)
 }
 
 /// The same, after which the caret of the view of an id stands where that leaves it.
 ///
 /// # Errors
 ///
-/// `AllocError` where memory is refused. The session is as it was, here too.
+/// As of `go_with_room`. The session is as it was, here too.
 fn go_making_room(
     state: &mut SessionState,
     document: u32,
     view: u32,
     direction: Direction,
     notes: &mut NoteList,
+    most: usize,
 ) -> Result<(), AllocError>
     requires kept { IsKept state.old }
     requires can { IsSomeAnd (value_at state.old.documents.entries document) (CanGoOnceThereIsRoom direction state.old.views) }
@@ -167,13 +172,14 @@ fn go_making_room(
     ensures documents { DocumentsAreNamed state.new.documents.entries }
     ensures views { AreNamed state.new.views.entries }
     ensures limits { state.new.limits ≡ state.old.limits }
+    ensures unheard { OnOk result (most ≡ 0 → notes.old ≡ no_notes → notes.new.notes ≡ []) }
 {
     let SessionState {
         documents,
         views,
         ..
     } = state;
-    match go_with_room_in(documents, views, notes, document, direction) {
+    match go_with_room_in(documents, views, notes, document, direction, most) {
         Ok(Some(place)) => {
             set_caret(views, view, place);
             Ok(())
@@ -208,8 +214,34 @@ pub(crate) fn go_at_once(
     // The laws that the steps of undo and redo fit the text, and that the session stays sound.
     plans_are_fit();
     soundness_is_kept();
-    match go_making_room(state, document, view, direction, notes) {
+    match go_making_room(state, document, view, direction, notes, usize::MAX) {
         Ok(()) => Ok(()),
         Err(_) => Err(Refusal::OutOfMemory),
+    }
+}
+
+/// The same where nobody hears of it, and the save point is neither reached nor left: then it returns that it is done. Where not, and
+/// where memory is refused, nothing is.
+#[inline(always)]
+pub(crate) fn go_unheard(
+    alloc: Global,
+    state: &mut SessionState,
+    document: u32,
+    view: u32,
+    direction: Direction,
+) -> bool
+    requires kept { IsKept state.old }
+    requires sent { IsSent (session_in state.old) document view (λ value. going direction) }
+    ensures answer { result ≡ true → (m : Message) → IsTask (session_in state.old) view m (unrecorded document view (going direction)) → table (session_in state.old) view m ≡ Ok (session_in state.new, quiet (pos 0)) }
+    ensures same { result ≡ false → session_in state.new ≡ session_in state.old }
+    ensures kept { IsKept state.new }
+{
+    // The laws that the steps of undo and redo fit the text, and that the session stays sound.
+    plans_are_fit();
+    soundness_is_kept();
+    let mut notes = NoteList::new(alloc);
+    match go_making_room(state, document, view, direction, &mut notes, 0) {
+        Ok(()) => true,
+        Err(_) => false,
     }
 }

@@ -41,6 +41,7 @@ pub(crate) enum Ready {
 ///
 /// `AllocError` where memory is refused, or the document's places are too narrow for so long a text. Its text and all that is
 /// kept of it are as they were, here too.
+#[inline(always)]
 pub(crate) fn reserve(document: &mut Document, need: DocumentRoom) -> Result<(), AllocError>
     ensures same { document.new.document ≡ document.old.document }
     ensures ok { OnOk result (HasRoom document.new need) }

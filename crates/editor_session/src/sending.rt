@@ -86,12 +86,12 @@ fn is_recorded(kind: Kind, request: &Request) -> bool
 }
 
 /// Answers a message to the view of an id by its plan: the value is returned, and the text and the notes of its reply take the place
-/// of another's. It stands apart, so that a plain question sets up nothing of it.
+/// of another's.
 ///
 /// # Errors
 ///
 /// The refusal of the message table; `OutOfMemory` where memory is refused. The session and the place are then as they were.
-#[inline(never)]
+#[inline(always)]
 fn answer_into_by_plan(
     alloc: Global,
     state: &mut SessionState,
@@ -138,10 +138,12 @@ fn answer_into_by_plan(
 }
 
 /// Answers a message to the view of an id: the value is returned, and the text and the notes of its reply take the place of another's.
+/// It stands apart, so that a plain question sets up nothing of it.
 ///
 /// # Errors
 ///
 /// The refusal of the message table; `OutOfMemory` where memory is refused. The session and the place are then as they were.
+#[inline(never)]
 pub(crate) fn answer_into(
     alloc: Global,
     state: &mut SessionState,
@@ -159,17 +161,18 @@ pub(crate) fn answer_into(
     ensures kept { IsKept state.new }
     ensures free { is_free (session_in state.old) view (message_with number w l text.now) ≡ true → IfErr result (λ refusal. refusal ≢ OutOfMemory) }
 {
-    match settle(state, view, number, w, l) {
+    match settle(alloc, state, view, number, w, l) {
         Some(value) => Ok(keep(reply, answer(alloc, value))),
         None => answer_into_by_plan(alloc, state, view, number, w, l, text, reply),
     }
 }
 
-/// Answers a message to the view of an id by its plan.
+/// Answers a message to the view of an id by its plan. It stands apart, so that what is answered without one sets up nothing of it.
 ///
 /// # Errors
 ///
 /// The refusal of the message table; `OutOfMemory` where memory is refused. The session is then as it was.
+#[inline(never)]
 fn answer_by_plan(
     alloc: Global,
     state: &mut SessionState,
@@ -189,33 +192,6 @@ fn answer_by_plan(
     match answer_into_by_plan(alloc, state, view, number, w, l, text, &mut reply) {
         Ok(value) => Ok(whole(alloc, value, reply)),
         Err(refusal) => Err(refusal),
-    }
-}
-
-/// Answers a message: by its plan where it is more than a frequent change of which nobody hears.
-///
-/// # Errors
-///
-/// The refusal of the message table; `OutOfMemory` where memory is refused. The session is then as it was.
-#[inline(always)]
-fn settle_or_answer(
-    alloc: Global,
-    state: &mut SessionState,
-    view: u32,
-    number: u32,
-    w: i64,
-    l: i64,
-    text: &[u8],
-) -> Result<Reply, Refusal>
-    requires kept { IsKept state.old }
-    ensures answer { AnswersBy (table (session_in state.old) view (message_with number w l text.now)) (session_in state.old) (session_in state.new) result }
-    ensures refused { IfErr (table (session_in state.old) view (message_with number w l text.now)) (λ refusal. result ≡ Err refusal) }
-    ensures kept { IsKept state.new }
-    ensures free { is_free (session_in state.old) view (message_with number w l text.now) ≡ true → IfErr result (λ refusal. refusal ≢ OutOfMemory) }
-{
-    match settle(state, view, number, w, l) {
-        Some(value) => Ok(answer(alloc, value)),
-        None => answer_by_plan(alloc, state, view, number, w, l, text),
     }
 }
 
@@ -271,8 +247,11 @@ pub(crate) fn answer_message(
     if let Some(value) = ask(state, view, number, w, l) {
         return Ok(answer(alloc, value));
     }
-    match text_question_of(number) {
-        Some(_) => answer_text_question(alloc, state, view, number, w, l, text),
-        None => settle_or_answer(alloc, state, view, number, w, l, text),
+    if let Some(_) = text_question_of(number) {
+        return answer_text_question(alloc, state, view, number, w, l, text);
     }
+    if let Some(value) = settle(alloc, state, view, number, w, l) {
+        return Ok(answer(alloc, value));
+    }
+    answer_by_plan(alloc, state, view, number, w, l, text)
 }

@@ -1,9 +1,10 @@
--- Messages that change a document and are sent most: a run's style, a marker that comes alone, a fold level. They are not recorded, and read no text of the message.
-use Rattle.std.specs.Prelude.{ℕ, ℤ, if◌then◌else◌, Bool, List, [], ◌∷◌, Ok, Option, Some, None, is_some}
+-- Messages that change a document and are sent most: a run's style, a marker that comes alone, a fold level; undo and redo. They are not recorded, and read no text of the message.
+use Rattle.std.specs.Prelude.{ℕ, ℤ, if◌then◌else◌, Bool, true, false, List, [], ◌∷◌, Ok, Option, Some, None, is_some}
 use Rattle.ed_types.specs.declared.kind.Kind.{Kind}
 use Rattle.ed_types.specs.declared.kind.Kind.TheVariants as kinds
 use Rattle.ed_types.specs.Messages.{number_of, kind_among}
 use Rattle.ed_model.specs.declared.plan.DocumentChange.{DocumentChange}
+use Rattle.ed_model.specs.declared.plan.Plan.{Plan}
 use Rattle.ed_model.specs.declared.plan.Plan.TheVariants as plan
 use Rattle.ed_model.specs.Requests.{Request, Planned}
 use Rattle.ed_model.specs.Table.{plan_of}
@@ -27,3 +28,22 @@ change_planned other = None
 -- those of the plan of a frequent change; none for all other messages, and where it is refused or changes nothing
 abbrev pub change_asked : Kind → Request → Option (DocumentChange × ℤ)
 change_asked kind r = if is_frequent_change kind then change_planned (plan_of kind r) else None
+
+-- Redo and undo, by rising numbers.
+abbrev pub transactions : List Kind
+transactions = kinds.Redo ∷ kinds.Undo ∷ []
+
+-- the one that has the number
+abbrev pub transaction_of : ℕ → Option Kind
+transaction_of number = kind_among transactions number
+
+-- the plan of the one that performs a transaction
+abbrev pub performing : Kind → Plan
+performing kinds.Undo = plan.Undo
+performing other = plan.Redo
+
+-- whether this plan of the one does; no plan of any other message does
+abbrev pub is_performed : Kind → Planned → Bool
+is_performed kinds.Undo (Ok plan.Undo) = true
+is_performed kinds.Redo (Ok plan.Redo) = true
+is_performed other planned = false

@@ -3,7 +3,7 @@
 ghost use Rattle.std.specs.Prelude.{◌≡◌};
 ghost use Rattle.ed_model.specs.PlansFit.{IsSoundRequest};
 ghost use Rattle.ed_model.specs.Table.{plan_of};
-ghost use Rattle.message_plans.specs.Frequent.{frequent_change_of, change_asked};
+ghost use Rattle.message_plans.specs.Frequent.{frequent_change_of, change_asked, transaction_of, is_performed};
 
 use crate::plan::plan_of;
 use ed_model::{DocumentChange, Plan, Planned};
@@ -79,5 +79,36 @@ pub fn change_of(kind: Kind, r: &Request) -> Option<(DocumentChange, i64)>
     match planned {
         Ok(Plan::ChangeDocument { change, value }) => Some((change, value)),
         _ => None,
+    }
+}
+
+/// Redo or undo, if the message with this number is one of them.
+#[inline(always)]
+pub fn transaction_of(number: u32) -> Option<Kind>
+    ensures { result ≡ transaction_of number }
+{
+    match number {
+        2011 => Some(Kind::Redo),
+        2176 => Some(Kind::Undo),
+        _ => None,
+    }
+}
+
+/// Whether the plan of redo or undo performs a transaction. That of no other message does.
+#[inline(always)]
+pub fn is_performed(kind: Kind, r: &Request) -> bool
+    requires sound { IsSoundRequest r.now }
+    ensures { result ≡ is_performed kind (plan_of kind r.now) }
+{
+    match kind {
+        Kind::Undo => match undo_plans::undo(r) {
+            Ok(Plan::Undo) => true,
+            _ => false,
+        },
+        Kind::Redo => match undo_plans::redo(r) {
+            Ok(Plan::Redo) => true,
+            _ => false,
+        },
+        _ => false,
     }
 }

@@ -296,6 +296,7 @@ fn need_of_one(document: &Document, views: &IdTable<View>, direction: Direction)
 }
 
 /// Returns what undo or redo needs at most. What goes out of the text makes room for what comes later.
+#[inline(always)]
 pub fn history_need(document: &Document, views: &IdTable<View>, direction: Direction) -> HistoryNeed
     requires named { AreNamed views.now.entries }
     ensures notes { result.notes ≡ capped_notes (notes_of_history (watchers document.now.document views.now) direction document.now.document.history) (bytes_of_changes (watchers document.now.document views.now) (bits_of direction) (changes_of direction document.now.document.history)) }

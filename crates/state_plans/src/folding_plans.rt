@@ -26,6 +26,7 @@ const CONTRACT: usize = 0;
 const TOGGLE: usize = 2;
 
 /// SETFOLDLEVEL: line `w` has level `l`.
+#[inline(always)]
 pub fn set_fold_level(r: &Request) -> Planned
     ensures { result ≡ set_fold_level r.now }
 {

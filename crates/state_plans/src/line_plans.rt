@@ -74,6 +74,7 @@ fn has_handles(r: &Request, count: u32) -> bool
 }
 
 /// MARKERADD: a marker with number `l` on line `w`. Answers its handle.
+#[inline(always)]
 pub fn marker_add(r: &Request) -> Planned
     ensures { result ≡ marker_add r.now }
 {

@@ -77,6 +77,7 @@ fn unstyled(r: &Request) -> usize
 }
 
 /// SETSTYLING: the next `w` bytes have style `l`.
+#[inline(always)]
 pub fn set_styling(r: &Request) -> Planned
     requires { IsSoundRequest r.now }
     ensures { result ≡ set_styling r.now }

@@ -41,6 +41,7 @@ fn act_if(can: bool, read_only: bool, act: Plan) -> Planned
 }
 
 /// UNDO: undoes the last transaction. No step of it passes the limit, since the text was there before.
+#[inline(always)]
 pub fn undo(r: &Request) -> Planned
     requires { IsSoundRequest r.now }
     ensures { result ≡ undo r.now }
@@ -54,6 +55,7 @@ pub fn undo(r: &Request) -> Planned
 }
 
 /// REDO: makes the next transaction again. No step of it passes the limit, since the text was there before.
+#[inline(always)]
 pub fn redo(r: &Request) -> Planned
     requires { IsSoundRequest r.now }
     ensures { result ≡ redo r.now }

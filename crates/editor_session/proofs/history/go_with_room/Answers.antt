@@ -1,9 +1,10 @@
-use Rattle.std.proofs.Common.{ap, ◌∙◌}
+use Rattle.std.proofs.Common.{rules, ◌≡◌, ap, ◌∙◌}
 use Rattle.ed_model.specs.Performing.{Scene}
 use Rattle.ed_model.specs.Session.{Document}
 use Rattle.document.specs.Undoing.{changes_of, history_behind}
 use Rattle.scene.specs.Scenes.{scene_in}
 use Rattle.scene.specs.Undoing.{bits_of}
+use Rattle.editor_session.proofs.Going.{none_told}
 use Rattle.editor_session.proofs.Replacing.{transaction_keeps_id}
 use Rattle.editor_session.proofs.history.go_with_room.Goals as goal
 
@@ -14,3 +15,9 @@ returns-clause-id c =
     ap (λ (x : Scene). x.document.id) c.perform_history.ensures.scene
     ∙ transaction_keeps_id (bits_of a.direction) (changes_of a.direction d.history) (history_behind a.direction d.history) (scene_in d a.views.now.entries c.reserve.new.self.notes)
     ∙ ap (λ (x : Document). x.id) c.reserve-2.ensures.same
+
+pub returns-clause-unheard : goal.returns-clause-unheard
+returns-clause-unheard c = λ most empty.
+    let need = c.history_need-need.result in
+    let few : need.notes.notes ≡ 0 = search rules in
+    none_told c.args.notes.now c.reserve.new.self c.perform_history.new.notes need.notes.notes need.notes.bytes (search rules) c.perform_history.ensures.note_room_left few empty
