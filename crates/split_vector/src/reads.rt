@@ -7,18 +7,21 @@ use crate::block::Block;
 use std::alloc::Allocator;
 
 impl<T, A: Allocator> Block<T, A> {
-    /// The item at `index`.
+    /// The item at `index`. Its cell is chosen before it is read: of two reads the processor would have to guess which one
+    /// comes, and in a search half of its guesses are wrong. `spare` is read for both sides, so that the choice takes no jump.
     pub(crate) fn get(&self, index: usize) -> T
     where
         T: Copy,
         requires { IsBlock self.now × (index < self.now.len) }
         ensures { result ≡ slice_index_or (block_items self.now) index result }
     {
-        if index < self.gap {
-            self.left()[index]
+        let spare = self.spare;
+        let place = if index < self.gap {
+            index
         } else {
-            self.right()[index - self.gap]
-        }
+            index + spare
+        };
+        self.item(place)
     }
 
     /// Copies the items from `start` on into `target`, as many as it is long.
