@@ -95,8 +95,8 @@ impl<A: Allocator> PlacedMarkers<A> {
         (entry.line(), entry.marker())
     }
 
-    // Returns whether the marker at an index is on a line before the line. Its line is compared as it is stored, for both sides of
-    // the step: so one of two answers is taken, for which the processor needs no jump.
+    // Returns whether the marker at an index is on a line before the line. Only its line is read. Whether it is stored as a distance
+    // rests on the index alone, which a search soon has on one side of the step.
     #[inline]
     fn is_before(&self, index: usize, line: usize) -> bool
         requires { index < length self.now.entries }

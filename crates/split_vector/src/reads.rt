@@ -7,19 +7,17 @@ use crate::block::Block;
 use std::alloc::Allocator;
 
 impl<T, A: Allocator> Block<T, A> {
-    /// The item at `index`. Its cell is chosen before it is read: of two reads the processor would have to guess which one
-    /// comes, and in a search half of its guesses are wrong. `spare` is read for both sides, so that the choice takes no jump.
+    /// The item at `index`. There is one read for both sides of the gap, and the side adds `spare` to its place, or nothing.
     pub(crate) fn get(&self, index: usize) -> T
     where
         T: Copy,
         requires { IsBlock self.now × (index < self.now.len) }
         ensures { result ≡ slice_index_or (block_items self.now) index result }
     {
-        let spare = self.spare;
         let place = if index < self.gap {
             index
         } else {
-            index + spare
+            index + self.spare
         };
         self.item(place)
     }
