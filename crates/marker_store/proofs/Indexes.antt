@@ -73,7 +73,7 @@ before_next line found i es some h a =
 
 -- What is behind an index, by what is behind an earlier one.
 
-from_later : (line n m : ℕ) (es : List Entry) → AllFrom line (drop n es) → n ≤ m → AllFrom line (drop m es)
+pub from_later : (line n m : ℕ) (es : List Entry) → AllFrom line (drop n es) → n ≤ m → AllFrom line (drop m es)
 from_later line zero zero es a h = a
 from_later line zero (suc m) [] a h = tt
 from_later line zero (suc m) (e ∷ es) a h = from_later line zero m es a.1 (omega arith)

@@ -1,5 +1,5 @@
 //! The markers of all lines in one list, each with its line.
-ghost use Rattle.std.specs.Prelude.{◌≡◌, ◌≢◌, ◌≤◌, ◌<◌, ◌+◌, ◌-◌, ◌∷◌, ◌++◌, ◌^◌, [], length, max, take, drop, filter, not, slice_index_or, MatchOption, IsTrue, ◌↔◌, IfOk, OnOk, OnErr, IsOk};
+ghost use Rattle.std.specs.Prelude.{◌≡◌, ◌≢◌, ◌≤◌, ◌<◌, ◌+◌, ◌-◌, ◌∷◌, ◌++◌, ◌^◌, [], length, max, take, drop, filter, not, slice_index_or, MatchOption, IsTrue, IsFalse, ◌↔◌, IfOk, OnOk, OnErr, IsOk};
 ghost use Rattle.split_vector.specs.Split.{most_room};
 ghost use Rattle.ed_model.specs.LinePlans.{mask_of};
 ghost use Rattle.marker_store.specs.Dropping.{kept};
@@ -95,37 +95,41 @@ impl<A: Allocator> PlacedMarkers<A> {
         (entry.line(), entry.marker())
     }
 
-    /// Returns the line of the marker at an index.
+    // Returns whether the marker at an index is on a line before the line. Only its line is read. Whether it is stored as a distance
+    // rests on the index alone, which a search soon has on one side of the step.
     #[inline]
-    fn line_at(&self, index: usize) -> usize
+    fn is_before(&self, index: usize, line: usize) -> bool
         requires { index < length self.now.entries }
-        ensures before { AllBefore (result + 1) (take (index + 1) self.now.entries) }
-        ensures behind { AllFrom result (drop index self.now.entries) }
+        ensures before { IsTrue result → AllBefore line (take (index + 1) self.now.entries) }
+        ensures behind { IsFalse result → AllFrom line (drop index self.now.entries) }
     {
-        let (line, _) = self.entry_at(index);
-        line
+        let stored = self.stored.get(index).line();
+        let near = stored < line;
+        let far = self.lines - stored < line;
+        if index < self.step { near } else { far }
     }
 
     /// Returns how many markers are on lines before the line. The search stands apart, since what is asked for is mostly found
     /// without it. It reads as many markers whatever it finds, and what it finds is added and not jumped by, since a processor
-    /// guesses every second such jump wrongly.
+    /// guesses every second such jump wrongly. The first turn leaves a power of two of markers, so that each other turn adds the
+    /// next lower power or nothing. It is added by a shift: of a product with the power the compiler would make a jump again.
     #[inline(never)]
     pub(crate) fn cut(&self, line: usize) -> usize
         ensures { IsCut line self.now.entries result }
     {
-        let mut low = 0;
-        let mut width = self.len();
-        'halving: while width > 1 {
-            let half = width / 2;
-            if self.line_at(low + half - 1) < line {
-                low += half;
-            }
-            width -= half;
+        let count = self.len();
+        if count == 0 {
+            return 0;
         }
-        if width == 1 && self.line_at(low) < line {
-            return low + 1;
+        let mut level = count.ilog2();
+        let first = count - (1 << level);
+        let mut low = self.is_before(first, line) as usize * first;
+        'halving: while level > 0 {
+            level -= 1;
+            let middle = low + (1 << level);
+            low += (self.is_before(middle, line) as usize) << level;
         }
-        low
+        low + self.is_before(low, line) as usize
     }
 
     // Returns whether the markers before the index are those on lines before the line.

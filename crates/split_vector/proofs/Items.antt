@@ -1,6 +1,6 @@
 -- The cells of a block as a list.
-use Rattle.std.proofs.Common.{◌≡◌, ℕ, zero, suc, ◌+◌, ◌-◌, ◌<◌, ◌≤◌, List, [], ◌∷◌, ◌++◌, map, length, take, drop, set, replicate, Option, Some, None, refl, sym, ap, ◌∙◌, arith, length-append, length-take, length-drop, take-append-drop, append_assoc}
-use Rattle.std.proofs.lemmas.List.{length-map, length-replicate, map-append}
+use Rattle.std.proofs.Common.{◌≡◌, ℕ, zero, suc, ◌+◌, ◌-◌, ◌<◌, ◌≤◌, List, [], ◌∷◌, ◌++◌, map, length, get_or, take, drop, set, replicate, Option, Some, None, refl, sym, ap, ◌∙◌, arith, length-append, length-take, length-drop, take-append-drop, append_assoc}
+use Rattle.std.proofs.lemmas.List.{length-map, length-replicate, map-append, take-map, drop-map, drop-drop}
 use Rattle.split_vector.specs.Ownership.{cells_of}
 
 module _ {X : Type 0} where
@@ -110,6 +110,30 @@ module _ {X : Type 0} where
 
   pub right_run : (xs : List X) (n : ℕ) (ys : List X) → take (length ys) (drop (length xs + n) (cells_of xs n ys)) ≡ map Some ys
   right_run xs n ys = ap (take (length ys)) (past_left xs n (length xs + n) ys refl) ∙ take_all ys
+
+  -- the cell of the item at a place, left of the gap and right of it
+  pub item_left : (xs : List X) (n : ℕ) (ys : List X) (i : ℕ) → i < length xs → take 1 (drop i (cells_of xs n ys)) ≡ map Some (take 1 (drop i (xs ++ ys)))
+  item_left [] n ys i lt = absurd (omega arith)
+  item_left (x ∷ xs) n ys zero lt = refl
+  item_left (x ∷ xs) n ys (suc i) lt = item_left xs n ys i (omega arith)
+
+  pub item_right : (xs : List X) (n : ℕ) (ys : List X) (i : ℕ) → length xs ≤ i → take 1 (drop (i + n) (cells_of xs n ys)) ≡ map Some (take 1 (drop i (xs ++ ys)))
+  item_right [] n ys i le =
+      ap (λ k. take 1 (drop k (none n ++ map Some ys))) (let e : i + n ≡ n + i = omega arith in e) ∙ ap (take 1) (sym (drop-drop i n (none n ++ map Some ys)) ∙ ap (drop i) (past_none n ys) ∙ drop-map Some i ys) ∙ take-map Some 1 (drop i ys)
+  item_right (x ∷ xs) n ys zero le = absurd (omega arith)
+  item_right (x ∷ xs) n ys (suc i) le = let e : suc i + n ≡ suc (i + n) = omega arith in ap (λ k. take 1 (drop k (cells_of (x ∷ xs) n ys))) e ∙ item_right xs n ys i (omega arith)
+
+  -- the one cell of a run that is read as one item
+  pub sole : (cs : List (Option X)) (xs : List X) (x : X) → take 1 cs ≡ map Some xs → 0 < length xs → x ≡ get_or xs 0 x → take 1 cs ≡ Some x ∷ []
+  sole cs [] x e some is = absurd (omega arith)
+  sole [] (y ∷ ys) x e some is = cc
+  sole (c ∷ cs) (y ∷ ys) x e some is = cc
+
+  pub read_one : (xs : List X) (i : ℕ) (x : X) → take 1 (drop i xs) ≡ x ∷ [] → x ≡ get_or xs i x
+  read_one [] zero x e = refl
+  read_one [] (suc i) x e = refl
+  read_one (y ∷ ys) zero x e = cc
+  read_one (y ∷ ys) (suc i) x e = read_one ys i x e
 
   somes : List (Option X) → List X
   somes [] = []

@@ -1,7 +1,8 @@
 //! The fields of a vector, and the steps that keep them a gap buffer. The arithmetic of the gap is here.
-ghost use Rattle.std.specs.Prelude.{◌≡◌, ◌≤◌, ◌<◌, ◌+◌, ◌-◌, ◌*◌, [], ◌∷◌, ◌++◌, length, take, drop, replicate, slice_index_or, slice_set, slice_range, OnOk, OnErr};
+ghost use Rattle.std.specs.Prelude.{◌≡◌, ◌≤◌, ◌<◌, ◌+◌, ◌-◌, ◌*◌, [], ◌∷◌, ◌++◌, length, take, drop, replicate, slice_index_or, slice_set, slice_range, OnOk, OnErr, Some};
+ghost use Rattle.split_vector.specs.Cells.{IsRun};
 ghost use Rattle.split_vector.specs.Split.{counted, apart, outside};
-ghost use Rattle.split_vector.specs.Block.{IsBlock, Has, block_items};
+ghost use Rattle.split_vector.specs.Block.{IsBlock, Has, block_items, block_cells};
 
 use crate::cells::{Base, Cells, Deed, allocate, deallocate, discard, no_cells};
 use std::alloc::{AllocError, Allocator};
@@ -81,6 +82,17 @@ impl<T, A: Allocator> Block<T, A> {
     {
         self.cells
             .right(self.base, self.gap + self.spare, self.len - self.gap)
+    }
+
+    /// The item in the cell `place`.
+    #[inline]
+    pub(crate) fn item(&self, place: usize) -> T
+    where
+        T: Copy,
+        requires { IsBlock self.now × IsRun (block_cells self.now) place 1 }
+        ensures { take 1 (drop place (block_cells self.now)) ≡ Some result ∷ [] }
+    {
+        self.cells.slice(self.base, place, 1)[0]
     }
 
     #[inline(always)]

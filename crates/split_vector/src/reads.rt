@@ -7,18 +7,19 @@ use crate::block::Block;
 use std::alloc::Allocator;
 
 impl<T, A: Allocator> Block<T, A> {
-    /// The item at `index`.
+    /// The item at `index`. There is one read for both sides of the gap, and the side adds `spare` to its place, or nothing.
     pub(crate) fn get(&self, index: usize) -> T
     where
         T: Copy,
         requires { IsBlock self.now × (index < self.now.len) }
         ensures { result ≡ slice_index_or (block_items self.now) index result }
     {
-        if index < self.gap {
-            self.left()[index]
+        let place = if index < self.gap {
+            index
         } else {
-            self.right()[index - self.gap]
-        }
+            index + self.spare
+        };
+        self.item(place)
     }
 
     /// Copies the items from `start` on into `target`, as many as it is long.

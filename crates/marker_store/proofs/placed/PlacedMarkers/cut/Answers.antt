@@ -1,53 +1,38 @@
-use Rattle.std.proofs.Common.{◌≡◌, ◌+◌, ◌-◌, ◌/◌, arith}
-use Rattle.marker_store.proofs.Rows.{before_more}
-use Rattle.marker_store.proofs.Indexes.{before_next, from_found}
-use Rattle.marker_store.proofs.placed.PlacedMarkers.cut.Goals.{then-line_at-line, else-line_at-line, else-width-eq1-via-then-width-eq1+else-line_at-line-2, else-width-eq1-via-else-width-eq1}
+use Rattle.std.proofs.Common.{◌≡◌, ◌+◌, ◌-◌, ◌*◌, ◌%◌, ◌^◌, ◌<◌, length, arith}
+use mir.Val.{bool_byte}
+use Rattle.marker_store.proofs.Halving.{begun, turned_by, cut_found, moved_up, power_halved}
 use Rattle.marker_store.proofs.placed.PlacedMarkers.cut.Goals as goal
 
--- an end of the range moves, and the other one stays
+pub halving-init : goal.halving-init
+halving-init g c =
+    let log = c.ilog2-level.ensures in
+    let n = c.len-count.result in
+    let power = 2 ^ c.ilog2-level.result in
+    let first = n - 1 * power % 18446744073709551616 in
+    let small : power < 18446744073709551616 = omega (arith, log.power_le, c.len-count.type_inv) in (
+      begun c.args.line first power (bool_byte c.is_before.result * first) c.args.self.now.entries c.is_before.result
+          (omega (arith, log.power_le, small, c.len-count.ensures.len)) (omega (arith, log.power_le, log.next_power_gt, small)) (omega arith)
+          c.is_before.ensures.before c.is_before.ensures.behind,
+      log.bound,
+    )
+
 pub halving-preserved : goal.halving-preserved
 halving-preserved g c =
     let h = c.halving in
-    let es = c.args.self.now.entries in
-    let half = h.width / 2 in
-    elim c.if-line_at-line.branch [
-      | then-line_at-line w ↦
-          let q : h.low + half + (h.width - half) ≡ h.low + h.width = omega arith in
-          rw w.low-is (
-            omega arith,
-            before_next c.args.line c.line_at.result (h.low + half) es (omega arith) (omega (arith, w.if-line_at-line.true)) c.line_at.ensures.before,
-            rw q h.invariant.2,
-          )
-      | else-line_at-line w ↦
-          rw w.low-is (
-            omega arith,
-            h.invariant.1,
-            from_found c.args.line c.line_at.result (h.low + half - 1) (h.low + (h.width - half)) es (omega (arith, w.if-line_at-line.false)) c.line_at.ensures.behind (omega arith),
-          )
-    ]
-
-pub returns-then-line_at-line-2 : goal.returns-then-line_at-line-2
-returns-then-line_at-line-2 g c =
-    let h = c.halving in
-    let q : h.low + h.width ≡ h.low + 1 = omega (arith, c.if-width-eq1.true) in
-    record {
-      within = omega arith;
-      before = before_more (c.line_at-then-width-eq1.result + 1) c.args.line _ (omega (arith, c.if-line_at-line-2.true)) c.line_at-then-width-eq1.ensures.before;
-      behind = rw q at h.invariant.2;
-    }
+    let half = 2 ^ (h.level - 1) in
+    let power : 2 ^ h.level ≡ half * 2 = power_halved h.level c.halving-test.true in
+    let answer = c.is_before-in-halving.result in
+    let count : length c.args.self.now.entries < 18446744073709551616 = omega (arith, c.len-count.ensures.len, c.len-count.type_inv) in
+    let small : half < 18446744073709551616 = omega (arith, h.invariant.0.within) in
+    let middle : h.low + 1 * half % 18446744073709551616 ≡ h.low + half = omega arith in (
+      turned_by c.args.line h.low (2 ^ h.level) half (h.low + bool_byte answer * half % 18446744073709551616) c.args.self.now.entries answer
+          h.invariant.0 power (omega (arith, moved_up answer half small)) (rw middle at c.is_before-in-halving.ensures.before) (rw middle at c.is_before-in-halving.ensures.behind),
+      omega (arith, h.invariant.1),
+    )
 
 pub returns : goal.returns
 returns g c =
     let h = c.halving in
-    let es = c.args.self.now.entries in
-    elim c.else-width-eq1.branch [
-      | else-width-eq1-via-then-width-eq1+else-line_at-line-2 w ↦
-          record {
-            within = omega arith;
-            before = h.invariant.1;
-            behind = from_found c.args.line w.line_at-then-width-eq1.result h.low h.low es (omega (arith, w.if-line_at-line-2.false)) w.line_at-then-width-eq1.ensures.behind (omega arith);
-          }
-      | else-width-eq1-via-else-width-eq1 w ↦
-          let q : h.low + h.width ≡ h.low = omega (arith, w.if-width-eq1.false, c.halving-test.false) in
-          record { within = omega arith; before = h.invariant.1; behind = rw q at h.invariant.2 }
-    ]
+    let zero : h.level ≡ 0 = omega (arith, c.halving-test.false) in
+    let last = c.is_before-2 in
+    cut_found c.args.line h.low (h.low + bool_byte last.result) c.args.self.now.entries last.result (rw zero at h.invariant.0) (omega arith) last.ensures.before last.ensures.behind
