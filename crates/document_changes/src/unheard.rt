@@ -69,7 +69,11 @@ fn style_run(document: &mut Document, count: usize, style: u32) -> bool
 /// Makes a change that is one of the frequent ones, where no view is told of it, and returns whether it did. Where there is no room for
 /// it, memory is taken; where that is refused, and of all other changes, none is made, and the document is as it was.
 #[inline(always)]
-pub fn change_unheard(document: &mut Document, views: &IdTable<View>, change: DocumentChange) -> bool
+pub fn change_unheard(
+    document: &mut Document,
+    views: &IdTable<View>,
+    change: DocumentChange,
+) -> bool
     requires fits { IsFitChange document.old.document change }
     requires watched { IsWatched document.old.document views.now }
     ensures made { result ≡ true → (text : List ℕ) (sender : ℕ) (notes : Gathered) → IsChanged text change sender document.old.document document.new.document views.now views.now notes notes }

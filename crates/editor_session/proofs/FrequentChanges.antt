@@ -1,5 +1,5 @@
 -- Frequent changes of a document of which nobody hears.
-use Rattle.std.proofs.Common.{◌≡◌, ℕ, ℤ, ◌==◌, Bool, true, false, cond, List, [], ◌∷◌, refl, ap, sym, subst, ◌∙◌, Option, Some, None, Ok, Err, IfSome, IsSomeAnd}
+use Rattle.std.proofs.Common.{◌≡◌, ℕ, ℤ, Bool, true, false, cond, List, [], refl, ap, sym, subst, ◌∙◌, Option, Some, None, Ok, Err, IfSome, IsSomeAnd}
 use Rattle.std.specs.List.{AllByRecursion}
 use Rattle.std.proofs.lemmas.Bool.{eqb-true}
 use Rattle.ed_types.specs.declared.kind.Kind.{Kind}
@@ -11,7 +11,7 @@ use Rattle.ed_model.specs.Changes.{changed_document}
 use Rattle.ed_model.specs.declared.plan.DocumentChange.{DocumentChange}
 use Rattle.ed_model.specs.declared.plan.Plan.{Plan}
 use Rattle.ed_model.specs.declared.plan.Plan.TheVariants as plan
-use Rattle.ed_model.specs.Requests.{Request, Planned}
+use Rattle.ed_model.specs.Requests.{Planned}
 use Rattle.ed_model.specs.Session.{Session, View, Document, view_at, document_at}
 use Rattle.ed_model.specs.Performing.{quiet}
 use Rattle.ed_model.specs.PlansFit.{PlansFit}

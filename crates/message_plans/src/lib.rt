@@ -10,7 +10,5 @@ mod frequent;
 mod plan;
 
 pub use asking::{handed_of, question_of, text_question_of, value_of};
-pub use frequent::{
-    change_of, frequent_change_of, frequent_plan_of, is_performed, transaction_of,
-};
+pub use frequent::{change_of, frequent_change_of, frequent_plan_of, is_performed, transaction_of};
 pub use plan::plan_of;

@@ -1,4 +1,4 @@
-use Rattle.std.proofs.Common.{◌≡◌, ◌++◌, [], sym, ap, subst, ◌∙◌, List, ℕ, IfSome}
+use Rattle.std.proofs.Common.{◌++◌, [], sym, ap, subst, ◌∙◌, List, ℕ, IfSome}
 use Rattle.std.specs.Option.{option_copied_mut}
 use Rattle.ed_model.specs.Changes.{changed_document, change_told}
 use Rattle.id_table.specs.Entries.{with_value_at}

@@ -1,4 +1,4 @@
-use Rattle.std.proofs.Common.{◌≡◌, pos, [], Ok, refl, ap, ◌∙◌}
+use Rattle.std.proofs.Common.{pos, [], Ok, refl, ap, ◌∙◌}
 use Rattle.ed_model.specs.Performing.{response}
 use Rattle.message_requests.specs.Requested.{session_in}
 use Rattle.editor_session.proofs.Going.{can_go_once, gone_at_once}

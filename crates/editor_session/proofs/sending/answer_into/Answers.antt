@@ -1,4 +1,4 @@
-use Rattle.std.proofs.Common.{rules, ◌≡◌, Err, ap, subst, to_z, of_z, w64}
+use Rattle.std.proofs.Common.{rules, ◌≡◌, Err, subst, to_z, of_z, w64}
 use Rattle.std.specs.Prelude.{IfErr}
 use Rattle.ed_model.specs.Session.{Session}
 use Rattle.ed_model.specs.Table.{table}
