@@ -130,6 +130,7 @@ pub fn get_text(r: &Request) -> HandedOut
 }
 
 /// GETTEXTRANGE: the bytes from `w` up to `l`, where -1 is the end of the text; none where there is no such range, which is refused.
+#[inline(always)]
 pub fn get_text_range(r: &Request) -> Option<HandedOut>
     ensures { with_argument result handed_out ≡ get_text_range r.now }
 {
