@@ -290,3 +290,36 @@ fn limits_are_within_the_greatest(rt: HostRuntime) {
         assert_eq!(rt; refusal_of(rt.alloc(), limits), Some(Refusal::BadArgument));
     }
 }
+
+#[test]
+fn changes_of_which_nobody_hears(rt: HostRuntime) {
+    let rows = [
+        opened(1),
+        sent(Kind::SetModEventMask, 0, 0, 0),
+        sent(Kind::SetText, 0, 0, 0).with(b"ab\ncd\n"),
+        sent(Kind::MarkerAdd, 1, 3, 1),
+        sent(Kind::MarkerGet, 1, 0, 8),
+        sent(Kind::MarkerAdd, 9, 3, -1),
+        refused(Kind::MarkerAdd, 1, 32, Refusal::BadArgument),
+        sent(Kind::SetFoldLevel, 1, 0x2400, 0),
+        sent(Kind::GetFoldLevel, 1, 0, 0x2400),
+        refused(Kind::SetFoldLevel, 1, -1, Refusal::BadArgument),
+        sent(Kind::SetStyling, 3, 7, 0),
+        sent(Kind::GetStyleAt, 2, 0, 7),
+        sent(Kind::GetEndStyled, 0, 0, 3),
+        refused(Kind::SetStyling, 4, 7, Refusal::BadArgument),
+        sent(Kind::BeginUndoAction, 0, 0, 0),
+        sent(Kind::AppendText, 1, 0, 0).with(b"e"),
+        sent(Kind::EndUndoAction, 0, 0, 0),
+        sent(Kind::Undo, 0, 0, 0),
+        sent(Kind::GetText, 0, 0, 6).handing_out(b"ab\ncd\n"),
+        sent(Kind::Redo, 0, 0, 0),
+        sent(Kind::GetText, 0, 0, 7).handing_out(b"ab\ncd\ne"),
+        sent(Kind::Redo, 0, 0, 0),
+        sent(Kind::GetLength, 0, 0, 7),
+    ];
+    assert_eq!(rt;
+        first_unmet_within(rt.alloc(), Limits::GREATEST, rows.as_slice()),
+        None
+    );
+}
