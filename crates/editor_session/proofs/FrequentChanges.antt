@@ -11,7 +11,7 @@ use Rattle.ed_model.specs.Changes.{changed_document}
 use Rattle.ed_model.specs.declared.plan.DocumentChange.{DocumentChange}
 use Rattle.ed_model.specs.declared.plan.Plan.{Plan}
 use Rattle.ed_model.specs.declared.plan.Plan.TheVariants as plan
-use Rattle.ed_model.specs.Requests.{Request, Planned}
+use Rattle.ed_model.specs.Requests.{Planned}
 use Rattle.ed_model.specs.Session.{Session, View, Document, view_at, document_at}
 use Rattle.ed_model.specs.Performing.{quiet}
 use Rattle.ed_model.specs.PlansFit.{PlansFit}
@@ -26,7 +26,7 @@ use Rattle.scene.specs.Scenes.{AreNamed}
 use Rattle.session_changes.specs.Kept.{IsKept, DocumentsAreNamed}
 use Rattle.editor_session.specs.Answers.{message_with}
 use Rattle.editor_session.specs.Doing.{CanBeMade, Changes, IsChangedIn}
-use Rattle.editor_session.specs.Tasks.{IsTask, IsRequested}
+use Rattle.editor_session.specs.Tasks.{IsTask}
 use Rattle.editor_session.specs.Unheard.{unrecorded, no_notes, IsSent}
 use Rattle.editor_session.proofs.Keeping.{kept_after_message, kept_with}
 use Rattle.editor_session.proofs.Performing.{asked_by, kept_at, for_kept, change_fits, watched_here}
@@ -44,18 +44,16 @@ transactions_plain : AllByRecursion IsPlain transactions
 transactions_plain = (plain refl (λ r text. refl), (plain refl (λ r text. refl), tt))
 
 -- the task of one of some such messages, with whatever text, by its plan without one
-plain_task : PlansFit → EachKindIsFound → (those : List Kind) → AllByRecursion IsPlain those → (s : Session) (view number : ℕ) (w l : ℤ) (kind : Kind) (r : Request) (what : Plan) → kind_among those number ≡ Some kind
-    → IsRequested s view (message_with number w l []) r → plan_of kind r ≡ Ok what → (text : List ℕ) → IsTask s view (message_with number w l text) (unrecorded r.document.id view what)
-plain_task fit law those all s view number w l kind r what is requested e text =
-    let m = message_with number w l text in
-    let bare = request s r.view r.document (message_with number w l []) in
-    let with = request s r.view r.document m in
-    let among = found_plain number those kind all is in
-    let decoded = subst (λ n. kind_of n ≡ Some kind) (eqb-true (number_of kind) number among.1) (law kind) in
-    let sound = subst (λ (x : Request). IsSound x.session) requested.is requested.sound.sound in
-    let reached = is_found s view m r.view kind r.document sound requested.view_there decoded requested.document_there in
-    unrecorded_task s r.document.id view m kind with what reached (among.0.any_text bare text ∙ ap (plan_of kind) (sym requested.is) ∙ e) refl
-    (unheard r.view.records (marks_of kind).r among.0.unrecorded) (fit kind with reached.sound)
+module _ (fit : PlansFit) (law : EachKindIsFound) (those : List Kind) (all : AllByRecursion IsPlain those) (s : Session) (view number : ℕ) (w l : ℤ) (kind : Kind) (v : View) (d : Document) where
+  plain_task : (what : Plan) → IsSound s → kind_among those number ≡ Some kind → view_at s.views view ≡ Some v → document_at s.documents v.document ≡ Some d
+      → plan_of kind (request s v d (message_with number w l [])) ≡ Ok what → (text : List ℕ) → IsTask s view (message_with number w l text) (unrecorded d.id view what)
+  plain_task what sound is found there e text =
+      let m = message_with number w l text in
+      let r = request s v d m in
+      let among = found_plain number those kind all is in
+      let decoded = subst (λ n. kind_of n ≡ Some kind) (eqb-true (number_of kind) number among.1) (law kind) in
+      let reached = is_found s view m v kind d sound found decoded there in
+      unrecorded_task s d.id view m kind r what reached (among.0.any_text (request s v d (message_with number w l [])) text ∙ e) refl (unheard v.records (marks_of kind).r among.0.unrecorded) (fit kind r reached.sound)
 
 planned : (b : Bool) (p : Planned) (what : DocumentChange) (value : ℤ) → cond b (change_planned p) None ≡ Some (what, value) → p ≡ Ok (plan.ChangeDocument what value)
 planned false p what value e = absurd (cc)
@@ -70,17 +68,18 @@ performed_so kinds.Undo (Ok plan.Undo) h = refl
 performed_so kinds.Redo (Ok plan.Redo) h = refl
 performed_so _ _ h = absurd (cc)
 
-module _ (fit : PlansFit) (law : EachKindIsFound) (s : Session) (view number : ℕ) (w l : ℤ) (kind : Kind) (r : Request) where
-  pub frequent_task : (what : DocumentChange) (value : ℤ) → frequent_change_of number ≡ Some kind → IsRequested s view (message_with number w l []) r → change_asked kind r ≡ Some (what, value)
-      → (text : List ℕ) → IsTask s view (message_with number w l text) (unrecorded r.document.id view (plan.ChangeDocument what value))
-  frequent_task what value is requested e =
-      plain_task fit law frequent_changes changes_plain s view number w l kind r (plan.ChangeDocument what value) is requested
-      (planned (is_frequent_change kind) (plan_of kind r) what value e)
+module _ (fit : PlansFit) (law : EachKindIsFound) (s : Session) (view number : ℕ) (w l : ℤ) (kind : Kind) (v : View) (d : Document) where
+  pub frequent_task : (what : DocumentChange) (value : ℤ) → IsSound s → frequent_change_of number ≡ Some kind → view_at s.views view ≡ Some v → document_at s.documents v.document ≡ Some d
+      → change_asked kind (request s v d (message_with number w l [])) ≡ Some (what, value) → (text : List ℕ) → IsTask s view (message_with number w l text) (unrecorded d.id view (plan.ChangeDocument what value))
+  frequent_task what value sound is found there e =
+      plain_task fit law frequent_changes changes_plain s view number w l kind v d (plan.ChangeDocument what value) sound is found there
+      (planned (is_frequent_change kind) (plan_of kind (request s v d (message_with number w l []))) what value e)
 
-  pub transaction_task : transaction_of number ≡ Some kind → IsRequested s view (message_with number w l []) r → is_performed kind (plan_of kind r) ≡ true
-      → (text : List ℕ) → IsTask s view (message_with number w l text) (unrecorded r.document.id view (performing kind))
-  transaction_task is requested e =
-      plain_task fit law transactions transactions_plain s view number w l kind r (performing kind) is requested (performed_so kind (plan_of kind r) e)
+  pub transaction_task : IsSound s → transaction_of number ≡ Some kind → view_at s.views view ≡ Some v → document_at s.documents v.document ≡ Some d
+      → is_performed kind (plan_of kind (request s v d (message_with number w l []))) ≡ true → (text : List ℕ) → IsTask s view (message_with number w l text) (unrecorded d.id view (performing kind))
+  transaction_task sound is found there e =
+      plain_task fit law transactions transactions_plain s view number w l kind v d (performing kind) sound is found there
+      (performed_so kind (plan_of kind (request s v d (message_with number w l []))) e)
 
 module _ (s : SessionState) (kept : IsKept s) (document view : ℕ) (what : DocumentChange) where
   pub can_be_made : IsSent (session_in s) document view (plan.ChangeDocument what) → IsSomeAnd (value_at s.documents.entries document) (CanBeMade what s.views)

@@ -19,7 +19,6 @@ use Rattle.ed_model.specs.Table.{table, record_note, table_from_view, table_from
 use Rattle.message_plans.specs.Asking.{questions, question_of, is_question, value_planned, value_asked}
 use Rattle.editor_session.proofs.Finding.{id_of_view_at}
 use Rattle.editor_session.specs.Answers.{message_with}
-use Rattle.editor_session.specs.Tasks.{IsRequested, IsWithout}
 use Rattle.editor_session.specs.Asked.{value_from_document, value_from_view, value_from_kind, value_to}
 
 -- A plain question is not recorded, and its plan is that of the same message with another text.
@@ -101,13 +100,16 @@ answers_as_the_table law s view number w l (Some value) e = λ text. plain_reply
 pub no_question : (s : Session) (id : ℕ) (m : Message) → question_of m.number ≡ None → value_to s id m ≡ None
 no_question s id m none = ap (value_from_kind s id m) none
 
-pub asked_in_vain : (s : Session) (id : ℕ) (m : Message) (kind : Kind) → question_of m.number ≡ Some kind → IsWithout s id → value_to s id m ≡ None
-asked_in_vain s id m kind is without = ap (value_from_kind s id m) is ∙ go (view_at s.views id) refl
-  where
-    go : (o : Option View) → view_at s.views id ≡ o → value_from_view s kind m o ≡ None
-    go None e = refl
-    go (Some v) e = ap (value_from_document s v kind m) (without v e)
+pub asked_of_no_view : (s : Session) (id : ℕ) (m : Message) (kind : Kind) → question_of m.number ≡ Some kind → view_at s.views id ≡ None → value_to s id m ≡ None
+asked_of_no_view s id m kind is none = ap (value_from_kind s id m) is ∙ ap (value_from_view s kind m) none
 
-pub asked_of : (s : Session) (id : ℕ) (m : Message) (kind : Kind) (r : Request) → question_of m.number ≡ Some kind → IsRequested s id m r → value_to s id m ≡ value_asked kind r
-asked_of s id m kind r is requested =
-    ap (value_from_kind s id m) is ∙ ap (value_from_view s kind m) requested.view_there ∙ ap (value_from_document s r.view kind m) requested.document_there ∙ ap (value_asked kind) (sym requested.is)
+pub asked_of_no_document : (s : Session) (id : ℕ) (m : Message) (kind : Kind) (v : View) → question_of m.number ≡ Some kind → view_at s.views id ≡ Some v → document_at s.documents v.document ≡ None
+    → value_to s id m ≡ None
+asked_of_no_document s id m kind v is found none = ap (value_from_kind s id m) is ∙ ap (value_from_view s kind m) found ∙ ap (value_from_document s v kind m) none
+
+pub asked_of : (s : Session) (id : ℕ) (m : Message) (kind : Kind) (v : View) (d : Document) → question_of m.number ≡ Some kind → view_at s.views id ≡ Some v → document_at s.documents v.document ≡ Some d
+    → value_to s id m ≡ value_asked kind (request s v d m)
+asked_of s id m kind v d is found there = ap (value_from_kind s id m) is ∙ ap (value_from_view s kind m) found ∙ ap (value_from_document s v kind m) there
+
+pub sound_request : (s : Session) (id : ℕ) (m : Message) (v : View) (d : Document) → IsSound s → view_at s.views id ≡ Some v → document_at s.documents v.document ≡ Some d → IsSoundRequest (request s v d m)
+sound_request s id m v d sound found there = record { sound = sound; view = ap (view_at s.views) (id_of_view_at s.views id v found) ∙ found; document = there }

@@ -20,7 +20,6 @@ use Rattle.message_requests.specs.declared.answers.HandedOut.{HandedOut}
 use Rattle.message_requests.specs.HandingOut.{handed_out}
 use Rattle.message_plans.specs.Asking.{text_questions, text_question_of, is_text_question, handed_planned, handed_asked}
 use Rattle.editor_session.specs.Answers.{message_with}
-use Rattle.editor_session.specs.Tasks.{IsRequested, IsWithout}
 use Rattle.editor_session.specs.Asked.{reply_handing, reply_from_document, reply_from_view, reply_from_kind, reply_to}
 use Rattle.editor_session.proofs.Questions.{IsPlain, plain, found_plain, unheard}
 
@@ -61,20 +60,17 @@ handing_length d h within =
     length_slice (text_of d) h.start h.count (omega (arith, long, within))
 
 -- the table's answer to a text question, with whatever text
-pub text_reply : EachKindIsFound → (s : Session) (view number : ℕ) (w l : ℤ) (kind : Kind) (r : Request) (h : HandedOut) → text_question_of number ≡ Some kind → IsRequested s view (message_with number w l []) r
-    → handed_asked kind r ≡ Some h → (text : List ℕ) → table s view (message_with number w l text) ≡ Ok (s, handing r.document h)
-text_reply law s view number w l kind r h is requested e text =
-    let v = r.view in
-    let d = r.document in
+pub text_reply : EachKindIsFound → (s : Session) (view number : ℕ) (w l : ℤ) (kind : Kind) (v : View) (d : Document) (h : HandedOut) → text_question_of number ≡ Some kind → view_at s.views view ≡ Some v
+    → document_at s.documents v.document ≡ Some d → handed_asked kind (request s v d (message_with number w l [])) ≡ Some h → (text : List ℕ) → table s view (message_with number w l text) ≡ Ok (s, handing d h)
+text_reply law s view number w l kind v d h is found there e text =
     let m = message_with number w l text in
-    let bare = request s v d (message_with number w l []) in
+    let r = request s v d (message_with number w l []) in
     let with = request s v d m in
     let p = (found_plain number text_questions kind texts_plain is).0 in
-    let planned = planned_so kind bare h (ap (handed_asked kind) (sym requested.is) ∙ e) in
-    ap (table_from_view s m) requested.view_there
+    ap (table_from_view s m) found
     ∙ ap (table_from_kind s v m) (decoded law number kind is)
-    ∙ ap (table_from_document s v kind m) requested.document_there
-    ∙ ap (answered kind with) (p.any_text bare text ∙ planned)
+    ∙ ap (table_from_document s v kind m) there
+    ∙ ap (answered kind with) (p.any_text r text ∙ planned_so kind r h e)
     ∙ ap (λ b. Ok (s, cond b (record (handing d h) { notes = record_note with ∷ [] }) (handing d h))) (unheard v.records (marks_of kind).r p.unrecorded)
 
 -- What a text question comes to, by what is found of it.
@@ -82,17 +78,16 @@ text_reply law s view number w l kind r h is requested e text =
 pub no_question : (s : Session) (id : ℕ) (m : Message) → text_question_of m.number ≡ None → reply_to s id m ≡ None
 no_question s id m none = ap (reply_from_kind s id m) none
 
-pub asked_in_vain : (s : Session) (id : ℕ) (m : Message) (kind : Kind) → text_question_of m.number ≡ Some kind → IsWithout s id → reply_to s id m ≡ None
-asked_in_vain s id m kind is without = ap (reply_from_kind s id m) is ∙ go (view_at s.views id) refl
-  where
-    go : (o : Option View) → view_at s.views id ≡ o → reply_from_view s kind m o ≡ None
-    go None e = refl
-    go (Some v) e = ap (reply_from_document s v kind m) (without v e)
+pub asked_of_no_view : (s : Session) (id : ℕ) (m : Message) (kind : Kind) → text_question_of m.number ≡ Some kind → view_at s.views id ≡ None → reply_to s id m ≡ None
+asked_of_no_view s id m kind is none = ap (reply_from_kind s id m) is ∙ ap (reply_from_view s kind m) none
 
-pub asked_of : (s : Session) (id : ℕ) (m : Message) (kind : Kind) (r : Request) → text_question_of m.number ≡ Some kind → IsRequested s id m r → reply_to s id m ≡ reply_handing r.document (handed_asked kind r)
-asked_of s id m kind r is requested =
-    ap (reply_from_kind s id m) is ∙ ap (reply_from_view s kind m) requested.view_there ∙ ap (reply_from_document s r.view kind m) requested.document_there
-    ∙ ap (λ x. reply_handing r.document (handed_asked kind x)) (sym requested.is)
+pub asked_of_no_document : (s : Session) (id : ℕ) (m : Message) (kind : Kind) (v : View) → text_question_of m.number ≡ Some kind → view_at s.views id ≡ Some v → document_at s.documents v.document ≡ None
+    → reply_to s id m ≡ None
+asked_of_no_document s id m kind v is found none = ap (reply_from_kind s id m) is ∙ ap (reply_from_view s kind m) found ∙ ap (reply_from_document s v kind m) none
+
+pub asked_of : (s : Session) (id : ℕ) (m : Message) (kind : Kind) (v : View) (d : Document) → text_question_of m.number ≡ Some kind → view_at s.views id ≡ Some v → document_at s.documents v.document ≡ Some d
+    → reply_to s id m ≡ reply_handing d (handed_asked kind (request s v d m))
+asked_of s id m kind v d is found there = ap (reply_from_kind s id m) is ∙ ap (reply_from_view s kind m) found ∙ ap (reply_from_document s v kind m) there
 
 -- where it comes to none, nothing is promised
 pub none_promised : (o : Option Response) (P : Response → Type 0) → o ≡ None → IfSome o P

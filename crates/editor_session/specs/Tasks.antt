@@ -1,14 +1,14 @@
 -- From a message to what is done for it.
-use Rattle.std.specs.Prelude.{◌≡◌, ℕ, ◌&&◌, Bool, true, false, List, [], ◌∷◌, Some, None, Ok}
+use Rattle.std.specs.Prelude.{◌≡◌, ℕ, ◌&&◌, Bool, true, false, List, [], ◌∷◌, Some, Ok}
 use Rattle.ed_types.specs.declared.kind.Kind.{Kind}
 use Rattle.ed_types.specs.declared.message.Message.{Message}
 use Rattle.ed_types.specs.Messages.{kind_of, marks_of}
 use Rattle.ed_types.specs.Notices.{Notice}
 use Rattle.ed_model.specs.Notes as notes
-use Rattle.ed_model.specs.Session.{Session, View, view_at, document_at}
+use Rattle.ed_model.specs.Session.{Session}
 use Rattle.ed_model.specs.PlansFit.{IsSoundRequest, IsFitPlan}
 use Rattle.ed_model.specs.Requests.{Request}
-use Rattle.ed_model.specs.Table.{table, request, plan_of, answered}
+use Rattle.ed_model.specs.Table.{table, plan_of, answered}
 use Rattle.editor_session.specs.declared.find.Task.{Task}
 use Rattle.session_changes.specs.Asked.{IsAsked}
 
@@ -20,17 +20,6 @@ pub record IsFound (s : Session) (view : ℕ) (m : Message) (kind : Kind) (r : R
   pub view_id : r.view.id ≡ view
   pub message : r.message ≡ m
   pub answer : table s view m ≡ answered kind r (plan_of kind r)
-
--- its view and its document are found
-pub record IsRequested (s : Session) (view : ℕ) (m : Message) (r : Request) : Type 0 where
-  pub sound : IsSoundRequest r
-  pub view_there : view_at s.views view ≡ Some r.view
-  pub document_there : document_at s.documents r.view.document ≡ Some r.document
-  pub is : r ≡ request s r.view r.document m
-
--- one of them is not there
-abbrev pub IsWithout : Session → ℕ → Type 0
-IsWithout s view = (v : View) → view_at s.views view ≡ Some v → document_at s.documents v.document ≡ None
 
 -- the task of a message: the request that it comes of, and its plan
 pub record IsTask (s : Session) (view : ℕ) (m : Message) (task : Task) : Type 0 where

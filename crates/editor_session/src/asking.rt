@@ -9,10 +9,9 @@ ghost use Rattle.session_changes.specs.Kept.{IsKept};
 ghost use Rattle.editor_session.specs.Answers.{message_with};
 ghost use Rattle.editor_session.specs.Asked.{value_to};
 
-use crate::find::find_request;
 use ed_types::{Kind, kinds_and_numbers};
 use message_plans::{question_of, value_of};
-use message_requests::SessionState;
+use message_requests::{Request, SentMessage, SessionState};
 
 /// The value of this plain question to the view of an id; `None` where the table refuses it.
 #[inline(always)]
@@ -24,9 +23,24 @@ fn ask_as(state: &SessionState, view: u32, kind: Kind, number: u32, w: i64, l: i
 {
     // The law that each kind is found by its number.
     kinds_and_numbers();
-    // No plain question reads a text.
-    let Some(request) = find_request(state, view, number, w, l) else {
+    let Some(view) = state.views.get(view) else {
         return None;
+    };
+    let Some(document) = state.documents.get(view.document()) else {
+        return None;
+    };
+    // No plain question reads a text.
+    let message = SentMessage {
+        number,
+        w,
+        l,
+        text: &[],
+    };
+    let request = Request {
+        session: state,
+        view,
+        document,
+        message,
     };
     value_of(kind, &request)
 }

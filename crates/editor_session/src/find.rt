@@ -1,12 +1,12 @@
 //! From a message to what is to be done for it: its view, its document and its plan.
 
-ghost use Rattle.std.specs.Prelude.{◌≡◌, ◌≢◌, [], Err, IfOk, IfErr, IfNone, IfSome};
+ghost use Rattle.std.specs.Prelude.{◌≡◌, ◌≢◌, Err, IfOk, IfErr};
 ghost use Rattle.ed_types.specs.declared.refusal.Refusal.TheVariants.{OutOfMemory};
 ghost use Rattle.ed_model.specs.Table.{table};
 ghost use Rattle.message_requests.specs.Requested.{session_in};
 ghost use Rattle.editor_session.specs.Answers.{message_with};
 ghost use Rattle.session_changes.specs.Kept.{IsKept};
-ghost use Rattle.editor_session.specs.Tasks.{IsFound, IsRequested, IsWithout};
+ghost use Rattle.editor_session.specs.Tasks.{IsFound};
 
 use ed_model::Plan;
 use ed_types::{Kind, Refusal};
@@ -60,37 +60,4 @@ pub(crate) fn find<'a>(
         message: SentMessage { number, w, l, text },
     };
     Ok((kind, request))
-}
-
-/// Finds the view of a message that reads no text, and the view's document. `None` where one of them is not there.
-#[inline(always)]
-pub(crate) fn find_request<'a>(
-    state: &'a SessionState,
-    view: u32,
-    number: u32,
-    w: i64,
-    l: i64,
-) -> Option<Request<'a>>
-    requires kept { IsKept state.now }
-    ensures found { IfSome result (λ r. IsRequested (session_in state.now) view (message_with number w l []) r) }
-    ensures none { IfNone result (IsWithout (session_in state.now) view) }
-{
-    let Some(view) = state.views.get(view) else {
-        return None;
-    };
-    let Some(document) = state.documents.get(view.document()) else {
-        return None;
-    };
-    let message = SentMessage {
-        number,
-        w,
-        l,
-        text: &[],
-    };
-    Some(Request {
-        session: state,
-        view,
-        document,
-        message,
-    })
 }

@@ -17,7 +17,6 @@ ghost use Rattle.editor_session.specs.Doing.{CanBeMade, IsChangedIn};
 ghost use Rattle.editor_session.specs.Tasks.{IsTask};
 ghost use Rattle.editor_session.specs.Unheard.{unrecorded, going, no_notes, IsSent};
 
-use crate::find::find_request;
 use crate::history::go_unheard;
 use document::Direction;
 use document_changes::change_unheard;
@@ -27,7 +26,7 @@ use ed_types::{Kind, kinds_and_numbers};
 use ed_view::View;
 use id_table::IdTable;
 use message_plans::{change_of, frequent_change_of, is_performed, transaction_of};
-use message_requests::SessionState;
+use message_requests::{Request, SentMessage, SessionState};
 use std::alloc::Global;
 
 /// What a frequent change is, and the value that its message answers.
@@ -56,15 +55,31 @@ fn find_change(
     // The laws that each kind is found by its number, and that a plan's numbers are in range.
     kinds_and_numbers();
     plans_are_fit();
-    // No such message reads a text.
-    let Some(request) = find_request(state, view, number, w, l) else {
+    let Some(view) = state.views.get(view) else {
         return None;
+    };
+    let id = view.document();
+    let Some(document) = state.documents.get(id) else {
+        return None;
+    };
+    // No such message reads a text.
+    let message = SentMessage {
+        number,
+        w,
+        l,
+        text: &[],
+    };
+    let request = Request {
+        session: state,
+        view,
+        document,
+        message,
     };
     let Some((change, value)) = change_of(kind, &request) else {
         return None;
     };
     Some(FrequentChange {
-        document: request.document.id(),
+        document: id,
         change,
         value,
     })
@@ -161,12 +176,28 @@ fn find_transaction(
     // The laws that each kind is found by its number, and that a plan's numbers are in range.
     kinds_and_numbers();
     plans_are_fit();
-    // Neither reads a text.
-    let Some(request) = find_request(state, view, number, w, l) else {
+    let Some(view) = state.views.get(view) else {
         return None;
     };
+    let id = view.document();
+    let Some(document) = state.documents.get(id) else {
+        return None;
+    };
+    // Neither reads a text.
+    let message = SentMessage {
+        number,
+        w,
+        l,
+        text: &[],
+    };
+    let request = Request {
+        session: state,
+        view,
+        document,
+        message,
+    };
     if is_performed(kind, &request) {
-        Some(request.document.id())
+        Some(id)
     } else {
         None
     }

@@ -10,12 +10,11 @@ ghost use Rattle.session_changes.specs.Kept.{IsKept};
 ghost use Rattle.editor_session.specs.Answers.{message_with};
 ghost use Rattle.editor_session.specs.Asked.{reply_to};
 
-use crate::find::find_request;
 use document::Document;
 use ed_model::plans_are_fit;
 use ed_types::{Kind, kinds_and_numbers};
 use message_plans::{handed_of, text_question_of};
-use message_requests::SessionState;
+use message_requests::{Request, SentMessage, SessionState};
 use std::alloc::{AllocError, Global};
 
 /// Empties a buffer that has room for `count` bytes. One that has not becomes another, which has so much more room that texts which
@@ -92,14 +91,29 @@ fn read_as(
     // The laws that each kind is found by its number, and that what is handed out lies in the text.
     kinds_and_numbers();
     plans_are_fit();
-    // No text question reads a text.
-    let Some(request) = find_request(state, view, number, w, l) else {
+    let Some(view) = state.views.get(view) else {
         return None;
+    };
+    let Some(document) = state.documents.get(view.document()) else {
+        return None;
+    };
+    // No text question reads a text.
+    let message = SentMessage {
+        number,
+        w,
+        l,
+        text: &[],
+    };
+    let request = Request {
+        session: state,
+        view,
+        document,
+        message,
     };
     let Some(handed) = handed_of(kind, &request) else {
         return None;
     };
-    match read_bytes(alloc, request.document, handed.start, handed.count, into) {
+    match read_bytes(alloc, document, handed.start, handed.count, into) {
         Ok(()) => Some(handed.value),
         Err(_) => None,
     }
