@@ -159,7 +159,8 @@ fn settle_as(
     }
 }
 
-/// Finds the document whose history moves by undo or redo, sent to the view of an id. `None` where no transaction is performed.
+/// Finds the document whose history moves by undo or redo, sent to the view of an id. `None` where no transaction is performed, and where
+/// that view hears of anything.
 #[inline(always)]
 fn find_transaction(
     state: &SessionState,
@@ -179,6 +180,10 @@ fn find_transaction(
     let Some(view) = state.views.get(view) else {
         return None;
     };
+    // A view that hears is told of it, mostly: it goes the longer way at once.
+    if view.mask() != 0 {
+        return None;
+    }
     let id = view.document();
     let Some(document) = state.documents.get(id) else {
         return None;
