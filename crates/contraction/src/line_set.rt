@@ -13,7 +13,11 @@ pub(crate) fn lines_before<P: Place>(starts: &Partitioning<P>, line: usize) -> u
     ensures sound { ArePartitions starts.now.starts starts.now.length }
     ensures small { length starts.now.starts < 2 ^ 63 }
 {
-    let _ = starts.count();
+    // Where little is folded, most lines lie behind all of the set.
+    let last = starts.count() - 1;
+    if starts.start_of(last) <= line {
+        return last;
+    }
     let mut probes = Probes::new();
     starts.partition_of(line, &mut probes)
 }
