@@ -80,9 +80,9 @@ impl ReadText {
         self.bytes.clear();
     }
 
-    /// As `read`, in new memory: what there is is too large to be kept, and stays as it is if nothing is read.
+    /// As `read`, where the last text was a large one: the next one often is as large, and else gives up room.
     #[inline(never)]
-    fn read_anew(
+    fn read_large(
         &mut self,
         session: &Session,
         view: u32,
@@ -93,11 +93,10 @@ impl ReadText {
         ensures answer { IfSome result (λ value. (text : List ℕ) → table session.now view (message_with number w l text) ≡ Ok (session.now, response value self.new [])) }
         ensures same { IfNone result (self.new ≡ self.old) }
     {
-        let mut bytes = Vec::new(self.alloc);
-        let Some(value) = session.read(view, number, w, l, &mut bytes) else {
-            return None;
-        };
-        self.bytes = bytes;
+        let value = session.read(view, number, w, l, &mut self.bytes)?;
+        if self.bytes.len() < self.bytes.capacity() / 4 {
+            self.bytes.shrink_to_fit();
+        }
         Some(value)
     }
 
@@ -116,7 +115,7 @@ impl ReadText {
         ensures same { IfNone result (self.new ≡ self.old) }
     {
         if self.is_large() {
-            return self.read_anew(session, view, number, w, l);
+            return self.read_large(session, view, number, w, l);
         }
         session.read(view, number, w, l, &mut self.bytes)
     }
