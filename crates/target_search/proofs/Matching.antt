@@ -1,7 +1,7 @@
 -- Where a pattern stands, told by what is found in a part of the text.
 use Rattle.std.proofs.Common.{◌≡◌, ℕ, ◌+◌, ◌-◌, ◌<◌, ◌≤◌, min, Bool, true, false, eqb, ◌&&◌, ◌||◌, not, List, ◌++◌, length, map, get_or, take, drop, slice_range, refl, sym, ap, ◌∙◌, subst, arith, inl, inr}
 use Rattle.std.specs.List.{starts_with}
-use Rattle.std.proofs.lemmas.Bool.{cases_Bool, cases_lt, cond-true, false≢true}
+use Rattle.std.proofs.lemmas.Bool.{cases_Bool, cases_lt, cond-true, eq-eqb, false≢true}
 use Rattle.std.proofs.lemmas.List.{length-take, length-drop, length-append, length-take-le, get_or-take, get_or_append_left, get_or-append_right, ext_get_or, take-append-drop}
 use Rattle.memchr.specs.Find.{OccursAt}
 use Rattle.ed_model.specs.Numbers.{meets}
@@ -10,7 +10,7 @@ use Rattle.ed_model.specs.proved.Lists.{read_part}
 use Rattle.target_search.specs.Cases.{is_either}
 use Rattle.target_search.specs.Rare.{IsRareOf}
 use Rattle.target_search.specs.declared.rare.RareByte.{RareByte}
-use Rattle.target_search.specs.Found.{stands_at, words_pass, IsPart}
+use Rattle.target_search.specs.Found.{stands_at, words_pass, IsPart, NonePasses}
 use Rattle.target_search.proofs.Fronts.{and_assoc, and_both, and_false, and_true, and_first, front_true, front_long, front_reads, front_pieces}
 
 pub length_part : (xs : List ℕ) (from to : ℕ) → from ≤ to → to ≤ length xs → from + length (slice_range xs from to) ≡ to
@@ -113,6 +113,29 @@ module _ (flags : ℕ) (text pattern : List ℕ) where
               let at : offset + (place - offset + j) ≡ place + j = omega arith in
               part.reads (place - offset + j) (omega arith) ∙ ap (λ p. get_or text p 0) at ∙ sym (plain _) ∙ stands_reads place stands j l ∙ plain _;
         })
+
+    -- where a byte of the part is not that of the pattern
+    pub not_without_byte : (rare at : ℕ) → rare < length pattern → at + rare < length sub → (get_or sub (at + rare) 0 ≡ get_or pattern rare 0 → ⊥) → is_match flags text pattern (offset + at) ≡ false
+    not_without_byte rare at w l other =
+        no_match_at (offset + at)
+        (λ stands.
+        let place : offset + (at + rare) ≡ offset + at + rare = omega arith in
+        other (part.reads (at + rare) l ∙ ap (λ p. get_or text p 0) place ∙ sym (plain _) ∙ stands_reads (offset + at) stands rare w ∙ plain _))
+
+    -- nor in front of where that byte is found, from a place on
+    pub none_without_byte :
+        (rare start end n : ℕ) → rare < length pattern → length pattern ≤ length sub + 1 → end ≡ length sub - (length pattern - 1 - rare) → start + rare ≤ end → n ≤ length (slice_range sub (start + rare) end)
+        → ((k : ℕ) → 0 ≤ k → k < n → eqb (get_or (slice_range sub (start + rare) end) k 0) (get_or pattern rare 0) ≡ true → ⊥)
+        → NonePasses (is_match flags text pattern) (offset + start) (offset + (start + n))
+    none_without_byte rare start end n w small e l m other k a b =
+        let size = length_part sub (start + rare) end l (omega arith) in
+        let at = k - offset in
+        let index = k - (offset + start) in
+        let place : start + rare + index ≡ at + rare = omega arith in
+        subst (λ p. is_match flags text pattern p ≡ false) (let same : offset + at ≡ k = omega arith in same)
+        (not_without_byte rare at w (omega arith)
+        (λ equal.
+        other index (omega arith) (omega arith) (eq-eqb _ _ (read_part sub (start + rare) end index (omega arith) ∙ ap (λ p. get_or sub p 0) place ∙ equal))))
 
   -- where a byte of the part is not that of the pattern, in either case
   pub not_where_other_byte :
