@@ -148,7 +148,9 @@ def standing_in(bodies, functions):
 def refused_together(crate, bodies, functions):
     """Those of the bodies whose functions the prover refuses when all stand in one copy. Those that call a refused one are tried again
     without it."""
-    said, _ = checked(crate, bodies, functions)
+    said, status = checked(crate, bodies, functions)
+    if status == 2 and len(bodies) > 1:
+        print(f"{crate}: these cannot be tried in one copy, so each is tried by itself: {said.strip()[-160:]}", flush=True)
     refused = standing_in(bodies, REFUSED.findall(said))
     unseen = [it for it in standing_in(bodies, UNSEEN.findall(said)) if it not in refused]
     if refused and unseen:
