@@ -10,8 +10,8 @@ use editor_session::Session;
 use std::alloc::Global;
 use std::marker::Model;
 
-/// How many bytes of room may wait from one reply for the next. Most lines are shorter, so that reading them takes no memory; and
-/// what a session keeps back without need is one page at most.
+/// How many bytes of room may wait for the next text question, whatever comes before it. Most lines are shorter, so that reading them takes
+/// no memory; and what a session keeps back through other messages is one page at most.
 const MOST_KEPT: usize = 4096;
 
 /// Bytes that a text question read. Their memory is used again. Contracts see a list.
@@ -80,7 +80,8 @@ impl ReadText {
         self.bytes.clear();
     }
 
-    /// As `read`, where the last text was a large one: the next one often is as large, and else gives up room.
+    /// As `read`, where the last text was a large one. The next one is often as large, and takes its room; one that fills less than a
+    /// quarter of it gives the rest back.
     #[inline(never)]
     fn read_large(
         &mut self,
