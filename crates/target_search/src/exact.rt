@@ -48,7 +48,6 @@ impl<'a> Search<'a> {
         requires part { IsPart (text_of self.now) part.now offset }
         requires small { offset + length part.now < 2 ^ 64 }
         requires some { 0 < size_of self.now }
-        requires room { size_of self.now ≤ length part.now }
         ensures { FindsFirst (is_match_of self.now) offset (offset + length part.now + 1 - size_of self.now) result }
     {
         let rare = rarest(self.pattern);
