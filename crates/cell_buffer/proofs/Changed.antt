@@ -113,6 +113,15 @@ range_more xs done start i a h l =
 pub range_of_none : (xs : List ℕ) → changed_range xs xs ≡ None
 range_of_none xs = ap extent (places xs xs refl ∙ same_differs_nowhere xs 0)
 
+-- what is behind both lists alike has no part in it
+pub range_in_front : (xs ys zs : List ℕ) → length ys ≡ length xs → changed_range (xs ++ zs) (ys ++ zs) ≡ changed_range xs ys
+range_in_front xs ys zs l =
+    ap extent (places (xs ++ zs) (ys ++ zs) (simp length-append (omega arith))
+    ∙ differing_joined xs ys zs zs 0 l
+    ∙ ap (λ t. differing 0 xs ys ++ t) (same_differs_nowhere zs (0 + length xs))
+    ∙ append-nil (differing 0 xs ys)
+    ∙ sym (places xs ys l))
+
 -- what putting one more item there answers, by what was known before
 pub range_put : (xs done before : List ℕ) (so_far : Option (ℕ × ℕ)) (start i a : ℕ) → before ≡ overwritten xs start done → so_far ≡ changed_range xs before → length done ≡ i → start + i < length xs →
     (if slice_index before (start + i) == a then so_far else widened (start + i) so_far) ≡ changed_range xs (overwritten xs start (done ++ a ∷ []))

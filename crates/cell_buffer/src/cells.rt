@@ -1,25 +1,30 @@
-//! `Cells` and its calls. A clause sees them as their `cells`, whether they keep styles (`keeps_styles`), their `room`, and the
-//! `spare`, `gaps` and `moved` of both gap buffers.
+//! `Cells` and its calls. A clause sees them as their `cells`, whether they keep styles (`keeps_styles`), of how many cells the styles
+//! are stored (`styled`), their `room`, and the `spare`, `gaps` and `moved` of both gap buffers.
 
-ghost use Rattle.std.specs.Prelude.{◌≡◌, ◌<◌, ◌≤◌, ◌+◌, ◌^◌, true, false, ◌++◌, length, take, drop, replicate, max, slice_get, slice_range, vec_len, vec_capacity, OnOk, OnErr, IsOk};
+ghost use Rattle.std.specs.Prelude.{◌≡◌, ◌<◌, ◌≤◌, ◌+◌, ◌-◌, ◌^◌, true, false, ◌++◌, length, take, drop, replicate, max, slice_get, slice_range, vec_len, vec_capacity, OnOk, OnErr, IsOk};
 ghost use Rattle.ed_model.specs.Text.{bytes_of, styles_of, plain_cells};
 ghost use Rattle.ed_model.specs.Steps.{Insert, edited_cells};
 ghost use Rattle.ed_model.specs.Changes.{restyled};
 ghost use Rattle.ed_model.specs.Indicators.{changed_range};
 ghost use Rattle.split_vector.specs.Split.{most_room, gap_after, moved_after, gap_closed, moved_closed};
-ghost use Rattle.cell_buffer.specs.Buffer.{no_cells, stored, CostsBoth};
+ghost use Rattle.cell_buffer.specs.Buffer.{no_cells, stored, styles_in, styles_out, styled_up_to, CostsBoth};
 
 use crate::styling::{fill, overwrite};
 use split_vector::SplitVector;
 use std::alloc::{AllocError, Global};
 use std::marker::Model;
 
+/// How many styles are stored ahead of those that are set, so that styles that are set one behind the other seldom need it.
+const STYLED_AHEAD: usize = 4096;
+
 /// The cells of a document, each a byte and its style, in two gap buffers: editing at one place again costs little,
-/// however long the text. Styles are stored from `keep_styles` on; until then there is one gap buffer, and all styles are 0.
+/// however long the text. From `keep_styles` on there is memory for a style of each cell, and until then for none. Styles are stored
+/// as they are set, from the first cell on, and those behind them are 0: so the first style costs no walk over a long text, and what
+/// is typed behind all styles costs nothing among them.
 #[derive(Drop)]
 pub struct Cells {
     bytes: SplitVector<u8>,
-    // Empty where no styles are kept.
+    // Of the first cells; those behind are 0. Empty where no styles are kept.
     styles: SplitVector<u8>,
     keeps_styles: bool,
     // How many more cells were asked for and are there. Both blocks may hold more.
@@ -27,24 +32,26 @@ pub struct Cells {
 }
 
 impl Model for Cells {
-    ghost use Rattle.std.specs.Prelude.{◌≡◌, ◌≤◌, length};
-    ghost use Rattle.cell_buffer.specs.Buffer.{Buffer, cells_of, stored};
+    ghost use Rattle.std.specs.Prelude.{◌≡◌, ◌≤◌, ◌+◌, ◌-◌, false, length};
+    ghost use Rattle.cell_buffer.specs.Buffer.{Buffer, paired, stored};
 
     ghost Value = { Buffer };
 
     ghost view = { λ c. record {
-      cells = cells_of c.keeps_styles c.bytes.items c.styles.items;
+      cells = paired c.bytes.items c.styles.items;
       keeps_styles = c.keeps_styles;
+      styled = length c.styles.items;
       room = c.room;
-      spare = (c.bytes.spare, c.styles.spare);
+      spare = (c.bytes.spare, length c.styles.items + c.styles.spare - stored c.keeps_styles (length c.bytes.items));
       gaps = (c.bytes.gap, c.styles.gap);
       moved = (c.bytes.moved, c.styles.moved);
     } };
 
     ghost invariant = { λ c. record {
-      style_count : length c.styles.items ≡ stored c.keeps_styles (length c.bytes.items);
+      style_count : length c.styles.items ≤ length c.bytes.items;
+      no_styles : c.keeps_styles ≡ false → length c.styles.items ≡ 0;
       byte_room : c.room ≤ c.bytes.spare;
-      style_room : stored c.keeps_styles c.room ≤ c.styles.spare;
+      style_room : stored c.keeps_styles (length c.bytes.items + c.room) ≤ length c.styles.items + c.styles.spare;
     } };
 }
 
@@ -65,7 +72,7 @@ impl Cells {
     }
 
     /// The number of cells, in bytes.
-    #[tactic(auto, using(crate::proofs::Stored::cells_length))]
+    #[tactic(auto, using(crate::proofs::Pairs::pairs_length))]
     pub fn len(&self) -> usize
         ensures len { result ≡ length self.now.cells }
         ensures within { length self.now.cells + self.now.room < 2 ^ 63 }
@@ -74,7 +81,7 @@ impl Cells {
     }
 
     /// How many more bytes are sure to fit in without more memory.
-    #[tactic(auto, using(crate::proofs::Stored::cells_length))]
+    #[tactic(auto, using(crate::proofs::Pairs::pairs_length))]
     pub fn room(&self) -> usize
         ensures room { result ≡ self.now.room }
         ensures within { length self.now.cells + self.now.room < 2 ^ 63 }
@@ -84,8 +91,8 @@ impl Cells {
         room
     }
 
-    /// Whether styles are stored. If not, all are 0.
-    #[tactic(auto, using(crate::proofs::Stored::plain_where_none_kept))]
+    /// Whether there is memory for styles. If not, all are 0.
+    #[tactic(auto, using(crate::proofs::Stored::plain_where_none_stored))]
     pub fn keeps_styles(&self) -> bool
         ensures keeps { result ≡ self.now.keeps_styles }
         ensures plain { self.now.keeps_styles ≡ false → self.now.cells ≡ plain_cells (bytes_of self.now.cells) }
@@ -94,7 +101,7 @@ impl Cells {
     }
 
     /// The byte at a place.
-    #[tactic(auto, using(crate::proofs::Stored::cells_length, crate::proofs::Stored::cells_byte))]
+    #[tactic(auto, using(crate::proofs::Pairs::pairs_length, crate::proofs::Stored::cells_byte))]
     pub fn byte(&self, place: usize) -> u8
         requires { place < length self.now.cells }
         ensures { slice_get (bytes_of self.now.cells) place ≡ Some result }
@@ -103,13 +110,13 @@ impl Cells {
     }
 
     /// The style of the byte at a place.
-    #[tactic(auto, using(crate::proofs::Stored::cells_length, crate::proofs::Stored::kept_style, crate::proofs::Stored::plain_style))]
+    #[tactic(auto, using(crate::proofs::Pairs::pairs_length, crate::proofs::Pairs::stored_style_read, crate::proofs::Pairs::zero_style_read))]
     pub fn style(&self, place: usize) -> u8
         requires { place < length self.now.cells }
         ensures style { slice_get (styles_of self.now.cells) place ≡ Some result }
         ensures plain { self.now.keeps_styles ≡ false → result ≡ 0 }
     {
-        if self.keeps_styles {
+        if place < self.styles.len() {
             self.styles.get(place)
         } else {
             0
@@ -122,7 +129,7 @@ impl Cells {
     /// # Errors
     ///
     /// `AllocError` where memory is refused. All but `spare` is then as it was.
-    #[tactic(auto, using(crate::proofs::Stored::cells_length))]
+    #[tactic(auto, using(crate::proofs::Pairs::pairs_length))]
     #[inline(always)]
     pub fn reserve(&mut self, count: usize) -> Result<(), AllocError>
         ensures ok { OnOk result (self.new ≡ record self.old { room = max self.old.room count; spare = self.new.spare }) }
@@ -141,7 +148,7 @@ impl Cells {
 
     // Whether there is memory for `count` more bytes, and for their styles where styles are kept.
     #[inline(always)]
-    #[tactic(auto, using(crate::proofs::Stored::cells_length))]
+    #[tactic(auto, using(crate::proofs::Pairs::pairs_length))]
     fn fits(&self, count: usize) -> bool
         ensures yes { result ≡ true → (count ≤ self.now.spare.0) × (stored self.now.keeps_styles count ≤ self.now.spare.1) }
         ensures no { result ≡ false → self.now.room < count }
@@ -150,12 +157,16 @@ impl Cells {
         if self.bytes.spare() < count {
             return false;
         }
-        !self.keeps_styles || count <= self.styles.spare()
+        if !self.keeps_styles {
+            return true;
+        }
+        let kept = self.styles.len() + self.styles.spare();
+        count <= kept - self.bytes.len()
     }
 
     // Takes memory for `count` more bytes, and for their styles, where there is too little. It stands apart, since it is rare.
     #[inline(never)]
-    #[tactic(auto, using(crate::proofs::Stored::cells_length))]
+    #[tactic(auto, using(crate::proofs::Pairs::pairs_length))]
     fn grow(&mut self, count: usize) -> Result<(), AllocError>
         requires { self.old.room < count }
         ensures ok { OnOk result (self.new ≡ record self.old { room = max self.old.room count; spare = self.new.spare }) }
@@ -168,7 +179,8 @@ impl Cells {
             return Err(AllocError);
         };
         if self.keeps_styles {
-            let Ok(()) = self.styles.reserve(count) else {
+            let unstored = self.bytes.len() - self.styles.len();
+            let Ok(()) = self.styles.reserve(unstored + count) else {
                 return Err(AllocError);
             };
         }
@@ -176,16 +188,15 @@ impl Cells {
         Ok(())
     }
 
-    /// Stores styles from now on, all 0 so far, if none are stored yet.
+    /// Keeps memory for styles from now on, all 0 so far, if there is none yet.
     ///
     /// # Errors
     ///
     /// `AllocError` where memory is refused. All is then as it was.
-    #[tactic(auto, using(crate::proofs::Stored::cells_length, crate::proofs::Stored::kept_from_now_on, crate::proofs::Stored::plain_where_none_kept))]
+    #[tactic(auto, using(crate::proofs::Pairs::pairs_length, crate::proofs::Stored::plain_where_none_stored))]
     pub fn keep_styles(&mut self) -> Result<(), AllocError>
-        ensures ok { OnOk result (self.new ≡ record self.old { keeps_styles = true; spare = (self.old.spare.0, self.new.spare.1); gaps = (self.old.gaps.0, self.new.gaps.1); moved = (self.old.moved.0, self.new.moved.1) }) }
+        ensures ok { OnOk result (self.new ≡ record self.old { keeps_styles = true; spare = (self.old.spare.0, self.new.spare.1) }) }
         ensures plain { self.old.keeps_styles ≡ false → self.new.cells ≡ plain_cells (bytes_of self.new.cells) }
-        ensures stored { self.old.keeps_styles ≡ false → OnOk result ((self.new.gaps.1 ≡ gap_after 0 (length self.old.cells) self.old.gaps.1) × (self.new.moved.1 ≡ moved_after 0 (length self.old.cells) self.old.gaps.1 self.old.moved.1)) }
         ensures at_most { self.old.keeps_styles ≡ false → OnOk result (length self.old.cells + self.new.spare.1 ≤ most_room 0 self.old.spare.1 (length self.old.cells + self.old.room)) }
         ensures kept { self.old.keeps_styles ≡ true → IsOk result × (self.new ≡ self.old) }
         ensures err { OnErr result (self.new ≡ self.old) }
@@ -198,13 +209,12 @@ impl Cells {
         let Ok(()) = self.styles.reserve(len + self.room) else {
             return Err(AllocError);
         };
-        self.styles.insert_fill_reserved(0, len, 0);
         self.keeps_styles = true;
         Ok(())
     }
 
     /// Puts bytes in at a place, with style 0. There must be room for them.
-    #[tactic(auto, using(crate::proofs::Stored::cells_length, crate::proofs::Stored::inserted_kept, crate::proofs::Stored::inserted_plain, crate::proofs::Stored::inserted_cells_length, crate::proofs::Costs::insertion_costs))]
+    #[tactic(auto, using(crate::proofs::Pairs::pairs_length, crate::proofs::Pairs::inserted_among, crate::proofs::Pairs::inserted_behind, crate::proofs::Stored::inserted_cells_length, crate::proofs::Costs::insertion_costs))]
     pub fn insert_reserved(&mut self, place: usize, bytes: &[u8])
         requires { (place ≤ length self.old.cells) × (length bytes.now ≤ self.old.room) }
         ensures cells { self.new.cells ≡ edited_cells (Insert place bytes.now) self.old.cells }
@@ -212,19 +222,20 @@ impl Cells {
         ensures keeps { self.new.keeps_styles ≡ self.old.keeps_styles }
         ensures room { self.new.room + length bytes.now ≡ self.old.room }
         ensures spare { (self.new.spare.0 + length bytes.now ≡ self.old.spare.0) × (self.new.spare.1 + stored self.old.keeps_styles (length bytes.now) ≡ self.old.spare.1) }
-        ensures gaps { self.new.gaps ≡ (gap_after place (length bytes.now) self.old.gaps.0, gap_after place (stored self.old.keeps_styles (length bytes.now)) self.old.gaps.1) }
-        ensures moved { self.new.moved ≡ (moved_after place (length bytes.now) self.old.gaps.0 self.old.moved.0, moved_after place (stored self.old.keeps_styles (length bytes.now)) self.old.gaps.1 self.old.moved.1) }
-        ensures cost { CostsBoth place (length bytes.now) self.old self.new }
+        ensures styled { self.new.styled ≡ self.old.styled + styles_in self.old place (length bytes.now) }
+        ensures gaps { self.new.gaps ≡ (gap_after place (length bytes.now) self.old.gaps.0, gap_after place (styles_in self.old place (length bytes.now)) self.old.gaps.1) }
+        ensures moved { self.new.moved ≡ (moved_after place (length bytes.now) self.old.gaps.0 self.old.moved.0, moved_after place (styles_in self.old place (length bytes.now)) self.old.gaps.1 self.old.moved.1) }
+        ensures cost { CostsBoth place (length bytes.now) (styles_in self.old place (length bytes.now)) self.old self.new }
     {
         self.bytes.insert_slice_reserved(place, bytes);
-        if self.keeps_styles {
+        if place < self.styles.len() {
             self.styles.insert_fill_reserved(place, bytes.len(), 0);
         }
         self.room -= bytes.len();
     }
 
     /// Deletes `count` cells from a place on. Their room can be used again.
-    #[tactic(auto, using(crate::proofs::Stored::cells_length, crate::proofs::Stored::deleted_kept, crate::proofs::Stored::deleted_plain, crate::proofs::Stored::deleted_cells_length, crate::proofs::Stored::shrunk, crate::proofs::Costs::deletion_costs))]
+    #[tactic(auto, using(crate::proofs::Pairs::pairs_length, crate::proofs::Stored::deleted_among, crate::proofs::Pairs::deleted_behind, crate::proofs::Stored::deleted_cells_length, crate::proofs::Stored::shrunk, crate::proofs::Costs::deletion_costs))]
     pub fn delete(&mut self, place: usize, count: usize)
         requires { place + count ≤ length self.old.cells }
         ensures cells { self.new.cells ≡ take place self.old.cells ++ drop (place + count) self.old.cells }
@@ -232,46 +243,88 @@ impl Cells {
         ensures keeps { self.new.keeps_styles ≡ self.old.keeps_styles }
         ensures room { self.new.room ≡ self.old.room + count }
         ensures spare { self.new.spare ≡ (self.old.spare.0 + count, self.old.spare.1 + stored self.old.keeps_styles count) }
-        ensures gaps { self.new.gaps ≡ (gap_closed place count self.old.gaps.0, gap_closed place (stored self.old.keeps_styles count) self.old.gaps.1) }
-        ensures moved { self.new.moved ≡ (moved_closed place count self.old.gaps.0 self.old.moved.0, moved_closed place (stored self.old.keeps_styles count) self.old.gaps.1 self.old.moved.1) }
-        ensures cost { CostsBoth place count self.old self.new }
+        ensures styled { self.new.styled + styles_out self.old place count ≡ self.old.styled }
+        ensures gaps { self.new.gaps ≡ (gap_closed place count self.old.gaps.0, gap_closed place (styles_out self.old place count) self.old.gaps.1) }
+        ensures moved { self.new.moved ≡ (moved_closed place count self.old.gaps.0 self.old.moved.0, moved_closed place (styles_out self.old place count) self.old.gaps.1 self.old.moved.1) }
+        ensures cost { CostsBoth place count (styles_out self.old place count) self.old self.new }
     {
         let _ = self.bytes.len(); // it says that the sum is small
         self.bytes.delete(place, count);
-        if self.keeps_styles {
-            self.styles.delete(place, count);
+        let styled = self.styles.len();
+        if place < styled {
+            self.styles.delete(place, count.min(styled - place));
         }
         self.room += count;
     }
 
+    // Stores the styles of the cells before `end`, as far as they are not stored, and of some behind it: they are 0, as they were.
+    #[inline(always)]
+    #[tactic(auto, using(crate::proofs::Pairs::pairs_length))]
+    fn store_styles(&mut self, end: usize)
+        requires within { end ≤ length self.old.cells }
+        requires kept { self.old.keeps_styles ≡ true }
+        ensures same { self.new ≡ record self.old { styled = styled_up_to (length self.old.cells) end self.old.styled; gaps = (self.old.gaps.0, self.new.gaps.1); moved = (self.old.moved.0, self.new.moved.1) } }
+        ensures gap { self.new.gaps.1 ≡ gap_after self.old.styled (self.new.styled - self.old.styled) self.old.gaps.1 }
+        ensures moved { self.new.moved.1 ≡ moved_after self.old.styled (self.new.styled - self.old.styled) self.old.gaps.1 self.old.moved.1 }
+    {
+        if self.styles.len() < end {
+            self.store_more(end);
+        }
+    }
+
+    // The same, where some are not stored. It stands apart, since it is rare.
+    #[inline(never)]
+    #[tactic(auto, using(crate::proofs::Pairs::pairs_length, crate::proofs::Stored::stored_further, crate::proofs::Stored::stored_length))]
+    fn store_more(&mut self, end: usize)
+        requires within { end ≤ length self.old.cells }
+        requires kept { self.old.keeps_styles ≡ true }
+        requires more { self.old.styled < end }
+        ensures same { self.new ≡ record self.old { styled = styled_up_to (length self.old.cells) end self.old.styled; gaps = (self.old.gaps.0, self.new.gaps.1); moved = (self.old.moved.0, self.new.moved.1) } }
+        ensures gap { self.new.gaps.1 ≡ gap_after self.old.styled (self.new.styled - self.old.styled) self.old.gaps.1 }
+        ensures moved { self.new.moved.1 ≡ moved_after self.old.styled (self.new.styled - self.old.styled) self.old.gaps.1 self.old.moved.1 }
+    {
+        let styled = self.styles.len();
+        let ahead = (self.bytes.len() - end).min(STYLED_AHEAD);
+        self.styles
+            .insert_fill_reserved(styled, end + ahead - styled, 0);
+    }
+
     /// Puts `styles` on the cells from `start` on, and answers where the smallest range with all changed styles begins and how
-    /// long it is, if any changed. Styles must be kept. Nothing moves.
-    #[tactic(auto, using(crate::proofs::Stored::cells_length, crate::proofs::Stored::restyled_kept, crate::proofs::Stored::changed_of_kept, crate::proofs::Pairs::overwritten_length))]
+    /// long it is, if any changed. Styles must be kept. Nothing moves but the gap of the styles, where styles are stored that were not.
+    #[tactic(auto, using(crate::proofs::Pairs::pairs_length, crate::proofs::Pairs::overwritten_pairs, crate::proofs::Stored::changed_of_stored, crate::proofs::Pairs::overwritten_length))]
     pub fn set_styles(&mut self, start: usize, styles: &[u8]) -> Option<(usize, usize)>
         requires within { start + length styles.now ≤ length self.old.cells }
         requires kept { self.old.keeps_styles ≡ true }
-        ensures cells { self.new ≡ record self.old { cells = take start self.old.cells ++ restyled styles.now (drop start self.old.cells) } }
+        ensures cells { self.new ≡ record self.old { cells = take start self.old.cells ++ restyled styles.now (drop start self.old.cells); styled = styled_up_to (length self.old.cells) (start + length styles.now) self.old.styled; gaps = (self.old.gaps.0, self.new.gaps.1); moved = (self.old.moved.0, self.new.moved.1) } }
+        ensures gap { self.new.gaps.1 ≡ gap_after self.old.styled (self.new.styled - self.old.styled) self.old.gaps.1 }
+        ensures moved { self.new.moved.1 ≡ moved_after self.old.styled (self.new.styled - self.old.styled) self.old.gaps.1 self.old.moved.1 }
         ensures len { length self.new.cells ≡ length self.old.cells }
         ensures changed { result ≡ changed_range (styles_of self.old.cells) (styles_of self.new.cells) }
     {
+        let _ = self.bytes.len(); // it says that the sum is small
+        self.store_styles(start + styles.len());
         overwrite(&mut self.styles, start, styles)
     }
 
     /// Puts one style on the `count` cells from `start` on, and answers where the smallest range with all changed styles begins
-    /// and how long it is, if any changed. Styles must be kept. Nothing moves.
-    #[tactic(auto, using(crate::proofs::Stored::cells_length, crate::proofs::Stored::restyled_kept, crate::proofs::Stored::changed_of_kept, crate::proofs::Pairs::overwritten_length, std::proofs::lemmas::Grind::common_steps))]
+    /// and how long it is, if any changed. Styles must be kept. What moves is as for `set_styles`.
+    #[tactic(auto, using(crate::proofs::Pairs::pairs_length, crate::proofs::Pairs::overwritten_pairs, crate::proofs::Stored::changed_of_stored, crate::proofs::Pairs::overwritten_length, std::proofs::lemmas::Grind::common_steps))]
     pub fn set_style_run(&mut self, start: usize, count: usize, style: u8) -> Option<(usize, usize)>
         requires within { start + count ≤ length self.old.cells }
         requires kept { self.old.keeps_styles ≡ true }
-        ensures cells { self.new ≡ record self.old { cells = take start self.old.cells ++ restyled (replicate count style) (drop start self.old.cells) } }
+        ensures cells { self.new ≡ record self.old { cells = take start self.old.cells ++ restyled (replicate count style) (drop start self.old.cells); styled = styled_up_to (length self.old.cells) (start + count) self.old.styled; gaps = (self.old.gaps.0, self.new.gaps.1); moved = (self.old.moved.0, self.new.moved.1) } }
+        ensures gap { self.new.gaps.1 ≡ gap_after self.old.styled (self.new.styled - self.old.styled) self.old.gaps.1 }
+        ensures moved { self.new.moved.1 ≡ moved_after self.old.styled (self.new.styled - self.old.styled) self.old.gaps.1 self.old.moved.1 }
         ensures len { length self.new.cells ≡ length self.old.cells }
         ensures changed { result ≡ changed_range (styles_of self.old.cells) (styles_of self.new.cells) }
     {
+        let _ = self.bytes.len(); // it says that the sum is small
+        self.store_styles(start + count);
         fill(&mut self.styles, start, count, style)
     }
 
     /// Copies the bytes from `start` on into `target`, as many as it is long.
-    #[tactic(auto, using(crate::proofs::Stored::cells_length, crate::proofs::Stored::cells_bytes))]
+    #[tactic(auto, using(crate::proofs::Pairs::pairs_length, crate::proofs::Pairs::pairs_bytes))]
     pub fn copy_text(&self, start: usize, target: &mut [u8])
         requires { start + length target.old ≤ length self.now.cells }
         ensures { target.new ≡ slice_range (bytes_of self.now.cells) start (start + length target.old) }
@@ -284,7 +337,7 @@ impl Cells {
     /// # Errors
     ///
     /// `AllocError` where memory is refused. `target` has then the same bytes.
-    #[tactic(auto, using(crate::proofs::Stored::cells_length, crate::proofs::Stored::cells_bytes, crate::proofs::Stored::range_before, crate::proofs::Stored::range_behind))]
+    #[tactic(auto, using(crate::proofs::Pairs::pairs_length, crate::proofs::Pairs::pairs_bytes, crate::proofs::Stored::range_before, crate::proofs::Stored::range_behind))]
     pub fn append_text_to(
         &self,
         start: usize,
@@ -310,7 +363,7 @@ impl Cells {
     }
 
     /// The bytes before the gap and those behind it. Nothing moves.
-    #[tactic(auto, using(crate::proofs::Stored::cells_bytes))]
+    #[tactic(auto, using(crate::proofs::Pairs::pairs_bytes))]
     pub fn halves(&self) -> (&[u8], &[u8])
         ensures joined { result.0.now ++ result.1.now ≡ bytes_of self.now.cells }
         ensures parted { length result.0.now ≡ self.now.gaps.0 }
@@ -319,7 +372,7 @@ impl Cells {
     }
 
     /// Lends the `count` bytes from `start` on as one slice. If the gap lies among them, it is moved to the nearer end.
-    #[tactic(auto, using(crate::proofs::Stored::cells_length, crate::proofs::Stored::cells_bytes))]
+    #[tactic(auto, using(crate::proofs::Pairs::pairs_length, crate::proofs::Pairs::pairs_bytes))]
     pub fn lend(&mut self, start: usize, count: usize) -> &[u8]
         requires { start + count ≤ length self.old.cells }
         ensures* back { sem 𝓛 (lent_and_back self.entry start count) }

@@ -143,12 +143,14 @@ fn a_refused_growth_changes_nothing(rt: HostRuntime) {
 
 fn assert_moves(rt: &impl Abort, cells: &mut Cells) {
     cells.keep_styles().expect(rt, "memory");
-    cells.reserve(1001).expect(rt, "memory");
+    cells.reserve(1003).expect(rt, "memory");
+    cells.insert_reserved(0, b"ab");
+    cells.set_styles(0, &[1, 2]);
     let (bytes_before, styles_before) = cells.moved();
     for _ in 0..1000 {
         let len = cells.len();
-        assert!(rt; cells.room() > 0);
-        cells.insert_reserved(len, b".");
+        assert!(rt; cells.room() > 0 && len > 0);
+        cells.insert_reserved(len - 1, b".");
     }
     assert!(rt; cells.room() > 0);
     cells.insert_reserved(0, b"^");
@@ -178,4 +180,31 @@ fn assert_no_moves_of_styles(rt: &impl Abort, cells: &mut Cells) {
 fn no_moves_of_styles_that_are_not_kept(rt: HostRuntime) {
     let mut cells = Cells::new(rt.alloc());
     assert_no_moves_of_styles(&rt, &mut cells);
+}
+
+// Bytes behind all styles that were set.
+fn assert_nothing_moves_behind_styles(rt: &impl Abort, cells: &mut Cells) {
+    cells.keep_styles().expect(rt, "memory");
+    cells.reserve(6).expect(rt, "memory");
+    cells.insert_reserved(0, b"ab");
+    assert!(rt; cells.set_style_run(0, 2, 5) == Some((0, 2)));
+    let (_, styles_before) = cells.moved();
+    cells.insert_reserved(2, b"cdef");
+    let (_, styles) = cells.moved();
+    assert_eq!(rt; styles, styles_before);
+    assert_styles(rt, cells, 1, &[5, 0, 0]);
+}
+
+// The last of six bytes, of which two are styled.
+fn assert_style_of_the_last(rt: &impl Abort, cells: &mut Cells) {
+    assert!(rt; cells.len() == 6 && cells.keeps_styles());
+    assert!(rt; cells.set_styles(5, &[7]) == Some((5, 1)));
+    assert_styles(rt, cells, 1, &[5, 0, 0, 0, 7]);
+}
+
+#[test]
+fn styles_are_stored_as_they_are_set(rt: HostRuntime) {
+    let mut cells = Cells::new(rt.alloc());
+    assert_nothing_moves_behind_styles(&rt, &mut cells);
+    assert_style_of_the_last(&rt, &mut cells);
 }

@@ -1,23 +1,23 @@
 -- One call after the other, the bytes and then the styles.
-use Rattle.std.proofs.Common.{arith, ◌≡◌, ◌∙◌, ◌+◌, ◌-◌, ◌≤◌, true, List, [], ◌∷◌}
+use Rattle.std.proofs.Common.{arith, ◌+◌, ◌-◌, ◌≤◌, List, [], ◌∷◌}
 use Rattle.cell_buffer.specs.Buffer.{Buffer}
 use Rattle.cell_buffer.specs.SumLaws.{Edited, EachCosts, buffer_after, sum_of_costs}
 use Rattle.cell_buffer.proofs.laws.costs_add_up.Goals as goal
 
-bytes_cost : (was : Buffer) (calls : List Edited) → EachCosts was calls → (buffer_after was calls).moved.0 ≤ was.moved.0 + sum_of_costs (λ b. b.gaps.0) was calls
+bytes_cost : (was : Buffer) (calls : List Edited) → EachCosts was calls
+    → (buffer_after was calls).moved.0 ≤ was.moved.0 + sum_of_costs (λ b. b.gaps.0) (λ call. call.count) was calls
 bytes_cost was [] costs = omega arith
 bytes_cost was (call ∷ calls) costs =
     let first : call.left.moved.0 ≤ was.moved.0 + ((call.place - was.gaps.0) + (was.gaps.0 - call.place)) + call.count = costs.0.bytes.cost in
-    let others : (buffer_after call.left calls).moved.0 ≤ call.left.moved.0 + sum_of_costs (λ b. b.gaps.0) call.left calls = bytes_cost call.left calls costs.1.1 in
+    let others : (buffer_after call.left calls).moved.0 ≤ call.left.moved.0 + sum_of_costs (λ b. b.gaps.0) (λ call. call.count) call.left calls = bytes_cost call.left calls costs.1 in
     omega (arith, first, others)
 
-styles_cost : (was : Buffer) (calls : List Edited) → EachCosts was calls → was.keeps_styles ≡ true
-    → (buffer_after was calls).moved.1 ≤ was.moved.1 + sum_of_costs (λ b. b.gaps.1) was calls
-styles_cost was [] costs keeps = omega arith
-styles_cost was (call ∷ calls) costs keeps =
-    let first : call.left.moved.1 ≤ was.moved.1 + ((call.place - was.gaps.1) + (was.gaps.1 - call.place)) + call.count = (costs.0.styles keeps).cost in
-    let others : (buffer_after call.left calls).moved.1 ≤ call.left.moved.1 + sum_of_costs (λ b. b.gaps.1) call.left calls =
-    styles_cost call.left calls costs.1.1 (costs.1.0 ∙ keeps) in
+styles_cost : (was : Buffer) (calls : List Edited) → EachCosts was calls
+    → (buffer_after was calls).moved.1 ≤ was.moved.1 + sum_of_costs (λ b. b.gaps.1) (λ call. call.styles) was calls
+styles_cost was [] costs = omega arith
+styles_cost was (call ∷ calls) costs =
+    let first : call.left.moved.1 ≤ was.moved.1 + ((call.place - was.gaps.1) + (was.gaps.1 - call.place)) + call.styles = costs.0.styles.cost in
+    let others : (buffer_after call.left calls).moved.1 ≤ call.left.moved.1 + sum_of_costs (λ b. b.gaps.1) (λ call. call.styles) call.left calls = styles_cost call.left calls costs.1 in
     omega (arith, first, others)
 
 pub returns : goal.returns

@@ -2,7 +2,8 @@ use Rattle.std.proofs.Common.{◌≡◌, ◌+◌, ◌-◌, ◌++◌, ◌∙◌, 
 use Rattle.std.proofs.lemmas.List.{length-append, length-take-le}
 use Rattle.std.specs.Prelude.{slice_range, OnOk}
 use Rattle.ed_model.specs.Text.{bytes_of}
-use Rattle.cell_buffer.proofs.Stored.{cells_length, cells_bytes, range_across}
+use Rattle.cell_buffer.proofs.Pairs.{pairs_length, pairs_bytes}
+use Rattle.cell_buffer.proofs.Stored.{range_across}
 use Rattle.cell_buffer.proofs.cells.Cells.append_text_to.Goals as goal
 
 pub slice_bounds-extend_from_slice-end-then-gap-start : goal.slice_bounds-extend_from_slice-end-then-gap-start
@@ -10,7 +11,7 @@ slice_bounds-extend_from_slice-end-then-gap-start c =
     let b = c.self.inside in
     let both : length c.halves.result.0.now + length c.halves.result.1.now ≡ length b.bytes.items = simp length-append at (ap length c.halves.ensures.joined) in
     let all : length c.args.self.now.cells ≡ length b.bytes.items =
-    ap (λ t. length t.cells) (sym c.self.view_is) ∙ cells_length b.keeps_styles b.bytes.items b.styles.items c.self.invariant.style_count in
+    ap (λ t. length t.cells) (sym c.self.view_is) ∙ pairs_length b.bytes.items b.styles.items in
     grind (arith, both, all)
 
 pub slice_bounds-append_both-length-2 : goal.slice_bounds-append_both-length-2
@@ -19,7 +20,7 @@ slice_bounds-append_both-length-2 c =
     let n = c.args.start + c.args.count - length c.halves.result.0.now in
     let both : length c.halves.result.0.now + length c.halves.result.1.now ≡ length b.bytes.items = simp length-append at (ap length c.halves.ensures.joined) in
     let all : length c.args.self.now.cells ≡ length b.bytes.items =
-    ap (λ t. length t.cells) (sym c.self.view_is) ∙ cells_length b.keeps_styles b.bytes.items b.styles.items c.self.invariant.style_count in
+    ap (λ t. length t.cells) (sym c.self.view_is) ∙ pairs_length b.bytes.items b.styles.items in
     sym (length-take-le n c.halves.result.1.now (omega (arith, both, all, c.requires)))
 
 pub returns-clause-ok : goal.returns-clause-ok
@@ -29,7 +30,7 @@ returns-clause-ok c =
     let behind = c.halves.result.1.now in
     let past = c.args.start + c.args.count in
     let bytes_are : bytes_of c.args.self.now.cells ≡ b.bytes.items =
-    ap (λ t. bytes_of t.cells) (sym c.self.view_is) ∙ cells_bytes b.keeps_styles b.bytes.items b.styles.items c.self.invariant.style_count in
+    ap (λ t. bytes_of t.cells) (sym c.self.view_is) ∙ pairs_bytes b.bytes.items b.styles.items in
     let range : slice_range before c.args.start (length before) ++ take (past - length before) behind ≡ slice_range (bytes_of c.args.self.now.cells) c.args.start past =
     range_across before behind c.args.start past (omega (arith, c.if-gap-start.false)) (omega (arith, c.if-end-gap.false))
     ∙ ap (λ t. slice_range t c.args.start past) (c.halves.ensures.joined ∙ sym bytes_are) in
