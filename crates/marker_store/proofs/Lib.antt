@@ -1,6 +1,7 @@
 pub mod Calls
 pub mod Deletions
 pub mod Finds
+pub mod Flags
 pub mod Halving
 pub mod Indexes
 pub mod Joins

@@ -1,9 +1,10 @@
 -- How markers are stored: in one list, in the order of their lines, and behind one another on a line. Up to the step each
 -- stands with its line, and from there on with the distance of its line to the number of lines.
-use Rattle.std.specs.Prelude.{◌≡◌, ◌⊎◌, ℕ, zero, suc, ◌+◌, ◌-◌, ◌^◌, ◌<◌, ◌≤◌, ◌==◌, if◌then◌else◌, List, [], ◌∷◌, ◌++◌, length, map, take, drop, slice_index_or, refl}
+use Rattle.std.specs.Prelude.{◌≡◌, ◌⊎◌, ℕ, zero, suc, ◌+◌, ◌-◌, ◌^◌, ◌<◌, ◌≤◌, ◌==◌, if◌then◌else◌, Bool, true, List, [], ◌∷◌, ◌++◌, length, map, take, drop, slice_index_or, refl}
 use Rattle.std.specs.Coded.{Coded, code_by, coded×, coded_list, coded_ℕ}
 use Rattle.ed_model.specs.Rows.{Marker}
 use Rattle.marker_store.specs.Lines.{marker, marker_code}
+use Rattle.marker_store.specs.Flags.{may_have}
 
 -- a marker and its line
 pub record Entry : Type 0 where
@@ -107,12 +108,19 @@ rows_from k (suc n) es = row k es ∷ rows_from (suc k) n es
 abbrev pub rows_of : Placed → List (List Marker)
 rows_of p = rows_from 0 p.count p.entries
 
--- What holds of a store: its lines are no more than can be, and its markers fewer than handles were given.
-pub record IsStore (p : Placed) (next_handle : ℕ) : Type 0 where
+-- each entry is on a line that may have a marker
+abbrev pub AllMarked : List Bool → List Entry → Type 0
+AllMarked flags [] = Unit {0}
+AllMarked flags (e ∷ es) = (may_have flags e.line ≡ true) × AllMarked flags es
+
+-- What holds of a store: its lines are no more than can be, its markers fewer than handles were given, and none is on a line
+-- that the flags say has none.
+pub record IsStore (p : Placed) (flags : List Bool) (next_handle : ℕ) : Type 0 where
   pub some : 0 < p.count
   pub few : p.count ≤ 2 ^ 62
   pub fewer : length p.entries < next_handle
   pub within : AllBefore p.count p.entries
+  pub marked : AllMarked flags p.entries
 
 abbrev pub no_entry : Entry
 no_entry = entry 0 (marker 0 0)

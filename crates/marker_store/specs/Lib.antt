@@ -1,3 +1,4 @@
 pub mod Dropping
 pub mod Entries
+pub mod Flags
 pub mod Lines

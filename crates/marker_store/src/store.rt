@@ -6,6 +6,7 @@ ghost use Rattle.ed_model.specs.LinePlans.{mask_of};
 ghost use Rattle.marker_store.specs.Lines.{marked_lines, markers_of, marker_total, with_fresh, with_joined, without, is_met, has_handle, first_from, last_up_to};
 
 use crate::drops::Drops;
+use crate::marked::LineMarks;
 use crate::markers::Marker;
 use crate::placed::PlacedMarkers;
 use std::alloc::{AllocError, Allocator, Global};
@@ -21,6 +22,7 @@ pub const GREATEST_LINES: usize = 1 << 62;
 #[derive(Drop)]
 pub struct MarkerStore<A: Allocator = Global> {
     placed: PlacedMarkers<A>,
+    marked: LineMarks<A>,
     next_handle: u32,
 }
 
@@ -34,20 +36,23 @@ impl<A: Allocator> Model for MarkerStore<A> {
 
     ghost view = { λ s. marked_lines (rows_of s.placed) s.next_handle s.placed.room s.placed.block };
 
-    ghost invariant = { λ s. IsStore s.placed s.next_handle };
+    ghost invariant = { λ s. IsStore s.placed s.marked s.next_handle };
 }
 
-impl<A: Allocator> MarkerStore<A> {
+impl<A: Allocator + Copy> MarkerStore<A> {
     /// Returns the markers of one line, which has none. The next handle is 1. It takes no memory, so there is no error.
     pub fn new(alloc: A) -> Result<Self, AllocError>
         ensures { IfOk result (λ s. s ≡ marked_lines ([] ∷ []) 1 0 0) }
     {
         Ok(MarkerStore {
             placed: PlacedMarkers::new(alloc),
+            marked: LineMarks::new(alloc),
             next_handle: 1,
         })
     }
+}
 
+impl<A: Allocator> MarkerStore<A> {
     /// Returns the number of lines.
     pub fn lines(&self) -> usize
         ensures lines { result ≡ length self.now.lines }
@@ -88,7 +93,8 @@ impl<A: Allocator> MarkerStore<A> {
         self.placed.reserve(count)
     }
 
-    /// Puts a marker with the number behind those of the line, and returns its handle. It takes room for one.
+    /// Puts a marker with the number behind those of the line, and returns its handle. It takes room for one. The first one
+    /// asks for a byte for each line too, and does without where there is no memory for them.
     pub fn add_reserved(&mut self, line: usize, number: u32) -> u32
         requires line { line < length self.old.lines }
         requires number { number < 32 }
@@ -101,7 +107,9 @@ impl<A: Allocator> MarkerStore<A> {
         ensures block { self.new.block ≡ self.old.block }
     {
         let handle = self.next_handle;
+        self.marked.start(self.placed.len(), self.placed.count());
         self.placed.put(line, Marker::new(handle, number));
+        self.marked.set(line);
         self.next_handle += 1;
         handle
     }
@@ -167,6 +175,9 @@ impl<A: Allocator> MarkerStore<A> {
         requires { line < length self.now.lines }
         ensures { result ≡ mask_of (markers_of line self.now.lines) }
     {
+        if self.marked.has_none(line) {
+            return 0;
+        }
         self.placed.mask(line)
     }
 
@@ -184,13 +195,15 @@ impl<A: Allocator> MarkerStore<A> {
         self.placed.previous(from, mask)
     }
 
-    /// Puts `count` lines without markers in before `line`, or at the end. It takes no memory.
+    /// Puts `count` lines without markers in before `line`, or at the end. No memory can be refused to it: it asks for the
+    /// bytes of the lines at most, and drops those of all lines where there is none.
     pub fn shift(&mut self, line: usize, count: usize)
         requires line { line ≤ length self.old.lines }
         requires fits { length self.old.lines + count ≤ GREATEST_LINES }
         ensures { self.new ≡ record self.old { lines = with_fresh line count self.old.lines } }
     {
         self.placed.raise(line, count);
+        self.marked.raise(line, count);
     }
 
     /// Joins the `count` lines behind `line` to it: their markers come behind its own, in their order. It takes no memory.
@@ -200,7 +213,9 @@ impl<A: Allocator> MarkerStore<A> {
     {
         let mut left = count;
         'joining: while left > 0 {
-            left -= self.placed.join_next(line, left);
+            let joined = self.placed.join_next(line, left);
+            self.marked.join(line, joined);
+            left -= joined;
         }
     }
 
@@ -212,6 +227,7 @@ impl<A: Allocator> MarkerStore<A> {
         ensures block { self.new.block ≡ self.old.block }
     {
         self.placed.remove_all(Drops::Each);
+        self.marked.clear();
         let lines = self.placed.count();
         self.merge(0, lines - 1);
     }

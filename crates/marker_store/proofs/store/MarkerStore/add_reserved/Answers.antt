@@ -5,6 +5,7 @@ use Rattle.marker_store.specs.Entries.{rows_from}
 use Rattle.marker_store.proofs.Rows.{length-rows}
 use Rattle.marker_store.proofs.Calls.{rows_put}
 use Rattle.marker_store.proofs.Deletions.{within_put, length-put}
+use Rattle.marker_store.proofs.Flags.{marked_started, marked_put}
 use Rattle.marker_store.proofs.store.MarkerStore.add_reserved.Goals as goal
 
 pub put-requires-clause-line : goal.put-requires-clause-line
@@ -22,6 +23,7 @@ invariant_of-self g c =
       few = omega (arith, c.put.ensures.count, c.self.invariant.few);
       fewer = omega (arith, length-put c.args.line c.new.result _ _ c.put.ensures.entries, c.self.invariant.fewer);
       within = rw c.put.ensures.count (within_put c.args.line old.count c.new.result _ _ c.put.ensures.entries inside c.self.invariant.within);
+      marked = rw c.set.ensures (marked_put c.start.new.self c.args.line c.new.result _ _ c.put.ensures.entries (marked_started c.self.inside.marked c.start.new.self c.len.result c.count.result old.entries c.len.ensures.len c.start.ensures c.self.invariant.marked));
     }
 
 pub returns-clause-lines : goal.returns-clause-lines

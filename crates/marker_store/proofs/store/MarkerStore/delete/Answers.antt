@@ -2,7 +2,8 @@ use Rattle.std.proofs.Common.{◌<◌, arith, ap, sym, ◌∙◌}
 use Rattle.marker_store.specs.Entries.{rows_from}
 use Rattle.marker_store.proofs.Rows.{length-rows}
 use Rattle.marker_store.proofs.Calls.{total_is}
-use Rattle.marker_store.proofs.Deletions.{differs, rows_cleared, rows_first_gone}
+use Rattle.marker_store.proofs.Deletions.{differs, rows_cleared, rows_first_gone, within_cleared, within_first_gone}
+use Rattle.marker_store.proofs.Flags.{marked_cleared, marked_first_gone}
 use Rattle.marker_store.proofs.store.MarkerStore.delete.Goals as goal
 use Rattle.marker_store.proofs.store.MarkerStore.delete.Goals.{in-None, in-Some}
 
@@ -15,6 +16,32 @@ pub remove_first-requires : goal.remove_first-requires
 remove_first-requires g c =
     let line = rw (← c.self.view_is) at c.requires in
     omega (arith, line, length-rows 0 c.self.inside.placed.count c.self.inside.placed.entries)
+
+pub invariant_of-self : goal.invariant_of-self
+invariant_of-self g c =
+    let old = c.self.inside.placed in
+    let line = rw (← c.self.view_is) at c.requires in
+    let inside : c.args.line < old.count = omega (arith, line, length-rows 0 old.count old.entries) in
+    elim c.match-number.branch [
+      | in-None w ↦
+          let e = w.clear_line.ensures in
+          rw w.self-inside-is (record {
+            some = omega (arith, e.count, c.self.invariant.some);
+            few = omega (arith, e.count, c.self.invariant.few);
+            fewer = omega (arith, e.fewer, c.self.invariant.fewer);
+            within = rw e.count (within_cleared c.args.line old.entries w.clear_line.new.self.entries e.entries old.count c.self.invariant.within);
+            marked = marked_cleared c.self.inside.marked c.args.line _ _ e.entries c.self.invariant.marked;
+          })
+      | in-Some w ↦
+          let e = w.remove_first.ensures in
+          rw w.self-inside-is (record {
+            some = omega (arith, e.count, c.self.invariant.some);
+            few = omega (arith, e.count, c.self.invariant.few);
+            fewer = omega (arith, e.fewer, c.self.invariant.fewer);
+            within = rw e.count (within_first_gone c.args.line w.in-Some.number old.count old.entries w.remove_first.new.self.entries e.entries c.self.invariant.within);
+            marked = marked_first_gone c.self.inside.marked c.args.line w.in-Some.number _ _ e.entries c.self.invariant.marked;
+          })
+    ]
 
 pub returns-clause-went : goal.returns-clause-went
 returns-clause-went g c =

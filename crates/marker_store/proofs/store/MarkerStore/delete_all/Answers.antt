@@ -2,9 +2,34 @@ use Rattle.std.proofs.Common.{arith, ap, sym, ◌∙◌}
 use Rattle.marker_store.specs.declared.drops.Drops.TheVariants.{Each, Number}
 use Rattle.marker_store.specs.Entries.{rows_from}
 use Rattle.marker_store.proofs.Calls.{total_is}
-use Rattle.marker_store.proofs.Deletions.{differs, rows_kept}
+use Rattle.marker_store.proofs.Deletions.{differs, rows_kept, within_kept}
+use Rattle.marker_store.proofs.Flags.{marked_kept}
 use Rattle.marker_store.proofs.store.MarkerStore.delete_all.Goals as goal
 use Rattle.marker_store.proofs.store.MarkerStore.delete_all.Goals.{in-None, in-Some}
+
+pub invariant_of-self : goal.invariant_of-self
+invariant_of-self g c =
+    let old = c.self.inside.placed in
+    elim c.match-number.branch [
+      | in-None w ↦
+          let e = w.remove_all.ensures in
+          rw w.self-inside-is (record {
+            some = omega (arith, e.count, c.self.invariant.some);
+            few = omega (arith, e.count, c.self.invariant.few);
+            fewer = omega (arith, e.fewer, c.self.invariant.fewer);
+            within = rw (e.count, e.entries) (within_kept Each old.count old.entries c.self.invariant.within);
+            marked = rw e.entries (marked_kept c.self.inside.marked Each old.entries c.self.invariant.marked);
+          })
+      | in-Some w ↦
+          let e = w.remove_all-in-Some.ensures in
+          rw w.self-inside-is (record {
+            some = omega (arith, e.count, c.self.invariant.some);
+            few = omega (arith, e.count, c.self.invariant.few);
+            fewer = omega (arith, e.fewer, c.self.invariant.fewer);
+            within = rw (e.count, e.entries) (within_kept (Number w.in-Some.number) old.count old.entries c.self.invariant.within);
+            marked = rw e.entries (marked_kept c.self.inside.marked (Number w.in-Some.number) old.entries c.self.invariant.marked);
+          })
+    ]
 
 pub returns-clause-went : goal.returns-clause-went
 returns-clause-went g c =

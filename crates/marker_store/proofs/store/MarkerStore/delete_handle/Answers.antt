@@ -3,6 +3,7 @@ use Rattle.marker_store.specs.declared.drops.Drops.TheVariants.{Handle}
 use Rattle.marker_store.specs.Entries.{rows_from}
 use Rattle.marker_store.proofs.Calls.{total_is}
 use Rattle.marker_store.proofs.Deletions.{rows_kept, within_kept}
+use Rattle.marker_store.proofs.Flags.{marked_kept}
 use Rattle.marker_store.proofs.store.MarkerStore.delete_handle.Goals as goal
 
 pub invariant_of-self : goal.invariant_of-self
@@ -12,6 +13,7 @@ invariant_of-self g c =
       few = omega (arith, c.remove_all.ensures.count, c.self.invariant.few);
       fewer = omega (arith, c.remove_all.ensures.fewer, c.self.invariant.fewer);
       within = rw (c.remove_all.ensures.count, c.remove_all.ensures.entries) (within_kept (Handle c.args.handle) c.self.inside.placed.count c.self.inside.placed.entries c.self.invariant.within);
+      marked = rw c.remove_all.ensures.entries (marked_kept c.self.inside.marked (Handle c.args.handle) c.self.inside.placed.entries c.self.invariant.marked);
     }
 
 pub returns-clause-lines : goal.returns-clause-lines

@@ -5,6 +5,7 @@ use Rattle.marker_store.specs.Entries.{Entry, rows_from, rows_of}
 use Rattle.marker_store.proofs.Rows.{length-rows}
 use Rattle.marker_store.proofs.Calls.{total_is}
 use Rattle.marker_store.proofs.Deletions.{within_kept, kept_none, rows_restarted}
+use Rattle.marker_store.proofs.Flags.{all_unknown}
 use Rattle.marker_store.proofs.store.MarkerStore.restart.Goals as goal
 
 pub invariant_of-self : goal.invariant_of-self
@@ -14,6 +15,7 @@ invariant_of-self g c =
       few = omega (arith, c.remove_all.ensures.count, c.self.invariant.few);
       fewer = omega (arith, c.remove_all.ensures.fewer, c.self.invariant.fewer);
       within = rw (c.remove_all.ensures.count, c.remove_all.ensures.entries) (within_kept Each c.self.inside.placed.count c.self.inside.placed.entries c.self.invariant.within);
+      marked = rw c.clear.ensures (all_unknown c.remove_all.new.self.entries);
     }
 
 pub merge-requires : goal.merge-requires

@@ -4,6 +4,7 @@ use Rattle.marker_store.specs.Entries.{rows_from}
 use Rattle.marker_store.proofs.Rows.{length-rows}
 use Rattle.marker_store.proofs.Calls.{rows_raised}
 use Rattle.marker_store.proofs.Deletions.{within_raised, length-raised}
+use Rattle.marker_store.proofs.Flags.{marked_raised}
 use Rattle.marker_store.proofs.store.MarkerStore.shift.Goals as goal
 
 pub raise-requires-clause-line : goal.raise-requires-clause-line
@@ -19,6 +20,7 @@ invariant_of-self g c =
       few = omega (arith, c.raise.ensures.count, fits, length-rows 0 c.self.inside.placed.count c.self.inside.placed.entries);
       fewer = omega (arith, length-raised c.args.line c.args.count _ _ c.raise.ensures.entries, c.self.invariant.fewer);
       within = rw c.raise.ensures.count (within_raised c.args.line c.args.count c.self.inside.placed.count _ _ c.raise.ensures.entries c.self.invariant.within);
+      marked = marked_raised c.self.inside.marked c.raise-2.new.self c.args.line c.args.count _ _ c.raise-2.ensures c.raise.ensures.entries c.self.invariant.marked;
     }
 
 pub returns : goal.returns
