@@ -2,3 +2,4 @@ pub mod Items
 pub mod Memory
 pub mod Sharing
 pub mod Splits
+pub mod Whole

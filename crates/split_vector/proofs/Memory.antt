@@ -1,7 +1,9 @@
 -- What the walks of the unsafe functions share. Assumes `Logic`.
 --     word_had, word_made, mark_had, mark_made      a value of one pointer, and one of no bytes
 --     slot_out, slot_in, run_out, run_in, slot_seen, run_seen      one place or a run of places is taken out of the row, put back, or seen
+--     cut, glue      a row is two rows side by side
 --     of_room, to_room      room for an array is a row of empty places
+--     of_array, to_array      an array is a row of its items
 use mathlib.Core.Path.{◌≡◌, refl, sym, ap, subst, ◌∙◌}
 use Prim.Native.Nat.{ℕ, zero, suc, ◌+◌, ◌-◌, ◌*◌, ◌<◌, ◌≤◌}
 use native.Mathlib.Omega.{arith}
@@ -169,12 +171,12 @@ module _ (E : El) {M : Type 1} {𝓤 : Ura M} (𝓛 : Logic 𝓤) (b : ℕ) wher
   abbrev Row : ℕ → List (Place E) → Fml
   Row = slots (R E) b
 
-  cut : (xs ys : List (Place E)) (o at : ℕ) → at ≡ length xs * s + o → ent 𝓤 (sem 𝓛 (Row o (xs ++ ys))) (sep 𝓤 (sem 𝓛 (Row o xs)) (sem 𝓛 (Row at ys)))
+  pub cut : (xs ys : List (Place E)) (o at : ℕ) → at ≡ length xs * s + o → ent 𝓤 (sem 𝓛 (Row o (xs ++ ys))) (sep 𝓤 (sem 𝓛 (Row o xs)) (sem 𝓛 (Row at ys)))
   cut [] ys o at e = qed 𝓛 (‵ (Row o ys) ∷ []) ∵ rewrite ! 0 (λ (k : ℕ). ‵ (Row k ys)) {x = at} (omega (arith, zero-mul s)) refl $ nothing ! $ done !
   cut (x ∷ xs) ys o at e = let more : at ≡ suc (length xs) * s + o = e in qed 𝓛 (‵ (Row o (x ∷ xs ++ ys)) ∷ []) ∵ fsplit ! $ move ! (1 ∷ []) $
       use1 𝓛 (‵ (Row (o + s) xs) ⊛ ‵ (Row at ys)) (cut xs ys (o + s) at (omega (arith, suc-mul (length xs) s))) $ split ! $ move ! (2 ∷ 0 ∷ []) $ fjoin ! $ done !
 
-  glue : (xs ys : List (Place E)) (o at : ℕ) → at ≡ length xs * s + o → ent 𝓤 (sep 𝓤 (sem 𝓛 (Row o xs)) (sem 𝓛 (Row at ys))) (sem 𝓛 (Row o (xs ++ ys)))
+  pub glue : (xs ys : List (Place E)) (o at : ℕ) → at ≡ length xs * s + o → ent 𝓤 (sep 𝓤 (sem 𝓛 (Row o xs)) (sem 𝓛 (Row at ys))) (sem 𝓛 (Row o (xs ++ ys)))
   glue [] ys o at e = qed 𝓛 (‵ ftrue ∷ ‵ (Row at ys) ∷ []) ∵ skip ! $ rewrite ! 0 (λ (k : ℕ). ‵ (Row k ys)) {x = o} (omega (arith, zero-mul s)) refl $ done !
   glue (x ∷ xs) ys o at e = let more : at ≡ suc (length xs) * s + o = e in qed 𝓛 (‵ (Row o (x ∷ xs)) ∷ ‵ (Row at ys) ∷ []) ∵ fsplit ! $ move ! (1 ∷ 2 ∷ []) $
       use2 𝓛 (‵ (Row (o + s) (xs ++ ys))) (glue xs ys (o + s) at (omega (arith, suc-mul (length xs) s))) $ move ! (1 ∷ 0 ∷ []) $ fjoin ! $ done !
@@ -255,11 +257,11 @@ module _ (E : El) {M : Type 1} {𝓤 : Ura M} (𝓛 : Logic 𝓤) (b : ℕ) wher
   abbrev E' : arrays.El
   E' = record { row = E.row; laws = E.laws }
 
-  to_array : (xs : List (el_x E)) (n o : ℕ) → length xs ≡ n → ent 𝓤 (sem 𝓛 (Row o (map Some xs))) (sem 𝓛 (part_at (Array (R E) n) full_share xs b o))
+  pub to_array : (xs : List (el_x E)) (n o : ℕ) → length xs ≡ n → ent 𝓤 (sem 𝓛 (Row o (map Some xs))) (sem 𝓛 (part_at (Array (R E) n) full_share xs b o))
   to_array xs n o e = qed 𝓛 (‵ (Row o (map Some xs)) ∷ []) ∵
       use1 𝓛 (‵ (cells (mem (R E)) xs b o)) (to_cells xs o) $ use1 𝓛 (‵ (row (R E) full_share xs b o)) (whole_out 𝓛 (R E) xs b o) $ by ! (arrays.whole E' 𝓛 full_share n xs b o e)
 
-  of_array : (xs : List (el_x E)) (n o : ℕ) → ent 𝓤 (sem 𝓛 (part_at (Array (R E) n) full_share xs b o)) (sem 𝓛 (Row o (map Some xs)))
+  pub of_array : (xs : List (el_x E)) (n o : ℕ) → ent 𝓤 (sem 𝓛 (part_at (Array (R E) n) full_share xs b o)) (sem 𝓛 (Row o (map Some xs)))
   of_array xs n o = qed 𝓛 (‵ (part_at (Array (R E) n) full_share xs b o) ∷ []) ∵
       use1 𝓛 (given (length xs ≡ n) (‵ (row (R E) full_share xs b o))) (arrays.apart E' 𝓛 full_share n xs b o) $ learn ! (λ _.
       use1 𝓛 (‵ (cells (mem (R E)) xs b o)) (whole_in 𝓛 (R E) xs b o) $ by ! (of_cells xs o))

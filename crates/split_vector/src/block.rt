@@ -1,10 +1,11 @@
 //! The fields of a vector, and the steps that keep them a gap buffer. The arithmetic of the gap is here.
 ghost use Rattle.std.specs.Prelude.{◌≡◌, ◌≤◌, ◌<◌, ◌+◌, ◌-◌, ◌*◌, [], ◌∷◌, ◌++◌, length, take, drop, replicate, slice_index_or, slice_set, slice_range, OnOk, OnErr, Some};
+ghost use Rattle.std.specs.Vec.Ownership.{FitsInBlock};
 ghost use Rattle.split_vector.specs.Cells.{IsRun};
 ghost use Rattle.split_vector.specs.Split.{counted, apart, outside};
 ghost use Rattle.split_vector.specs.Block.{IsBlock, Has, block_items, block_cells};
 
-use crate::cells::{Base, Cells, Deed, allocate, deallocate, discard, no_cells};
+use crate::cells::{Base, Cells, Deed, allocate, deallocate, discard, enlarge, no_cells};
 use std::alloc::{AllocError, Allocator};
 use std::mem;
 use std_alloc::room::may_hold;
@@ -231,17 +232,41 @@ impl<T, A: Allocator> Block<T, A> {
         }
     }
 
-    /// Moves the items to a new block of `size` cells, with the gap at the same place.
-    pub(crate) fn grow(&mut self, size: usize) -> Result<(), AllocError>
-    where
-        T: Copy,
-        requires { IsBlock self.old × (self.old.len < size) }
+    // Has the allocator make the block one of `size` cells: no item lies behind the gap.
+    fn enlarge(&mut self, size: usize) -> Result<(), AllocError>
+        requires { IsBlock self.old × (self.old.gap ≡ self.old.len) × (0 < self.old.len + self.old.spare) × (self.old.len + self.old.spare ≤ size) × FitsInBlock T.row size }
         ensures ok { OnOk result (Has self.new self.old.cells.left (size - self.old.len) self.old.cells.right self.old.moved) }
         ensures err { OnErr result (Has self.new self.old.cells.left self.old.spare self.old.cells.right self.old.moved) }
     {
-        if !may_hold::<T>(size) {
-            return Err(AllocError);
-        }
+        let old = self.len + self.spare;
+        let (_, none, no_deed) = no_cells(&self.alloc);
+        let old_cells = mem::replace(&mut self.cells, none);
+        let old_deed = mem::replace(&mut self.deed, no_deed);
+        let (base, cells, deed) = enlarge(
+            &self.alloc,
+            self.base,
+            self.len,
+            old,
+            size,
+            old_cells,
+            old_deed,
+        );
+        let none = mem::replace(&mut self.cells, cells);
+        let no_deed = mem::replace(&mut self.deed, deed);
+        discard(none, no_deed);
+        self.base = base?;
+        self.spare += size - old;
+        Ok(())
+    }
+
+    // Copies the items to a new block of `size` cells.
+    fn move_to(&mut self, size: usize) -> Result<(), AllocError>
+    where
+        T: Copy,
+        requires { IsBlock self.old × (self.old.len < size) × FitsInBlock T.row size }
+        ensures ok { OnOk result (Has self.new self.old.cells.left (size - self.old.len) self.old.cells.right self.old.moved) }
+        ensures err { OnErr result (Has self.new self.old.cells.left self.old.spare self.old.cells.right self.old.moved) }
+    {
         let (base, mut cells, deed) = allocate(&self.alloc, size)?;
         cells.push_slice(base, 0, self.left());
         cells.push_right_slice(base, size, self.right());
@@ -253,5 +278,25 @@ impl<T, A: Allocator> Block<T, A> {
         self.spare = size - self.len;
         release(&self.alloc, old_base, old_len, old_cells, old_deed);
         Ok(())
+    }
+
+    /// Makes the block one of `size` cells, with the gap at the same place. Where no item lies behind the gap, the
+    /// allocator may do so: it moves a large block without a copy, and touches no memory for cells without an item.
+    pub(crate) fn grow(&mut self, size: usize) -> Result<(), AllocError>
+    where
+        T: Copy,
+        requires { IsBlock self.old × (self.old.len < size) }
+        ensures ok { OnOk result (Has self.new self.old.cells.left (size - self.old.len) self.old.cells.right self.old.moved) }
+        ensures err { OnErr result (Has self.new self.old.cells.left self.old.spare self.old.cells.right self.old.moved) }
+    {
+        if !may_hold::<T>(size) {
+            return Err(AllocError);
+        }
+        let old = self.len + self.spare;
+        if self.gap < self.len || old == 0 || size < old {
+            self.move_to(size)
+        } else {
+            self.enlarge(size)
+        }
     }
 }

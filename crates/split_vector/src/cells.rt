@@ -2,7 +2,7 @@
 //!
 //! `Base` is the address alone, and may be copied. `Cells` is the right to the cells, and `Deed` the right to give the
 //! block back: they take no bytes, exist once each, and are handed in where they are needed.
-ghost use Rattle.std.specs.Prelude.{◌≡◌, ℕ, ◌+◌, ◌-◌, ◌*◌, ◌^◌, ◌<◌, ◌≤◌, ◌⊎◌, List, [], ◌∷◌, ◌++◌, map, length, take, drop, slice_set, Some, IfOk, ⊤};
+ghost use Rattle.std.specs.Prelude.{◌≡◌, ℕ, ◌+◌, ◌-◌, ◌*◌, ◌^◌, ◌<◌, ◌≤◌, ◌⊎◌, List, [], ◌∷◌, ◌++◌, map, length, take, drop, slice_set, Some, IfOk, OnErr, ⊤};
 ghost use Rattle.std.specs.Vec.Ownership.{FitsInBlock};
 ghost use base.Fml.{ftrue};
 ghost use denote.RawPtr.{Ptr};
@@ -96,6 +96,40 @@ pub(crate) fn allocate<T, A: Allocator>(
             ))
         }
         Err(error) => Err(error),
+    }
+}
+
+/// Has the allocator make a block of `old` cells one of `new`, where no item lies behind the gap: it keeps the first items
+/// alone. On `Err` all is as it was.
+pub(crate) fn enlarge<T, A: Allocator>(
+    alloc: &A,
+    base: Base<T>,
+    len: usize,
+    old: usize,
+    new: usize,
+    cells: Cells<T>,
+    deed: Deed<T, A>,
+) -> (Result<Base<T>, AllocError>, Cells<T>, Deed<T, A>)
+    requires { (cells.at ≡ base.ptr) × (len ≡ length cells.left) × (len + cells.spare ≡ old) × (length cells.right ≡ 0) × (0 < old) × (old ≤ new) × FitsInBlock T.row new × (deed.at ≡ base.ptr) × (deed.len ≡ old) × (deed.alloc ≡ alloc.now) }
+    ensures ok { IfOk result.0 (λ larger. (result.1.at ≡ larger.ptr) × (result.1.left ≡ cells.left) × (result.1.spare ≡ new - len) × (result.1.right ≡ cells.right) × (result.2.at ≡ larger.ptr) × (result.2.len ≡ new) × (result.2.alloc ≡ alloc.now)) }
+    ensures err { OnErr result.0 ((result.1.at ≡ base.ptr) × (result.1.left ≡ cells.left) × (result.1.spare ≡ cells.spare) × (result.1.right ≡ cells.right) × (result.2.at ≡ base.ptr) × (result.2.len ≡ old) × (result.2.alloc ≡ alloc.now)) }
+{
+    let Cells { mark: _ } = cells;
+    let Deed { mark: _ } = deed;
+    match unsafe { alloc.grow(base.ptr, len, old, new) } {
+        Ok(larger) => {
+            let base = Base { ptr: larger };
+            (
+                Ok(base),
+                Cells { mark: PhantomData },
+                Deed { mark: PhantomData },
+            )
+        }
+        Err(error) => (
+            Err(error),
+            Cells { mark: PhantomData },
+            Deed { mark: PhantomData },
+        ),
     }
 }
 
