@@ -2,7 +2,7 @@
 """Writes Scintilla's names and numbers into include/hongpilas.h, from the messages of ed_types and the tables of docs/MESSAGES.md.
 
 Run it at the top of the repository after a message or a constant was added. With --check it writes nothing, and fails where the
-header is not what it would write, or where calls, structs and refusals of the header are not those of the crates.
+header is not what it would write, or where its calls and structs, with their names and types, or its refusals are not those of the crates.
 """
 import os
 import re
@@ -13,7 +13,36 @@ HEADER = "include/hongpilas.h"
 BEGIN = "/* Written by tools/header.py: begin */\n"
 END = "/* Written by tools/header.py: end */\n"
 CONSTANT = r"(?:SC|SCFIND|INDIC)_?[A-Z0-9_]+"
-STRUCTS = {"LimitsInC": ("opening.rt", "hongpilas_limits"), "NoteInC": ("notes.rt", "hongpilas_note_data")}
+NUMBER = r"(?P<number>0x[0-9A-Fa-f]+|\d+)"
+# How the tables name a constant, each with what its number means: before it, behind it, or as a count of low bits.
+NAMINGS = (
+    (rf"`(?P<name>{CONSTANT})`,? {NUMBER}\b", lambda number: int(number, 0)),
+    (rf"{NUMBER} \(`(?P<name>{CONSTANT})`\)", lambda number: int(number, 0)),
+    (rf"`(?P<name>{CONSTANT})`, its low {NUMBER} bits", lambda bits: (1 << int(bits)) - 1),
+)
+STRUCTS = {"Handle": "hongpilas", "LimitsInC": "hongpilas_limits", "NoteInC": "hongpilas_note_data"}
+# How C declares a place of each type that exports and structs of the crate have. A slice is two places, and an allocator none.
+IN_C = {
+    "Global": "",
+    "bool": "bool {}",
+    "u32": "uint32_t {}",
+    "u64": "uint64_t {}",
+    "i64": "int64_t {}",
+    "usize": "size_t {}",
+    "*mut u8": "void *{}",
+    "*const u8": "const uint8_t *{}",
+    "&mut u32": "uint32_t *{}",
+    "&mut i64": "int64_t *{}",
+    "&mut *const u8": "const uint8_t **{}",
+    "&[u8]": "const uint8_t *{}, size_t length",
+    "&mut [u8]": "uint8_t *{}, size_t length",
+    "Handle": "hongpilas {}",
+    "&mut Handle": "hongpilas *{}",
+    "&LimitsInC": "const hongpilas_limits *{}",
+    "&mut NoteInC": "hongpilas_note_data *{}",
+}
+# What calls name otherwise on one side: both are compared under the second name.
+ALIASES = {"hongpilas_answer": "uint32_t", "session": "handle", "answer": "number", "room": "length", "count": "length"}
 
 
 def read(path):
@@ -31,19 +60,19 @@ def notes(table):
     return [(name, int(code)) for code, name in re.findall(r"^\| (\d+) \| (SCN_\w+) \|", table, re.M)]
 
 
+def named(table):
+    """The constants that the tables name, each with its number, as often as they do."""
+    for pattern, meaning in NAMINGS:
+        yield from ((it["name"], meaning(it["number"])) for it in re.finditer(pattern, table))
+
+
 def constants(table):
-    """The constants that the tables name with a number before or behind them."""
-    found = {}
-    for name, number in re.findall(rf"`({CONSTANT})`,? (0x[0-9A-Fa-f]+|\d+)\b", table):
-        found.setdefault(name, set()).add(int(number, 0))
-    for number, name in re.findall(rf"(0x[0-9A-Fa-f]+|\d+) \(`({CONSTANT})`\)", table):
-        found.setdefault(name, set()).add(int(number, 0))
-    for name, bits in re.findall(rf"`({CONSTANT})`, its low (\d+) bits", table):
-        found.setdefault(name, set()).add((1 << int(bits)) - 1)
-    for name, numbers in found.items():
-        if len(numbers) != 1:
-            sys.exit(f"{name} has several numbers: {sorted(numbers)}")
-    return sorted((name, numbers.pop()) for name, numbers in found.items())
+    """The constants that the tables name, each of which has one number."""
+    found = sorted(set(named(table)))
+    for (name, number), (after, other) in zip(found, found[1:]):
+        if name == after:
+            sys.exit(f"{name} has several numbers: {number} and {other}")
+    return found
 
 
 def lines_of(pairs, spelled):
@@ -65,28 +94,63 @@ def written(header):
     return head + BEGIN + generated() + END + rest.split(END)[1]
 
 
-def fields(text, opening):
-    body = text.split(opening, 1)[1].split("}", 1)[0]
-    return re.findall(r"(\w+)(?=[:;])", re.sub(r"/\*.*?\*/|: [^\n]*", lambda m: "" if m[0][0] == "/" else ":", body))
+def declared(name, kind):
+    """How C declares what has this name and type in the crate."""
+    return IN_C.get(kind, f"no type in C for {kind}: {{}}").format(name)
+
+
+def all_declared(places, between):
+    """Parameters or fields of the crate, as `view: u32`, as C declares them; without those that take no place."""
+    return between.join(filter(None, (declared(*place.split(": ", 1)) for place in places)))
+
+
+def spaced(declaration):
+    return " ".join(declaration.split())
+
+
+def as_compared(call):
+    """A declared call under the names of both sides."""
+    return re.sub(r"\w+", lambda word: ALIASES.get(word[0], word[0]), spaced(call))
+
+
+def calls_of_crate(sources):
+    for name, taken, answered in re.findall(r'extern "C" fn (\w+)\(([^()]*)\)(?: -> (.*))?', sources):
+        places = all_declared(re.findall(r"\w+: [^,]+", taken), ", ")
+        call = f"{name}({places or 'void'})"
+        yield as_compared(declared(call, answered) if answered else f"void {call}")
+
+
+def structs_of_crate(sources):
+    for name, tag in STRUCTS.items():
+        body = re.search(rf"#\[repr\(C\)\]\n(?:#\[.*\]\n)*pub struct {name} \{{\n(.*?)^\}}", sources, re.M | re.S)
+        fields = re.findall(r"^    (?!//)(?!pub ghost )(?:pub(?:\(crate\))? )?(.*),$", body[1] if body else "", re.M)
+        yield f"typedef struct {tag} {{ {all_declared(fields, '; ')}; }} {tag}"
+
+
+def declarations(header):
+    """The calls and structs that the header declares."""
+    bare = re.sub(r"/\*.*?\*/", "", header, flags=re.S)
+    yield from map(as_compared, re.findall(r"^(\w[\w *]*\bhongpilas_\w+\([^()]*\));", bare, re.M))
+    yield from map(spaced, re.findall(r"^(typedef struct \w+ \{[^{}]*\} \w+);", bare, re.M))
+
+
+def refusals():
+    """The header's names of what is answered, each with its number."""
+    found = re.findall(r"^    (\w+) = (\d+),", read("crates/ed_types/src/refusal.rt"), re.M)
+    return {("HONGPILAS_" + re.sub(r"(?<!^)(?=[A-Z])", "_", name).upper(), number) for name, number in [("Done", "0"), *found]}
 
 
 def faults(header):
     """Where the header's hand-written part is not that of the crates."""
     folder = "crates/hongpilas_c/src"
     sources = "".join(read(f"{folder}/{file}") for file in sorted(os.listdir(os.path.join(TOP, folder))))
-    exports = set(re.findall(r'extern "C" fn (\w+)', sources))
-    declared = set(re.findall(r"^\w+ (hongpilas_\w+)\(", header, re.M))
-    if exports != declared:
-        yield f"calls: {sorted(exports ^ declared)}"
-    for name, (file, in_c) in STRUCTS.items():
-        ours, theirs = fields(read(f"{folder}/{file}"), f"pub struct {name} {{"), fields(header, f"typedef struct {in_c} {{")
-        if ours != theirs:
-            yield f"struct {in_c}: {ours} and {theirs}"
-    refusals = re.findall(r"^    (\w+) = (\d+),", read("crates/ed_types/src/refusal.rt"), re.M)
-    for name, number in [("Done", "0"), *refusals]:
-        spelled = "HONGPILAS_" + re.sub(r"(?<!^)(?=[A-Z])", "_", name).upper()
-        if not re.search(rf"\b{spelled} = {number}\b", header):
-            yield f"{spelled} = {number} is missing"
+    ours, theirs = {*calls_of_crate(sources), *structs_of_crate(sources)}, set(declarations(header))
+    yield from (f"the crate has, and the header has not: {it}" for it in sorted(ours - theirs))
+    yield from (f"the header has, and the crate has not: {it}" for it in sorted(theirs - ours))
+    if "typedef uint32_t hongpilas_answer;\n" not in header:
+        yield "an answer is not the number of the crate's refusal, a uint32_t"
+    wrong = refusals() ^ set(re.findall(r"^  (HONGPILAS_\w+) = (\w+)", header, re.M))
+    yield from (f"{name} = {number} is not on both sides" for name, number in sorted(wrong))
     version = re.search(r"const VERSION: u32 = (\d+);", sources)[1]
     if f"#define HONGPILAS_VERSION {version}\n" not in header:
         yield f"the version is not {version}"
