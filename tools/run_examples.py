@@ -29,27 +29,38 @@ def scripts():
             yield script, sorted(loaded, key=lambda it: int(it.rpartition(".file")[2]))
 
 
-def main():
-    programs = [os.path.join(CRATE, "out", name) for name in ("sci_console", "sci_console.by-rattle")]
-    programs = [it for it in programs if os.path.exists(it)]
-    if not programs:
-        sys.exit("sci_console was not built")
+def programs():
+    """The program as each compiler made it, as far as it was built."""
+    built = [os.path.join(CRATE, "out", name) for name in ("sci_console", "sci_console.by-rattle")]
+    return [it for it in built if os.path.exists(it)]
+
+
+def look_at_data():
+    """Ends with an error where a file of the program's own run is not the one of the examples."""
     for file in os.listdir(DATA):
         if read(DATA, file) != read(EXAMPLES, file):
             sys.exit("crates/sci_console/data/%s is not the one of examples/" % file)
-    passed, failed = 0, 0
-    for script, loaded in scripts():
-        printed = read(EXAMPLES, script[:-4] + ".out")
-        status = 4 if re.search(rb"(?m)^- ", printed) else 0
-        for program in programs:
-            ran = subprocess.run([program, "run", script, *loaded], capture_output=True, cwd=EXAMPLES)
-            if (ran.stdout, ran.returncode) == (printed, status):
-                passed += 1
-            else:
-                failed += 1
-                print("FAILED  %s by %s" % (script, os.path.basename(program)))
-    print("examples: %d passed, %d failed" % (passed, failed))
-    sys.exit(1 if failed or not passed else 0)
+
+
+def is_as_written(program, script, loaded):
+    """Whether a program prints of a script what its example says, and ends as that wants. A failure is told."""
+    printed = read(EXAMPLES, script[:-4] + ".out")
+    status = 4 if re.search(rb"(?m)^- ", printed) else 0
+    ran = subprocess.run([program, "run", script, *loaded], capture_output=True, cwd=EXAMPLES)
+    same = (ran.stdout, ran.returncode) == (printed, status)
+    if not same:
+        print("FAILED  %s by %s" % (script, os.path.basename(program)))
+    return same
+
+
+def main():
+    built = programs()
+    if not built:
+        sys.exit("sci_console was not built")
+    look_at_data()
+    runs = [is_as_written(program, script, loaded) for script, loaded in scripts() for program in built]
+    print("examples: %d passed, %d failed" % (runs.count(True), runs.count(False)))
+    sys.exit(0 if runs and all(runs) else 1)
 
 
 main()

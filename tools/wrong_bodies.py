@@ -107,19 +107,23 @@ def bodies_of(crate, pages):
                 yield from (Body(crate, name, text) for name, text in BLOCK.findall(it.read()))
 
 
+def copy_crate(crate, folder):
+    """Copies what a check of the crate reads into the folder."""
+    for part in ("src", "specs", "proofs"):
+        if os.path.isdir(f"{kit.TOP}/crates/{crate}/{part}"):
+            shutil.copytree(f"{kit.TOP}/crates/{crate}/{part}", f"{folder}/{part}")
+
+
 def checked(crate, bodies, only):
     """What the prover says of a copy of the crate with these bodies in it, and its status. Where a body cannot be put in, that is said."""
     with tempfile.TemporaryDirectory(prefix="wrong-bodies-") as copy:
-        for part in ("src", "specs", "proofs"):
-            if os.path.isdir(f"{kit.TOP}/crates/{crate}/{part}"):
-                shutil.copytree(f"{kit.TOP}/crates/{crate}/{part}", f"{copy}/{part}")
+        copy_crate(crate, copy)
         for body in bodies:
             why = body.put_into(copy)
             if why:
                 return why, 2
         check = [f"{kit.kit()}/bin/rattle", "check", *kit.words(crate), "--jobs", "1"]
-        for function in sorted(only):
-            check += ["--only", function]
+        check += [word for function in sorted(only) for word in ("--only", function)]
         ran = subprocess.run(check, cwd=copy, capture_output=True, text=True, errors="replace")
         return ran.stdout + ran.stderr, ran.returncode
 
