@@ -1,9 +1,9 @@
 -- Characters: a text is cut from left to right into CRLF, well-formed sequences of UTF-8, else single bytes.
--- [Unicode Table 3-7; CRLF as one: own]
+-- [the well-formed sequences of UTF-8; CRLF as one: own]
 use Rattle.std.specs.Prelude.{ℕ, zero, suc, ◌+◌, ◌-◌, nat_lt, ◌&&◌, Bool, true, false, List, [], ◌∷◌, length, find, reverse, unwrap_or, Option, Some, None}
 use Rattle.ed_model.specs.Matches.{is_from_to}
 
--- CRLF, then the rows of the table: the least and the greatest byte at each place of a sequence
+-- CRLF, then the well-formed sequences: the least and the greatest byte at each place of one
 abbrev pub sequences : List (List (ℕ × ℕ))
 sequences =
     ((13, 13) ∷ (10, 10) ∷ [])
