@@ -17,20 +17,35 @@ use ed_types::Note;
 #[repr(C)]
 #[derive(Drop)]
 pub struct NoteInC {
+    /// The id of the view that is told.
     pub view: u32,
+    /// Which note it is: Scintilla's number, as 2008 for SCN_MODIFIED.
     pub code: u32,
+    /// Scintilla's `modificationType`: bits that say what was changed, and by what.
     pub kind: u32,
+    /// The number of a recorded message.
     pub message: u32,
+    /// A position, in bytes from 0.
     pub position: i64,
+    /// A length, in bytes.
     pub length: i64,
+    /// Scintilla's `linesAdded`: by how many the number of lines grew, negative where it fell.
     pub lines: i64,
+    /// A line, from 0; -1 where all lines are meant.
     pub line: i64,
+    /// A fold level after a change: `foldLevelNow`.
     pub now: i64,
+    /// The fold level before it: `foldLevelPrev`.
     pub prev: i64,
+    /// The token of a container's own undo step.
     pub token: i64,
+    /// The first argument of a recorded message, as it was sent.
     pub w: i64,
+    /// The second argument of a recorded message, as it was sent.
     pub l: i64,
+    /// Where the note's text begins. It is lent until the next call on the session; where its length is 0, the address means nothing.
     pub text: *const u8,
+    /// The length of the text, in bytes.
     pub text_length: usize,
 }
 

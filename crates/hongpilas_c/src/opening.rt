@@ -16,16 +16,23 @@ use ed_types::{Bytes, Limits, Refusal, Reply};
 use editor_session::Session;
 use std::alloc::Global;
 
-/// Limits of a session, as C gives them.
+/// Limits of a session, as C gives them. Each is from 1 to the greatest, which its comment names.
 #[repr(C)]
 #[derive(Drop)]
 pub struct LimitsInC {
+    /// The most bytes of a document: at most 0x7FFFFFFF.
     pub doc_bytes: u64,
+    /// The most bytes of a document that was made for large texts: at most 0x10000000000.
     pub large_bytes: u64,
+    /// The most marker handles of one document, ever: at most 0x7FFFFFFF.
     pub handles: u64,
+    /// The most document ids, ever, and the most view ids, ever: at most 0x7FFFFFFF.
     pub ids: u64,
+    /// The most references to one document: at most 0x7FFFFFFF.
     pub refs: u64,
+    /// The most open views: at most 1024.
     pub views: u64,
+    /// The greatest depth of undo groups: at most 255.
     pub depth: u64,
 }
 
