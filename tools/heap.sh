@@ -13,16 +13,23 @@ compiler=$(command -v cc || command -v gcc || command -v clang || echo /opt/ratt
 passed=0
 failed=0
 
-# kept NAME MOST WORD..: the run gives back all that it took, and takes no block of more than MOST bytes; what it ends with does not matter here.
+# fail WHAT: a row that failed.
+fail() {
+    echo "FAILED  $1"
+    failed=$((failed + 1))
+}
+
+# kept NAME MOST WORD..: the run gives back all that it took, and takes no block of more than MOST bytes, though it can have larger ones; what it ends with
+# does not matter here.
 kept() {
-    name=$1 most=$2
+    name=$1 most=$2 left='' largest=''
     shift 2
     rm -f "$work/report"
-    HEAP_MOST=$most HEAP_REPORT=$work/report LD_PRELOAD=$work/heap_count.so "$@" >/dev/null 2>&1 <"$work/in"
-    case "$(cat "$work/report" 2>/dev/null)" in
-        *" kept 0 "*) passed=$((passed + 1)) ;;
-        *) echo "FAILED  $name: $(cat "$work/report" 2>/dev/null)"; failed=$((failed + 1)) ;;
-    esac
+    HEAP_REPORT=$work/report LD_PRELOAD=$work/heap_count.so "$@" >/dev/null 2>&1 <"$work/in"
+    [ -f "$work/report" ] && read -r _ _ _ left _ largest _ <"$work/report"
+    if [ "$left" = 0 ] && [ "$largest" -le "$most" ]; then passed=$((passed + 1)); else
+        fail "$name, in blocks of at most $most bytes: $(cat "$work/report" 2>&1)"
+    fi
 }
 
 # done_within NAME MOST WORD..: the run ends with status 0 though no block of more than MOST bytes can be had.
@@ -30,8 +37,7 @@ done_within() {
     name=$1 most=$2
     shift 2
     if HEAP_MOST=$most LD_PRELOAD=$work/heap_count.so "$@" >"$work/out" 2>&1 <"$work/in"; then passed=$((passed + 1)); else
-        echo "FAILED  $name within blocks of $most bytes: $(tail -n 1 "$work/out")"
-        failed=$((failed + 1))
+        fail "$name within blocks of $most bytes: $(tail -n 1 "$work/out")"
     fi
 }
 
@@ -41,11 +47,11 @@ for script in "$top"/examples/*.sci; do
     [ -f "${script%.sci}.file1" ] && files=${script%.sci}.file1
     kept "run $(basename "$script")" 4000000 "$program" run "$script" $files
     kept "list $(basename "$script")" 4000000 "$program" list "$script"
-    done_within "run $(basename "$script")" 200000 "$program" check "$script"
+    done_within "check $(basename "$script")" 200000 "$program" check "$script"
 done
 kept 'no such command' 4000000 "$program" go
 kept 'no such script' 4000000 "$program" run missing.sci
-kept 'want of memory' 300 "$program" run "$top/examples/hello.sci"
+kept 'want of memory' 300 env HEAP_MOST=300 "$program" run "$top/examples/hello.sci"
 kept 'a run without notes' 4000000 "$program" run --quiet "$top/examples/a_long_walk.sci"
 kept 'a line at fault' 4000000 "$program" check "$top/examples/hello.out"
 cp "$top/examples/steps/tour.orders" "$work/in"
@@ -111,8 +117,10 @@ large=0
 for crate in "$top"/crates/*; do
     grep -rqs '#\[test\]' "$crate/src" || continue
     tests=$crate/out/$(basename "$crate")_tests
-    [ -x "$tests" ] || { echo "FAILED  the tests of $(basename "$crate") were not built"; failed=$((failed + 1)); continue; }
-    for name in $("$tests" --list | sed -n 's/: test$//p'); do
+    [ -x "$tests" ] || { fail "the tests of $(basename "$crate") were not built"; continue; }
+    names=$("$tests" --list | sed -n 's/: test$//p')
+    [ -n "$names" ] || fail "the tests of $(basename "$crate") are not listed"
+    for name in $names; do
         kept "$name" 2000000000 "$tests" "$name"
         case "$name" in
             large_tests::* | large_session_tests::*)
@@ -125,6 +133,6 @@ for crate in "$top"/crates/*; do
         esac
     done
 done
-[ "$large" -gt 0 ] || { echo "FAILED  the tests of large sizes were not built"; failed=$((failed + 1)); }
+[ "$large" -gt 0 ] || fail 'the tests of large sizes were not built'
 echo "heap: $passed passed, $failed failed"
 [ "$failed" = 0 ]
