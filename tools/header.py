@@ -122,7 +122,7 @@ def calls_of_crate(sources):
 
 def structs_of_crate(sources):
     for name, tag in STRUCTS.items():
-        body = re.search(rf"#\[repr\(C\)\]\n(?:#\[.*\]\n)*pub struct {name} \{{\n(.*?)^\}}", sources, re.M | re.S)
+        body = re.search(rf"^#\[repr\(C\)\]\n(?:#\[.*\]\n)*pub struct {name} \{{\n((?:.*\n)*?)\}}", sources, re.M)
         fields = re.findall(r"^    (?!//)(?!pub ghost )(?:pub(?:\(crate\))? )?(.*),$", body[1] if body else "", re.M)
         yield f"typedef struct {tag} {{ {all_declared(fields, '; ')}; }} {tag}"
 
