@@ -67,7 +67,8 @@ kept 'a thousand views' 4000000 "$program" run "$work/views.sci"
 done_within 'a thousand views' 1000000 "$program" run "$work/views.sci"
 
 # The most bytes that a test of a large size may hold at once. The texts of `large_tests` have 1,048,576 bytes, in 65,536 lines. Where a block grows, the old
-# one of half the size is there beside it. 40,000 bytes are for what the heap rounds up.
+# one of half the size is there beside it, unless the allocator makes it larger, as where no item stands behind the gap. 40,000 bytes are for what the heap
+# rounds up.
 bound() {
     case "$1" in
         # the text, its copy, the items one by one in a block that grew, which is gone when 65,536 numbers of 4 bytes come
@@ -81,16 +82,16 @@ bound() {
         many_large_partitions) echo $((524288 + 262144 + 40000)) ;;
         # 140,000 starts of 4 bytes, for which room was made at once
         looks_up_among_many) echo $((140001 * 4 + 40000)) ;;
-        # three texts (what goes in, the old and the new one), and twice 65,543 starts of 4 bytes in a block that grew
-        lines_of_a_large_text) echo $((3 * 1048576 + 3 * 65543 * 4 + 40000)) ;;
+        # three texts (what goes in, the old and the new one), and twice 65,543 starts of 4 bytes
+        lines_of_a_large_text) echo $((3 * 1048576 + 2 * 65543 * 4 + 40000)) ;;
         # the text, and the turned one with 65,536 bytes more
         line_ends_turned_and_back) echo $((1048576 + 1114112 + 40000)) ;;
         # the text and its bytes in the history
         a_step_of_a_large_text) echo $((2 * 1048576 + 40000)) ;;
-        # 65,536 records of 40 bytes in a block that grew, and half of the bytes
-        many_steps) echo $((2621440 + 1310720 + 524288 + 40000)) ;;
-        # room for the levels, the states and the markers of 131,072 lines, of 4, 4 and 16 bytes, a byte for each line, and the old block of the last that grew
-        rows_line_by_line) echo $((131072 * (4 + 4 + 16 + 1) + 65536 * 16 + 40000)) ;;
+        # 65,536 records of 32 bytes, and as many texts of 16, in blocks that the allocator made larger
+        many_steps) echo $((2097152 + 1048576 + 40000)) ;;
+        # room for the levels, the states and the markers of 131,072 lines, of 4, 4 and 16 bytes, and a byte for each line, in blocks that the allocator made larger
+        rows_line_by_line) echo $((131072 * (4 + 4 + 16 + 1) + 40000)) ;;
         # the same of 100,000 lines, for which room was made at once
         rows_at_once) echo $((100000 * (4 + 4 + 16 + 1) + 40000)) ;;
         # 200,000 runs in room for 262,144: a start of 4 bytes, or of 8, and a value of 4, and the old block of the last that grew
@@ -121,7 +122,7 @@ for crate in "$top"/crates/*; do
     names=$("$tests" --list | sed -n 's/: test$//p')
     [ -n "$names" ] || fail "the tests of $(basename "$crate") are not listed"
     for name in $names; do
-        kept "$name" 2000000000 "$tests" "$name"
+        kept "$name" 40000000 "$tests" "$name"
         case "$name" in
             large_tests::* | large_session_tests::*)
                 large=$((large + 1))
