@@ -1,7 +1,7 @@
 //! `Cells` and its calls. A clause sees them as their `cells`, whether they keep styles (`keeps_styles`), of how many cells the styles
 //! are stored (`styled`), their `room`, and the `spare`, `gaps` and `moved` of both gap buffers.
 
-ghost use Rattle.std.specs.Prelude.{◌≡◌, ◌<◌, ◌≤◌, ◌+◌, ◌-◌, ◌^◌, true, false, ◌++◌, length, take, drop, replicate, max, slice_get, slice_range, vec_len, vec_capacity, OnOk, OnErr, IsOk};
+ghost use Rattle.std.specs.Prelude.{◌≡◌, ◌<◌, ◌≤◌, ◌+◌, ◌-◌, ◌^◌, true, false, ◌++◌, length, take, drop, replicate, max, slice_get, slice_range, vec_len, vec_capacity, IfOk, OnOk, OnErr, IsOk};
 ghost use Rattle.ed_model.specs.Text.{bytes_of, styles_of, plain_cells};
 ghost use Rattle.ed_model.specs.Steps.{Insert, edited_cells};
 ghost use Rattle.ed_model.specs.Changes.{restyled};
@@ -332,12 +332,32 @@ impl Cells {
         self.bytes.copy_out(start, target);
     }
 
+    // The `count` bytes from `start` on in two parts, of which the second is empty but where the gap lies among them.
+    #[inline(always)]
+    #[tactic(auto, using(crate::proofs::Pairs::pairs_length, crate::proofs::Pairs::pairs_bytes, crate::proofs::Stored::range_before, crate::proofs::Stored::range_behind))]
+    fn parts_of(&self, start: usize, count: usize) -> (&[u8], &[u8])
+        requires { start + count ≤ length self.now.cells }
+        ensures joined { result.0.now ++ result.1.now ≡ slice_range (bytes_of self.now.cells) start (start + count) }
+    {
+        let _ = self.bytes.len(); // it says that the sum is small
+        let end = start + count;
+        let (before, behind) = self.bytes.halves();
+        let gap = before.len();
+        if end <= gap {
+            return (&before[start..end], &[]);
+        }
+        if gap <= start {
+            return (&behind[start - gap..end - gap], &[]);
+        }
+        (&before[start..], &behind[..end - gap])
+    }
+
     /// Appends the `count` bytes from `start` on to `target`.
     ///
     /// # Errors
     ///
     /// `AllocError` where memory is refused. `target` has then the same bytes.
-    #[tactic(auto, using(crate::proofs::Pairs::pairs_length, crate::proofs::Pairs::pairs_bytes, crate::proofs::Stored::range_before, crate::proofs::Stored::range_behind))]
+    #[tactic(auto, using(crate::proofs::Pairs::pairs_length, crate::proofs::Pairs::pairs_bytes))]
     pub fn append_text_to(
         &self,
         start: usize,
@@ -349,17 +369,36 @@ impl Cells {
         ensures room_is_there { vec_len target.old + count ≤ vec_capacity target.old → IsOk result }
         ensures err { OnErr result (target.new.items ≡ target.old.items) }
     {
-        let _ = self.bytes.len(); // it says that the sum is small
-        let end = start + count;
-        let (before, behind) = self.bytes.halves();
-        let gap = before.len();
-        if end <= gap {
-            return target.extend_from_slice(&before[start..end]);
+        let (first, second) = self.parts_of(start, count);
+        if second.is_empty() {
+            return target.extend_from_slice(first);
         }
-        if gap <= start {
-            return target.extend_from_slice(&behind[start - gap..end - gap]);
+        append_both(first, second, target)
+    }
+
+    /// The `count` bytes from `start` on, in memory of their own, which has room for `spare` bytes more.
+    ///
+    /// # Errors
+    ///
+    /// `AllocError` where memory is refused. Of no bytes none is taken.
+    #[tactic(auto, using(crate::proofs::Pairs::pairs_length, crate::proofs::Pairs::pairs_bytes))]
+    pub fn text_to_vec(
+        &self,
+        alloc: Global,
+        start: usize,
+        count: usize,
+        spare: usize,
+    ) -> Result<Vec<u8>, AllocError>
+        requires { start + count ≤ length self.now.cells }
+        ensures bytes { IfOk result (λ text. text.items ≡ slice_range (bytes_of self.now.cells) start (start + count)) }
+        ensures free { count ≡ 0 → IsOk result }
+    {
+        let (first, second) = self.parts_of(start, count);
+        let mut text = copied(alloc, first, spare.saturating_add(second.len()))?;
+        if !second.is_empty() {
+            text.extend_from_slice(second)?;
         }
-        append_both(&before[start..], &behind[..end - gap], target)
+        Ok(text)
     }
 
     /// The bytes before the gap and those behind it. Nothing moves.
@@ -395,6 +434,23 @@ impl Cells {
     {
         (self.bytes.gap(), self.styles.gap())
     }
+}
+
+// The bytes in memory of their own, which has room for `spare` bytes more. The first byte is read before memory is asked for: where
+// the text lies far away, it is on its way while the allocator works.
+fn copied(alloc: Global, bytes: &[u8], spare: usize) -> Result<Vec<u8>, AllocError>
+    ensures bytes { IfOk result (λ copy. copy.items ≡ bytes.now) }
+    ensures free { length bytes.now ≡ 0 → IsOk result }
+{
+    let mut copy = Vec::new(alloc);
+    let Some((first, rest)) = bytes.split_first() else {
+        return Ok(copy);
+    };
+    let first = *first;
+    copy.reserve_exact(bytes.len().saturating_add(spare))?;
+    copy.push_reserved(first);
+    copy.extend_from_slice(rest)?;
+    Ok(copy)
 }
 
 // Appends the bytes of `first` and those of `second` to `target`, all or none of them.

@@ -159,6 +159,25 @@ impl Document {
         self.cells.append_text_to(start, count, target)
     }
 
+    /// The `count` bytes from `start` on, in memory of their own, which has room for `spare` bytes more.
+    ///
+    /// # Errors
+    ///
+    /// `AllocError` where memory is refused. Of no bytes none is taken.
+    pub fn text_to_vec(
+        &self,
+        alloc: Global,
+        start: usize,
+        count: usize,
+        spare: usize,
+    ) -> Result<Vec<u8>, AllocError>
+        requires { start + count ≤ length self.now.document.cells }
+        ensures bytes { IfOk result (λ text. text.items ≡ slice_range (text_of self.now.document) start (start + count)) }
+        ensures free { count ≡ 0 → IsOk result }
+    {
+        self.cells.text_to_vec(alloc, start, count, spare)
+    }
+
     /// Lends the `count` bytes from `start` on as one slice, which is not copied. The document stays as it is.
     pub fn lend(&mut self, start: usize, count: usize) -> &[u8]
         requires { start + count ≤ length self.old.document.cells }

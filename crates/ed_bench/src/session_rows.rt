@@ -5,14 +5,14 @@ use ed_types::Kind;
 use editor_session::Session;
 use std::io;
 
-/// A marker on each hundredth line, newlines at the top, and then the next marker where the only one is on the last line.
-pub fn markers(
+/// Newlines at the top, a marker on each hundredth line, and newlines above these.
+fn lines_at_the_top(
     rt: &HostRuntime,
     session: &mut Session,
+    view: u32,
     lines: usize,
     count: usize,
 ) -> io::Result<()> {
-    let view = open_on(rt, session, SHORT_LINE, lines)?;
     let hundredth = Series {
         stride: 100,
         ..each(Kind::MarkerAdd, lines / 100, 1)
@@ -21,33 +21,27 @@ pub fn markers(
         stride: 0,
         ..each(Kind::InsertText, count, 0)
     };
+    let what = "a marker added to each hundredth line";
     measure(rt, session, view, "a newline typed at the top", top, b"\n")?;
-    measure(
-        rt,
-        session,
-        view,
-        "a marker added to each hundredth line",
-        hundredth,
-        &[],
-    )?;
-    measure(
-        rt,
-        session,
-        view,
-        "a newline typed at the top of marked lines",
-        top,
-        b"\n",
-    )?;
+    measure(rt, session, view, what, hundredth, &[])?;
+    let what = "a newline typed at the top of marked lines";
+    measure(rt, session, view, what, top, b"\n")
+}
+
+/// The same, and then the next marker where the only one is on the last line.
+pub fn markers(
+    rt: &HostRuntime,
+    session: &mut Session,
+    lines: usize,
+    count: usize,
+) -> io::Result<()> {
+    let view = open_on(rt, session, SHORT_LINE, lines)?;
+    lines_at_the_top(rt, session, view, lines, count)?;
     send(session, view, Kind::MarkerDeleteAll, -1, 0, &[]);
     send(session, view, Kind::MarkerAdd, argument(lines), 2, &[]);
-    measure(
-        rt,
-        session,
-        view,
-        "the next marker, which stands at the end",
-        each(Kind::MarkerNext, count, 4),
-        &[],
-    )
+    let next = each(Kind::MarkerNext, count, 4);
+    let what = "the next marker, which stands at the end";
+    measure(rt, session, view, what, next, &[])
 }
 
 /// The same level for each line.

@@ -27,6 +27,43 @@ pub fn typing(
     measure_typing(rt, session, view, "a byte typed, heard by one view", count)
 }
 
+/// Asks for the length, bytes and lines, at places below those of so many lines.
+fn ask(
+    rt: &HostRuntime,
+    session: &mut Session,
+    view: u32,
+    lines: usize,
+    count: usize,
+) -> io::Result<()> {
+    let lengths = far_apart(Kind::GetLength, count, lines);
+    measure(rt, session, view, "the length asked for", lengths, &[])?;
+    let bytes = far_apart(Kind::GetCharAt, count, lines);
+    measure(rt, session, view, "a byte asked for", bytes, &[])?;
+    let places = far_apart(Kind::LineFromPosition, count, lines);
+    measure(rt, session, view, "a line asked for", places, &[])
+}
+
+/// Has ranges of 40 bytes from such places on handed out, and reads them.
+fn take_ranges(
+    rt: &HostRuntime,
+    session: &mut Session,
+    view: u32,
+    lines: usize,
+    count: usize,
+) -> io::Result<()> {
+    let far = Series {
+        l: 40,
+        ..far_apart(Kind::GetTextRange, count, lines)
+    };
+    let near = Series { stride: 40, ..far };
+    let what = "40 bytes handed out, one behind the other";
+    measure_ranges(rt, session, view, "40 bytes handed out, far apart", far)?;
+    measure_ranges(rt, session, view, what, near)?;
+    let what = "40 bytes read, one behind the other";
+    measure_reads(rt, session, view, "40 bytes read, far apart", far)?;
+    measure_reads(rt, session, view, what, near)
+}
+
 /// Asks for the length, bytes, lines and ranges of 40 bytes.
 pub fn look_up(
     rt: &HostRuntime,
@@ -37,54 +74,8 @@ pub fn look_up(
     let view = open_on(rt, session, LINE, lines)?;
     // A range of 40 bytes from each of these places on lies in the text.
     let inner = lines.saturating_sub(1);
-    measure(
-        rt,
-        session,
-        view,
-        "the length asked for",
-        far_apart(Kind::GetLength, count, inner),
-        &[],
-    )?;
-    measure(
-        rt,
-        session,
-        view,
-        "a byte asked for",
-        far_apart(Kind::GetCharAt, count, inner),
-        &[],
-    )?;
-    measure(
-        rt,
-        session,
-        view,
-        "a line asked for",
-        far_apart(Kind::LineFromPosition, count, inner),
-        &[],
-    )?;
-    let ranges = Series {
-        l: 40,
-        ..far_apart(Kind::GetTextRange, count, inner)
-    };
-    measure_ranges(rt, session, view, "40 bytes handed out, far apart", ranges)?;
-    let near = Series {
-        stride: 40,
-        ..ranges
-    };
-    measure_ranges(
-        rt,
-        session,
-        view,
-        "40 bytes handed out, one behind the other",
-        near,
-    )?;
-    measure_reads(rt, session, view, "40 bytes read, far apart", ranges)?;
-    measure_reads(
-        rt,
-        session,
-        view,
-        "40 bytes read, one behind the other",
-        near,
-    )
+    ask(rt, session, view, inner, count)?;
+    take_ranges(rt, session, view, inner, count)
 }
 
 /// Counts the line ends of a copy that took from `start` on.

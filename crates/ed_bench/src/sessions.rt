@@ -81,18 +81,27 @@ pub fn send(session: &mut Session, view: u32, kind: Kind, w: i64, l: i64, text: 
     }
 }
 
-/// The `w` after this one.
+/// The series with a stride below its size.
+fn within_size(series: Series) -> Series {
+    Series {
+        stride: series.stride.wrapping_rem(series.size.max(1)),
+        ..series
+    }
+}
+
+/// The `w` after this one, in a series with a stride below its size. It is found without a division, which takes as long as some messages.
 fn next_place(series: Series, w: i64) -> i64 {
     let next = w.wrapping_add(series.stride);
     if next < series.size {
         next
     } else {
-        next.wrapping_rem(series.size.max(1))
+        next.wrapping_sub(series.size)
     }
 }
 
 /// Sends a series with the same `l` and text, and answers the sum of the values.
 pub fn send_each(session: &mut Session, view: u32, series: Series, text: &[u8]) -> i64 {
+    let series = within_size(series);
     let mut sum = 0i64;
     let mut w = 0i64;
     for _ in 0..series.count {
@@ -104,6 +113,7 @@ pub fn send_each(session: &mut Session, view: u32, series: Series, text: &[u8]) 
 
 /// Sends a series whose `l` goes with `w`, and answers the sum of the values.
 pub fn send_ranges(session: &mut Session, view: u32, series: Series) -> i64 {
+    let series = within_size(series);
     let mut sum = 0i64;
     let mut w = 0i64;
     for _ in 0..series.count {
@@ -116,6 +126,7 @@ pub fn send_ranges(session: &mut Session, view: u32, series: Series) -> i64 {
 
 /// Reads a series whose `l` goes with `w` into a buffer, and answers the sum of the values: -1 for what is not read.
 pub fn read_ranges(session: &Session, view: u32, series: Series, into: &mut Vec<u8>) -> i64 {
+    let series = within_size(series);
     let mut sum = 0i64;
     let mut w = 0i64;
     for _ in 0..series.count {

@@ -17,32 +17,8 @@ use message_plans::{handed_of, text_question_of};
 use message_requests::{Request, SentMessage, SessionState};
 use std::alloc::{AllocError, Global};
 
-/// Empties a buffer that has room for `count` bytes. One that has not becomes another, which has so much more room that texts which
-/// become longer and longer take amortised constant time for each byte.
-///
-/// # Errors
-///
-/// `AllocError` where memory is refused. The buffer is then as it was.
-fn make_room(alloc: Global, count: usize, into: &mut Vec<u8>) -> Result<(), AllocError>
-    ensures items { OnOk result (into.new.items ≡ []) }
-    ensures len { OnOk result (vec_len into.new ≡ 0) }
-    ensures room { OnOk result (count ≤ vec_capacity into.new) }
-    ensures room_is_there { count ≤ vec_capacity into.old → IsOk result }
-    ensures err { OnErr result (into.new ≡ into.old) }
-{
-    let capacity = into.capacity();
-    if count <= capacity {
-        into.clear();
-        return Ok(());
-    }
-    let Ok(larger) = Vec::with_capacity(alloc, count.saturating_add(capacity)) else {
-        return Err(AllocError);
-    };
-    *into = larger;
-    Ok(())
-}
-
-/// Puts the `count` bytes of a document from `start` on in the place of what a buffer holds.
+/// Puts the `count` bytes of a document from `start` on in the place of what a buffer holds. A buffer that has no room for them becomes
+/// another, which has so much more room that texts which become longer and longer take amortised constant time for each byte.
 ///
 /// # Errors
 ///
@@ -59,9 +35,12 @@ fn read_bytes(
     ensures room_is_there { count ≤ vec_capacity into.old → IsOk result }
     ensures err { OnErr result (into.new ≡ into.old) }
 {
-    let Ok(()) = make_room(alloc, count, into) else {
-        return Err(AllocError);
-    };
+    let capacity = into.capacity();
+    if count > capacity {
+        *into = document.text_to_vec(alloc, start, count, capacity)?;
+        return Ok(());
+    }
+    into.clear();
     let Ok(()) = document.append_text_to(start, count, into) else {
         unreachable!()
     };

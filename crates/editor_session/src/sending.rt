@@ -43,12 +43,8 @@ fn hand_out(
     ensures refused { IfErr result (λ refusal. refusal ≡ OutOfMemory) }
     ensures free { count ≡ 0 → IsOk result }
 {
-    let mut text = Vec::new(alloc);
-    let Ok(()) = text.reserve_exact(count) else {
+    let Ok(text) = document.text_to_vec(alloc, start, count, 0) else {
         return Err(Refusal::OutOfMemory);
-    };
-    let Ok(()) = document.append_text_to(start, count, &mut text) else {
-        unreachable!()
     };
     Ok(Reply::quiet(alloc, value, Bytes::new(text)))
 }

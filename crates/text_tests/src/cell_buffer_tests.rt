@@ -1,5 +1,6 @@
 //! `cell_buffer`: each call that takes memory once on its happy path, and what editing costs.
 use cell_buffer::Cells;
+use std::alloc::Global;
 use std::process::Abort;
 
 // Of each long test, one function owns the cells, and others, to which they are lent, do all else: what owns cells over many calls takes long to prove.
@@ -70,12 +71,25 @@ fn assert_text_of_both_halves(rt: &impl Abort, cells: &Cells, text: &mut Vec<u8>
     assert_eq!(rt; copy.as_slice(), b"llo".as_slice());
 }
 
+fn assert_text_in_memory_of_its_own(rt: &impl Abort, cells: &Cells, alloc: Global) {
+    assert_eq!(rt; cells.len(), 5);
+    let across = cells.text_to_vec(alloc, 1, 4, 0).expect(rt, "memory");
+    assert_eq!(rt; across.as_slice(), b"ello".as_slice());
+    let mut before = cells.text_to_vec(alloc, 0, 2, 1).expect(rt, "memory");
+    assert!(rt; before.capacity() >= 3);
+    before.push(b'!').expect(rt, "memory");
+    assert_eq!(rt; before.as_slice(), b"he!".as_slice());
+    let nothing = cells.text_to_vec(alloc, 5, 0, 0).expect(rt, "memory");
+    assert!(rt; nothing.is_empty());
+}
+
 #[test]
 fn text_of_both_halves(rt: HostRuntime) {
     let mut cells = Cells::new(rt.alloc());
     put_text_about_the_gap(&rt, &mut cells);
     let mut text: Vec<u8> = Vec::new(rt.alloc());
     assert_text_of_both_halves(&rt, &cells, &mut text);
+    assert_text_in_memory_of_its_own(&rt, &cells, rt.alloc());
 }
 
 fn style_nine_bytes(rt: &impl Abort, cells: &mut Cells) {
