@@ -10,7 +10,13 @@
 #include <string.h>
 #include <time.h>
 
-enum { RUNS = 5, LINE = 40, MEBIBYTE = 1 << 20 };
+/* `instructions` wants one run of each row at the lower size. */
+#ifndef BENCH_RUNS
+#define BENCH_RUNS 5
+#define BENCH_SIZES 2
+#endif
+
+enum { RUNS = BENCH_RUNS, SIZES = BENCH_SIZES, LINE = 40, MEBIBYTE = 1 << 20 };
 
 /* One of the two. A text is closed by a NUL that its length does not count. */
 typedef struct side {
@@ -427,7 +433,7 @@ static void print_table(const side *sides, int side_count, const char *only) {
          side_count == 2 ? " Scintilla                 | ratio |" : "");
   printf("|---|---|---|%s\n", side_count == 2 ? "---|---|" : "");
   for (size_t i = 0; i < sizeof rows / sizeof *rows; i++)
-    for (int large = 0; large < 2; large++) {
+    for (int large = 0; large < SIZES; large++) {
       size = (size_t)(large ? 16 : 1) * MEBIBYTE;
       if (rows[i].counts[large] > 0 && strstr(rows[i].name, only) != NULL)
         print_row(&rows[i], sides, side_count, large ? 16 : 1, rows[i].counts[large]);

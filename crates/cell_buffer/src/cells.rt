@@ -1,7 +1,7 @@
 //! `Cells` and its calls. A clause sees them as their `cells`, whether they keep styles (`keeps_styles`), of how many cells the styles
 //! are stored (`styled`), their `room`, and the `spare`, `gaps` and `moved` of both gap buffers.
 
-ghost use Rattle.std.specs.Prelude.{◌≡◌, ◌<◌, ◌≤◌, ◌+◌, ◌-◌, ◌^◌, true, false, ◌++◌, length, take, drop, replicate, max, slice_get, slice_range, vec_len, vec_capacity, IfOk, OnOk, OnErr, IsOk};
+ghost use Rattle.std.specs.Prelude.{◌≡◌, ◌<◌, ◌≤◌, ◌+◌, ◌-◌, ◌^◌, true, false, ◌++◌, [], ◌∷◌, length, take, drop, replicate, max, slice_get, slice_range, vec_len, vec_capacity, IfOk, OnOk, OnErr, IsOk};
 ghost use Rattle.ed_model.specs.Text.{bytes_of, styles_of, plain_cells};
 ghost use Rattle.ed_model.specs.Steps.{Insert, edited_cells};
 ghost use Rattle.ed_model.specs.Changes.{restyled};
@@ -436,20 +436,33 @@ impl Cells {
     }
 }
 
-// The bytes in memory of their own, which has room for `spare` bytes more. The first byte is read before memory is asked for: where
-// the text lies far away, it is on its way while the allocator works.
+// The bytes in memory of their own, which has room for `spare` bytes more. The first and the last of them are read before memory is
+// asked for: where the text lies far away, it is on its way while the allocator works.
 fn copied(alloc: Global, bytes: &[u8], spare: usize) -> Result<Vec<u8>, AllocError>
     ensures bytes { IfOk result (λ copy. copy.items ≡ bytes.now) }
     ensures free { length bytes.now ≡ 0 → IsOk result }
 {
-    let mut copy = Vec::new(alloc);
-    let Some((first, rest)) = bytes.split_first() else {
-        return Ok(copy);
+    let Some((last, before)) = bytes.split_last() else {
+        return Ok(Vec::new(alloc));
+    };
+    let last = *last;
+    let Some((first, between)) = before.split_first() else {
+        return one_byte(alloc, last, spare);
     };
     let first = *first;
-    copy.reserve_exact(bytes.len().saturating_add(spare))?;
+    let mut copy = Vec::with_capacity(alloc, bytes.len().saturating_add(spare))?;
     copy.push_reserved(first);
-    copy.extend_from_slice(rest)?;
+    copy.extend_from_slice(between)?;
+    copy.push(last)?;
+    Ok(copy)
+}
+
+// The same of one byte.
+fn one_byte(alloc: Global, byte: u8, spare: usize) -> Result<Vec<u8>, AllocError>
+    ensures { IfOk result (λ copy. copy.items ≡ byte ∷ []) }
+{
+    let mut copy = Vec::with_capacity(alloc, spare.saturating_add(1))?;
+    copy.push_reserved(byte);
     Ok(copy)
 }
 
