@@ -13,8 +13,15 @@
  *  - a session is used by one call at a time, on the thread that made it;
  *  - no pointer is null, also where the length beside it is 0. hongpilas_call, below,
  *    takes a null text;
- *  - bytes that were lent are only read, and not after the next call on the session;
- *    where their length is 0, the address means nothing.
+ *  - bytes that were lent are only read, and only as long as they stand, below; where
+ *    their length is 0, the address means nothing.
+ *
+ * How long lent bytes stand. The last reply, with its text and its notes, is kept until
+ * the next message that is done, or hongpilas_free: a refused message and all other
+ * calls leave it where it is. Bytes of a document, of hongpilas_lend_range, stand until
+ * the next call on the session, but for those that look at the last reply; lending or
+ * copying a range may move the bytes of one that was lent before. The name of an answer
+ * stands for good.
  *
  * Texts are bytes with a length. There is no closing NUL, and a NUL is an ordinary
  * byte. Positions and lengths are in bytes and count from 0.
@@ -91,8 +98,8 @@ hongpilas_answer hongpilas_close_view(hongpilas *session, uint32_t view);
 
 /* Sends a message to a view. docs/MESSAGES.md says what w, l and the text stand for,
  * what is done, and when it is refused. The text is read where it lies, and not kept.
- * *value is set to the value that is answered. The reply's text and notes are kept
- * until the next message that is done. */
+ * *value is set to the value that is answered. The reply, with its text and its notes,
+ * takes the place of the last one. */
 hongpilas_answer hongpilas_send(hongpilas *session, uint32_t view, uint32_t number, int64_t w, int64_t l,
                                 const uint8_t *text, size_t length, int64_t *value);
 
@@ -112,9 +119,9 @@ static inline hongpilas_answer hongpilas_call(hongpilas *session, uint32_t view,
 /* The last reply: its value; 0 before the first message that was done. */
 int64_t hongpilas_value(hongpilas *session);
 
-/* The last reply's text, lent: *text is set to where it begins, and its length is
- * answered. The second form copies the bytes from `start` on, as many as there are
- * and as have room, and answers how many that is. */
+/* The last reply's text, lent as long as the reply is kept: *text is set to where it
+ * begins, and its length is answered. The second form copies the bytes from `start` on,
+ * as many as there are and as have room, and answers how many that is. */
 size_t hongpilas_text(hongpilas *session, const uint8_t **text);
 size_t hongpilas_copy_text(hongpilas *session, size_t start, uint8_t *into, size_t room);
 
@@ -133,7 +140,7 @@ typedef struct hongpilas_note_data {
   int64_t token;       /* the token of a container's own undo step */
   int64_t w;           /* the arguments of a recorded message */
   int64_t l;
-  const uint8_t *text; /* the note's text, lent */
+  const uint8_t *text; /* the note's text, lent as long as the reply is kept */
   size_t text_length;  /* its length, in bytes */
 } hongpilas_note_data;
 
@@ -147,8 +154,9 @@ bool hongpilas_note(hongpilas *session, size_t index, hongpilas_note_data *note)
 size_t hongpilas_copy_note_text(hongpilas *session, size_t index, size_t start, uint8_t *into, size_t room);
 
 /* Lends the `count` bytes of the view's document from `start` on, with no copy: *bytes
- * is set to where they begin. The second form copies as many bytes as it is given room
- * for. Neither changes the session or the last reply, and neither takes memory.
+ * is set to where they begin. They stand until the next call that does not just look at
+ * the last reply. The second form copies as many bytes as it is given room for. Neither
+ * changes the session or the last reply, and neither takes memory.
  * Refused: NO_SUCH_VIEW; BAD_ARGUMENT where the range ends past the end of the text. */
 hongpilas_answer hongpilas_lend_range(hongpilas *session, uint32_t view, size_t start, size_t count,
                                       const uint8_t **bytes);
