@@ -27,11 +27,57 @@ static void tell_notes(void) {
            (long long)note.lines, (int)note.text_length, (const char *)note.text);
 }
 
-int main(void) {
-  const hongpilas_limits low = {10, 10, 10, 10, 10, 10, 10};
-  const hongpilas_limits none = {0, 10, 10, 10, 10, 10, 10};
+/* Reads the last reply's text, and bytes of the document, lent and copied. */
+static void read_back(uint32_t view) {
   const uint8_t *bytes;
   uint8_t buffer[8];
+  size_t length;
+
+  send(view, "GETTEXT", SCI_GETTEXT, 0, 0, NULL);
+  length = hongpilas_text(&session, &bytes);
+  printf("  lent %zu bytes: \"%.*s\"\n", length, (int)length, (const char *)bytes);
+  length = hongpilas_copy_text(&session, 7, buffer, sizeof buffer);
+  printf("  copied %zu bytes: \"%.*s\"\n", length, (int)length, (const char *)buffer);
+  printf("  value %lld, %zu notes\n", (long long)hongpilas_value(&session), hongpilas_note_count(&session));
+
+  if (hongpilas_lend_range(&session, view, 3, 6, &bytes) == HONGPILAS_DONE)
+    printf("lent range: \"%.*s\"\n", 6, (const char *)bytes);
+  if (hongpilas_copy_range(&session, view, 7, buffer, 5) == HONGPILAS_DONE)
+    printf("copied range: \"%.*s\"\n", 5, (const char *)buffer);
+}
+
+/* What is refused says why, and changes nothing. */
+static void try_refusals(uint32_t view) {
+  const uint8_t *bytes;
+  uint8_t buffer[8];
+  size_t length;
+
+  say("range past the end", hongpilas_lend_range(&session, view, 7, 6, &bytes), 0);
+  length = hongpilas_copy_refusal_name(HONGPILAS_TOO_MANY, buffer, sizeof buffer);
+  printf("copied name: %.*s\n", (int)length, (const char *)buffer);
+  send(view, "no such message", 9999, 0, 0, NULL);
+  send(view + 1, "no such view", SCI_GETLENGTH, 0, 0, NULL);
+  say("null text", hongpilas_call(&session, view, SCI_INSERTTEXT, 0, 0, NULL, 1, NULL), 0);
+}
+
+/* A session with lower limits. */
+static bool try_limits(void) {
+  const hongpilas_limits low = {10, 10, 10, 10, 10, 10, 10};
+  const hongpilas_limits none = {0, 10, 10, 10, 10, 10, 10};
+  uint32_t view = 0;
+
+  say("a limit of 0", hongpilas_new_with_limits(&session, &none), 0);
+  if (hongpilas_new_with_limits(&session, &low) != HONGPILAS_DONE) return false;
+  if (hongpilas_new_view(&session, &view) == HONGPILAS_DONE) {
+    send(view, "eleven bytes where ten may be", SCI_INSERTTEXT, 0, 0, "hello world");
+    send(view, "GETLENGTH", SCI_GETLENGTH, 0, 0, NULL);
+  }
+  hongpilas_free(session);
+  return true;
+}
+
+int main(void) {
+  uint8_t buffer[3];
   uint32_t view = 0;
   size_t length;
 
@@ -42,38 +88,16 @@ int main(void) {
 
   send(view, "INSERTTEXT", SCI_INSERTTEXT, 0, 0, "hello,\nworld");
   tell_notes();
-  length = hongpilas_copy_note_text(&session, 2, 3, buffer, 3);
+  length = hongpilas_copy_note_text(&session, 2, 3, buffer, sizeof buffer);
   printf("  copied %zu bytes of note 2: \"%.*s\"; of no note %zu\n", length, (int)length, (const char *)buffer,
          hongpilas_copy_note_text(&session, 3, 0, buffer, sizeof buffer));
   send(view, "GETLENGTH", SCI_GETLENGTH, 0, 0, NULL);
   send(view, "LINEFROMPOSITION", SCI_LINEFROMPOSITION, 9, 0, NULL);
-  send(view, "GETTEXT", SCI_GETTEXT, 0, 0, NULL);
-  length = hongpilas_text(&session, &bytes);
-  printf("  lent %zu bytes: \"%.*s\"\n", length, (int)length, (const char *)bytes);
-  length = hongpilas_copy_text(&session, 7, buffer, sizeof buffer);
-  printf("  copied %zu bytes: \"%.*s\"\n", length, (int)length, (const char *)buffer);
-  printf("  value %lld, %zu notes\n", (long long)hongpilas_value(&session), hongpilas_note_count(&session));
-
-  if (hongpilas_lend_range(&session, view, 3, 6, &bytes) != HONGPILAS_DONE) return 1;
-  printf("lent range: \"%.*s\"\n", 6, (const char *)bytes);
-  if (hongpilas_copy_range(&session, view, 7, buffer, 5) != HONGPILAS_DONE) return 1;
-  printf("copied range: \"%.*s\"\n", 5, (const char *)buffer);
-
-  say("range past the end", hongpilas_lend_range(&session, view, 7, 6, &bytes), 0);
-  length = hongpilas_copy_refusal_name(HONGPILAS_TOO_MANY, buffer, sizeof buffer);
-  printf("copied name: %.*s\n", (int)length, (const char *)buffer);
-  send(view, "no such message", 9999, 0, 0, NULL);
-  send(view + 1, "no such view", SCI_GETLENGTH, 0, 0, NULL);
-  say("null text", hongpilas_call(&session, view, SCI_INSERTTEXT, 0, 0, NULL, 1, NULL), 0);
+  read_back(view);
+  try_refusals(view);
   say("close", hongpilas_close_view(&session, view), 0);
   say("close again", hongpilas_close_view(&session, view), 0);
   hongpilas_free(session);
 
-  say("a limit of 0", hongpilas_new_with_limits(&session, &none), 0);
-  if (hongpilas_new_with_limits(&session, &low) != HONGPILAS_DONE) return 1;
-  if (hongpilas_new_view(&session, &view) != HONGPILAS_DONE) return 1;
-  send(view, "eleven bytes where ten may be", SCI_INSERTTEXT, 0, 0, "hello world");
-  send(view, "GETLENGTH", SCI_GETLENGTH, 0, 0, NULL);
-  hongpilas_free(session);
-  return 0;
+  return try_limits() ? 0 : 1;
 }
