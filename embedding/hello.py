@@ -14,7 +14,7 @@ class Handle(ctypes.Structure):
 
 
 class Note(ctypes.Structure):
-    """What a view is told; hongpilas_note_data of the header."""
+    """What a view is told; hongpilas_note_data of the header. `bytes` stands until the next message that is done; `text` is a copy."""
 
     _fields_ = [
         *((name, ctypes.c_uint32) for name in ("view", "code", "kind", "message")),
@@ -23,10 +23,7 @@ class Note(ctypes.Structure):
         ("byte_count", ctypes.c_size_t),
     ]
 
-    @property
-    def text(self):
-        """Its text, copied. It is there until the next message."""
-        return lent(self.bytes, self.byte_count)
+    text = b""
 
 
 class Refused(Exception):
@@ -81,14 +78,22 @@ class Session:
     def __init__(self):
         self.handle, self.view = Handle(), ctypes.c_uint32()
         self.check(self.lib.hongpilas_new(self.handle))
-        self.check(self.lib.hongpilas_new_view(self.handle, self.view))
+        try:
+            self.check(self.lib.hongpilas_new_view(self.handle, self.view))
+        except Refused:
+            self.close()
+            raise
 
     def __enter__(self):
         return self
 
     def __exit__(self, *_):
+        self.close()
+
+    def close(self):
+        """Gives the session back. It has no handle then, so that what uses it later raises AttributeError."""
         self.lib.hongpilas_free(self.handle)
-        self.handle = Handle()
+        del self.handle
 
     def check(self, answer):
         """Raises what a refusal's number stands for."""
@@ -111,10 +116,12 @@ class Session:
 
     def notes(self):
         """The notes of the last message."""
-        note, index = Note(), 0
-        while self.lib.hongpilas_note(self.handle, index, note):
-            yield note
-            note, index = Note(), index + 1
+        told, note = [], Note()
+        while self.lib.hongpilas_note(self.handle, len(told), note):
+            note.text = lent(note.bytes, note.byte_count)
+            told.append(note)
+            note = Note()
+        return told
 
     def bytes(self, start, end):
         """Bytes of the document, without a message."""
@@ -156,6 +163,10 @@ def main():
                 refused()
             except Refused as refusal:
                 print("refused:", refusal)
+    try:
+        session.getlength()
+    except AttributeError:
+        print("given back")
 
 
 main()
