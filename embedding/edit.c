@@ -5,7 +5,6 @@
 
 #include <errno.h>
 #include <signal.h>
-#include <stdarg.h>
 #include <stdio.h>
 #include <stdlib.h>
 #include <string.h>
@@ -13,24 +12,26 @@
 #include <termios.h>
 #include <unistd.h>
 
-enum { TAB_COLUMNS = 4, MARGIN = 8, BOOKMARK = 1, DEEPEST = 1000 };
+enum { TAB_COLUMNS = 4, MARGIN = 8, BOOKMARK = 1, DEEPEST = 1000, LEAST_ROWS = 2, LEAST_COLUMNS = 24 };
+enum { ESCAPE = 0x1B, RUBOUT = 0x7F, NOTHING = -1, AT_END = -2 };
 
 /* A view, and what part of it is shown. */
 typedef struct pane {
   uint32_t view;
   int64_t top;  /* the display line in the first row */
   int64_t left; /* the text's column in the first column */
-  int64_t goal; /* the column that moves from row to row keep to, or -1 */
 } pane;
 
 static hongpilas session;
-static pane panes[2] = {{0, 0, 0, -1}, {0, 0, 0, -1}};
+static pane panes[2];
+static pane bottom; /* the last row, whose text has a view of its own */
 static int pane_count = 1, active = 0;
 static int rows = 24, columns = 80;
+static int64_t goal = -1, goal_before = -1; /* the column that moves by rows keep to, of this key and the one before; or -1 */
 static char file_name[4096];
 static char needle[256];
 static char notice[256];
-static bool is_done;
+static bool is_over;
 static volatile sig_atomic_t is_resized;
 
 /* What the notes said. The bytes from `from` to `to` changed since their fold levels were set. */
@@ -41,12 +42,7 @@ static struct {
   int64_t from, to;
 } heard = {false, 1, 0, INT64_MAX, -1};
 
-static void say(const char *format, ...) {
-  va_list arguments;
-  va_start(arguments, format);
-  vsnprintf(notice, sizeof notice, format, arguments);
-  va_end(arguments);
-}
+#define say(...) snprintf(notice, sizeof notice, __VA_ARGS__)
 
 static int64_t least(int64_t a, int64_t b) { return a < b ? a : b; }
 static int64_t greatest(int64_t a, int64_t b) { return a > b ? a : b; }
@@ -54,12 +50,12 @@ static int64_t greatest(int64_t a, int64_t b) { return a > b ? a : b; }
 /* ---- The component ---- */
 
 static void hear_change(const hongpilas_note_data *note) {
-  int64_t end = note->position + note->length;
+  bool is_deletion = (note->kind & SC_MOD_DELETETEXT) != 0;
   heard.lines += note->lines;
   heard.position = note->position;
-  if (note->kind & SC_MOD_DELETETEXT) heard.to = heard.to >= end ? heard.to - note->length : note->position;
-  else heard.to = heard.to >= note->position ? heard.to + note->length : end;
   heard.from = least(heard.from, note->position);
+  heard.to = is_deletion ? greatest(heard.to - note->length, note->position)
+                         : greatest(heard.to, note->position) + note->length;
 }
 
 /* Takes up the notes of the last message, as far as they are the first view's: each view of the document is told the same. */
@@ -73,15 +69,17 @@ static void hear(void) {
   }
 }
 
+/* Whether a call was done; the notice is why it was not. */
+static bool is_done(hongpilas_answer answer) {
+  const uint8_t *name;
+  size_t length = hongpilas_refusal_name(answer, &name);
+  if (answer != HONGPILAS_DONE) say("Refused: %.*s", (int)length, (const char *)name);
+  return answer == HONGPILAS_DONE;
+}
+
 static int64_t send_text(const pane *to, uint32_t number, int64_t w, int64_t l, const void *text, size_t length) {
   int64_t value = 0;
-  hongpilas_answer answer = hongpilas_call(&session, to->view, number, w, l, text, length, &value);
-  if (answer != HONGPILAS_DONE) {
-    const uint8_t *name;
-    size_t name_length = hongpilas_refusal_name(answer, &name);
-    say("Refused: %.*s", (int)name_length, (const char *)name);
-    return 0;
-  }
+  if (!is_done(hongpilas_call(&session, to->view, number, w, l, text, length, &value))) return 0;
   hear();
   return value;
 }
@@ -98,95 +96,78 @@ static int64_t command(uint32_t number, int64_t w, int64_t l) {
   return send_text(&panes[active], number, w, l, NULL, 0);
 }
 
-/* A line's bytes, lent until the next call. */
-typedef struct line_bytes {
-  int64_t start;
-  size_t length;
-  const uint8_t *bytes;
-} line_bytes;
-
-static line_bytes line_of(const pane *p, int64_t line) {
-  line_bytes found = {ask_of(p, SCI_POSITIONFROMLINE, line), 0, NULL};
-  int64_t end = ask_of(p, SCI_GETLINEENDPOSITION, line);
-  if (end > found.start) found.length = (size_t)(end - found.start);
-  if (hongpilas_lend_range(&session, p->view, (size_t)found.start, found.length, &found.bytes) != HONGPILAS_DONE)
-    found.length = 0;
-  return found;
-}
-
 static int64_t line_at(const pane *p, int64_t position) { return ask_of(p, SCI_LINEFROMPOSITION, position); }
+static int64_t start_of(const pane *p, int64_t line) { return ask_of(p, SCI_POSITIONFROMLINE, line); }
+static int64_t end_of(const pane *p, int64_t line) { return ask_of(p, SCI_GETLINEENDPOSITION, line); }
 static int64_t caret_line(void) { return line_at(&panes[active], ask(SCI_GETCURRENTPOS, 0)); }
 static int64_t last_row(const pane *p) {
   return ask_of(p, SCI_VISIBLEFROMDOCLINE, ask_of(p, SCI_GETLINECOUNT, 0) - 1);
 }
 
-/* ---- Columns ---- */
-
-/* How many bytes the first character has: a sequence of UTF-8, or else one byte. */
-static size_t character(const uint8_t *bytes, size_t length) {
-  size_t count = bytes[0] < 0xC2 ? 1 : bytes[0] < 0xE0 ? 2 : bytes[0] < 0xF0 ? 3 : bytes[0] < 0xF5 ? 4 : 1;
-  if (count > length) return 1;
-  for (size_t i = 1; i < count; i++)
-    if ((bytes[i] & 0xC0) != 0x80) return 1;
-  return count;
-}
-
-static int64_t column_behind(uint8_t first, int64_t column) {
-  return first == '\t' ? (column / TAB_COLUMNS + 1) * TAB_COLUMNS : column + 1;
+/* The column behind the character at a position, which begins at this column. */
+static int64_t column_behind(const pane *p, int64_t position, int64_t column) {
+  return ask_of(p, SCI_GETCHARAT, position) == '\t' ? (column / TAB_COLUMNS + 1) * TAB_COLUMNS : column + 1;
 }
 
 static int64_t column_of(const pane *p, int64_t position) {
-  line_bytes line = line_of(p, line_at(p, position));
   int64_t column = 0;
-  for (size_t at = 0; at < line.length && line.start + (int64_t)at < position;) {
-    column = column_behind(line.bytes[at], column);
-    at += character(line.bytes + at, line.length - at);
-  }
+  for (int64_t at = start_of(p, line_at(p, position)); at < position; at = ask_of(p, SCI_POSITIONAFTER, at))
+    column = column_behind(p, at, column);
   return column;
 }
 
-static int64_t position_in(const pane *p, int64_t number, int64_t column) {
-  line_bytes line = line_of(p, number);
-  int64_t here = 0;
-  size_t at = 0;
-  while (at < line.length && column_behind(line.bytes[at], here) <= column) {
-    here = column_behind(line.bytes[at], here);
-    at += character(line.bytes + at, line.length - at);
-  }
-  return line.start + (int64_t)at;
+static int64_t position_in(const pane *p, int64_t line, int64_t column) {
+  int64_t at = start_of(p, line), end = end_of(p, line), behind = 0;
+  while (at < end && (behind = column_behind(p, at, behind)) <= column) at = ask_of(p, SCI_POSITIONAFTER, at);
+  return at;
+}
+
+static bool is_blank(const pane *p, int64_t position) {
+  int64_t byte = ask_of(p, SCI_GETCHARAT, position);
+  return byte == ' ' || byte == '\t';
 }
 
 /* The column where a line's text begins, or -1 if it has none. */
-static int64_t indentation(const pane *p, int64_t number) {
-  line_bytes line = line_of(p, number);
-  int64_t column = 0;
-  for (size_t at = 0; at < line.length; at++) {
-    if (line.bytes[at] != ' ' && line.bytes[at] != '\t') return least(column, DEEPEST);
-    column = column_behind(line.bytes[at], column);
-  }
-  return -1;
+static int64_t indentation(const pane *p, int64_t line) {
+  int64_t at = start_of(p, line), column = 0;
+  for (; is_blank(p, at); at++) column = column_behind(p, at, column);
+  return at == end_of(p, line) ? -1 : least(column, DEEPEST);
 }
 
 /* ---- Folding by indentation ---- */
 
-/* A line that is no header any more is first expanded, so that nothing stays hidden behind it. */
+/* What is no header is expanded in each view, so that none is contracted where it becomes one. */
 static void set_level(int64_t line, int64_t level) {
-  int64_t before = ask(SCI_GETFOLDLEVEL, line);
-  if (before == level) return;
-  for (int i = 0; i < pane_count; i++)
-    if ((before & ~level & SC_FOLDLEVELHEADERFLAG) && !ask_of(&panes[i], SCI_GETFOLDEXPANDED, line))
-      send_text(&panes[i], SCI_FOLDLINE, line, SC_FOLDACTION_EXPAND, NULL, 0);
+  if (ask(SCI_GETFOLDLEVEL, line) == level) return;
   command(SCI_SETFOLDLEVEL, line, level);
+  for (int i = 0; i < pane_count && !(level & SC_FOLDLEVELHEADERFLAG); i++)
+    send_text(&panes[i], SCI_SETFOLDEXPANDED, line, true, NULL, 0);
+}
+
+/* In each view, hidden are the lines that have a contracted header above them, and no others. Makes it so again from a line on, after levels
+ * or lines changed up to `last`; behind that all is well from the first line on that is visible and stays so. */
+static void hide_and_show(const pane *p, int64_t line, int64_t last) {
+  int64_t above = -1; /* the number of the outermost contracted header above, or -1 */
+  for (int64_t up = ask_of(p, SCI_GETFOLDPARENT, line); up >= 0; up = ask_of(p, SCI_GETFOLDPARENT, up))
+    if (!ask_of(p, SCI_GETFOLDEXPANDED, up)) above = ask_of(p, SCI_GETFOLDLEVEL, up) & SC_FOLDLEVELNUMBERMASK;
+  for (; line < heard.lines; line++) {
+    int64_t number = ask_of(p, SCI_GETFOLDLEVEL, line) & SC_FOLDLEVELNUMBERMASK;
+    bool is_visible = number <= above || above < 0;
+    if (is_visible != (ask_of(p, SCI_GETLINEVISIBLE, line) != 0))
+      send_text(p, is_visible ? SCI_SHOWLINES : SCI_HIDELINES, line, line, NULL, 0);
+    else if (is_visible && line > last) return;
+    if (is_visible) above = ask_of(p, SCI_GETFOLDEXPANDED, line) ? -1 : number;
+  }
 }
 
 /* Levels of the lines that changed, and of those before them up to a line with text. A line without text has the level of the next one with text. */
 static void set_levels(void) {
   const pane *p = &panes[active];
   if (heard.from > heard.to) return;
-  int64_t first = line_at(p, heard.from), last = line_at(p, heard.to), count = ask(SCI_GETLINECOUNT, 0);
+  int64_t first = line_at(p, heard.from), last = line_at(p, heard.to);
   while (first > 0 && indentation(p, --first) < 0) continue;
   int64_t next = -1;
-  for (int64_t line = last + 1; line < count && next < 0; line++) next = indentation(p, line);
+  for (int64_t line = last + 1; line < heard.lines && next < 0; line++) next = indentation(p, line);
   next = greatest(next, 0);
   for (int64_t line = last; line >= first; line--) {
     int64_t own = indentation(p, line);
@@ -194,6 +175,7 @@ static void set_levels(void) {
     if (own >= 0) next = own;
     set_level(line, (SC_FOLDLEVELBASE + next) | flags);
   }
+  for (int i = 0; i < pane_count; i++) hide_and_show(&panes[i], first, last);
   heard.from = INT64_MAX;
   heard.to = -1;
 }
@@ -219,85 +201,317 @@ static void fold_all(int64_t none) {
   leave_hidden();
 }
 
+/* ---- The screen ---- */
+
+static void take_size(void) {
+  struct winsize size;
+  is_resized = 0;
+  if (ioctl(STDOUT_FILENO, TIOCGWINSZ, &size) != 0 || size.ws_row == 0 || size.ws_col == 0) return;
+  rows = (int)greatest(size.ws_row, LEAST_ROWS);
+  columns = (int)greatest(size.ws_col, LEAST_COLUMNS);
+}
+
+/* One character: a tab as blanks, and what cannot be shown as a point, also the controls from U+0080 on. */
+static void draw_character(const uint8_t *bytes, size_t count, int64_t width) {
+  bool is_control = bytes[0] < ' ' || bytes[0] == RUBOUT || (count == 2 && bytes[0] == 0xC2 && bytes[1] < 0xA0);
+  if (bytes[0] == '\t') printf("%*s", (int)width, "");
+  else if (is_control || (bytes[0] >= 0x80 && count == 1)) putchar('.');
+  else fwrite(bytes, 1, count, stdout);
+}
+
+/* A line's text from the pane's first column on, with what is selected in reverse. */
+static void draw_text(const pane *p, int64_t line, int64_t width) {
+  int64_t from = ask_of(p, SCI_GETSELECTIONSTART, 0), to = ask_of(p, SCI_GETSELECTIONEND, 0);
+  int64_t position = start_of(p, line), line_end = end_of(p, line), column = 0, shown = p->left, end = p->left + width;
+  bool is_reverse = false;
+  const uint8_t *bytes;
+  while (position < line_end && column < end) {
+    int64_t behind = ask_of(p, SCI_POSITIONAFTER, position), next = column_behind(p, position, column);
+    size_t count = (size_t)(behind - position);
+    bool is_selected = from <= position && position < to;
+    if (next > p->left && hongpilas_lend_range(&session, p->view, (size_t)position, count, &bytes) == HONGPILAS_DONE) {
+      if (is_selected != is_reverse) fputs(is_selected ? "\x1b[7m" : "\x1b[27m", stdout);
+      is_reverse = is_selected;
+      draw_character(bytes, count, least(next, end) - shown);
+      shown = least(next, end);
+    }
+    column = next;
+    position = behind;
+  }
+  if (is_reverse) fputs("\x1b[27m", stdout);
+}
+
+/* A line with its margin: a bookmark, its number, and whether it is a header, contracted or not. */
+static void draw_line(const pane *p, int64_t line, int64_t width) {
+  bool is_marked = (ask_of(p, SCI_MARKERGET, line) >> BOOKMARK & 1) != 0;
+  bool is_header = (ask_of(p, SCI_GETFOLDLEVEL, line) & SC_FOLDLEVELHEADERFLAG) != 0;
+  char sign = !is_header ? ' ' : ask_of(p, SCI_GETFOLDEXPANDED, line) ? '-' : '+';
+  printf("%c%5lld%c ", is_marked ? '*' : ' ', (long long)(line + 1) % 100000, sign);
+  draw_text(p, line, width - MARGIN);
+}
+
+static void draw_pane(const pane *p, int first_column, int64_t width) {
+  int64_t last = last_row(p);
+  for (int row = 0; row < rows - 1; row++) {
+    printf("\x1b[%d;%dH\x1b[K", row + 1, first_column + 1);
+    if (p->top + row <= last) draw_line(p, ask_of(p, SCI_DOCLINEFROMVISIBLE, p->top + row), width);
+    else putchar('~');
+  }
+}
+
+/* Brings the caret's place into the pane. */
+static void scroll(pane *p, int64_t row, int64_t column, int64_t width) {
+  p->top = least(greatest(least(p->top, row), row - (rows - 2)), last_row(p));
+  p->left = greatest(least(p->left, column), column - (width - MARGIN - 1));
+}
+
+/* Shows a text in the last row: of one that is longer, the beginning in reverse or the end as it is. */
+static void draw_bottom(const char *text, bool is_reverse) {
+  int64_t length = (int64_t)strlen(text), width = columns - 1;
+  send_text(&bottom, SCI_SETTEXT, 0, 0, text, strlen(text));
+  send_text(&bottom, SCI_SETSEL, 0, is_reverse ? length : 0, NULL, 0);
+  bottom.left = is_reverse ? 0 : greatest(0, column_of(&bottom, length) - width);
+  printf("\x1b[%d;1H\x1b[K", rows);
+  draw_text(&bottom, 0, width);
+}
+
+static void draw_status(int64_t line, int64_t column) {
+  char text[sizeof file_name + 1024];
+  const char *name = file_name + greatest(0, (int64_t)strlen(file_name) - columns / 3);
+  while ((*name & 0xC0) == 0x80) name++;
+  snprintf(text, sizeof text, "%s%s%s%s  line %lld of %lld, column %lld, last change at %lld%*s", notice,
+           notice[0] == '\0' ? "" : "  ", *name == '\0' ? "no name" : name, heard.is_modified ? ", changed" : "",
+           (long long)line + 1, (long long)heard.lines, (long long)column + 1, (long long)heard.position, columns, "");
+  draw_bottom(text, true);
+}
+
+static void draw(void) {
+  if (is_resized) take_size();
+  pane *p = &panes[active];
+  int64_t width = pane_count == 1 ? columns : columns / 2 - 1, line = caret_line();
+  int64_t caret = ask(SCI_GETCURRENTPOS, 0), column = column_of(p, caret);
+  command(SCI_ENSUREVISIBLE, line, 0);
+  int64_t row = ask(SCI_VISIBLEFROMDOCLINE, line);
+  scroll(p, row, column, width);
+  fputs("\x1b[?25l", stdout);
+  for (int i = 0; i < pane_count; i++) {
+    panes[i].top = least(panes[i].top, last_row(&panes[i]));
+    draw_pane(&panes[i], i * (int)(width + 2), width);
+  }
+  for (int i = 1; pane_count == 2 && i < rows; i++) printf("\x1b[%d;%dH||", i, (int)width + 1);
+  draw_status(line, column);
+  printf("\x1b[%d;%dH\x1b[?25h", (int)(row - p->top) + 1, (int)(column - p->left) + MARGIN + 1 + active * (int)(width + 2));
+}
+
+/* ---- Keys ---- */
+
+/* The key that was pressed last: the character that was typed, or a name as in `commands`, or "" for a new size of the terminal. */
+static char key[16];
+static int read_ahead = NOTHING; /* the byte behind it, where it was read to see where the key ends */
+
+static bool is_key(const char *name) { return strcmp(key, name) == 0; }
+static bool is_text(void) { return key[0] != '\0' && (key[0] != '^' || key[1] == '\0'); }
+
+/* The next byte, or NOTHING where none comes within a tenth of a second. */
+static int next_byte(void) {
+  unsigned char byte;
+  int ahead = read_ahead;
+  read_ahead = NOTHING;
+  if (ahead != NOTHING) return ahead;
+  ssize_t count = read(STDIN_FILENO, &byte, 1);
+  if (count < 0 && errno != EINTR && errno != EAGAIN) return AT_END;
+  return count == 1 ? byte : NOTHING;
+}
+
+/* Reads what a terminal sends behind an escape: `[` or `O`, and on to the byte that closes it. Else the escape is a key itself. */
+static void read_sequence(void) {
+  size_t length = 3;
+  int byte = next_byte();
+  if (byte != '[' && byte != 'O') {
+    read_ahead = byte;
+    return;
+  }
+  for (key[2] = '['; length < sizeof key - 1 && (byte = next_byte()) >= 0;) {
+    key[length++] = (char)byte;
+    if (byte >= '@' && byte != '[') break;
+  }
+  key[length] = '\0';
+}
+
+/* Reads on in the character that begins with this byte. What does not belong to it is left for the next key. */
+static void read_character(int byte) {
+  size_t whole = byte < 0xC2 || byte > 0xF4 ? 1 : byte < 0xE0 ? 2 : byte < 0xF0 ? 3 : 4, length = 1;
+  key[0] = (char)byte;
+  while (length < whole && (byte = next_byte()) >= 0x80 && byte < 0xC0) key[length++] = (char)byte;
+  if (length < whole) read_ahead = byte;
+  key[length] = '\0';
+}
+
+/* Shows what was drawn, and waits for a key or a new size of the terminal. False where no key can come any more. */
+static bool read_key(void) {
+  int byte;
+  fflush(stdout);
+  while ((byte = next_byte()) == NOTHING && !is_resized) continue;
+  key[0] = '\0';
+  if (byte == RUBOUT || (byte >= 0 && byte < ' ' && byte != '\t')) sprintf(key, "^%c", byte ^ 0x40);
+  else if (byte >= 0) read_character(byte);
+  if (byte == ESCAPE) read_sequence();
+  return byte != AT_END;
+}
+
+/* Asks in the last row. False where Escape leaves it. */
+static bool prompt(const char *question, char *answer, size_t room) {
+  char text[sizeof file_name + 64];
+  for (;;) {
+    if (is_resized) draw();
+    snprintf(text, sizeof text, "%s%s", question, answer);
+    draw_bottom(text, false);
+    if (!read_key() || is_key("^[")) return false;
+    if (is_key("^M")) return true;
+    int64_t asked = (int64_t)strlen(question), end = asked + (int64_t)strlen(answer);
+    if (is_key("^?") || is_key("^H")) answer[greatest(0, ask_of(&bottom, SCI_POSITIONBEFORE, end) - asked)] = '\0';
+    if (is_text() && strlen(answer) + strlen(key) < room) strcat(answer, key);
+  }
+}
+
+/* ---- Views ---- */
+
+/* Puts a view on the active one's document. False where that is refused. */
+static bool attach(const pane *p) {
+  int64_t document = ask(SCI_GETDOCPOINTER, 0);
+  send_text(p, SCI_SETDOCPOINTER, 0, document, NULL, 0);
+  return ask_of(p, SCI_GETDOCPOINTER, 0) == document;
+}
+
+static void close_other_view(void) {
+  hongpilas_close_view(&session, panes[1 - active].view);
+  panes[0] = panes[active];
+  active = 0;
+  pane_count = 1;
+}
+
+/* A second view of the document beside the first, or the active one alone. */
+static void split(int64_t none) {
+  if (pane_count == 2) {
+    close_other_view();
+    return;
+  }
+  int64_t caret = ask(SCI_GETCURRENTPOS, none);
+  panes[1] = panes[0];
+  if (!is_done(hongpilas_new_view(&session, &panes[1].view))) return;
+  pane_count = 2;
+  if (attach(&panes[1])) send_text(&panes[1], SCI_GOTOPOS, caret, 0, NULL, 0);
+  else close_other_view();
+}
+
+static void other_view(int64_t by) { active = (active + (int)by) % pane_count; }
+
 /* ---- Files ---- */
 
 /* The line end that is made is that of the first line. */
 static void take_line_end(void) {
-  int64_t end = ask(SCI_GETLINEENDPOSITION, 0);
-  bool has_cr = ask(SCI_GETCHARAT, end) == '\r';
-  bool has_lf = ask(SCI_GETCHARAT, end + has_cr) == '\n';
-  command(SCI_SETEOLMODE, has_cr ? (has_lf ? SC_EOL_CRLF : SC_EOL_CR) : SC_EOL_LF, 0);
+  int64_t end = end_of(&panes[active], 0);
+  int64_t lone = ask(SCI_GETCHARAT, end) == '\r' ? SC_EOL_CR : SC_EOL_LF;
+  command(SCI_SETEOLMODE, lone == SC_EOL_CR && ask(SCI_GETCHARAT, end + 1) == '\n' ? SC_EOL_CRLF : lone, 0);
 }
 
-/* Puts the file into a new document of all views. A file that is not there yet is an empty one. */
-static void load(const char *name) {
-  static char part[1 << 16];
-  FILE *file = fopen(name, "rb");
-  if (file == NULL && errno != ENOENT) {
-    say("%.100s: %s", name, strerror(errno));
-    return;
-  }
+/* Puts all views on a new document. False where that is refused, and the old one stays. */
+static bool renew_document(void) {
+  int64_t old = ask(SCI_GETDOCPOINTER, 0);
   command(SCI_SETDOCPOINTER, 0, 0);
-  for (int i = 0; i < pane_count; i++) {
-    if (i != active) send_text(&panes[i], SCI_SETDOCPOINTER, 0, ask(SCI_GETDOCPOINTER, 0), NULL, 0);
-    panes[i].top = panes[i].left = 0;
-  }
+  if (ask(SCI_GETDOCPOINTER, 0) == old) return false;
+  if (pane_count == 2 && !attach(&panes[1 - active])) close_other_view();
+  for (int i = 0; i < pane_count; i++) panes[i].top = panes[i].left = 0;
   heard.is_modified = false;
   heard.lines = 1;
   heard.from = heard.to = 0;
-  command(SCI_SETUNDOCOLLECTION, false, 0);
-  for (size_t count; file != NULL && (count = fread(part, 1, sizeof part, file)) > 0;)
+  return true;
+}
+
+/* Appends what is in a file. False, with a notice, where that is not all of it. */
+static bool append(FILE *file) {
+  static char part[1 << 16];
+  int64_t total = 0;
+  while (!feof(file) && !ferror(file) && ask(SCI_GETLENGTH, 0) == total) {
+    size_t count = fread(part, 1, sizeof part, file);
     send_text(&panes[active], SCI_APPENDTEXT, (int64_t)count, 0, part, count);
-  command(SCI_SETUNDOCOLLECTION, true, 0);
-  command(SCI_EMPTYUNDOBUFFER, 0, 0);
-  take_line_end();
-  heard.position = 0;
-  snprintf(file_name, sizeof file_name, "%s", name);
-  if (file == NULL || ferror(file)) say(file == NULL ? "A new file" : "The file was not read to its end");
+    total += (int64_t)count;
+  }
+  if (feof(file) && ask(SCI_GETLENGTH, 0) == total) return true;
+  say("Not read to its end: %s", ferror(file) ? strerror(errno) : "no room");
+  return false;
+}
+
+/* Puts a file into a new document of all views. One that is not there yet is an empty one. Its name is kept only where all of it was read:
+ * else saving asks for one, and puts no part in the place of the whole. */
+static void load(const char *name) {
+  FILE *file = fopen(name, "rb");
+  if (file == NULL && errno != ENOENT) {
+    say("%s: %.100s", strerror(errno), name);
+  } else if (renew_document()) {
+    if (file == NULL) say("A new file");
+    command(SCI_SETUNDOCOLLECTION, false, 0);
+    bool is_whole = file == NULL || append(file);
+    command(SCI_SETUNDOCOLLECTION, true, 0);
+    command(SCI_EMPTYUNDOBUFFER, 0, 0);
+    take_line_end();
+    heard.position = 0;
+    snprintf(file_name, sizeof file_name, "%s", is_whole ? name : "");
+  }
   if (file != NULL) fclose(file);
 }
 
-static bool prompt(const char *question, char *answer, size_t room);
-
-static void save(int64_t none) {
-  const uint8_t *bytes;
-  size_t length = (size_t)ask(SCI_GETLENGTH, none);
-  if (file_name[0] == '\0' && !prompt("Save as: ", file_name, sizeof file_name)) return;
-  if (hongpilas_lend_range(&session, panes[active].view, 0, length, &bytes) != HONGPILAS_DONE) return;
-  FILE *file = fopen(file_name, "wb");
-  bool is_written = file != NULL && fwrite(bytes, 1, length, file) == length;
-  if (file != NULL && fclose(file) != 0) is_written = false;
-  if (is_written) command(SCI_SETSAVEPOINT, 0, 0);
-  say(is_written ? "Saved" : "Not saved: %s", strerror(errno));
-}
-
-static bool is_sure(void) {
+static bool agree(const char *question) {
   char answer[4] = "";
-  return !heard.is_modified || (prompt("Changes are not saved. Leave them? (y) ", answer, sizeof answer) && answer[0] == 'y');
+  return prompt(question, answer, sizeof answer) && answer[0] == 'y';
 }
 
-static void open_file(int64_t none) {
+/* Writes the text to a file. False, with the reason in errno, where that fails. */
+static bool write_file(const char *name) {
+  const uint8_t *bytes;
+  size_t length = (size_t)ask(SCI_GETLENGTH, 0);
+  FILE *file = fopen(name, "wb");
+  if (file == NULL) return false;
+  bool is_written = hongpilas_lend_range(&session, panes[active].view, 0, length, &bytes) == HONGPILAS_DONE &&
+                    fwrite(bytes, 1, length, file) == length;
+  return fclose(file) == 0 && is_written;
+}
+
+/* Saves the text, by a name that is asked for where there is none or another is wanted; it is kept once it was written to. */
+static void save(int64_t is_asking) {
+  char name[sizeof file_name];
+  memcpy(name, file_name, sizeof name);
+  if ((is_asking || name[0] == '\0') && (!prompt("Save as: ", name, sizeof name) || name[0] == '\0')) return;
+  bool is_other = strcmp(name, file_name) != 0 && access(name, F_OK) == 0;
+  if (is_other && !agree("That file is there. Replace it? (y) ")) return;
+  if (!write_file(name)) {
+    say("Not saved: %s", strerror(errno));
+    return;
+  }
+  memcpy(file_name, name, sizeof name);
+  command(SCI_SETSAVEPOINT, 0, 0);
+  say("Saved");
+}
+
+/* Leaves the text, for another file or for good. */
+static void leave(int64_t is_for_good) {
   char name[sizeof file_name] = "";
-  (void)none;
-  if (is_sure() && prompt("Open: ", name, sizeof name) && name[0] != '\0') load(name);
+  if (heard.is_modified && !agree("Changes are not saved. Leave them? (y) ")) return;
+  if (is_for_good) is_over = true;
+  else if (prompt("Open: ", name, sizeof name) && name[0] != '\0') load(name);
 }
 
-static void quit(int64_t none) {
-  (void)none;
-  is_done = is_sure();
-}
-
-/* ---- Moves ---- */
+/* ---- Moves and edits ---- */
 
 static void plain(int64_t number) { command((uint32_t)number, 0, 0); }
 
 static void to_row(int64_t by, bool is_extending) {
   pane *p = &panes[active];
   int64_t caret = ask(SCI_GETCURRENTPOS, 0);
-  if (p->goal < 0) p->goal = column_of(p, caret);
+  goal = goal_before < 0 ? column_of(p, caret) : goal_before;
   int64_t row = ask(SCI_VISIBLEFROMDOCLINE, line_at(p, caret)) + by;
   int64_t line = ask(SCI_DOCLINEFROMVISIBLE, least(greatest(row, 0), last_row(p)));
-  command(is_extending ? SCI_SETCURRENTPOS : SCI_GOTOPOS, position_in(p, line, p->goal), 0);
+  command(is_extending ? SCI_SETCURRENTPOS : SCI_GOTOPOS, position_in(p, line, goal), 0);
 }
 
 static void go_rows(int64_t by) { to_row(by, false); }
@@ -305,25 +519,24 @@ static void extend_rows(int64_t by) { to_row(by, true); }
 static void go_pages(int64_t by) { to_row(by * (rows - 1), false); }
 static void extend_pages(int64_t by) { to_row(by * (rows - 1), true); }
 
-static void go_to_line(int64_t none) {
+static void go_to_line(int64_t first) {
   char answer[16] = "";
-  (void)none;
-  if (prompt("Line: ", answer, sizeof answer)) command(SCI_GOTOLINE, strtoll(answer, NULL, 10) - 1, 0);
+  if (prompt("Line: ", answer, sizeof answer)) command(SCI_GOTOLINE, strtoll(answer, NULL, 10) - first, 0);
+}
+
+static int64_t find(int64_t from, int64_t to) {
+  command(SCI_SETTARGETRANGE, from, to);
+  return send_text(&panes[active], SCI_SEARCHINTARGET, (int64_t)strlen(needle), 0, needle, strlen(needle));
 }
 
 static void search(int64_t direction) {
   int64_t length = ask(SCI_GETLENGTH, 0), far = direction > 0 ? length : 0;
-  bool has_capital = false;
-  for (size_t i = 0; needle[i] != '\0'; i++) has_capital = has_capital || (needle[i] >= 'A' && needle[i] <= 'Z');
   if (needle[0] == '\0') return;
-  command(SCI_SETSEARCHFLAGS, has_capital ? SCFIND_MATCHCASE : 0, 0);
-  command(SCI_SETTARGETRANGE, ask(direction > 0 ? SCI_GETSELECTIONEND : SCI_GETSELECTIONSTART, 0), far);
-  size_t count = strlen(needle);
-  int64_t found = send_text(&panes[active], SCI_SEARCHINTARGET, (int64_t)count, 0, needle, count);
+  command(SCI_SETSEARCHFLAGS, strpbrk(needle, "ABCDEFGHIJKLMNOPQRSTUVWXYZ") != NULL ? SCFIND_MATCHCASE : 0, 0);
+  int64_t found = find(ask(direction > 0 ? SCI_GETSELECTIONEND : SCI_GETSELECTIONSTART, 0), far);
   if (found < 0) {
     say("From the other end");
-    command(SCI_SETTARGETRANGE, length - far, far);
-    found = send_text(&panes[active], SCI_SEARCHINTARGET, (int64_t)count, 0, needle, count);
+    found = find(length - far, far);
   }
   if (found < 0) say("Not found: %.200s", needle);
   else command(SCI_SETSEL, found, ask(SCI_GETTARGETEND, 0));
@@ -350,288 +563,87 @@ static void go_to_bookmark(int64_t direction) {
   else command(SCI_GOTOLINE, line, 0);
 }
 
-/* ---- Edits ---- */
-
 static void type_text(const void *text, size_t length) {
   send_text(&panes[active], SCI_REPLACESEL, 0, 0, text, length);
 }
 
 /* A line end, and the blanks that the line begins with: one transaction. */
 static void new_line(int64_t none) {
-  char blanks[256];
-  line_bytes line = line_of(&panes[active], line_at(&panes[active], ask(SCI_GETSELECTIONSTART, none)));
-  size_t count = 0;
-  while (count < line.length && count < sizeof blanks && (line.bytes[count] == ' ' || line.bytes[count] == '\t')) {
-    blanks[count] = (char)line.bytes[count];
-    count++;
-  }
-  count = (size_t)least((int64_t)count, ask(SCI_GETSELECTIONSTART, 0) - line.start);
+  const pane *p = &panes[active];
+  int64_t end = ask(SCI_GETSELECTIONSTART, none);
   command(SCI_BEGINUNDOACTION, 0, 0);
   command(SCI_NEWLINE, 0, 0);
-  if (count > 0) type_text(blanks, count);
+  for (int64_t at = start_of(p, line_at(p, end)); at < end && is_blank(p, at); at++) {
+    char blank = (char)ask(SCI_GETCHARAT, at);
+    type_text(&blank, 1);
+  }
   command(SCI_ENDUNDOACTION, 0, 0);
 }
 
-/* ---- Views ---- */
-
-/* A second view of the document beside the first, or the active one alone. */
-static void split(int64_t none) {
-  if (pane_count == 2) {
-    hongpilas_close_view(&session, panes[1 - active].view);
-    panes[0] = panes[active];
-    active = 0;
-    pane_count = 1;
-    return;
-  }
-  panes[1] = panes[0];
-  if (hongpilas_new_view(&session, &panes[1].view) != HONGPILAS_DONE) {
-    say("No view could be opened");
-    return;
-  }
-  int64_t caret = ask(SCI_GETCURRENTPOS, none);
-  send_text(&panes[1], SCI_SETDOCPOINTER, 0, ask(SCI_GETDOCPOINTER, 0), NULL, 0);
-  send_text(&panes[1], SCI_GOTOPOS, caret, 0, NULL, 0);
-  pane_count = 2;
-}
-
-static void other_view(int64_t by) { active = (active + (int)by) % pane_count; }
-
-/* ---- Keys ---- */
-
-enum {
-  ESCAPE = 0x1B, RUBOUT = 0x7F,
-  NO_KEY = 0x100, END_OF_KEYS, UP, DOWN, LEFT, RIGHT, HOME, END, PAGE_UP, PAGE_DOWN, DELETE, F1, F2, F3, F6, BACK_TAB,
-  SHIFT = 0x1000, CONTROL = 0x2000
-};
-#define CTL(letter) ((letter) & 0x1F)
-
-/* What a terminal sends behind an escape. */
-static const struct {
-  const char *sequence;
-  int key;
-} sequences[] = {
-    {"[A", UP},       {"[B", DOWN},      {"[C", RIGHT},     {"[D", LEFT},      {"[H", HOME},     {"[F", END},
-    {"OA", UP},       {"OB", DOWN},      {"OC", RIGHT},     {"OD", LEFT},      {"OH", HOME},     {"OF", END},
-    {"[1~", HOME},    {"[4~", END},      {"[3~", DELETE},   {"[5~", PAGE_UP},  {"[6~", PAGE_DOWN},
-    {"OP", F1},       {"OQ", F2},        {"OR", F3},        {"[17~", F6},
-    {"[1;2A", SHIFT | UP},     {"[1;2B", SHIFT | DOWN},    {"[1;2C", SHIFT | RIGHT},     {"[1;2D", SHIFT | LEFT},
-    {"[1;2H", SHIFT | HOME},   {"[1;2F", SHIFT | END},     {"[5;2~", SHIFT | PAGE_UP},   {"[6;2~", SHIFT | PAGE_DOWN},
-    {"[1;2Q", SHIFT | F2},     {"[1;2R", SHIFT | F3},      {"[1;5H", CONTROL | HOME},    {"[1;5F", CONTROL | END},
-    {"[1;6H", CONTROL | SHIFT | HOME},                     {"[1;6F", CONTROL | SHIFT | END},
-};
+/* ---- Commands ---- */
 
 static void show_keys(int64_t none);
 
-/* What each key does; F1 lists those with a name, which come first. */
+/* What each key does; F1 lists those with a name, which come first. Keys are spelled as they are sent, with `[` for the O of `^[O`. */
 static const struct {
-  int key;
+  const char *key;
   void (*run)(int64_t argument);
   int64_t argument;
   const char *name;
 } commands[] = {
-    {F1, show_keys, 0, "F1       these keys"},
-    {CTL('O'), open_file, 0, "Ctrl-O   open a file"},
-    {CTL('S'), save, 0, "Ctrl-S   save"},
-    {CTL('Q'), quit, 0, "Ctrl-Q   quit"},
-    {CTL('Z'), plain, SCI_UNDO, "Ctrl-Z   undo"},
-    {CTL('Y'), plain, SCI_REDO, "Ctrl-Y   redo"},
-    {CTL('X'), plain, SCI_CUT, "Ctrl-X   cut"},
-    {CTL('C'), plain, SCI_COPY, "Ctrl-C   copy"},
-    {CTL('V'), plain, SCI_PASTE, "Ctrl-V   paste"},
-    {CTL('A'), plain, SCI_SELECTALL, "Ctrl-A   select all"},
-    {CTL('F'), search_for, 1, "Ctrl-F   search; F3 again"},
-    {CTL('R'), search_for, -1, "Ctrl-R   search backwards; Shift-F3 again"},
-    {CTL('G'), go_to_line, 0, "Ctrl-G   go to a line"},
-    {CTL('B'), toggle_bookmark, BOOKMARK, "Ctrl-B   bookmark; F2 the next, Shift-F2 the one before"},
-    {CTL('T'), fold, SC_FOLDACTION_TOGGLE, "Ctrl-T   fold or unfold; Ctrl-U all"},
-    {CTL('W'), split, 0, "Ctrl-W   a second view, or one; F6 the other"},
-    {LEFT, plain, SCI_CHARLEFT, "Arrows, Home, End, Page Up, Page Down; with Shift to select"},
-    {CONTROL | HOME, plain, SCI_DOCUMENTSTART, "Ctrl-Home, Ctrl-End: the start and the end"},
-    {RIGHT, plain, SCI_CHARRIGHT, NULL},    {SHIFT | LEFT, plain, SCI_CHARLEFTEXTEND, NULL},
-    {UP, go_rows, -1, NULL},                {SHIFT | RIGHT, plain, SCI_CHARRIGHTEXTEND, NULL},
-    {DOWN, go_rows, 1, NULL},               {SHIFT | UP, extend_rows, -1, NULL},
-    {PAGE_UP, go_pages, -1, NULL},          {SHIFT | DOWN, extend_rows, 1, NULL},
-    {PAGE_DOWN, go_pages, 1, NULL},         {SHIFT | PAGE_UP, extend_pages, -1, NULL},
-    {HOME, plain, SCI_HOME, NULL},          {SHIFT | PAGE_DOWN, extend_pages, 1, NULL},
-    {END, plain, SCI_LINEEND, NULL},        {SHIFT | HOME, plain, SCI_HOMEEXTEND, NULL},
-    {RUBOUT, plain, SCI_DELETEBACK, NULL},  {SHIFT | END, plain, SCI_LINEENDEXTEND, NULL},
-    {CTL('H'), plain, SCI_DELETEBACK, NULL},{CONTROL | END, plain, SCI_DOCUMENTEND, NULL},
-    {DELETE, plain, SCI_CLEAR, NULL},       {CONTROL | SHIFT | HOME, plain, SCI_DOCUMENTSTARTEXTEND, NULL},
-    {'\r', new_line, 0, NULL},              {CONTROL | SHIFT | END, plain, SCI_DOCUMENTENDEXTEND, NULL},
-    {F2, go_to_bookmark, 1, NULL},          {SHIFT | F2, go_to_bookmark, -1, NULL},
-    {F3, search, 1, NULL},                  {SHIFT | F3, search, -1, NULL},
-    {CTL('U'), fold_all, 0, NULL},          {F6, other_view, 1, NULL},
+    {"^[[P", show_keys, 0, "F1       these keys"},
+    {"^O", leave, 0, "Ctrl-O   open a file"},
+    {"^S", save, 0, "Ctrl-S   save"},
+    {"^E", save, 1, "Ctrl-E   save under another name"},
+    {"^Q", leave, 1, "Ctrl-Q   quit"},
+    {"^Z", plain, SCI_UNDO, "Ctrl-Z   undo"},
+    {"^Y", plain, SCI_REDO, "Ctrl-Y   redo"},
+    {"^X", plain, SCI_CUT, "Ctrl-X   cut"},
+    {"^C", plain, SCI_COPY, "Ctrl-C   copy"},
+    {"^V", plain, SCI_PASTE, "Ctrl-V   paste"},
+    {"^A", plain, SCI_SELECTALL, "Ctrl-A   select all"},
+    {"^F", search_for, 1, "Ctrl-F   search; F3 again"},
+    {"^R", search_for, -1, "Ctrl-R   search backwards; Shift-F3 again"},
+    {"^G", go_to_line, 1, "Ctrl-G   go to a line"},
+    {"^B", toggle_bookmark, BOOKMARK, "Ctrl-B   bookmark; F2 the next, Shift-F2 the one before"},
+    {"^T", fold, SC_FOLDACTION_TOGGLE, "Ctrl-T   fold or unfold; Ctrl-U all"},
+    {"^W", split, 0, "Ctrl-W   a second view, or one; F6 the other"},
+    {"^[[D", plain, SCI_CHARLEFT, "Arrows, Home, End, Page Up, Page Down; with Shift to select"},
+    {"^[[1;5H", plain, SCI_DOCUMENTSTART, "Ctrl-Home, Ctrl-End: the start and the end"},
+    {"^[[1;5F", plain, SCI_DOCUMENTEND, NULL},  {"^[[1;2D", plain, SCI_CHARLEFTEXTEND, NULL},
+    {"^[[C", plain, SCI_CHARRIGHT, NULL},       {"^[[1;2C", plain, SCI_CHARRIGHTEXTEND, NULL},
+    {"^[[A", go_rows, -1, NULL},                {"^[[1;2A", extend_rows, -1, NULL},
+    {"^[[B", go_rows, 1, NULL},                 {"^[[1;2B", extend_rows, 1, NULL},
+    {"^[[5~", go_pages, -1, NULL},              {"^[[5;2~", extend_pages, -1, NULL},
+    {"^[[6~", go_pages, 1, NULL},               {"^[[6;2~", extend_pages, 1, NULL},
+    {"^[[H", plain, SCI_HOME, NULL},            {"^[[1;2H", plain, SCI_HOMEEXTEND, NULL},
+    {"^[[F", plain, SCI_LINEEND, NULL},         {"^[[1;2F", plain, SCI_LINEENDEXTEND, NULL},
+    {"^[[1~", plain, SCI_HOME, NULL},           {"^[[1;6H", plain, SCI_DOCUMENTSTARTEXTEND, NULL},
+    {"^[[4~", plain, SCI_LINEEND, NULL},        {"^[[1;6F", plain, SCI_DOCUMENTENDEXTEND, NULL},
+    {"^?", plain, SCI_DELETEBACK, NULL},        {"^[[3~", plain, SCI_CLEAR, NULL},
+    {"^H", plain, SCI_DELETEBACK, NULL},        {"^M", new_line, 0, NULL},
+    {"^[[Q", go_to_bookmark, 1, NULL},          {"^[[1;2Q", go_to_bookmark, -1, NULL},
+    {"^[[R", search, 1, NULL},                  {"^[[1;2R", search, -1, NULL},
+    {"^U", fold_all, 0, NULL},                  {"^[[17~", other_view, 1, NULL},
+    /* F1 to F3 of Linux's console */
+    {"^[[[A", show_keys, 0, NULL}, {"^[[[B", go_to_bookmark, 1, NULL}, {"^[[[C", search, 1, NULL},
 };
 
-#define COUNT(table) (sizeof(table) / sizeof *(table))
-
-/* The next byte, or -1 where none comes within a tenth of a second. */
-static int next_byte(void) {
-  unsigned char byte;
-  ssize_t count = read(STDIN_FILENO, &byte, 1);
-  if (count < 0 && errno != EINTR && errno != EAGAIN) return END_OF_KEYS;
-  return count == 1 ? byte : -1;
-}
-
-static int key_of_sequence(void) {
-  char sequence[8];
-  size_t length = 0;
-  for (int byte; length < sizeof sequence - 1 && (byte = next_byte()) >= 0 && byte < NO_KEY;) {
-    sequence[length++] = (char)byte;
-    if (length > 1 && byte >= '@') break;
-  }
-  sequence[length] = '\0';
-  for (size_t i = 0; i < COUNT(sequences); i++)
-    if (strcmp(sequences[i].sequence, sequence) == 0) return sequences[i].key;
-  return length == 0 ? ESCAPE : NO_KEY;
-}
-
-/* Waits for a key, or for a new size of the terminal, which is NO_KEY. */
-static int read_key(void) {
-  int byte;
-  while ((byte = next_byte()) < 0)
-    if (is_resized) return NO_KEY;
-  return byte == ESCAPE ? key_of_sequence() : byte;
-}
-
-/* Types a character that begins with this byte. */
-static void type_character(int byte) {
-  uint8_t text[4] = {(uint8_t)byte, 0x80, 0x80, 0x80};
-  size_t length = character(text, sizeof text);
-  for (size_t i = 1; i < length; i++) text[i] = (uint8_t)next_byte();
-  type_text(text, length);
-}
-
-static void run_key(int key) {
-  for (size_t i = 0; i < COUNT(commands); i++) {
-    if (commands[i].key != key) continue;
-    bool is_by_rows = commands[i].run == go_rows || commands[i].run == extend_rows || commands[i].run == go_pages ||
-                      commands[i].run == extend_pages;
-    if (!is_by_rows) panes[active].goal = -1;
-    commands[i].run(commands[i].argument);
-    return;
-  }
-  if ((key < ' ' && key != '\t') || key >= NO_KEY) return;
-  panes[active].goal = -1;
-  type_character(key);
-}
-
-/* ---- The screen ---- */
-
-static void take_size(void) {
-  struct winsize size;
-  is_resized = 0;
-  if (ioctl(STDOUT_FILENO, TIOCGWINSZ, &size) != 0 || size.ws_row < 2 || size.ws_col < 40) return;
-  rows = size.ws_row;
-  columns = size.ws_col;
-}
-
-static void blanks(int64_t count) { printf("%*s", (int)greatest(count, 0), ""); }
-
-/* One character: a tab as blanks, and what cannot be shown as a point. */
-static void draw_character(const uint8_t *bytes, size_t count, int64_t width) {
-  if (bytes[0] == '\t') blanks(width);
-  else if (bytes[0] < ' ' || bytes[0] == RUBOUT || (bytes[0] >= 0x80 && count == 1)) putchar('.');
-  else fwrite(bytes, 1, count, stdout);
-}
-
-/* A line's text from the pane's first column on, with what is selected in reverse. */
-static void draw_text(const pane *p, int64_t number, int64_t width) {
-  int64_t from = ask_of(p, SCI_GETSELECTIONSTART, 0), to = ask_of(p, SCI_GETSELECTIONEND, 0);
-  int64_t column = 0, shown = p->left, end = p->left + width;
-  line_bytes line = line_of(p, number);
-  bool is_reverse = false;
-  for (size_t at = 0; at < line.length && column < end;) {
-    size_t count = character(line.bytes + at, line.length - at);
-    int64_t next = column_behind(line.bytes[at], column), position = line.start + (int64_t)at;
-    if (next > p->left) {
-      bool is_selected = from <= position && position < to;
-      if (is_selected != is_reverse) fputs(is_selected ? "\x1b[7m" : "\x1b[27m", stdout);
-      is_reverse = is_selected;
-      draw_character(line.bytes + at, count, least(next, end) - shown);
-      shown = least(next, end);
-    }
-    column = next;
-    at += count;
-  }
-  if (is_reverse) fputs("\x1b[27m", stdout);
-  blanks(end - shown);
-}
-
-/* A line with its margin: a bookmark, its number, and whether it is a header, contracted or not. */
-static void draw_line(const pane *p, int64_t line, int64_t width) {
-  bool is_marked = (ask_of(p, SCI_MARKERGET, line) >> BOOKMARK & 1) != 0;
-  bool is_header = (ask_of(p, SCI_GETFOLDLEVEL, line) & SC_FOLDLEVELHEADERFLAG) != 0;
-  char sign = !is_header ? ' ' : ask_of(p, SCI_GETFOLDEXPANDED, line) ? '-' : '+';
-  printf("%c%5lld%c ", is_marked ? '*' : ' ', (long long)(line + 1) % 100000, sign);
-  draw_text(p, line, width - MARGIN);
-}
-
-static void draw_pane(const pane *p, int first_column, int64_t width) {
-  int64_t last = last_row(p);
-  for (int row = 0; row < rows - 1; row++) {
-    printf("\x1b[%d;%dH", row + 1, first_column + 1);
-    if (p->top + row <= last) draw_line(p, ask_of(p, SCI_DOCLINEFROMVISIBLE, p->top + row), width);
-    else printf("~%*s", (int)width - 1, "");
-  }
-}
-
-/* Brings the caret's place into the pane. */
-static void scroll(pane *p, int64_t row, int64_t column, int64_t width) {
-  p->top = least(greatest(least(p->top, row), row - (rows - 2)), last_row(p));
-  p->left = greatest(least(p->left, column), column - (width - MARGIN - 1));
-}
-
-static void draw_status(int64_t line, int64_t column) {
-  char text[sizeof file_name + 512];
-  snprintf(text, sizeof text, "%s%s  %s%sline %lld of %lld, column %lld, last change at %lld",
-           file_name[0] == '\0' ? "no name" : file_name, heard.is_modified ? ", changed" : "", notice,
-           notice[0] == '\0' ? "" : "  ", (long long)line + 1, (long long)heard.lines, (long long)column + 1,
-           (long long)heard.position);
-  printf("\x1b[%d;1H\x1b[7m%-*.*s\x1b[27m", rows, columns - 1, columns - 1, text);
-}
-
-static void draw(void) {
-  pane *p = &panes[active];
-  int64_t width = pane_count == 1 ? columns : columns / 2 - 1, line = caret_line();
-  int64_t caret = ask(SCI_GETCURRENTPOS, 0), column = column_of(p, caret);
-  command(SCI_ENSUREVISIBLE, line, 0);
-  int64_t row = ask(SCI_VISIBLEFROMDOCLINE, line);
-  scroll(p, row, column, width);
-  fputs("\x1b[?25l", stdout);
-  for (int i = 0; i < pane_count; i++) {
-    panes[i].top = least(panes[i].top, last_row(&panes[i]));
-    draw_pane(&panes[i], i * (int)(width + 2), width);
-  }
-  for (int i = 1; pane_count == 2 && i < rows; i++) printf("\x1b[%d;%dH||", i, (int)width + 1);
-  draw_status(line, column);
-  printf("\x1b[%d;%dH\x1b[?25h", (int)(row - p->top) + 1, (int)(column - p->left) + MARGIN + 1 + active * (int)(width + 2));
-  fflush(stdout);
-}
-
-/* Asks in the last row. False where Escape leaves it. */
-static bool prompt(const char *question, char *answer, size_t room) {
-  size_t length = strlen(answer);
-  for (;;) {
-    printf("\x1b[%d;1H\x1b[K%s%s", rows, question, answer);
-    fflush(stdout);
-    int key = read_key();
-    if (key == ESCAPE || key == END_OF_KEYS) return false;
-    if (key == '\r') return true;
-    if ((key == RUBOUT || key == CTL('H')) && length > 0) answer[--length] = '\0';
-    if (key < ' ' || key >= NO_KEY || key == RUBOUT || length + 1 >= room) continue;
-    answer[length++] = (char)key;
-    answer[length] = '\0';
-  }
+static void run_key(void) {
+  size_t i = 0, count = sizeof commands / sizeof *commands;
+  goal_before = goal;
+  goal = -1;
+  while (i < count && !is_key(commands[i].key)) i++;
+  if (i < count) commands[i].run(commands[i].argument);
+  else if (is_text()) type_text(key, strlen(key));
 }
 
 /* Lists the keys, a screen at a time. */
 static void show_keys(int64_t none) {
   int row = (int)none;
-  for (size_t i = 0; i < COUNT(commands) && commands[i].name != NULL; i++) {
+  for (size_t i = 0; commands[i].name != NULL; i++) {
     printf("%s\x1b[%d;3H%s", row == 0 ? "\x1b[2J" : "", row + 1, commands[i].name);
     row = (row + 1) % rows;
-    fflush(stdout);
     if (row == 0 || commands[i + 1].name == NULL) read_key();
   }
 }
@@ -643,55 +655,46 @@ static struct termios found_terminal;
 static void note_size(int signal) { is_resized = signal; }
 
 static void leave_terminal(void) {
-  fputs("\x1b[?1049l", stdout);
+  fputs("\x1b[?7h\x1b[?1049l", stdout);
   fflush(stdout);
   tcsetattr(STDIN_FILENO, TCSAFLUSH, &found_terminal);
 }
 
-/* Keys as they are sent, a read of at most a tenth of a second, and a screen of its own. */
+/* Keys as they are sent, a read of at most a tenth of a second, and a screen of its own, whose rows end where they end. */
 static bool take_terminal(void) {
   if (!isatty(STDOUT_FILENO) || tcgetattr(STDIN_FILENO, &found_terminal) != 0) return false;
   struct termios raw = found_terminal;
-  struct sigaction resize = {0};
-  raw.c_iflag &= ~(tcflag_t)(BRKINT | ICRNL | INPCK | ISTRIP | IXON);
-  raw.c_oflag &= ~(tcflag_t)OPOST;
-  raw.c_lflag &= ~(tcflag_t)(ECHO | ICANON | IEXTEN | ISIG);
+  cfmakeraw(&raw);
   raw.c_cc[VMIN] = 0;
   raw.c_cc[VTIME] = 1;
-  resize.sa_handler = note_size;
-  sigaction(SIGWINCH, &resize, NULL);
+  signal(SIGWINCH, note_size);
   if (tcsetattr(STDIN_FILENO, TCSAFLUSH, &raw) != 0) return false;
   atexit(leave_terminal);
   setvbuf(stdout, NULL, _IOFBF, 1 << 16);
-  fputs("\x1b[?1049h", stdout);
+  fputs("\x1b[?1049h\x1b[?7l", stdout);
   take_size();
   return true;
 }
 
-static void edit(void) {
-  while (!is_done) {
+static void edit(const char *name) {
+  send_text(&bottom, SCI_SETUNDOCOLLECTION, false, 0, NULL, 0);
+  if (name != NULL) load(name);
+  while (!is_over) {
     set_levels();
     draw();
     notice[0] = '\0';
-    int key = read_key();
-    if (is_resized) take_size();
-    if (key == END_OF_KEYS) return;
-    run_key(key);
+    if (!read_key()) return;
+    run_key();
   }
 }
 
 int main(int argument_count, char **arguments) {
-  if (hongpilas_new(&session) != HONGPILAS_DONE || hongpilas_new_view(&session, &panes[0].view) != HONGPILAS_DONE) {
-    fputs("edit: out of memory\n", stderr);
-    return 1;
-  }
-  if (!take_terminal()) {
-    fputs("edit: needs a terminal\n", stderr);
-    hongpilas_free(session);
-    return 1;
-  }
-  if (argument_count > 1) load(arguments[1]);
-  edit();
-  hongpilas_free(session);
-  return 0;
+  const char *fault = "out of memory";
+  bool is_open = hongpilas_new(&session) == HONGPILAS_DONE;
+  if (is_open && is_done(hongpilas_new_view(&session, &panes[0].view)) && is_done(hongpilas_new_view(&session, &bottom.view)))
+    fault = take_terminal() ? NULL : "needs a terminal";
+  if (fault != NULL) fprintf(stderr, "edit: %s\n", fault);
+  else edit(argument_count > 1 ? arguments[1] : NULL);
+  if (is_open) hongpilas_free(session);
+  return fault != NULL;
 }
