@@ -14,9 +14,6 @@ use Rattle.contraction.specs.ViewLines.{ViewLines, view_lines, flags_kept}
 use Rattle.contraction.proofs.Kept.{flags_of, length-kept, kept_at}
 
 module _ (h h' c c' : List ℕ) (n line count : ℕ) where
-  fresh_parts : List Flags → List Flags
-  fresh_parts f = replicate count fresh_flags ++ drop line f
-
   fresh_at : line ≤ n → ((k : ℕ) → holds h' k ≡ holds_with_fresh h line count k) → ((k : ℕ) → holds c' k ≡ holds_with_fresh c line count k)
       → (k : ℕ) → k < n + count → get_or (flags_kept h' c' (n + count)) k fresh_flags ≡ get_or (with_fresh flags_together line count (flags_kept h c n)) k fresh_flags
   fresh_at l p q k m =

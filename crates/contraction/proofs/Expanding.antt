@@ -276,7 +276,3 @@ module _ (levels : List ℕ) (flags : List Flags) (header : ℕ) where
       let low : header < k = ltb-true header k both.0 in
       let high : k ≤ last_child levels header = leb-true k (last_child levels header) both.1 in
       open_all line k low (omega arith))
-
-pub length-expanded : (levels : List ℕ) (header : ℕ) (flags : List Flags) → length (expanded levels header flags) ≡ length flags
-length-expanded levels header flags =
-    length-with_visible (is_child levels header) (is_open_between levels flags header) (with_expanded header true flags) ∙ length-with_expanded header true flags

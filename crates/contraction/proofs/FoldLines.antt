@@ -1,5 +1,5 @@
 -- The lines of folds: what is found first behind a line, and before it.
-use Rattle.std.proofs.Common.{◌≡◌, ℕ, suc, ◌+◌, ◌-◌, ◌<◌, ◌≤◌, Bool, true, false, ◌∷◌, reverse, Option, Some, None, refl, ap, ◌∙◌, arith, zero-add}
+use Rattle.std.proofs.Common.{◌≡◌, ℕ, suc, ◌+◌, ◌-◌, ◌<◌, Bool, true, false, ◌∷◌, reverse, Option, Some, refl, ap, ◌∙◌, arith, zero-add}
 use Rattle.std.specs.Prelude.{find}
 use Rattle.std.specs.List.{range_with_len}
 use Rattle.std.proofs.lemmas.List.{reverse-append}
@@ -9,14 +9,8 @@ use Rattle.contraction.proofs.Outside.{range-append}
 abbrev pub first_from : (ℕ → Bool) → ℕ → ℕ → Option ℕ
 first_from test n a = find test (range_with_len a (n - a))
 
-pub first_here : (test : ℕ → Bool) (n a : ℕ) → a < n → test a ≡ true → first_from test n a ≡ Some a
-first_here test n a l t = let e : n - a ≡ suc (n - (a + 1)) = omega arith in rw (e, t) refl
-
 pub first_later : (test : ℕ → Bool) (n a : ℕ) → a < n → test a ≡ false → first_from test n a ≡ first_from test n (a + 1)
 first_later test n a l t = let e : n - a ≡ suc (n - (a + 1)) = omega arith in rw (e, t) refl
-
-pub first_none : (test : ℕ → Bool) (n a : ℕ) → n ≤ a → first_from test n a ≡ None
-first_none test n a h = let e : n - a ≡ 0 = omega arith in rw e refl
 
 -- what is sought from a number back
 abbrev pub last_before : (ℕ → Bool) → ℕ → Option ℕ

@@ -74,7 +74,7 @@ all_visible_in h c v e sound =
           ∙ sym (eq-eqb (length h.starts) 1 only)
     ]
 
-count_map : (p : Flags → Bool) (f : ℕ → Flags) (ks : List ℕ) → count_by p (map f ks) ≡ length (filter (λ k. p (f k)) ks)
+pub count_map : (p : Flags → Bool) (f : ℕ → Flags) (ks : List ℕ) → count_by p (map f ks) ≡ length (filter (λ k. p (f k)) ks)
 count_map p f [] = refl
 count_map p f (k ∷ ks) = sum_by-cons (λ x. cond (p x) 1 0) (f k) (map f ks) ∙ go (p (f k)) (count_map p f ks)
   where
@@ -83,7 +83,7 @@ count_map p f (k ∷ ks) = sum_by-cons (λ x. cond (p x) 1 0) (f k) (map f ks) �
     go true e = omega arith
     go false e = omega arith
 
-filter_within : (p q : ℕ → Bool) (a n : ℕ) → ((k : ℕ) → a ≤ k → k < a + n → p k ≡ q k) → filter p (range_with_len a n) ≡ filter q (range_with_len a n)
+pub filter_within : (p q : ℕ → Bool) (a n : ℕ) → ((k : ℕ) → a ≤ k → k < a + n → p k ≡ q k) → filter p (range_with_len a n) ≡ filter q (range_with_len a n)
 filter_within p q a zero same = refl
 filter_within p q a (suc n) same =
     rw (same a (omega arith) (omega arith), filter_within p q (a + 1) n (λ k l m. same k (omega arith) (omega arith))) refl

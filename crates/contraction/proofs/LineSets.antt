@@ -307,14 +307,3 @@ between_none first past k b h =
       | inl l ↦ rw (lt-leb first k l) refl
       | inr l ↦ rw (le-leb first k l, le-ltb k past (omega arith)) refl
     ]
-
-pub between_more : (first line k : ℕ) (b : Bool) → first ≤ line → (eqb k line || (is_between first line k || b)) ≡ (is_between first (line + 1) k || b)
-between_more first line k b h =
-    elim (cases_eq k line) [
-      | inl e ↦ rw (eq-eqb k line e, le-leb first k (omega arith), lt-ltb k (line + 1) (omega arith)) refl
-      | inr ne ↦
-          elim (cases_lt k line) [
-            | inl l ↦ rw (ne_eqb k line ne, lt-ltb k line l, lt-ltb k (line + 1) (omega arith)) refl
-            | inr l ↦ rw (ne_eqb k line ne, le-ltb k line l, le-ltb k (line + 1) (omega arith)) refl
-          ]
-    ]

@@ -1,13 +1,12 @@
 -- The chain of fold parents, a parent at a time.
-use Rattle.std.proofs.Common.{◌≡◌, ℕ, zero, suc, ◌+◌, Bool, true, false, cond, List, [], ◌∷◌, length, reverse, Option, Some, None, sym, refl, ap, ◌∙◌, arith}
+use Rattle.std.proofs.Common.{◌≡◌, ℕ, zero, suc, ◌+◌, Bool, true, false, cond, List, [], ◌∷◌, reverse, Option, Some, None, sym, refl, ap, ◌∙◌, arith}
 use Rattle.std.specs.Prelude.{find, fold}
 use Rattle.std.specs.List.{range_with_len}
 use Rattle.std.proofs.lemmas.List.{reverse-append}
 use Rattle.std.proofs.lemmas.List.Sums.{fold-append}
 use Rattle.ed_model.specs.Rows.{Flags}
-use Rattle.ed_model.specs.Folding.{is_parent_of, parents_among, fold_parents, fold_parent, header_opened, lines_shown, is_expanded, expanded, is_between}
+use Rattle.ed_model.specs.Folding.{is_parent_of, parents_among, fold_parents, fold_parent, header_opened}
 use Rattle.contraction.proofs.FoldLines.{last_before, reverse_more}
-use Rattle.contraction.proofs.Expanding.{length-with_visible, length-expanded}
 
 -- the chain that begins with this parent
 abbrev pub parents_from : List ℕ → Option ℕ → List ℕ
@@ -44,13 +43,3 @@ parent_opened levels line parent flags now new e one two =
     ∙ sym (ap (λ l. fold (header_opened levels) flags (reverse l)) (parents_are levels line (Some parent) e)
     ∙ ap (fold (header_opened levels) flags) (reverse-append (parent ∷ []) (fold_parents levels parent))
     ∙ fold-append (header_opened levels) flags (reverse (fold_parents levels parent)) (parent ∷ []))
-
-pub length-shown : (first past : ℕ) (flags : List Flags) → length (lines_shown first past flags) ≡ length flags
-length-shown first past flags = length-with_visible (is_between first past) (λ _. true) flags
-
-pub length-opened : (levels : List ℕ) (flags : List Flags) (header : ℕ) → length (header_opened levels flags header) ≡ length flags
-length-opened levels flags header = go (is_expanded flags header)
-  where
-    go : (b : Bool) → length (cond b (lines_shown header (header + 1) flags) (expanded levels header (lines_shown header (header + 1) flags))) ≡ length flags
-    go true = length-shown header (header + 1) flags
-    go false = length-expanded levels header (lines_shown header (header + 1) flags) ∙ length-shown header (header + 1) flags

@@ -38,3 +38,7 @@ pub record AreViewLines (hidden contracted : Partitions) : Type 0 where
 -- how many lines are contracted
 abbrev pub contracted_lines : List Flags → ℕ
 contracted_lines flags = count_by (λ (f : Flags). not f.expanded) flags
+
+-- for how many lines in all there is room to be contracted: for those that are, and for more
+abbrev pub contracted_in_all : ViewLines → ℕ
+contracted_in_all view = contracted_lines view.flags + view.room.contracted

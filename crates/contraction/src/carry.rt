@@ -3,6 +3,7 @@
 ghost use Rattle.std.specs.Prelude.{◌≡◌, ◌+◌, ◌≤◌, ◌<◌, [], ◌∷◌, length};
 ghost use Rattle.ed_model.specs.Rows.{flags_together, fresh_flags};
 ghost use Rattle.line_index.specs.Edits.{with_fresh, with_joined, after_edit, after_edits, lines_after_edit, FitsLines, FitLines, fresh_by, fresh_lines};
+ghost use Rattle.contraction.specs.ViewLines.{contracted_in_all};
 
 use crate::contraction::Contraction;
 use crate::line_set::{put_lines_in, take_lines_out};
@@ -17,7 +18,9 @@ impl<P: Place> Contraction<P> {
         ensures flags { self.new.flags ≡ with_fresh flags_together line count self.old.flags }
         ensures hidden { self.new.room.hidden ≡ self.old.room.hidden }
         ensures contracted { self.old.room.contracted ≤ self.new.room.contracted }
+        ensures in_all { contracted_in_all self.new ≡ contracted_in_all self.old }
     {
+        let _ = self.contracted.length(); // it says that the starts rise
         put_lines_in(&mut self.hidden, line, count);
         put_lines_in(&mut self.contracted, line, count);
     }
@@ -28,8 +31,9 @@ impl<P: Place> Contraction<P> {
         ensures flags { self.new.flags ≡ with_joined flags_together line count self.old.flags }
         ensures hidden { self.new.room.hidden ≡ self.old.room.hidden }
         ensures contracted { self.old.room.contracted ≤ self.new.room.contracted }
+        ensures in_all { contracted_in_all self.new ≡ contracted_in_all self.old }
     {
-        let _ = self.hidden.length(); // it says that the number behind the line is not too great
+        let _ = self.contracted.length(); // it says that the starts rise, and that the number behind the line is not too great
         take_lines_out(&mut self.hidden, line + 1, count);
         take_lines_out(&mut self.contracted, line + 1, count);
     }
@@ -40,8 +44,9 @@ impl<P: Place> Contraction<P> {
         ensures flags { self.new.flags ≡ fresh_flags ∷ [] }
         ensures hidden { self.new.room.hidden ≡ self.old.room.hidden }
         ensures contracted { self.old.room.contracted ≤ self.new.room.contracted }
+        ensures in_all { contracted_in_all self.new ≡ contracted_in_all self.old }
     {
-        let lines = self.hidden.length();
+        let lines = self.contracted.length();
         take_lines_out(&mut self.hidden, 0, lines);
         take_lines_out(&mut self.contracted, 0, lines);
         put_lines_in(&mut self.hidden, 0, 1);
@@ -55,6 +60,7 @@ impl<P: Place> Contraction<P> {
         ensures flags { self.new.flags ≡ after_edit flags_together self.old.flags edit }
         ensures hidden { self.new.room.hidden ≡ self.old.room.hidden }
         ensures contracted { self.old.room.contracted ≤ self.new.room.contracted }
+        ensures in_all { contracted_in_all self.new ≡ contracted_in_all self.old }
     {
         match edit {
             LineEdit::Come { line, count } => self.put_in(line, count),
@@ -72,6 +78,7 @@ impl<P: Place> Contraction<P> {
         ensures flags { self.new.flags ≡ after_edits flags_together edits.now self.old.flags }
         ensures hidden { self.new.room.hidden ≡ self.old.room.hidden }
         ensures contracted { self.old.room.contracted ≤ self.new.room.contracted }
+        ensures in_all { contracted_in_all self.new ≡ contracted_in_all self.old }
     {
         for edit in edits {
             self.carry_edit(*edit);

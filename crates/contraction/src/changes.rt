@@ -2,6 +2,7 @@
 
 ghost use Rattle.std.specs.Prelude.{◌≡◌, ◌+◌, ◌≤◌, ◌<◌, if◌then◌else◌, false, length};
 ghost use Rattle.ed_model.specs.Folding.{lines_shown, lines_hidden, with_expanded};
+ghost use Rattle.contraction.specs.ViewLines.{contracted_in_all};
 
 use crate::contraction::Contraction;
 use crate::line_set::{insert, insert_range, remove_range};
@@ -40,6 +41,7 @@ impl<P: Place> Contraction<P> {
         ensures lines { length self.new.flags ≡ length self.old.flags }
         ensures hidden { self.new.room.hidden ≡ self.old.room.hidden }
         ensures contracted { self.old.room.contracted ≤ self.new.room.contracted + (if on then 0 else 1) }
+        ensures in_all { contracted_in_all self.new ≡ contracted_in_all self.old }
     {
         let _ = &self.hidden;
         let _ = self.contracted.length(); // it says that the number behind the line is not too great

@@ -3,6 +3,7 @@
 ghost use Rattle.std.specs.Prelude.{◌≡◌, ◌+◌, ◌≤◌, ◌<◌, length, fold, reverse};
 ghost use Rattle.ed_model.specs.Folding.{contracted as contracted_at, expanded as expanded_at, header_opened, revealed, fold_parents};
 ghost use Rattle.contraction.specs.Folding.{is_closed as is_closed_at, closed_at, behind_closed};
+ghost use Rattle.contraction.specs.ViewLines.{contracted_in_all};
 
 use crate::contraction::Contraction;
 use crate::folds::{fold_parent, is_header, last_child};
@@ -20,6 +21,7 @@ impl<P: Place> Contraction<P> {
         ensures lines { length self.new.flags ≡ length self.old.flags }
         ensures hidden { self.new.room.hidden ≡ self.old.room.hidden }
         ensures contracted { self.old.room.contracted ≤ self.new.room.contracted + 1 }
+        ensures in_all { contracted_in_all self.new ≡ contracted_in_all self.old }
     {
         let _ = levels.count(); // it says that the number behind a line is not too great
         self.set_expanded(header, false);
@@ -64,6 +66,7 @@ impl<P: Place> Contraction<P> {
         ensures lines { length self.new.flags ≡ length self.old.flags }
         ensures hidden { self.new.room.hidden ≡ self.old.room.hidden }
         ensures contracted { self.old.room.contracted ≤ self.new.room.contracted }
+        ensures in_all { contracted_in_all self.new ≡ contracted_in_all self.old }
     {
         let _ = levels.count();
         self.set_expanded(header, true);
@@ -84,6 +87,7 @@ impl<P: Place> Contraction<P> {
         ensures lines { length self.new.flags ≡ length self.old.flags }
         ensures hidden { self.new.room.hidden ≡ self.old.room.hidden }
         ensures contracted { self.old.room.contracted ≤ self.new.room.contracted }
+        ensures in_all { contracted_in_all self.new ≡ contracted_in_all self.old }
     {
         let _ = levels.count();
         let expanded = self.expanded(header);
@@ -103,6 +107,7 @@ impl<P: Place> Contraction<P> {
         ensures lines { length self.new.flags ≡ length self.old.flags }
         ensures hidden { self.new.room.hidden ≡ self.old.room.hidden }
         ensures contracted { self.old.room.contracted ≤ self.new.room.contracted }
+        ensures in_all { contracted_in_all self.new ≡ contracted_in_all self.old }
     {
         if let Some(parent) = fold_parent(levels, line) {
             self.open_parents(levels, parent);
@@ -120,6 +125,7 @@ impl<P: Place> Contraction<P> {
         ensures lines { length self.new.flags ≡ length self.old.flags }
         ensures hidden { self.new.room.hidden ≡ self.old.room.hidden }
         ensures contracted { self.old.room.contracted ≤ self.new.room.contracted }
+        ensures in_all { contracted_in_all self.new ≡ contracted_in_all self.old }
     {
         let _ = levels.count();
         if self.visible(line) {

@@ -71,7 +71,9 @@ pub(crate) fn remove_range<P: Place>(starts: &mut Partitioning<P>, first: usize,
     ensures length { starts.new.length ≡ starts.old.length }
     ensures room { length starts.new.starts + starts.new.room ≡ length starts.old.starts + starts.old.room }
     ensures more { starts.old.room ≤ starts.new.room }
+    ensures sound { ArePartitions starts.new.starts starts.new.length }
 {
+    let _ = starts.count(); // it says that the starts rise
     if past <= first {
         return;
     }
@@ -90,6 +92,7 @@ pub(crate) fn put_lines_in<P: Place>(starts: &mut Partitioning<P>, line: usize, 
     ensures length { starts.new.length ≡ starts.old.length + count }
     ensures room { length starts.new.starts + starts.new.room ≡ length starts.old.starts + starts.old.room }
     ensures more { starts.old.room ≤ starts.new.room }
+    ensures sound { ArePartitions starts.new.starts starts.new.length }
 {
     let index = lines_before(starts, line);
     starts.insert_text(index, count);
@@ -102,6 +105,7 @@ pub(crate) fn take_lines_out<P: Place>(starts: &mut Partitioning<P>, line: usize
     ensures length { starts.new.length + count ≡ starts.old.length }
     ensures room { length starts.new.starts + starts.new.room ≡ length starts.old.starts + starts.old.room }
     ensures more { starts.old.room ≤ starts.new.room }
+    ensures sound { ArePartitions starts.new.starts starts.new.length }
 {
     let _ = starts.length(); // it says that the number behind the lines is not too great
     remove_range(starts, line, line + count);

@@ -22,6 +22,7 @@ loop-index-preserved g c =
       whole = c.remove.ensures.length ∙ inv.whole;
       room = omega (arith, c.remove.ensures.room, inv.room, ap length c.remove.ensures.starts);
       more = omega (arith, c.remove.ensures.room, inv.more);
+      sound = c.remove.ensures.sound;
     }
 
 pub returns-clause-lines : goal.returns-clause-lines

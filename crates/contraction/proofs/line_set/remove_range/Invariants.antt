@@ -1,4 +1,5 @@
 use Rattle.std.proofs.Common.{◌≡◌, ◌+◌, ◌++◌, ◌≤◌, length, take, drop}
+use Rattle.partitioning.specs.Partitions.{ArePartitions}
 use Rattle.contraction.proofs.line_set.remove_range.Given as goal
 
 abbrev pub invariant-loop-index : goal.invariant-loop-index
@@ -8,4 +9,5 @@ invariant-loop-index g l =
       whole : l.starts.length ≡ l.initial.starts.length;
       room : length l.starts.starts + l.starts.room ≡ length l.initial.starts.starts + l.initial.starts.room;
       more : l.initial.starts.room ≤ l.starts.room;
+      sound : ArePartitions l.starts.starts l.starts.length;
     }

@@ -22,4 +22,5 @@ loop-edit-preserved g c =
       left = rw c.carry_edit.ensures.flags (one_more g.P.Place.GREATEST c.loop-edit.self.flags edit (drop (i + 1) edits) may);
       hidden = c.carry_edit.ensures.hidden ∙ inv.hidden;
       contracted = omega (arith, c.carry_edit.ensures.contracted, inv.contracted);
+      in_all = c.carry_edit.ensures.in_all ∙ inv.in_all;
     }

@@ -1,6 +1,7 @@
 use Rattle.std.proofs.Common.{◌≡◌, ◌≤◌, drop}
 use Rattle.ed_model.specs.Rows.{flags_together}
 use Rattle.line_index.specs.Edits.{after_edits}
+use Rattle.contraction.specs.ViewLines.{contracted_in_all}
 use Rattle.contraction.proofs.Carried.{MayFollow}
 use Rattle.contraction.proofs.contraction.Contraction.carry.Given as goal
 
@@ -11,4 +12,5 @@ invariant-loop-edit g l =
       left : MayFollow g.P.Place.GREATEST l.self.flags (drop l.edit-index l.edits);
       hidden : l.self.room.hidden ≡ l.initial.self.room.hidden;
       contracted : l.initial.self.room.contracted ≤ l.self.room.contracted;
+      in_all : contracted_in_all l.self ≡ contracted_in_all l.initial.self;
     }

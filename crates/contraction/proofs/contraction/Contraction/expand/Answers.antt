@@ -1,6 +1,7 @@
 use Rattle.std.proofs.Common.{◌+◌, ◌≤◌, ap, ◌∙◌, arith}
 use Rattle.ed_model.specs.Folding.{last_child, lines_shown}
 use Rattle.contraction.proofs.Expanding.{size_now, passed_start, passed_next, passed_all}
+use Rattle.contraction.proofs.InAll.{shown_contracted, closed_contracted, same_in_all}
 use Rattle.contraction.proofs.contraction.Contraction.expand.Goals as goal
 
 pub children-init : goal.children-init
@@ -13,6 +14,10 @@ children-init g c =
       lines = size_now c.args.levels.now c.args.self.now.flags c.args.header (c.args.header + 1) c.show.new.self.flags start;
       hidden = ap (λ r. r.hidden) c.show.ensures.room ∙ c.set_expanded.ensures.hidden;
       contracted = omega (arith, ap (λ r. r.contracted) c.show.ensures.room, c.set_expanded.ensures.contracted);
+      in_all =
+          same_in_all c.set_expanded.new.self c.show.new.self _ c.show.ensures.flags
+          (shown_contracted (c.args.header + 1) (c.last_child-last.result + 1) c.set_expanded.new.self.flags) c.show.ensures.room
+          ∙ c.set_expanded.ensures.in_all;
     }
 
 pub children-smaller : goal.children-smaller
@@ -35,6 +40,10 @@ children-preserved g c =
       lines = size_now c.args.levels.now c.args.self.now.flags c.args.header c.close-line.result c.close-line.new.self.flags next.0;
       hidden = ap (λ r. r.hidden) c.close-line.ensures.room ∙ inv.hidden;
       contracted = omega (arith, ap (λ r. r.contracted) c.close-line.ensures.room, inv.contracted);
+      in_all =
+          same_in_all c.children.self c.close-line.new.self _ c.close-line.ensures.flags
+          (closed_contracted c.args.levels.now c.children.line c.children.self.flags) c.close-line.ensures.room
+          ∙ inv.in_all;
     }
 
 pub returns-clause-flags : goal.returns-clause-flags

@@ -1,4 +1,5 @@
 use Rattle.std.proofs.Common.{◌≡◌, ◌+◌, ◌-◌, ◌<◌, ◌≤◌, length}
+use Rattle.contraction.specs.ViewLines.{contracted_in_all}
 use Rattle.contraction.proofs.Expanding.{Passed}
 use Rattle.contraction.proofs.contraction.Contraction.expand.Given as goal
 
@@ -10,6 +11,7 @@ invariant-children g l =
       lines : length l.self.flags ≡ length l.fn.self.flags;
       hidden : l.self.room.hidden ≡ l.fn.self.room.hidden;
       contracted : l.fn.self.room.contracted ≤ l.self.room.contracted;
+      in_all : contracted_in_all l.self ≡ contracted_in_all l.fn.self;
     }
 
 abbrev pub decreases-children : goal.decreases-children

@@ -2,6 +2,7 @@ use Rattle.std.proofs.Common.{◌<◌, ap, sym, ◌∙◌, arith}
 use Rattle.ed_model.specs.Folding.{with_expanded}
 use Rattle.contraction.proofs.Kept.{lines_of, length-kept}
 use Rattle.contraction.proofs.Changed.{expanded_after, contracted_after}
+use Rattle.contraction.proofs.InAll.{total_kept}
 use Rattle.contraction.proofs.contraction.Contraction.set_expanded.Goals as goal
 
 pub overflow_add-line : goal.overflow_add-line
@@ -50,3 +51,13 @@ pub returns-else-on-clause-lines : goal.returns-else-on-clause-lines
 returns-else-on-clause-lines g c =
     length-kept c.self.inside.hidden.starts c.insert.new.starts.starts c.self.inside.hidden.length
     ∙ sym (lines_of c.self.inside.hidden c.self.inside.contracted c.args.self.now c.self.view_is)
+
+pub returns-then-on-clause-in_all : goal.returns-then-on-clause-in_all
+returns-then-on-clause-in_all g c =
+    total_kept c.self.inside.hidden c.self.inside.hidden c.self.inside.contracted c.remove_range.new.starts c.args.self.now c.self.view_is c.self.invariant.lines
+    c.length.ensures.sound (c.remove_range.ensures.length ∙ c.self.invariant.lines) c.remove_range.ensures.sound c.remove_range.ensures.room
+
+pub returns-else-on-clause-in_all : goal.returns-else-on-clause-in_all
+returns-else-on-clause-in_all g c =
+    total_kept c.self.inside.hidden c.self.inside.hidden c.self.inside.contracted c.insert.new.starts c.args.self.now c.self.view_is c.self.invariant.lines
+    c.length.ensures.sound (c.insert.ensures.length ∙ c.self.invariant.lines) c.insert.ensures.sound c.insert.ensures.room
