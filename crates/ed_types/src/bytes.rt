@@ -42,12 +42,4 @@ impl Bytes {
     {
         self.bytes.as_slice()
     }
-
-    /// The bytes, given back. Takes no memory.
-    pub fn into_vec(self) -> Vec<u8>
-        ensures { result.items ≡ self }
-    {
-        let Bytes { bytes } = self;
-        bytes
-    }
 }
