@@ -10,7 +10,7 @@ use Rattle.undo_history.specs.declared.records.ChangeKind.{ChangeKind}
 use Rattle.undo_history.specs.declared.records.ChangeKind.TheVariants.{Text, Container}
 use Rattle.undo_history.specs.declared.records.StepRecord.{StepRecord}
 use Rattle.undo_history.specs.Steps.{step_of}
-use Rattle.undo_history.specs.Records.{Entry, alone, joined, pushed, transactions, entry_in, entries_in, change_of, bytes_end, last_end, history_of, LastIsOpen}
+use Rattle.undo_history.specs.Records.{Entry, alone, joined, pushed, transactions, entry_in, entries_in, change_of, bytes_end, last_end, history_of}
 use Rattle.undo_history.specs.Joining.{outline, outline_of, outline_if_any, steps_go_on, belongs_after}
 use Rattle.undo_history.proofs.Lists.{latest_first}
 use Rattle.undo_history.proofs.Sealing.{entries_length}
@@ -94,17 +94,6 @@ joins_here later x rs bytes i past depth r save_point collecting p h e =
     ap (λ t. decided r.is_sealed (at_save_point hist) (nat_lt 0 depth) later (belongs x (first_changes (transactions t)))) first
     ∙ sym (joins_pushed later x hist d (transactions (reverse (take i es))))
     ∙ ap (λ t. joins_last later x hist (transactions t)) (sym first)
-
-not_sealed : (s a b : Bool) → not s && a && b ≡ true → s ≡ false
-not_sealed true a b e = absurd (cc)
-not_sealed false a b e = refl
-
--- a change that joins does so to an open transaction
-pub joins_an_open_one : (later : Bool) (x : Change) (h : History) → joins later x h ≡ true → LastIsOpen h.past
-joins_an_open_one later x h e = open_last later x h h.past e where
-  open_last : (later : Bool) (x : Change) (h : History) (ts : List Transaction) → joins_last later x h ts ≡ true → LastIsOpen ts
-  open_last later x h [] e = absurd (cc)
-  open_last later x h (t ∷ ts) e = not_sealed t.is_sealed (not (at_save_point h)) (nat_lt 0 h.depth || later || belongs x t.changes) e
 
 pub lt_true : (n m : ℕ) → n < m → nat_lt n m ≡ true
 lt_true n m h = grind (arith, nat_tests)

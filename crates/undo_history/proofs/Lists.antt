@@ -1,7 +1,7 @@
 -- Lists and their fronts, read from the end.
 use Rattle.std.proofs.Common.{◌≡◌, ◌≤◌, ◌<◌, ◌+◌, ◌-◌, ℕ, zero, suc, List, [], ◌∷◌, ◌++◌, length, take, drop, map, get_or, refl, ap, sym, ◌∙◌, arith, reverse}
 use Rattle.std.specs.Prelude.{Some, slice_get}
-use Rattle.std.proofs.lemmas.List.{take_more, reverse-append, reverse-reverse, length-reverse, length-drop, take-append-drop, take_at, take_all, drop_at}
+use Rattle.std.proofs.lemmas.List.{take_more, reverse-append, reverse-reverse, length-reverse, length-drop, take-append-drop, take_at, drop_at}
 
 module _ {X : Type 0} where
   -- the front with its last item first
@@ -12,12 +12,6 @@ module _ {X : Type 0} where
 
   pub reverse_more : (x : X) (xs : List X) → reverse (x ∷ xs) ≡ reverse xs ++ x ∷ []
   reverse_more x xs = reverse-append (x ∷ []) xs
-
-  -- a vector whose gap lies behind all items
-  pub all_before : (xs ys zs : List X) (n : ℕ) → xs ++ ys ≡ zs → length xs ≡ n → n ≡ length zs → xs ≡ zs
-  all_before xs ys zs n e h k = sym (take_at xs ys n h) ∙ ap (λ t. take n t) e ∙ take_whole zs n k where
-    take_whole : (zs : List X) (n : ℕ) → n ≡ length zs → take n zs ≡ zs
-    take_whole zs n k = take_all n zs (omega arith)
 
   -- the last n items
   pub front_of_reverse : (xs : List X) (n : ℕ) → n ≤ length xs → take (length xs - n) xs ≡ reverse (drop n (reverse xs))

@@ -1,7 +1,7 @@
 -- Undo and redo move the boundary between past and future by one transaction.
 use Rattle.std.proofs.Common.{◌≡◌, ◌≤◌, ◌<◌, ◌+◌, ◌-◌, ℕ, List, [], ◌∷◌, ◌++◌, length, take, drop, map, refl, ap, ap₂, sym, subst, ◌∙◌, arith, reverse, Bool, append_assoc, inl, inr}
 use Rattle.std.specs.Prelude.{Option}
-use Rattle.std.proofs.lemmas.List.{reverse-append, reverse-reverse, length-append, length-reverse, length-take-le, length-drop, take-append-drop, take_all, take_at, drop_at, take-take, drop_all}
+use Rattle.std.proofs.lemmas.List.{reverse-append, reverse-reverse, length-append, length-reverse, length-take-le, length-drop, take-append-drop, take_all, take_at, drop_at, drop_all}
 use Rattle.std.proofs.lemmas.Bool.{cases_lt}
 use Rattle.ed_model.specs.History.{Transaction, History, seal_first, with_last_sealed, undone, undone_to, redone, redone_from, first_changes, undo_changes, redo_changes, inverse_change}
 use Rattle.undo_history.specs.Records.{Entry, transactions, history_of, last_count, next_count, BeginsOne}
@@ -30,9 +30,6 @@ pub record AroundLast (all : List Entry) (past : ℕ) : Type 0 where
   pub stacked : transactions (reverse (take past all)) ≡ one ∷ transactions (reverse before)
   pub begins : BeginsOne last
   pub some : 0 < length last
-
-front_of_front : {X : Type 0} → (xs : List X) (a b : ℕ) → a ≤ b → take a (take b xs) ≡ take a xs
-front_of_front xs a b h = take-take a b xs h
 
 pub around_last : (all : List Entry) (past : ℕ) → 0 < past → past ≤ length all → BeginsOne all → AroundLast all past
 around_last all past p h begins =

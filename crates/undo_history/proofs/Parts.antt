@@ -1,5 +1,5 @@
 -- Parts read by their records: what a front, one part more, or another record in one place comes to.
-use Rattle.std.proofs.Common.{◌≡◌, ◌≤◌, ◌<◌, ◌-◌, ℕ, zero, suc, List, [], ◌∷◌, ◌++◌, length, take, drop, set, get_or, refl, ap, sym, ◌∙◌, arith, subst}
+use Rattle.std.proofs.Common.{◌≡◌, ◌≤◌, ◌<◌, ◌-◌, ℕ, zero, suc, List, [], ◌∷◌, ◌++◌, length, take, drop, get_or, refl, ap, sym, ◌∙◌, arith}
 use Rattle.std.specs.Prelude.{slice_range}
 use Rattle.std.proofs.lemmas.List.{take-take, take-append-le}
 use Rattle.std.proofs.lemmas.Slice.{between_is}
@@ -39,21 +39,6 @@ module _ {R : Type 0} (end : R → ℕ) where
   pub ends_push : (from : ℕ) (rs : List R) (r : R) (n : ℕ) → EndsInOrder end from rs n → n ≤ end r → EndsInOrder end from (rs ++ r ∷ []) (end r)
   ends_push from [] r n h l = (omega (arith, h), refl)
   ends_push from (q ∷ rs) r n h l = (h.0, ends_push (end q) rs r n h.1 l)
-
-  -- all but the last part
-  pub ends_init : (from : ℕ) (rs : List R) (r : R) (n : ℕ) → EndsInOrder end from (rs ++ r ∷ []) n → EndsInOrder end from rs (last_end end from rs)
-  ends_init from [] r n h = refl
-  ends_init from (q ∷ rs) r n h = (h.0, ends_init (end q) rs r n h.1)
-
-  pub last_init : (from : ℕ) (rs : List R) (r : R) (n : ℕ) → EndsInOrder end from (rs ++ r ∷ []) n → last_end end from rs ≤ n
-  last_init from [] r n h = omega (arith, h.0, h.1)
-  last_init from (q ∷ rs) r n h = last_init (end q) rs r n h.1
-
-  -- another record with the same end
-  pub ends_set : (from : ℕ) (rs : List R) (i : ℕ) (r d : R) (n : ℕ) → EndsInOrder end from rs n → end r ≡ end (get_or rs i d) → EndsInOrder end from (set rs i r) n
-  ends_set from [] i r d n h e = h
-  ends_set from (q ∷ rs) zero r d n h e = (omega (arith, h.0, e), subst (λ k. EndsInOrder end k rs n) (sym e) h.1)
-  ends_set from (q ∷ rs) (suc i) r d n h e = (h.0, ends_set (end q) rs i r d n h.1 e)
 
   last_end_at : (from : ℕ) (rs : List R) (k : ℕ) (d : R) → k < length rs → last_end end from (take (suc k) rs) ≡ end (get_or rs k d)
   last_end_at from [] k d h = absurd (omega arith)
@@ -102,10 +87,3 @@ module _ {R X Y : Type 0} (end : R → ℕ) (value : R → List X → Y) where
   part_read from [] i r d xs h = absurd (omega arith)
   part_read from (q ∷ rs) zero r d xs h = refl
   part_read from (q ∷ rs) (suc i) r d xs h = part_read (end q) rs i r d xs (omega arith)
-
-  -- another record with the same end
-  pub parts_set : (from : ℕ) (rs : List R) (i : ℕ) (r d : R) (xs : List X) → i < length rs → end r ≡ end (get_or rs i d) →
-      read_parts end value from (set rs i r) xs ≡ set (read_parts end value from rs xs) i (value r (slice_range xs (last_end end from (take i rs)) (end r)))
-  parts_set from [] i r d xs h e = absurd (omega arith)
-  parts_set from (q ∷ rs) zero r d xs h e = ap (λ k. value r (slice_range xs from (end r)) ∷ read_parts end value k rs xs) e
-  parts_set from (q ∷ rs) (suc i) r d xs h e = ap (λ t. value q (slice_range xs from (end q)) ∷ t) (parts_set (end q) rs i r d xs (omega arith) e)
