@@ -1,5 +1,5 @@
 -- The first and last place that passes, against `find` in a list of places.
-use Rattle.std.proofs.Common.{◌≡◌, ℕ, zero, suc, ◌+◌, ◌-◌, ◌<◌, ◌≤◌, min, Bool, true, false, eqb, List, [], ◌∷◌, ◌++◌, length, reverse, Option, Some, None, refl, sym, ap, ◌∙◌, subst, arith, inl, inr}
+use Rattle.std.proofs.Common.{◌≡◌, ℕ, zero, suc, ◌+◌, ◌-◌, ◌<◌, ◌≤◌, Bool, true, false, eqb, List, [], ◌∷◌, ◌++◌, length, reverse, Option, Some, None, refl, sym, ap, ◌∙◌, subst, arith, inl, inr}
 use Rattle.std.specs.List.{range_with_len, find}
 use Rattle.std.proofs.lemmas.List.{reverse-append}
 use Rattle.std.proofs.lemmas.Bool.{cases_Bool, cases_eq, cases_lt, cond-true, cond-false, false≢true, le-leb, lt-leb}
@@ -99,10 +99,6 @@ module _ (test : ℕ → Bool) where
       ])
 
 module _ (flags : ℕ) (text : List ℕ) where
-  pub empty_pattern : (pattern : List ℕ) (from to : ℕ) → length pattern ≡ 0 → match_in flags text pattern from to ≡ Some (min from to)
-  empty_pattern [] from to e = refl
-  empty_pattern (b ∷ bs) from to e = absurd (omega arith)
-
   pub found_forwards : (pattern : List ℕ) (from to : ℕ) (r : Option ℕ) → 0 < length pattern → from ≤ to
       → FindsFirst (is_match flags text pattern) from (to + 1 - length pattern) r → r ≡ match_in flags text pattern from to
   found_forwards [] from to r some order h = absurd (omega arith)

@@ -29,11 +29,6 @@ part_of_part text part offset from to base e a b is =
           read_part part from to k l ∙ is.reads (from + k) (omega arith) ∙ ap (λ p. get_or text p 0) place;
     }
 
-pub front_of_part : (text part : List ℕ) (offset to : ℕ) → to ≤ length part → IsPart text part offset → IsPart text (take to part) offset
-front_of_part text part offset to b is =
-    let whole : slice_range part 0 to ≡ take to part = ap (λ n. take n part) (let e : to - 0 ≡ to = omega arith in e) in
-    subst (λ xs. IsPart text xs offset) whole (part_of_part text part offset 0 to offset (omega arith) (omega arith) b is)
-
 -- the bytes of a part are those of the text
 pub same_slice : (text part : List ℕ) (offset at n : ℕ) → IsPart text part offset → at + n ≤ length part → slice_range part at (at + n) ≡ slice_range text (offset + at) (offset + at + n)
 same_slice text part offset at n is l =
