@@ -42,10 +42,6 @@ pub sealed_changes : (ts : List Transaction) → map (λ (t : Transaction). t.ch
 sealed_changes [] = refl
 sealed_changes (t ∷ ts) = refl
 
-pub sealed_first_changes : (ts : List Transaction) → first_changes (seal_first ts) ≡ first_changes ts
-sealed_first_changes [] = refl
-sealed_first_changes (t ∷ ts) = refl
-
 pub sealed_twice : (ts : List Transaction) → seal_first (seal_first ts) ≡ seal_first ts
 sealed_twice [] = refl
 sealed_twice (t ∷ ts) = refl

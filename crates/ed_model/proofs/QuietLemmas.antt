@@ -1,5 +1,5 @@
 -- Plans of queries, and of messages that take no memory: what they come to. A fact on the plan, shown for each kind.
-use Rattle.std.proofs.Common.{◌≡◌, ℕ, ◌-◌, nat_lt, ℤ, Bool, true, false, cond, List, [], refl, Option, Some, None, Ok, Err}
+use Rattle.std.proofs.Common.{◌≡◌, ℕ, nat_lt, Bool, true, false, cond, List, [], refl, Option, Some, None, Ok, Err}
 use Rattle.ed_types.specs.declared.kind.Kind.{Kind}
 use Rattle.ed_types.specs.declared.kind.Kind.TheVariants as kinds
 use Rattle.ed_types.specs.declared.refusal.Refusal.{Refusal}
@@ -10,9 +10,8 @@ use Rattle.ed_model.specs.declared.plan.DocumentChange.TheVariants as document_c
 use Rattle.ed_model.specs.declared.plan.SessionChange.TheVariants as session_change
 use Rattle.ed_model.specs.declared.plan.Plan.{Plan}
 use Rattle.ed_model.specs.declared.plan.Plan.TheVariants as plan
-use Rattle.ed_model.specs.Numbers.{within}
 use Rattle.ed_model.specs.Session.{Document, View, watching, references}
-use Rattle.ed_model.specs.Requests.{Request, Planned, size, end_or_size, with_argument, argument, text_length, text_range, counted_range, with_line, line_argument}
+use Rattle.ed_model.specs.Requests.{Request, Planned, size, with_argument, with_line}
 use Rattle.ed_model.specs.Requests.{change_session}
 use Rattle.ed_model.specs.TargetPlans.{found_target}
 use Rattle.ed_model.specs.SessionPlans.{with_reference, release_of, document_named}
@@ -59,26 +58,9 @@ module _ (P : Planned → Type 0) (refused : (e : Refusal) → P (Err e)) where
   with_argument_keeps None act h = refused _
   with_argument_keeps (Some x) act h = h x
 
-  pub argument_keeps : (low high : ℕ) (x : ℤ) (act : ℕ → Planned) → ((n : ℕ) → P (act n)) → P (argument low high x act)
-  argument_keeps low high x act h = with_argument_keeps _ act h
-
-  pub text_length_keeps : (r : Request) (act : ℕ → Planned) → ((n : ℕ) → P (act n)) → P (text_length r act)
-  text_length_keeps r act h = with_argument_keeps _ act h
-
-  pub text_range_keeps : (r : Request) (act : ℕ → ℕ → Planned) → ((start past : ℕ) → P (act start past)) → P (text_range r act)
-  text_range_keeps r act h =
-      with_argument_keeps (within 0 (size r) r.message.w) _ (λ start. with_argument_keeps (within start (size r) (end_or_size (size r) r.message.l)) _ (λ past. h start past))
-
-  pub counted_range_keeps : (r : Request) (act : ℕ → ℕ → Planned) → ((start count : ℕ) → P (act start count)) → P (counted_range r act)
-  counted_range_keeps r act h =
-      with_argument_keeps (within 0 (size r) r.message.w) _ (λ start. with_argument_keeps (within 0 (size r - start) r.message.l) _ (λ count. h start count))
-
   pub with_line_keeps : (line : Option ℕ) (bad : Planned) (act : ℕ → Planned) → P bad → ((n : ℕ) → P (act n)) → P (with_line line bad act)
   with_line_keeps None bad act b h = b
   with_line_keeps (Some n) bad act b h = h n
-
-  pub line_argument_keeps : (r : Request) (bad : Planned) (act : ℕ → Planned) → P bad → ((n : ℕ) → P (act n)) → P (line_argument r bad act)
-  line_argument_keeps r bad act b h = with_line_keeps _ bad act b h
 
   pub either_keeps : (b : Bool) (x y : Planned) → P x → P y → P (cond b x y)
   either_keeps true x y hx hy = hx

@@ -17,9 +17,6 @@ use Rattle.ed_model.proofs.SoundFinding.{found_all, found_test, all_append}
 
 -- Numbers.
 
-some_same : {A : Type 0} (a b : A) → Some a ≡ Some b → a ≡ b
-some_same a b e = cc
-
 pub within_bounds : (low high : ℕ) (x : ℤ) (n : ℕ) → within low high x ≡ Some n → (low ≤ n) × (n ≤ high)
 within_bounds low high (pos m) n e = go (nat_le low m && nat_le m high) refl e
   where

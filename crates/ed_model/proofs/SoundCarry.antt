@@ -94,9 +94,6 @@ abbrev total : ℕ → (ℕ → ℕ) → List (ℕ × Row) → List ℕ → ℕ
 total h key entries [] = 0
 total h key entries (k ∷ ks) = occurrences h (handles_in (selected key entries k)) + total h key entries ks
 
-abbrev with_entry : Bool → ℕ → Row → List (ℕ × Row) → List (ℕ × Row)
-with_entry b x row others = cond b ((x, row) ∷ others) others
-
 not_selected : (h : ℕ) (key : ℕ → ℕ) (x : ℕ) (row : Row) (entries : List (ℕ × Row)) (low high : ℕ) (ks : List ℕ) → Rise low high ks → key x < low
     → total h key ((x, row) ∷ entries) ks ≡ total h key entries ks
 not_selected h key x row entries low high [] r l = refl

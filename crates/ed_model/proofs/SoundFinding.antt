@@ -1,10 +1,10 @@
 -- Finding and replacing documents and views in lists of them.
-use Rattle.std.proofs.Common.{◌≡◌, ℕ, ◌+◌, ◌<◌, ◌≤◌, Bool, true, false, cond, List, [], ◌∷◌, ◌++◌, map, refl, ap, sym, ◌∙◌, subst, arith, zero, suc, length, get_or, set}
-use Rattle.std.specs.Prelude.{Some, ◌==◌, find, filter, if◌then◌else◌}
+use Rattle.std.proofs.Common.{◌≡◌, ℕ, ◌+◌, ◌<◌, ◌≤◌, Bool, true, false, cond, List, [], ◌∷◌, ◌++◌, map, refl, ap, sym, ◌∙◌, subst, arith}
+use Rattle.std.specs.Prelude.{Some, ◌==◌, find, filter}
 use Rattle.std.specs.List.{AllByRecursion}
 use Rattle.std.proofs.lemmas.Bool.{cond_both, eqb-true, eqb-false, eq-eqb, ne_eqb}
 use Rattle.ed_types.specs.declared.limits.Limits.{Limits}
-use Rattle.ed_model.specs.Session.{Document, View, document_at, view_at, with_document, in_place_of_document, with_view}
+use Rattle.ed_model.specs.Session.{Document, View, document_at, view_at, with_document, in_place_of_document}
 use Rattle.ed_model.specs.SoundLaws.{Rise, IsSoundDocument}
 
 -- Facts of each element.
@@ -132,58 +132,3 @@ found_once low high (v ∷ vs) id w r e = go (v.id == id) refl e (λ e. found_on
         let is : v ≡ w = cc in
         ((λ _. is), none_above (λ v. v ≡ w) id (v.id + 1) high vs r.2 (omega arith))
     go false t e rest = ((λ same. absurd (eqb-false v.id id t same)), rest e)
-
--- By place. Where ids rise, the one of a place is found by its id, and putting another with that id in its place is a write there.
-
-rise_at : {X : Type 0} (id_of : X → ℕ) (low high : ℕ) (xs : List X) (k : ℕ) (d : X) → Rise low high (map id_of xs) → k < length xs → low ≤ id_of (get_or xs k d)
-rise_at id_of low high [] k d r l = absurd (omega arith)
-rise_at id_of low high (x ∷ xs) zero d r l = r.0
-rise_at id_of low high (x ∷ xs) (suc k) d r l =
-    let le : low ≤ id_of x = r.0 in
-    let rest = rise_at id_of (id_of x + 1) high xs k d r.2 (let m : suc k < suc (length xs) = l in omega arith) in omega arith
-
-pub found_at_place : {X : Type 0} (id_of : X → ℕ) (low high : ℕ) (xs : List X) (k : ℕ) (d : X) → Rise low high (map id_of xs) → k < length xs
-    → find (λ x. id_of x == id_of (get_or xs k d)) xs ≡ Some (get_or xs k d)
-found_at_place id_of low high [] k d r l = absurd (omega arith)
-found_at_place id_of low high (x ∷ xs) zero d r l = let t : (id_of x == id_of x) ≡ true = eq-eqb (id_of x) (id_of x) refl in rw t refl
-found_at_place id_of low high (x ∷ xs) (suc k) d r l =
-    let m : k < length xs = (let n : suc k < suc (length xs) = l in omega arith) in
-    let above = rise_at id_of (id_of x + 1) high xs k d r.2 m in
-    let t : (id_of x == id_of (get_or xs k d)) ≡ false = ne_eqb (id_of x) (id_of (get_or xs k d)) (λ e. omega arith) in
-    rw t (found_at_place id_of (id_of x + 1) high xs k d r.2 m)
-
-none_replaced : {X : Type 0} (id_of : X → ℕ) (low high : ℕ) (xs : List X) (new : X) → Rise low high (map id_of xs) → id_of new < low
-    → map (λ x. if id_of x == id_of new then new else x) xs ≡ xs
-none_replaced id_of low high [] new r l = refl
-none_replaced id_of low high (x ∷ xs) new r l =
-    let le : low ≤ id_of x = r.0 in
-    let t : (id_of x == id_of new) ≡ false = ne_eqb (id_of x) (id_of new) (λ e. omega arith) in
-    rw t (ap (λ ys. x ∷ ys) (none_replaced id_of (id_of x + 1) high xs new r.2 (omega arith)))
-
-pub replaced_at_place : {X : Type 0} (id_of : X → ℕ) (low high : ℕ) (xs : List X) (k : ℕ) (d new : X) → Rise low high (map id_of xs) → k < length xs
-    → id_of new ≡ id_of (get_or xs k d) → map (λ x. if id_of x == id_of new then new else x) xs ≡ set xs k new
-replaced_at_place id_of low high [] k d new r l e = absurd (omega arith)
-replaced_at_place id_of low high (x ∷ xs) zero d new r l e =
-    let t : (id_of x == id_of new) ≡ true = eq-eqb (id_of x) (id_of new) (sym e) in
-    rw t (ap (λ ys. new ∷ ys) (none_replaced id_of (id_of x + 1) high xs new r.2 (omega arith)))
-replaced_at_place id_of low high (x ∷ xs) (suc k) d new r l e =
-    let m : k < length xs = (let n : suc k < suc (length xs) = l in omega arith) in
-    let above = rise_at id_of (id_of x + 1) high xs k d r.2 m in
-    let t : (id_of x == id_of new) ≡ false = ne_eqb (id_of x) (id_of new) (λ p. omega arith) in
-    rw t (ap (λ ys. x ∷ ys) (replaced_at_place id_of (id_of x + 1) high xs k d new r.2 m e))
-
-pub document_at_place : (high : ℕ) (documents : List Document) (k : ℕ) (d : Document) → Rise 0 high (map (λ (d : Document). d.id) documents) → k < length documents
-    → document_at documents (get_or documents k d).id ≡ Some (get_or documents k d)
-document_at_place high documents k d r l = found_at_place (λ (d : Document). d.id) 0 high documents k d r l
-
-pub view_at_place : (high : ℕ) (views : List View) (k : ℕ) (v : View) → Rise 0 high (map (λ (v : View). v.id) views) → k < length views
-    → view_at views (get_or views k v).id ≡ Some (get_or views k v)
-view_at_place high views k v r l = found_at_place (λ (v : View). v.id) 0 high views k v r l
-
-pub with_document_at_place : (high : ℕ) (documents : List Document) (k : ℕ) (d new : Document) → Rise 0 high (map (λ (d : Document). d.id) documents) → k < length documents
-    → new.id ≡ (get_or documents k d).id → with_document new documents ≡ set documents k new
-with_document_at_place high documents k d new r l e = replaced_at_place (λ (d : Document). d.id) 0 high documents k d new r l e
-
-pub with_view_at_place : (high : ℕ) (views : List View) (k : ℕ) (v new : View) → Rise 0 high (map (λ (v : View). v.id) views) → k < length views
-    → new.id ≡ (get_or views k v).id → with_view new views ≡ set views k new
-with_view_at_place high views k v new r l e = replaced_at_place (λ (v : View). v.id) 0 high views k v new r l e

@@ -56,10 +56,6 @@ new_above h handle (n ∷ ns) l =
     let no : (handle == h) ≡ false = ne_eqb handle h (λ e. omega arith) in
     rw no (new_above h (handle + 1) ns (omega arith))
 
-one_at_most : (b : Bool) → one_if b ≤ 1
-one_at_most true = omega arith
-one_at_most false = omega arith
-
 pub new_once : (h handle : ℕ) (ns : List ℕ) → occurrences h (map (λ (m : Marker). m.handle) (new_markers handle ns)) ≤ 1
 new_once h handle [] = omega arith
 new_once h handle (n ∷ ns) = go (handle == h) refl (new_once h (handle + 1) ns)

@@ -89,9 +89,6 @@ reversed_within {limit} (x ∷ xs) text f h =
     (subst (λ t. AreStepsWithin limit t (inverse_of x ∷ [])) (sym (reversed_returns xs (edited x text) (within_fits limit xs (edited x text) f.1))) (inverse_within x text f.0.0 h, tt))
 
 -- a replacement
-abbrev pub insertion_after : ℕ → List ℕ → List ℕ → List ℕ
-insertion_after p bytes text = after_steps (insertion p bytes) text
-
 pub insertion_fits : (p : ℕ) (bytes text : List ℕ) → p ≤ length text → AreStepsOf text (insertion p bytes)
 insertion_fits p [] text h = tt
 insertion_fits p (b ∷ bs) text h = ((h, (let g : 0 < suc (length bs) = omega arith in g)), tt)
