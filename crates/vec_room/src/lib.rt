@@ -1,7 +1,7 @@
 //! Room in a `Vec` that grows, with a bound on it: `Vec::reserve` does not say how much there is afterwards.
 #![tactic(auto)]
 
-ghost use Rattle.std.specs.Prelude.{◌≡◌, ◌≤◌, ◌+◌, max, OnOk, OnErr, IsOk, vec_len, vec_capacity};
+ghost use Rattle.std.specs.Prelude.{◌≡◌, ◌≤◌, ◌+◌, ◌⊎◌, max, OnOk, OnErr, IsOk, vec_len, vec_capacity};
 
 use std::alloc::AllocError;
 
@@ -17,6 +17,7 @@ pub fn reserve<T>(vec: &mut Vec<T>, count: usize) -> Result<(), AllocError>
     ensures ok { OnOk result (vec_len vec.new + count ≤ vec_capacity vec.new) }
     ensures room_is_there { vec_len vec.old + count ≤ vec_capacity vec.old → IsOk result × (vec_capacity vec.new ≡ vec_capacity vec.old) }
     ensures room_stays { vec_capacity vec.old ≤ vec_capacity vec.new }
+    ensures doubles { OnOk result ((vec_capacity vec.new ≡ vec_capacity vec.old) ⊎ (vec_len vec.old + max count (vec_len vec.old) ≤ vec_capacity vec.new)) }
     ensures at_most { vec_capacity vec.new ≤ max (vec_capacity vec.old) (vec_len vec.old + max count (vec_len vec.old)) }
     ensures err { OnErr result (vec_capacity vec.new ≡ vec_capacity vec.old) }
 {
