@@ -142,21 +142,6 @@ impl<P: Place, A: Allocator> Partitioning<P, A> {
         ensures at_most { OnOk result (self.new.room ≤ most_room (length self.old.starts) self.old.room count) }
         ensures err { OnErr result (self.new ≡ self.old) }
     {
-        if count <= self.body.spare() {
-            return Ok(());
-        }
-        self.make_room(count)
-    }
-
-    // Makes room for `count` more starts, where there is too little.
-    #[inline(never)]
-    fn make_room(&mut self, count: usize) -> Result<(), AllocError>
-        ensures ok { OnOk result ((count ≤ self.new.room) × (self.new ≡ record self.old { room = self.new.room })) }
-        ensures room_is_there { count ≤ self.old.room → IsOk result × (self.new ≡ self.old) }
-        ensures room_stays { self.old.room ≤ self.new.room }
-        ensures at_most { OnOk result (self.new.room ≤ most_room (length self.old.starts) self.old.room count) }
-        ensures err { OnErr result (self.new ≡ self.old) }
-    {
         self.body.reserve(count)
     }
 

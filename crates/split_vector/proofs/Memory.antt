@@ -1,6 +1,7 @@
 -- What the walks of the unsafe functions share. Assumes `Logic`.
 --     word_had, word_made, mark_had, mark_made      a value of one pointer, and one of no bytes
---     slot_out, slot_in, run_out, run_in, slot_seen, run_seen      one place or a run of places is taken out of the row, put back, or seen
+--     slot_out, slot_in      one place is taken out of the row, or put back
+--     run_seen      a run of places is seen
 --     cut, glue      a row is two rows side by side
 --     of_room, to_room      room for an array is a row of empty places
 --     of_array, to_array      an array is a row of its items
@@ -10,7 +11,7 @@ use native.Mathlib.Omega.{arith}
 use native.Mathlib.Nat.{zero-mul, suc-mul}
 use mathlib.Core.List.{List, [], ◌∷◌, ◌++◌, map}
 use lib.ListN.{length, take, drop, set, get_or, replicate, take-append-drop, length-take, length-drop}
-use lib.Seq.{drop-cons, drop-drop, set_split}
+use lib.Seq.{drop-cons, set_split}
 use seplogic.Ra.Ura.{Ura}
 use base.Fraction.{full_share}
 use mir.Syntax.{Ty, ty_array}
@@ -148,11 +149,6 @@ module _ (Y : RattleType) (L : Laws Y) {M : Type 1} {𝓤 : Ura M} {𝓛 : Logic
       let one = alone (layout Y) vs (((param_laws 0 Y L).lawful 𝓛).typed x vs is) in
       rewrite t 0 (λ (us : List Val). ‵ (Y.own_val x us)) one.1.0 refl $ k one.0 one.1.0 one.1.1)
 
-pub filled_within : {X : Type 0} (cs : List (Option X)) (i : ℕ) (x : X) → get_or cs i None ≡ Some x → i < length cs
-filled_within [] i x e = cc
-filled_within (c ∷ cs) zero x e = omega arith
-filled_within (c ∷ cs) (suc i) x e = omega (arith, filled_within cs i x e)
-
 module _ (E : El) {M : Type 1} {𝓤 : Ura M} (𝓛 : Logic 𝓤) (t : Ty → Ptr → Fml) (p : Ptr) where
   pub deed_made : (n : ℕ) → 0 < n → ent 𝓤 (sem 𝓛 (t (ty_raw E n) p)) (sem 𝓛 (deed_owns (R E) t p n))
   deed_made zero lt = absurd (omega arith)
@@ -199,26 +195,6 @@ module _ (E : El) {M : Type 1} {𝓤 : Ura M} (𝓛 : Logic 𝓤) (b : ℕ) wher
     slot_in lt c = qed 𝓛 (‵ (slot (R E) b (i * s + o) c) ∷ ‵ Besides ∷ []) ∵ move ! (1 ∷ []) $ fsplit ! $ move ! (2 ∷ 1 ∷ []) $ fjoin ! $ move ! (1 ∷ 0 ∷ []) $
         use2 𝓛 (‵ (Row o (take i cs ++ c ∷ drop (suc i) cs))) (glue (take i cs) (c ∷ drop (suc i) cs) o (i * s + o) (before (omega arith))) $
         rewrite ! 0 (λ (l : List (Place E)). ‵ (Row o l)) (sym (set_split cs i c lt)) refl $ done !
-
-    module _ (n : ℕ) where
-      -- the places but for the n from the i-th on
-      abbrev pub Around : Fml
-      Around = fsep (Row o (take i cs)) (Row (n * s + (i * s + o)) (drop (i + n) cs))
-
-      pub run_out : i + n ≤ length cs → ent 𝓤 (sem 𝓛 (Row o cs)) (sep 𝓤 (sem 𝓛 (Row (i * s + o) (take n (drop i cs)))) (sem 𝓛 Around))
-      run_out le =
-          let run = take n (drop i cs) in let long : n ≡ length run = omega (arith, length-take n (drop i cs), length-drop i cs) in
-          qed 𝓛 (‵ (Row o cs) ∷ []) ∵
-          rewrite ! 0 (λ (l : List (Place E)). ‵ (Row o l)) (sym (take-append-drop i cs) ∙ ap (λ l. take i cs ++ l) (sym (take-append-drop n (drop i cs)) ∙ ap (λ l. run ++ l) (drop-drop n i cs))) refl $
-          use1 𝓛 (‵ (Row o (take i cs)) ⊛ ‵ (Row (i * s + o) (run ++ drop (i + n) cs))) (cut (take i cs) (run ++ drop (i + n) cs) o (i * s + o) (before (omega arith))) $ split ! $ move ! (1 ∷ []) $
-          use1 𝓛 (‵ (Row (i * s + o) run) ⊛ ‵ (Row (n * s + (i * s + o)) (drop (i + n) cs))) (cut run (drop (i + n) cs) (i * s + o) (n * s + (i * s + o)) (ap (λ k. k * s + (i * s + o)) long)) $
-          split ! $ move ! (2 ∷ 1 ∷ []) $ fjoin ! $ move ! (1 ∷ []) $ done !
-
-      pub run_in : i + n ≤ length cs → (ws : List (Place E)) → n ≡ length ws
-          → ent 𝓤 (sep 𝓤 (sem 𝓛 (Row (i * s + o) ws)) (sem 𝓛 Around)) (sem 𝓛 (Row o (take i cs ++ (ws ++ drop (i + n) cs))))
-      run_in le ws long = qed 𝓛 (‵ (Row (i * s + o) ws) ∷ ‵ Around ∷ []) ∵ move ! (1 ∷ []) $ fsplit ! $ move ! (2 ∷ 1 ∷ []) $
-          use2 𝓛 (‵ (Row (i * s + o) (ws ++ drop (i + n) cs))) (glue ws (drop (i + n) cs) (i * s + o) (n * s + (i * s + o)) (ap (λ k. k * s + (i * s + o)) long)) $ move ! (1 ∷ 0 ∷ []) $
-          by ! (glue (take i cs) (ws ++ drop (i + n) cs) o (i * s + o) (before (omega arith)))
 
   pub to_cells : (xs : List (el_x E)) (o : ℕ) → ent 𝓤 (sem 𝓛 (Row o (map Some xs))) (sem 𝓛 (cells (mem (R E)) xs b o))
   to_cells [] o = id⊢ 𝓤 (emp 𝓤)
@@ -377,10 +353,6 @@ module _ (E : El) {M : Type 1} {𝓤 : Ura M} (𝓛 : Logic 𝓤) (b : ℕ) wher
     up_to : (xs : List (el_x E)) (rest : List (Place E)) (o : ℕ) → ent 𝓤 (sem 𝓛 (Seen o (map Some xs ++ rest))) (sem 𝓛 (elements_shared (R E) xs b o κ))
     up_to [] rest o = qed 𝓛 (‵ (Seen o rest) ∷ []) ∵ keep ! [] $ done !
     up_to (x ∷ xs) rest o = mono_r 𝓤 (sem 𝓛 (slot_lent (R E) b o (Some x) κ)) (up_to xs rest (o + s))
-
-    pub slot_seen : (o : ℕ) (cs : List (Place E)) (i : ℕ) → i < length cs → ent 𝓤 (sem 𝓛 (Seen o cs)) (sem 𝓛 (slot_lent (R E) b (i * s + o) (get_or cs i None) κ))
-    slot_seen o cs i lt = qed 𝓛 (‵ (Seen o cs) ∷ []) ∵ use1 𝓛 (‵ (Seen (i * s + o) (drop i cs))) (from_on cs i o (i * s + o) (omega arith) refl) $
-        rewrite ! 0 (λ (l : List (Place E)). ‵ (Seen (i * s + o) l)) (drop-cons cs i None lt) refl $ fsplit ! $ keep ! (0 ∷ []) $ done !
 
     pub run_seen : (o : ℕ) (cs : List (Place E)) (i n : ℕ) (xs : List (el_x E)) → i ≤ length cs → take n (drop i cs) ≡ map Some xs
         → ent 𝓤 (sem 𝓛 (Seen o cs)) (sem 𝓛 (elements_shared (R E) xs b (i * s + o) κ))

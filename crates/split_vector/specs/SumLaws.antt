@@ -1,6 +1,6 @@
 -- What a list of calls of a gap buffer moves in all.
-use Rattle.std.specs.Prelude.{ℕ, ◌≡◌, ◌+◌, ◌-◌, ◌≤◌, ◌==◌, if◌then◌else◌, List, [], ◌∷◌}
-use Rattle.split_vector.specs.Split.{counted, apart, gap_after, moved_after, gap_closed, moved_closed}
+use Rattle.std.specs.Prelude.{ℕ, ◌+◌, ◌≤◌, List, [], ◌∷◌}
+use Rattle.split_vector.specs.Split.{apart, gap_after, moved_after, gap_closed, moved_closed}
 
 -- a call that puts so many items in at a place, or takes so many away from there on
 pub data Call : Type 0 where

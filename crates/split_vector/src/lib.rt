@@ -17,8 +17,9 @@
 //! values stand for a block. `Base` is its address, a plain copy that owns nothing. `Cells` is the right to read and
 //! write the cells. `Deed` is the right to give the block back, and holds the size to give back. `Cells` and `Deed` take
 //! no bytes at run time, cannot be copied, and cannot be let go: they can only be handed to `deallocate`, which gives the
-//! block back, or, where there never was a block, to `discard`. Growth takes a new block, copies both sides of the gap
-//! into it and gives the old block back. Dropping the vector gives its last block back.
+//! block back, to `enlarge`, which has the allocator make it larger and answers the rights to what it then is, or, where
+//! there never was a block, to `discard`. Growth goes by `enlarge` where no item lies behind the gap; else it takes a new
+//! block, copies both sides of the gap into it and gives the old block back. Dropping the vector gives its last block back.
 //!
 //! Items are `Copy`, so nothing has to be dropped when an item is taken away: its cell becomes part of the gap.
 #![tactic(auto)]

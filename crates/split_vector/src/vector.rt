@@ -103,6 +103,7 @@ impl<T: Copy, A: Allocator> SplitVector<T, A> {
     /// # Errors
     ///
     /// `AllocError` where the memory is refused, or where no block can be so large. The vector is then as it was.
+    #[inline(always)]
     pub fn reserve(&mut self, count: usize) -> Result<(), AllocError>
         ensures ok { OnOk result ((self.new.items ≡ self.old.items) × (count ≤ self.new.spare) × (self.new.gap ≡ self.old.gap) × (self.new.moved ≡ self.old.moved)) }
         ensures room_is_there { count ≤ self.old.spare → IsOk result × (self.new ≡ self.old) }
@@ -114,6 +115,19 @@ impl<T: Copy, A: Allocator> SplitVector<T, A> {
         if count <= self.spare() {
             return Ok(());
         }
+        self.grow(count)
+    }
+
+    // Takes a larger block, where the room is too small. It stands apart, since it is rare.
+    #[inline(never)]
+    fn grow(&mut self, count: usize) -> Result<(), AllocError>
+        requires { self.old.spare < count }
+        ensures ok { OnOk result ((self.new.items ≡ self.old.items) × (count ≤ self.new.spare) × (self.new.gap ≡ self.old.gap) × (self.new.moved ≡ self.old.moved)) }
+        ensures doubles { OnOk result (2 * (length self.old.items + self.old.spare) ≤ length self.new.items + self.new.spare) }
+        ensures at_most { OnOk result (self.new.spare ≤ most_room (length self.old.items) self.old.spare count) }
+        ensures err { OnErr result (self.new ≡ self.old) }
+        ensures within { length self.new.items + self.new.spare < 2 ^ 63 }
+    {
         let wanted = self.len().saturating_add(count);
         let doubled = 2 * (self.len() + self.spare());
         self.block.grow(wanted.max(doubled))

@@ -1,5 +1,5 @@
 -- One call after the other.
-use Rattle.std.proofs.Common.{rules, arith, ◌≡◌, ℕ, ◌+◌, ◌-◌, ◌^◌, ◌≤◌, ◌==◌, if◌then◌else◌, Bool, true, false, min, List, [], ◌∷◌}
+use Rattle.std.proofs.Common.{arith, ℕ, ◌+◌, ◌-◌, ◌^◌, ◌≤◌, ◌==◌, if◌then◌else◌, Bool, true, false, List, [], ◌∷◌}
 use Rattle.std.proofs.Math.Nat.{min-le_left}
 use Rattle.split_vector.specs.Split.{apart, outside, counted}
 use Rattle.split_vector.specs.SumLaws.{Call, PutIn, TakeOut, Moves, moves_after_call, moves_after, cost_of_call, cost_of}
