@@ -63,7 +63,7 @@ impl Document {
     {
         let is_large = options & TEXT_LARGE != 0;
         let lines = Lines::new(alloc, is_large)?;
-        let rows = LineRows::new(alloc)?;
+        let rows = LineRows::new(alloc);
         Ok(Document {
             id,
             options,

@@ -24,14 +24,7 @@ module _ {V : Type 0} where
       let count : q + (k + (n - q)) ≡ n + k = omega arith in
       rw (take-replicate {X = V} q n d h, drop-replicate {X = V} q n d, replicate-append-replicate {A = V} k (n - q) d, replicate-append-replicate {A = V} q (k + (n - q)) d, count)
 
-  -- fresh lines come among the stored ones
-  pub padded_inserted : (d : V) (xs : List V) (n p k : ℕ) → length xs ≤ n → p ≤ length xs → padded d (n + k) (inserted xs p (replicate k d)) ≡ with_fresh (first_or d) p k (padded d n xs)
-  padded_inserted d xs n p k h l =
-      let long : length (inserted xs p (replicate k d)) ≡ length xs + k = simp (length-append, length-replicate, length-take, length-drop) (omega arith) in
-      let left : n + k - length (inserted xs p (replicate k d)) ≡ n - length xs = omega arith in
-      rw (left, take-append-le p xs (replicate (n - length xs) d) l, drop-append-le p xs (replicate (n - length xs) d) l) (simp append_assoc)
-
-  -- or behind them
+  -- fresh lines come behind the stored ones
   pub padded_behind : (d : V) (xs : List V) (n p k : ℕ) → length xs ≤ p → p ≤ n → padded d (n + k) xs ≡ with_fresh (first_or d) p k (padded d n xs)
   padded_behind d xs n p k h l =
       let place : p ≡ length xs + (p - length xs) = omega arith in

@@ -16,11 +16,6 @@ rows-take (suc n) (m ∷ ms) [] ss = refl
 rows-take (suc n) (m ∷ ms) (l ∷ ls) [] = refl
 rows-take (suc n) (m ∷ ms) (l ∷ ls) (s ∷ ss) = let row : Row = record { markers = m; level = l; state = s } in ap (λ rows. row ∷ rows) (rows-take n ms ls ss)
 
-rows_short : (ms : List (List Marker)) (ls : List ℕ) → rows_of ms ls [] ≡ []
-rows_short [] ls = refl
-rows_short (m ∷ ms) [] = refl
-rows_short (m ∷ ms) (l ∷ ls) = refl
-
 rows-drop : (n : ℕ) (ms : List (List Marker)) (ls : List ℕ) (ss : List ℤ) → length ms ≡ length ls → length ms ≡ length ss → drop n (rows_of ms ls ss) ≡ rows_of (drop n ms) (drop n ls) (drop n ss)
 rows-drop zero ms ls ss e f = refl
 rows-drop (suc n) [] ls ss e f = refl

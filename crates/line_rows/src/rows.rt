@@ -1,5 +1,5 @@
 //! `LineRows` and its calls.
-ghost use Rattle.std.specs.Prelude.{◌≡◌, ◌≢◌, ◌↔◌, IsTrue, ◌≤◌, ◌<◌, ◌+◌, ◌-◌, ◌^◌, ◌==◌, ◌∷◌, ◌++◌, [], length, max, slice_set, pos, IfOk, OnOk, OnErr, IsOk};
+ghost use Rattle.std.specs.Prelude.{◌≡◌, ◌≢◌, ◌↔◌, IsTrue, ◌≤◌, ◌<◌, ◌+◌, ◌-◌, ◌^◌, ◌==◌, ◌∷◌, ◌++◌, [], length, max, slice_set, pos, OnOk, OnErr, IsOk};
 ghost use Rattle.ed_model.specs.Changes.{with_markers, new_markers, without_marker, without_markers, is_of_number, marker_count};
 ghost use Rattle.ed_model.specs.LinePlans.{mask_of};
 ghost use Rattle.ed_model.specs.Rows.{Marker, base_level, fresh_row, rows_together};
@@ -68,23 +68,15 @@ fn carry_markers(markers: &mut MarkerStore, edits: &[LineEdit])
 }
 
 impl LineRows {
-    /// Returns the rows of one fresh line, and no room. The next handle is 1.
-    ///
-    /// # Errors
-    ///
-    /// `AllocError` where memory is refused.
-    pub fn new(alloc: Global) -> Result<Self, AllocError>
-        ensures rows { IfOk result (λ r. r.rows ≡ fresh_row ∷ []) }
-        ensures next_handle { IfOk result (λ r. r.next_handle ≡ 1) }
-        ensures room { IfOk result (λ r. r.room ≡ row_room 0 0 0 0) }
-        ensures blocks { IfOk result (λ r. r.blocks ≡ row_blocks 0 0 0 0 0 0) }
+    /// Returns the rows of one fresh line, and no room. The next handle is 1. It takes no memory.
+    pub fn new(alloc: Global) -> Self
+        ensures { result ≡ kept_rows (fresh_row ∷ []) 1 (row_room 0 0 0 0) (row_blocks 0 0 0 0 0 0) }
     {
-        let markers = MarkerStore::new(alloc)?;
-        Ok(LineRows {
-            markers,
+        LineRows {
+            markers: MarkerStore::new(alloc),
             levels: LineValues::new(alloc, BASE_LEVEL),
             states: LineValues::new(alloc, 0),
-        })
+        }
     }
 
     /// Returns the number of lines, which is at least 1.

@@ -2,7 +2,6 @@
 ghost use Rattle.std.specs.Prelude.{◌≡◌, ◌≤◌, ◌<◌, ◌+◌, ◌-◌, ◌^◌, ℕ, ◌∷◌, [], length, max, slice_set, slice_index_or, OnOk, OnErr, IsOk};
 ghost use Rattle.line_index.specs.Edits.{with_fresh, with_joined, after_edit, after_edits, FitsLines, FitLines, fresh_by, fresh_lines};
 ghost use Rattle.line_index.specs.declared.edit.LineEdit.TheVariants.{Come, Join};
-ghost use Rattle.split_vector.specs.Split.{most_room};
 ghost use Rattle.line_rows.specs.Values.{valued, first_or, padded, padded_halves, most_block, stored_after_edit, stored_after};
 
 use line_index::LineEdit;
@@ -35,29 +34,6 @@ impl<T: Copy> Model for LineValues<T> {
     ghost view = { λ v. valued v.default (padded v.default v.lines v.stored.items) v.room v.reach (length v.stored.items) (length v.stored.items + v.stored.spare) };
 
     ghost invariant = { λ v. record { fewer : length v.stored.items ≤ v.lines; for_lines : v.room ≤ v.stored.spare; for_values : v.reach + v.room ≤ length v.stored.items + v.stored.spare } };
-}
-
-// Takes memory for `count` more values, or for twice as many as there was for. It stands apart, since it is rare.
-#[inline(never)]
-fn grow<T: Copy>(stored: &mut SplitVector<T>, count: usize) -> Result<(), AllocError>
-    ensures ok { OnOk result ((stored.new.items ≡ stored.old.items) × (count ≤ stored.new.spare)) }
-    ensures at_most { OnOk result (stored.new.spare ≤ most_room (length stored.old.items) stored.old.spare count) }
-    ensures err { OnErr result (stored.new ≡ stored.old) }
-{
-    stored.reserve(count)
-}
-
-// Makes room for `count` more values. Where it is there already, nothing is called.
-#[inline]
-fn make_room<T: Copy>(stored: &mut SplitVector<T>, count: usize) -> Result<(), AllocError>
-    ensures ok { OnOk result ((stored.new.items ≡ stored.old.items) × (count ≤ stored.new.spare)) }
-    ensures at_most { OnOk result (stored.new.spare ≤ most_room (length stored.old.items) stored.old.spare count) }
-    ensures err { OnErr result (stored.new ≡ stored.old) }
-{
-    if count <= stored.spare() {
-        return Ok(());
-    }
-    grow(stored, count)
 }
 
 // Appends defaults up to `len` values, where there are fewer. It stands apart, since lines mostly get values one behind the other.
@@ -195,7 +171,7 @@ impl<T: Copy> LineValues<T> {
         let Some(wanted) = reach.saturating_sub(self.stored.len()).checked_add(room) else {
             return Err(AllocError);
         };
-        let Ok(()) = make_room(&mut self.stored, wanted) else {
+        let Ok(()) = self.stored.reserve(wanted) else {
             return Err(AllocError);
         };
         self.room = room;

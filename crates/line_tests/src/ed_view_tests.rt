@@ -116,7 +116,7 @@ fn assert_folded_by_rows(rt: &impl Abort, rows: &LineRows, view: &mut View) {
 // The levels are lent.
 #[test]
 fn view_is_folded_by_the_levels_of_rows(rt: HostRuntime) {
-    let mut rows = LineRows::new(rt.alloc()).expect(&rt, "memory");
+    let mut rows = LineRows::new(rt.alloc());
     make_rows(&rt, &mut rows);
     let mut view = View::new(rt.alloc(), 1, 1, 4).expect(&rt, "memory");
     assert_folded_by_rows(&rt, &rows, &mut view);

@@ -103,7 +103,7 @@ fn set_row_by_row(rt: &impl Abort, rows: &mut LineRows) {
 // Of each test, one function owns the rows, and others, to which they are lent, do all else: what owns them over many calls takes long to prove.
 #[test]
 fn rows_line_by_line(rt: HostRuntime) {
-    let mut rows = LineRows::new(rt.alloc()).expect(&rt, "memory");
+    let mut rows = LineRows::new(rt.alloc());
     set_row_by_row(&rt, &mut rows);
 }
 
@@ -136,7 +136,7 @@ fn set_and_join_all(rt: &impl Abort, rows: &mut LineRows) {
 
 #[test]
 fn rows_at_once(rt: HostRuntime) {
-    let mut rows = LineRows::new(rt.alloc()).expect(&rt, "memory");
+    let mut rows = LineRows::new(rt.alloc());
     reserve_at_once(&rt, &mut rows);
     set_and_join_all(&rt, &mut rows);
 }

@@ -89,7 +89,7 @@ fn start_again(rt: &impl Abort, rows: &mut LineRows) {
 // Rows go with their lines.
 #[test]
 fn rows_through_edits(rt: HostRuntime) {
-    let mut rows = LineRows::new(rt.alloc()).expect(&rt, "memory");
+    let mut rows = LineRows::new(rt.alloc());
     set_two_of_four(&rt, &mut rows);
     move_and_join(&rt, &mut rows);
     delete_markers(&rt, &mut rows);
@@ -115,6 +115,6 @@ fn reserve_for_many(rt: &impl Abort, rows: &mut LineRows) {
 // Room for many lines, and for all that they can have, is made at once.
 #[test]
 fn rows_of_many_lines(rt: HostRuntime) {
-    let mut rows = LineRows::new(rt.alloc()).expect(&rt, "memory");
+    let mut rows = LineRows::new(rt.alloc());
     reserve_for_many(&rt, &mut rows);
 }

@@ -51,7 +51,7 @@ fn mark_four_lines(rt: &impl Abort, store: &mut MarkerStore) {
 
 // Four lines: two copies of 3 with a 5 between them on line 1, and a 0 on line 3. Handles are 1 to 4.
 fn marked_lines(rt: &impl Abort, alloc: Global) -> MarkerStore {
-    let mut store = MarkerStore::new(alloc).expect(rt, "memory");
+    let mut store = MarkerStore::new(alloc);
     mark_four_lines(rt, &mut store);
     store
 }
@@ -67,7 +67,7 @@ fn assert_fresh(rt: &impl Abort, store: &MarkerStore) {
 
 #[test]
 fn a_fresh_store(rt: HostRuntime) {
-    let store = MarkerStore::new(rt.alloc()).expect(&rt, "memory");
+    let store = MarkerStore::new(rt.alloc());
     assert_fresh(&rt, &store);
 }
 
@@ -188,6 +188,6 @@ fn mark_as_many_lines_as_can_be(rt: &impl Abort, store: &mut MarkerStore) {
 
 #[test]
 fn as_many_lines_as_can_be(rt: HostRuntime) {
-    let mut store = MarkerStore::new(rt.alloc()).expect(&rt, "memory");
+    let mut store = MarkerStore::new(rt.alloc());
     mark_as_many_lines_as_can_be(&rt, &mut store);
 }

@@ -6,6 +6,8 @@ use Rattle.std.proofs.lemmas.Bool.{cases_eq, ne_eqb}
 use Rattle.std.proofs.lemmas.List.{take_more, take-append-drop, reverse-append}
 use Rattle.ed_model.specs.Rows.{Marker}
 use Rattle.marker_store.specs.Lines.{has_handle, first_from}
+use Rattle.marker_store.specs.declared.drops.Drops.TheVariants.{Handle}
+use Rattle.marker_store.specs.Dropping.{kept}
 use Rattle.marker_store.specs.Entries.{Entry, no_entry, AllFrom, row, rows_from}
 use Rattle.marker_store.proofs.Rows.{from_less, row-append, row-here, row-other, row_behind, length-rows}
 use Rattle.marker_store.proofs.Calls.{markers_at}
@@ -57,6 +59,10 @@ has-append handle (x ∷ xs) ys a b = (a.0, has-append handle xs ys a.1 b)
 pub has_more : (handle i : ℕ) (es : List Entry) (e : Entry) → NoneHas handle (take i es) → i < length es → e ≡ get_or es i no_entry → e.marker.handle ≢ handle → NoneHas handle (take (i + 1) es)
 has_more handle i es e a l q ne =
     rw (take_more es i no_entry l) (has-append handle (take i es) (get_or es i no_entry ∷ []) a ((λ n. ne (ap (λ (x : Entry). x.marker.handle) q ∙ n)), tt))
+
+pub none_kept : (handle : ℕ) (es : List Entry) → NoneHas handle es → kept (Handle handle) es ≡ es
+none_kept handle [] a = refl
+none_kept handle (e ∷ es) a = rw (ne_eqb e.marker.handle handle a.0) (ap (λ l. e ∷ l) (none_kept handle es a.1))
 
 any_none : (handle k : ℕ) (es : List Entry) → NoneHas handle es → list_any (λ (m : Marker). m.handle == handle) (row k es) ≡ false
 any_none handle k [] a = refl

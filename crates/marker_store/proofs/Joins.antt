@@ -71,7 +71,3 @@ joined_none line rows h =
     one [] rs e = absurd (omega arith)
     one (q ∷ []) rs e = ap (λ l. l ∷ rs) (append-nil q)
     one (q ∷ p ∷ qs) rs e = absurd (omega arith)
-
-pub length-joined : (line c : ℕ) (rows : Lists) → line + c < length rows → length (with_joined line c rows) + c ≡ length rows
-length-joined line c rows h =
-    omega (arith, length-append (take line rows) (flat (slice_range rows line (line + (c + 1))) ∷ drop (line + (c + 1)) rows), length-take-le line rows (omega arith), length-drop (line + (c + 1)) rows)

@@ -1,8 +1,8 @@
 -- What loops over the entries keep.
-use Rattle.std.proofs.Common.{◌≡◌, ℕ, ◌+◌, ◌<◌, ◌≤◌, ◌≢◌, true, false, suc, List, [], ◌∷◌, ◌++◌, length, get_or, take, drop, map, refl, sym, ap, subst, ◌∙◌, arith, append-nil, length-append, take_at, drop-cons}
+use Rattle.std.proofs.Common.{◌≡◌, ℕ, ◌+◌, ◌<◌, ◌≤◌, ◌≢◌, true, suc, List, [], ◌∷◌, ◌++◌, length, get_or, take, drop, map, refl, sym, ap, subst, ◌∙◌, arith, append-nil, length-append, take_at, drop-cons}
 use Rattle.std.specs.Prelude.{fold, bit_or, ◌^◌, not}
 use Rattle.std.proofs.Math.Seq.{drop-append-add}
-use Rattle.std.proofs.lemmas.List.{take-append-drop, take_more, take_all, drop-drop, length-take-le, length-drop}
+use Rattle.std.proofs.lemmas.List.{take-append-drop, take_more, drop-drop, length-take-le, length-drop}
 use Rattle.std.proofs.lemmas.List.Elements.{filter-append}
 use Rattle.ed_model.specs.Rows.{Marker}
 use Rattle.ed_model.specs.LinePlans.{mask_of}
@@ -91,9 +91,6 @@ kept-append d xs ys = filter-append (λ (e : Entry). not (is_dropped d e.marker)
 kept_dropped : (d : Drops) (e : Entry) (es : List Entry) → is_dropped d e.marker ≡ true → kept d (e ∷ es) ≡ kept d es
 kept_dropped d e es h = rw h refl
 
-kept_other : (d : Drops) (e : Entry) (es : List Entry) → is_dropped d e.marker ≡ false → kept d (e ∷ es) ≡ e ∷ kept d es
-kept_other d e es h = rw h refl
-
 -- one that is dropped goes
 pub kept_without : (d : Drops) (i : ℕ) (es : List Entry) (e : Entry) → i < length es → e ≡ get_or es i no_entry → is_dropped d e.marker ≡ true → kept d (take i es ++ drop (i + 1) es) ≡ kept d es
 kept_without d i es e l q h =
@@ -102,17 +99,6 @@ kept_without d i es e l q h =
     ∙ ap (λ r. kept d (take i es) ++ r) (sym (kept_dropped d (get_or es i no_entry) (drop (i + 1) es) here))
     ∙ sym (kept-append d (take i es) (get_or es i no_entry ∷ drop (i + 1) es))
     ∙ ap (kept d) (sym (parted i es l))
-
--- one that is kept is passed
-pub kept_more : (d : Drops) (i : ℕ) (es : List Entry) (e : Entry) → i < length es → e ≡ get_or es i no_entry → is_dropped d e.marker ≡ false → kept d (take i es) ≡ take i es → kept d (take (i + 1) es) ≡ take (i + 1) es
-kept_more d i es e l q h k =
-    let here : is_dropped d (get_or es i no_entry).marker ≡ false = ap (λ (x : Entry). is_dropped d x.marker) (sym q) ∙ h in
-    let next = take_more es i no_entry l in
-    ap (kept d) next ∙ kept-append d (take i es) (get_or es i no_entry ∷ []) ∙ ap (λ r. r ++ kept d (get_or es i no_entry ∷ [])) k
-    ∙ ap (λ r. take i es ++ r) (kept_other d (get_or es i no_entry) [] here) ∙ sym next
-
-pub kept_all : (d : Drops) (i : ℕ) (es : List Entry) → length es ≤ i → kept d (take i es) ≡ take i es → kept d es ≡ es
-kept_all d i es h k = ap (kept d) (sym (take_all i es h)) ∙ k ∙ take_all i es h
 
 pub length-without : (i : ℕ) (es new : List Entry) → new ≡ take i es ++ drop (i + 1) es → i < length es → length new + 1 ≡ length es
 length-without i es new e h = omega (arith, ap length e, length-append (take i es) (drop (i + 1) es), length-take-le i es (omega arith), length-drop (i + 1) es)

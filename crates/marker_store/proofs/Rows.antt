@@ -28,11 +28,6 @@ before-drop k zero es a = a
 before-drop k (suc i) [] a = tt
 before-drop k (suc i) (e ∷ es) a = before-drop k i es a.1
 
-pub from-drop : (k i : ℕ) (es : List Entry) → AllFrom k es → AllFrom k (drop i es)
-from-drop k zero es a = a
-from-drop k (suc i) [] a = tt
-from-drop k (suc i) (e ∷ es) a = from-drop k i es a.1
-
 pub before-raised : (k n : ℕ) (es : List Entry) → AllBefore k es → AllBefore (k + n) (raised n es)
 before-raised k n [] a = tt
 before-raised k n (e ∷ es) a = (omega (arith, a.0), before-raised k n es a.1)

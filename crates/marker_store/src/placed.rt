@@ -1,7 +1,8 @@
 //! The markers of all lines in one list, each with its line.
-ghost use Rattle.std.specs.Prelude.{◌≡◌, ◌≢◌, ◌≤◌, ◌<◌, ◌+◌, ◌-◌, ◌∷◌, ◌++◌, ◌^◌, [], length, max, take, drop, filter, not, slice_index_or, MatchOption, IsTrue, IsFalse, ◌↔◌, IfOk, OnOk, OnErr, IsOk};
+ghost use Rattle.std.specs.Prelude.{◌≡◌, ◌≢◌, ◌≤◌, ◌<◌, ◌+◌, ◌-◌, ◌∷◌, ◌++◌, ◌^◌, [], length, max, take, drop, filter, not, slice_index_or, MatchOption, IsTrue, IsFalse, IsNone, ◌↔◌, IfOk, OnOk, OnErr, IsOk};
 ghost use Rattle.split_vector.specs.Split.{most_room};
 ghost use Rattle.ed_model.specs.LinePlans.{mask_of};
+ghost use Rattle.marker_store.specs.declared.drops.Drops.TheVariants.{Handle};
 ghost use Rattle.marker_store.specs.Dropping.{kept};
 ghost use Rattle.marker_store.specs.Lines.{has_handle, is_met, first_from, last_up_to};
 ghost use Rattle.marker_store.specs.Entries.{entry, no_entry, placed, rows_of, row, AllBefore, AllFrom, IsCut, IsRaised, IsLowered, IsPut, IsCleared, NoneIs, IsFirst, IsFirstGone};
@@ -9,7 +10,7 @@ ghost use Rattle.marker_store.specs.Entries.{entry, no_entry, placed, rows_of, r
 use crate::drops::Drops;
 use crate::entries::Entry;
 use crate::markers::Marker;
-use crate::stored::{entry_of, make_room, move_step, put_in, take_out};
+use crate::stored::{entry_of, move_step, put_in, take_out};
 use split_vector::SplitVector;
 use std::alloc::{AllocError, Allocator, Global};
 use std::marker::Model;
@@ -78,7 +79,7 @@ impl<A: Allocator> PlacedMarkers<A> {
         if count <= self.room {
             return Ok(());
         }
-        make_room(&mut self.stored, count)?;
+        self.stored.reserve(count)?;
         self.room = count;
         Ok(())
     }
@@ -333,7 +334,8 @@ impl<A: Allocator> PlacedMarkers<A> {
 
     /// Returns the line of the marker with the handle.
     pub(crate) fn line_of_handle(&self, handle: u32) -> Option<usize>
-        ensures { result ≡ first_from (has_handle handle (rows_of self.now)) (rows_of self.now) 0 }
+        ensures line { result ≡ first_from (has_handle handle (rows_of self.now)) (rows_of self.now) 0 }
+        ensures none { IsNone result → kept (Handle handle) self.now.entries ≡ self.now.entries }
     {
         for index in 0..self.len() {
             let (line, marker) = self.entry_at(index);

@@ -1,5 +1,5 @@
 //! `MarkerStore` and its calls. A clause sees it as the list of markers of each line, the next handle, its room and its block.
-ghost use Rattle.std.specs.Prelude.{◌≡◌, ◌≢◌, ◌≤◌, ◌<◌, ◌+◌, ◌-◌, ◌^◌, ◌==◌, ◌↔◌, [], ◌∷◌, ◌++◌, length, max, slice_set, option_map, is_some, IsTrue, IsSome, IfOk, OnOk, OnErr, IsOk};
+ghost use Rattle.std.specs.Prelude.{◌≡◌, ◌≢◌, ◌≤◌, ◌<◌, ◌+◌, ◌-◌, ◌^◌, ◌==◌, ◌↔◌, [], ◌∷◌, ◌++◌, length, max, slice_set, IsTrue, OnOk, OnErr, IsOk};
 ghost use Rattle.split_vector.specs.Split.{most_room};
 ghost use Rattle.ed_model.specs.Changes.{new_markers, without_marker, is_of_number};
 ghost use Rattle.ed_model.specs.LinePlans.{mask_of};
@@ -40,15 +40,15 @@ impl<A: Allocator> Model for MarkerStore<A> {
 }
 
 impl<A: Allocator + Copy> MarkerStore<A> {
-    /// Returns the markers of one line, which has none. The next handle is 1. It takes no memory, so there is no error.
-    pub fn new(alloc: A) -> Result<Self, AllocError>
-        ensures { IfOk result (λ s. s ≡ marked_lines ([] ∷ []) 1 0 0) }
+    /// Returns the markers of one line, which has none. The next handle is 1. It takes no memory.
+    pub fn new(alloc: A) -> Self
+        ensures { result ≡ marked_lines ([] ∷ []) 1 0 0 }
     {
-        Ok(MarkerStore {
+        MarkerStore {
             placed: PlacedMarkers::new(alloc),
             marked: LineMarks::new(alloc),
             next_handle: 1,
-        })
+        }
     }
 }
 
@@ -158,9 +158,9 @@ impl<A: Allocator> MarkerStore<A> {
         ensures room { self.new.room + marker_total self.new.lines ≡ self.old.room + marker_total self.old.lines }
         ensures block { self.new.block ≡ self.old.block }
     {
-        let line = self.line_of_handle(handle);
+        let line = self.placed.line_of_handle(handle)?;
         self.placed.remove_all(Drops::Handle(handle));
-        line
+        Some(line)
     }
 
     /// Returns the line of the marker with the handle, or `None` where no marker has it.

@@ -1,38 +1,11 @@
 //! The entries as they are stored: up to the step with their lines, and from there on with the distances of their lines to
 //! the number of lines.
-ghost use Rattle.std.specs.Prelude.{◌≡◌, ◌≤◌, ◌<◌, ◌+◌, ◌∷◌, ◌++◌, length, take, drop, slice_index_or, OnOk, OnErr};
-ghost use Rattle.split_vector.specs.Split.{most_room};
+ghost use Rattle.std.specs.Prelude.{◌≡◌, ◌≤◌, ◌<◌, ◌+◌, ◌∷◌, ◌++◌, length, take, drop, slice_index_or};
 ghost use Rattle.marker_store.specs.Entries.{no_entry, entries_of, AllBefore};
 
 use crate::entries::Entry;
 use split_vector::SplitVector;
-use std::alloc::{AllocError, Allocator};
-
-// Takes memory for `count` more entries, or for twice as many as there was for. It stands apart, since it is rare.
-#[inline(never)]
-fn grow<A: Allocator>(stored: &mut SplitVector<Entry, A>, count: usize) -> Result<(), AllocError>
-    ensures ok { OnOk result ((stored.new.items ≡ stored.old.items) × (count ≤ stored.new.spare)) }
-    ensures at_most { OnOk result (stored.new.spare ≤ most_room (length stored.old.items) stored.old.spare count) }
-    ensures err { OnErr result (stored.new ≡ stored.old) }
-{
-    stored.reserve(count)
-}
-
-/// Makes room for `count` more entries. Where it is there already, nothing is called.
-#[inline]
-pub(crate) fn make_room<A: Allocator>(
-    stored: &mut SplitVector<Entry, A>,
-    count: usize,
-) -> Result<(), AllocError>
-    ensures ok { OnOk result ((stored.new.items ≡ stored.old.items) × (count ≤ stored.new.spare)) }
-    ensures at_most { OnOk result (stored.new.spare ≤ most_room (length stored.old.items) stored.old.spare count) }
-    ensures err { OnErr result (stored.new ≡ stored.old) }
-{
-    if count <= stored.spare() {
-        return Ok(());
-    }
-    grow(stored, count)
-}
+use std::alloc::Allocator;
 
 /// Returns the marker at the index with its line.
 pub(crate) fn entry_of<A: Allocator>(

@@ -105,6 +105,6 @@ fn measure(rt: &HostRuntime, rows: &mut LineRows, lines: usize) -> io::Result<()
 
 /// So many lines, with markers and levels: prints how many are marked.
 pub fn run(rt: &HostRuntime, lines: usize) -> io::Result<()> {
-    let mut rows = LineRows::new(rt.alloc())?;
+    let mut rows = LineRows::new(rt.alloc());
     measure(rt, &mut rows, lines)
 }

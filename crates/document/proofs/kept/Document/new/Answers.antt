@@ -1,6 +1,6 @@
 use Rattle.std.proofs.Common.{◌<◌, Bool, true, false, length, refl, ap, sym, ◌∙◌, arith}
 use Rattle.ed_model.specs.Numbers.{meets}
-use Rattle.line_rows.specs.Kept.{RowRoom}
+use Rattle.line_rows.specs.Kept.{KeptRows}
 use Rattle.document.specs.Kept.{bound_of}
 use Rattle.document.proofs.kept.Document.new.Goals as goal
 
@@ -10,11 +10,11 @@ some_bound false = omega arith
 
 pub invariant_of-result : goal.invariant_of-result
 invariant_of-result c =
-    rw (c.new-3.ensures, c.new-4.ensures)
+    rw (c.new-2.ensures, c.new-3.ensures)
     (record {
       indexed = c.in_ok-lines.ensures.index.1;
-      row_count = ap length c.in_ok-rows.ensures.rows ∙ sym (ap length c.in_ok-lines.ensures.index.1.starts);
-      row_room = omega (arith, ap (λ (r : RowRoom). r.lines) c.in_ok-rows.ensures.room);
+      row_count = ap (λ (k : KeptRows). length k.rows) c.new-rows.ensures ∙ sym (ap length c.in_ok-lines.ensures.index.1.starts);
+      row_room = omega (arith, ap (λ (k : KeptRows). k.room.lines) c.new-rows.ensures);
       indicator_count = refl;
       line_width = c.in_ok-lines.ensures.width;
       indicator_width = refl;

@@ -1,11 +1,11 @@
 use Rattle.std.proofs.Common.{◌<◌, length, arith, sym, ◌∙◌}
 use Rattle.std.proofs.lemmas.List.{take_all}
 use Rattle.marker_store.specs.Entries.{entry}
-use Rattle.marker_store.proofs.Finds.{has_more, line_none, line_some}
+use Rattle.marker_store.proofs.Finds.{has_more, line_none, line_some, none_kept}
 use Rattle.marker_store.proofs.placed.PlacedMarkers.line_of_handle.Goals as goal
 
-pub returns-then-handle : goal.returns-then-handle
-returns-then-handle g c =
+pub returns-then-handle-clause-line : goal.returns-then-handle-clause-line
+returns-then-handle-clause-line g c =
     let entries = c.args.self.now.entries in
     let index = c.loop-index.index in
     let inside : index < length entries = omega (arith, c.len-index-end.ensures.len, c.loop-index-test.true) in
@@ -19,8 +19,14 @@ loop-index-preserved g c =
     let inside : index < length entries = omega (arith, c.len-index-end.ensures.len, c.loop-index-test.true) in
     has_more c.args.handle index entries _ c.loop-index.invariant inside c.entry_at-line.ensures.entry (λ q. c.if-handle.false (c.handle.ensures ∙ q))
 
-pub returns : goal.returns
-returns g c =
+pub returns-clause-line : goal.returns-clause-line
+returns-clause-line g c =
     let entries = c.args.self.now.entries in
     let all = take_all c.loop-index.index entries (omega (arith, c.len-index-end.ensures.len, c.loop-index-test.false)) in
     sym (line_none c.args.handle c.args.self.now.count entries (rw all at c.loop-index.invariant))
+
+pub returns-clause-none : goal.returns-clause-none
+returns-clause-none g c none =
+    let entries = c.args.self.now.entries in
+    let all = take_all c.loop-index.index entries (omega (arith, c.len-index-end.ensures.len, c.loop-index-test.false)) in
+    none_kept c.args.handle entries (rw all at c.loop-index.invariant)

@@ -1,4 +1,4 @@
-use Rattle.std.proofs.Common.{arith, ap, ◌∙◌}
+use Rattle.std.proofs.Common.{arith, ap, sym, refl, ◌∙◌}
 use Rattle.marker_store.specs.declared.drops.Drops.TheVariants.{Handle}
 use Rattle.marker_store.specs.Entries.{rows_from}
 use Rattle.marker_store.proofs.Calls.{total_is}
@@ -15,6 +15,11 @@ invariant_of-self g c =
       within = rw (c.remove_all.ensures.count, c.remove_all.ensures.entries) (within_kept (Handle c.args.handle) c.self.inside.placed.count c.self.inside.placed.entries c.self.invariant.within);
       marked = rw c.remove_all.ensures.entries (marked_kept c.self.inside.marked (Handle c.args.handle) c.self.inside.placed.entries c.self.invariant.marked);
     }
+
+pub returns-in_err-line-clause-lines : goal.returns-in_err-line-clause-lines
+returns-in_err-line-clause-lines g c =
+    let old = c.self.inside.placed in
+    rw (← c.self.view_is) (ap (λ es. rows_from 0 old.count es) (sym (c.in_err-line.ensures.none refl)) ∙ rows_kept (Handle c.args.handle) 0 old.count old.entries)
 
 pub returns-clause-lines : goal.returns-clause-lines
 returns-clause-lines g c =
