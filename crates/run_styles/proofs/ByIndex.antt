@@ -1,5 +1,5 @@
 -- The steps of the code by the index of a run, as its contracts write them.
-use Rattle.std.proofs.Common.{◌≡◌, ℕ, ◌+◌, ◌-◌, ◌<◌, ◌≤◌, zero, suc, List, [], ◌∷◌, ◌++◌, length, get_or, take, drop, map, replicate, refl, sym, ap, ◌∙◌, arith, append_assoc, append-nil, subst, drop-drop, take-append-drop, ⊎_elim, take_at, drop_at}
+use Rattle.std.proofs.Common.{◌≡◌, ℕ, ◌+◌, ◌-◌, ◌<◌, ◌≤◌, zero, suc, List, [], ◌∷◌, ◌++◌, length, get_or, take, drop, map, replicate, refl, sym, ap, ◌∙◌, arith, append_assoc, append-nil, length-append, subst, drop-drop, take-append-drop, ⊎_elim, take_at, drop_at}
 use Rattle.std.proofs.Math.Seq.{drop-append-add}
 use Rattle.std.proofs.lemmas.List.{length-take-le, length-drop, get_or-append_right, get_or_append_left, get_or-replicate, length-replicate, drop_all, get_or-drop, get_or_default, get_or_past, nil_from_length, take_all}
 use Rattle.partitioning.specs.Partitions.{CanStart}
@@ -19,6 +19,10 @@ remove-seam xs f k le h =
     let front : take f (take f xs ++ drop k xs) ≡ take f xs = take_at (take f xs) (drop k xs) f n in
     let back : drop (suc f) (take f xs ++ drop k xs) ≡ drop (k + 1) xs = ap (λ m. drop m (take f xs ++ drop k xs)) (sym n1) ∙ drop-append-add (take f xs) (drop k xs) 1 ∙ drop-drop 1 k xs in
     rw (front, back) refl
+
+-- how many stand there
+pub length-seam : {X : Type 0} (xs : List X) (f k : ℕ) → f ≤ k → k ≤ length xs → length (take f xs ++ drop k xs) + (k - f) ≡ length xs
+length-seam xs f k le h = omega (arith, length-append (take f xs) (drop k xs), length-take-le f xs (omega arith), length-drop k xs)
 
 pub drop-split_starts : (S : List ℕ) (i q : ℕ) → i < length S → drop (i + 1 + 1) (insert S (i + 1) q) ≡ drop (i + 1) S
 drop-split_starts S i q h =

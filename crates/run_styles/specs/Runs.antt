@@ -16,6 +16,11 @@ pub record IsSpareFor (runs count : ℕ) (old new : Spare) : Type 0 where
   pub starts : new.starts ≤ most_room runs old.starts count
   pub values : new.values ≤ most_room runs old.values count
 
+-- No memory came or went: with `was` runs before and `now` runs then, those that there are and those that fit in beside them are as many.
+pub record IsSameMemory (was : ℕ) (old : Spare) (now : ℕ) (new : Spare) : Type 0 where
+  pub starts : now + new.starts ≡ was + old.starts
+  pub values : now + new.values ≡ was + old.values
+
 -- the default value, the value at each place, how many more runs may come as they were asked for, and for how many there is memory
 pub record Runs (V : Type 0) : Type 0 where
   pub default : V

@@ -26,6 +26,8 @@ fn insert_at_start<P: Place, V: Copy + Eq, A: Allocator>(
     ensures differ { NeighboursDiffer values.new.items }
     ensures room { starts.old.room ≤ starts.new.room + 1 }
     ensures spare { values.old.spare ≤ values.new.spare + 1 }
+    ensures start_cells { length starts.new.starts + starts.new.room ≡ length starts.old.starts + starts.old.room }
+    ensures value_cells { length values.new.items + values.new.spare ≡ length values.old.items + values.old.spare }
 {
     if values.get(0) == default {
         starts.insert_text(0, count);
@@ -52,6 +54,8 @@ fn insert_at_end<P: Place, V: Copy + Eq, A: Allocator>(
     ensures differ { NeighboursDiffer values.new.items }
     ensures room { starts.old.room ≤ starts.new.room + 1 }
     ensures spare { values.old.spare ≤ values.new.spare + 1 }
+    ensures start_cells { length starts.new.starts + starts.new.room ≡ length starts.old.starts + starts.old.room }
+    ensures value_cells { length values.new.items + values.new.spare ≡ length values.old.items + values.old.spare }
 {
     let last = starts.count() - 1;
     if values.get(last) == default {
@@ -76,6 +80,7 @@ fn insert_inside<P: Place, V: Copy + Eq, A: Allocator>(
     ensures table { IsTable starts.new.starts values.now.items starts.new.length }
     ensures list { expansion starts.new.starts values.now.items starts.new.length ≡ inserted (expansion starts.old.starts values.now.items starts.old.length) place count (inserted_value V.eq default (expansion starts.old.starts values.now.items starts.old.length) place) }
     ensures room { starts.new.room ≡ starts.old.room }
+    ensures start_cells { length starts.new.starts + starts.new.room ≡ length starts.old.starts + starts.old.room }
 {
     let run = run_of(starts, place);
     if starts.start_of(run) == place && values.get(run) != default {
@@ -105,6 +110,8 @@ pub(crate) fn insert_default<P: Place, V: Copy + Eq, A: Allocator>(
     ensures differ { NeighboursDiffer values.new.items }
     ensures room { starts.old.room ≤ starts.new.room + 1 }
     ensures spare { values.old.spare ≤ values.new.spare + 1 }
+    ensures start_cells { length starts.new.starts + starts.new.room ≡ length starts.old.starts + starts.old.room }
+    ensures value_cells { length values.new.items + values.new.spare ≡ length values.old.items + values.old.spare }
 {
     let length = starts.length();
     if length == 0 {
@@ -135,6 +142,8 @@ pub(crate) fn delete_places<P: Place, V: Copy + Eq, A: Allocator>(
     ensures differ { NeighboursDiffer values.new.items }
     ensures room { starts.old.room ≤ starts.new.room }
     ensures spare { values.old.spare ≤ values.new.spare }
+    ensures start_cells { length starts.new.starts + starts.new.room ≡ length starts.old.starts + starts.old.room }
+    ensures value_cells { length values.new.items + values.new.spare ≡ length values.old.items + values.old.spare }
 {
     let run = run_of(starts, place);
     if starts.start_of(run) == place {

@@ -1,10 +1,10 @@
 //! `RunStyles` and its calls. A clause sees it as its default value, its list of values and its room for runs.
 ghost use Rattle.std.specs.Prelude.{◌≡◌, ◌≤◌, ◌<◌, ◌+◌, ◌↔◌, [], length, max, slice_get, Some, All, IsTrue, IfOk, IfNone, IfSome, OnOk, OnErr, IsOk};
 ghost use Rattle.run_styles.specs.Expansion.{IsExact};
-ghost use Rattle.run_styles.specs.Runs.{runs, spare, inserted, deleted, filled, inserted_value, run_count, IsSpareFor, IsRunStart, IsRunEnd, IsChangedRange};
+ghost use Rattle.run_styles.specs.Runs.{runs, spare, inserted, deleted, filled, inserted_value, run_count, IsSpareFor, IsSameMemory, IsRunStart, IsRunEnd, IsChangedRange};
 
 use crate::edits::{delete_places, insert_default};
-use crate::table::{changed_range, end_of, overwrite, run_at, run_near, run_of};
+use crate::table::{changed_range, end_of, overwrite, run_near, run_of};
 use partitioning::{Partitioning, Place};
 use split_vector::SplitVector;
 use std::alloc::{AllocError, Allocator, Global};
@@ -77,22 +77,6 @@ impl<P: Place, V: Copy + Eq, A: Allocator> RunStyles<P, V, A> {
         self.values.get(run_of(&self.starts, place))
     }
 
-    /// Returns where the run of one value begins that holds a place.
-    pub fn start_run(&self, place: usize) -> usize
-        requires { place < length self.now.values }
-        ensures { IsRunStart self.now.values place result }
-    {
-        self.starts.start_of(run_of(&self.starts, place))
-    }
-
-    /// Returns where the run of one value ends that holds a place: the first place behind it.
-    pub fn end_run(&self, place: usize) -> usize
-        requires { place < length self.now.values }
-        ensures { IsRunEnd self.now.values place result }
-    {
-        end_of(&self.starts, run_of(&self.starts, place))
-    }
-
     /// Returns where the run of one value begins that holds a place, and where it ends: the first place behind it. The run is
     /// looked up once for both.
     pub fn run(&self, place: usize) -> (usize, usize)
@@ -141,13 +125,14 @@ impl<P: Place, V: Copy + Eq, A: Allocator> RunStyles<P, V, A> {
     }
 
     /// Sets `count` places from `place` on to a value. Returns the smallest range that holds all places that changed, as
-    /// its first place and its length, or `None` where none did. It takes at most two runs of room.
+    /// its first place and its length, or `None` where none did. It takes at most two runs of room, and no memory.
     pub fn fill(&mut self, place: usize, count: usize, value: V) -> Option<(usize, usize)>
         requires within { place + count ≤ length self.old.values }
         requires room { 2 ≤ self.old.room }
         ensures values { self.new.values ≡ filled self.old.values place count value }
         ensures default { self.new.default ≡ self.old.default }
         ensures room { self.old.room ≤ self.new.room + 2 }
+        ensures memory { IsSameMemory (run_count V.eq self.old.values) self.old.spare (run_count V.eq self.new.values) self.new.spare }
         ensures none { IfNone result (self.new.values ≡ self.old.values) }
         ensures changed { IfSome result (IsChangedRange self.old.values self.new.values) }
     {
@@ -184,7 +169,7 @@ impl<P: Place, V: Copy + Eq, A: Allocator> RunStyles<P, V, A> {
     }
 
     /// Puts `count` places in before `place`. They get the default at both ends of the list and where the value there is
-    /// the default, and else the value before. It takes at most one run of room.
+    /// the default, and else the value before. It takes at most one run of room, and no memory.
     pub fn insert_space(&mut self, place: usize, count: usize)
         requires within { place ≤ length self.old.values }
         requires fits { length self.old.values + count ≤ P.GREATEST }
@@ -192,6 +177,7 @@ impl<P: Place, V: Copy + Eq, A: Allocator> RunStyles<P, V, A> {
         ensures values { self.new.values ≡ inserted self.old.values place count (inserted_value V.eq self.old.default self.old.values place) }
         ensures default { self.new.default ≡ self.old.default }
         ensures room { self.old.room ≤ self.new.room + 1 }
+        ensures memory { IsSameMemory (run_count V.eq self.old.values) self.old.spare (run_count V.eq self.new.values) self.new.spare }
     {
         if count == 0 {
             return;
@@ -206,29 +192,13 @@ impl<P: Place, V: Copy + Eq, A: Allocator> RunStyles<P, V, A> {
         self.room -= 1;
     }
 
-    /// Puts `count` places with a value in before `place`. It takes at most two runs of room.
-    pub fn insert_value(&mut self, place: usize, count: usize, value: V)
-        requires within { place ≤ length self.old.values }
-        requires fits { length self.old.values + count ≤ P.GREATEST }
-        requires room { 2 ≤ self.old.room }
-        ensures values { self.new.values ≡ inserted self.old.values place count value }
-        ensures default { self.new.default ≡ self.old.default }
-        ensures room { self.old.room ≤ self.new.room + 2 }
-    {
-        if count == 0 {
-            return;
-        }
-        let run = run_at(&self.starts, place);
-        self.starts.insert_text(run, count);
-        let _ = self.fill(place, count, value);
-    }
-
-    /// Takes `count` places away, from `place` on. It takes no room.
+    /// Takes `count` places away, from `place` on. It takes no room, and no memory.
     pub fn delete_range(&mut self, place: usize, count: usize)
         requires { place + count ≤ length self.old.values }
         ensures values { self.new.values ≡ deleted self.old.values place count }
         ensures default { self.new.default ≡ self.old.default }
         ensures room { self.old.room ≤ self.new.room }
+        ensures memory { IsSameMemory (run_count V.eq self.old.values) self.old.spare (run_count V.eq self.new.values) self.new.spare }
     {
         if count == 0 {
             return;

@@ -1,5 +1,6 @@
 //! The steps that the calls of `RunStyles` consist of, over its two fields: the starts of the runs, and their values.
-//! Between the steps two neighbouring runs may have one value.
+//! Between the steps two neighbouring runs may have one value. No step takes memory: the cells of a block, those in use and
+//! the others, stay as many (`start_cells`, `value_cells`).
 ghost use Rattle.std.specs.Prelude.{ℕ, ◌≡◌, ◌≢◌, ◌⊎◌, ◌≤◌, ◌<◌, ◌+◌, ◌-◌, ◌^◌, [], ◌∷◌, ◌++◌, Some, length, take, drop, map, slice_get, slice_index, slice_index_or, insert, remove, IfNone, IfSome};
 ghost use Rattle.run_styles.specs.Expansion.{expansion, IsTable, IsExact, NeighboursDiffer};
 ghost use Rattle.run_styles.specs.Runs.{filled, deleted, inserted};
@@ -55,20 +56,6 @@ pub(crate) fn run_near<P: Place, A: Allocator>(
     run_of(starts, place)
 }
 
-/// Returns a run that a place lies in or at the end of.
-pub(crate) fn run_at<P: Place, A: Allocator>(starts: &Partitioning<P, A>, place: usize) -> usize
-    requires { place ≤ starts.now.length }
-    ensures within { result < length starts.now.starts }
-    ensures from { slice_index starts.now.starts result ≤ place }
-    ensures to { place ≤ slice_index_or starts.now.starts (result + 1) starts.now.length }
-{
-    if place == starts.length() {
-        starts.count() - 1
-    } else {
-        run_of(starts, place)
-    }
-}
-
 /// Joins the runs from `from` up to `to` with the one before them.
 pub(crate) fn join_runs<P: Place, V: Copy, A: Allocator>(
     starts: &mut Partitioning<P, A>,
@@ -83,6 +70,8 @@ pub(crate) fn join_runs<P: Place, V: Copy, A: Allocator>(
     ensures length { starts.new.length ≡ starts.old.length }
     ensures room { starts.old.room ≤ starts.new.room }
     ensures spare { values.old.spare ≤ values.new.spare }
+    ensures start_cells { length starts.new.starts + starts.new.room ≡ length starts.old.starts + starts.old.room }
+    ensures value_cells { length values.new.items + values.new.spare ≡ length values.old.items + values.old.spare }
 {
     for _ in from..to {
         starts.remove(from);
@@ -107,6 +96,8 @@ pub(crate) fn split_run<P: Place, V: Copy, A: Allocator>(
     ensures length { starts.new.length ≡ starts.old.length }
     ensures room { starts.new.room + 1 ≡ starts.old.room }
     ensures spare { values.new.spare + 1 ≡ values.old.spare }
+    ensures start_cells { length starts.new.starts + starts.new.room ≡ length starts.old.starts + starts.old.room }
+    ensures value_cells { length values.new.items + values.new.spare ≡ length values.old.items + values.old.spare }
 {
     let _count = starts.count();
     let value = values.get(index);
@@ -133,6 +124,8 @@ pub(crate) fn end_at<P: Place, V: Copy, A: Allocator>(
     ensures length { starts.new.length ≡ starts.old.length }
     ensures room { starts.old.room ≤ starts.new.room + 1 }
     ensures spare { values.old.spare ≤ values.new.spare + 1 }
+    ensures start_cells { length starts.new.starts + starts.new.room ≡ length starts.old.starts + starts.old.room }
+    ensures value_cells { length values.new.items + values.new.spare ≡ length values.old.items + values.old.spare }
 {
     if place < end_of(starts, index) {
         split_run(starts, values, index, place);
@@ -160,6 +153,8 @@ pub(crate) fn start_at<P: Place, V: Copy, A: Allocator>(
     ensures length { starts.new.length ≡ starts.old.length }
     ensures room { starts.old.room ≤ starts.new.room + 1 }
     ensures spare { values.old.spare ≤ values.new.spare + 1 }
+    ensures start_cells { length starts.new.starts + starts.new.room ≡ length starts.old.starts + starts.old.room }
+    ensures value_cells { length values.new.items + values.new.spare ≡ length values.old.items + values.old.spare }
 {
     if starts.start_of(index) == place {
         return index;
@@ -227,6 +222,8 @@ pub(crate) fn replace_runs<P: Place, V: Copy + Eq, A: Allocator>(
     ensures length { starts.new.length ≡ starts.old.length }
     ensures room { starts.old.room ≤ starts.new.room }
     ensures spare { values.old.spare ≤ values.new.spare }
+    ensures start_cells { length starts.new.starts + starts.new.room ≡ length starts.old.starts + starts.old.room }
+    ensures value_cells { length values.new.items + values.new.spare ≡ length values.old.items + values.old.spare }
 {
     let from = widened_start(values, first, value);
     let to = widened_end(values, end, value);
@@ -255,6 +252,8 @@ pub(crate) fn overwrite<P: Place, V: Copy + Eq, A: Allocator>(
     ensures length { starts.new.length ≡ starts.old.length }
     ensures room { starts.old.room ≤ starts.new.room + 2 }
     ensures spare { values.old.spare ≤ values.new.spare + 2 }
+    ensures start_cells { length starts.new.starts + starts.new.room ≡ length starts.old.starts + starts.old.room }
+    ensures value_cells { length values.new.items + values.new.spare ≡ length values.old.items + values.old.spare }
 {
     let last = run_near(starts, high - 1, likely_last);
     end_at(starts, values, last, high);
@@ -357,6 +356,8 @@ pub(crate) fn join_at<P: Place, V: Copy + Eq, A: Allocator>(
     ensures length { starts.new.length ≡ starts.old.length }
     ensures room { starts.old.room ≤ starts.new.room }
     ensures spare { values.old.spare ≤ values.new.spare }
+    ensures start_cells { length starts.new.starts + starts.new.room ≡ length starts.old.starts + starts.old.room }
+    ensures value_cells { length values.new.items + values.new.spare ≡ length values.old.items + values.old.spare }
 {
     let count = starts.count();
     if 0 < index && index < count && values.get(index - 1) == values.get(index) {
@@ -379,6 +380,8 @@ pub(crate) fn drop_run<P: Place, V: Copy, A: Allocator>(
     ensures length { starts.new.length + count ≡ starts.old.length }
     ensures room { starts.old.room ≤ starts.new.room }
     ensures spare { values.old.spare ≤ values.new.spare }
+    ensures start_cells { length starts.new.starts + starts.new.room ≡ length starts.old.starts + starts.old.room }
+    ensures value_cells { length values.new.items + values.new.spare ≡ length values.old.items + values.old.spare }
 {
     // The run before it, or the first, takes its places in, and then loses as many.
     let joined = index.max(1);
@@ -404,6 +407,8 @@ pub(crate) fn take_from<P: Place, V: Copy, A: Allocator>(
     ensures length { starts.new.length + count ≡ starts.old.length }
     ensures room { starts.old.room ≤ starts.new.room }
     ensures spare { values.old.spare ≤ values.new.spare }
+    ensures start_cells { length starts.new.starts + starts.new.room ≡ length starts.old.starts + starts.old.room }
+    ensures value_cells { length values.new.items + values.new.spare ≡ length values.old.items + values.old.spare }
 {
     let whole = end_of(starts, index) - starts.start_of(index);
     if count < whole {
@@ -433,6 +438,8 @@ pub(crate) fn delete_runs<P: Place, V: Copy, A: Allocator>(
     ensures behind { NeighboursDiffer (drop index values.new.items) }
     ensures room { starts.old.room ≤ starts.new.room }
     ensures spare { values.old.spare ≤ values.new.spare }
+    ensures start_cells { length starts.new.starts + starts.new.room ≡ length starts.old.starts + starts.old.room }
+    ensures value_cells { length values.new.items + values.new.spare ≡ length values.old.items + values.old.spare }
 {
     let mut left = count;
     while left > 0 {
@@ -459,6 +466,8 @@ pub(crate) fn insert_first<P: Place, V: Copy, A: Allocator>(
     ensures values { values.new.items ≡ value ∷ values.old.items }
     ensures room { starts.old.room ≤ starts.new.room + 1 }
     ensures spare { values.old.spare ≤ values.new.spare + 1 }
+    ensures start_cells { length starts.new.starts + starts.new.room ≡ length starts.old.starts + starts.old.room }
+    ensures value_cells { length values.new.items + values.new.spare ≡ length values.old.items + values.old.spare }
 {
     starts.insert_text(0, count);
     starts.insert_reserved(1, count);
@@ -481,6 +490,8 @@ pub(crate) fn insert_last<P: Place, V: Copy, A: Allocator>(
     ensures values { values.new.items ≡ values.old.items ++ value ∷ [] }
     ensures room { starts.old.room ≤ starts.new.room + 1 }
     ensures spare { values.old.spare ≤ values.new.spare + 1 }
+    ensures start_cells { length starts.new.starts + starts.new.room ≡ length starts.old.starts + starts.old.room }
+    ensures value_cells { length values.new.items + values.new.spare ≡ length values.old.items + values.old.spare }
 {
     let place = starts.length();
     let index = starts.count();

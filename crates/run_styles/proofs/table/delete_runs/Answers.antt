@@ -1,4 +1,4 @@
-use Rattle.std.proofs.Common.{◌≡◌, ◌∙◌, ◌+◌, ◌-◌, sym, ap, arith, get_or}
+use Rattle.std.proofs.Common.{◌≡◌, ◌∙◌, ◌+◌, ◌-◌, refl, sym, ap, arith, get_or}
 use Rattle.std.proofs.lemmas.List.{get_or_default}
 use Rattle.run_styles.specs.Expansion.{expansion}
 use Rattle.run_styles.specs.Runs.{deleted}
@@ -20,6 +20,8 @@ loop-left-init g c =
       length = omega arith;
       room = omega arith;
       spare = omega arith;
+      start_cells = refl;
+      value_cells = refl;
     }
 
 pub overflow_sub-whole : goal.overflow_sub-whole
@@ -59,4 +61,6 @@ loop-left-preserved g c =
       length = omega (arith, c.take_from.ensures.length, c.loop-left.invariant.length, taken);
       room = omega (arith, c.take_from.ensures.room, c.loop-left.invariant.room);
       spare = omega (arith, c.take_from.ensures.spare, c.loop-left.invariant.spare);
+      start_cells = c.take_from.ensures.start_cells ∙ c.loop-left.invariant.start_cells;
+      value_cells = c.take_from.ensures.value_cells ∙ c.loop-left.invariant.value_cells;
     }

@@ -1,6 +1,6 @@
-use Rattle.std.proofs.Common.{◌∙◌, ap, arith}
+use Rattle.std.proofs.Common.{◌∙◌, ap, arith, length}
 use Rattle.std.specs.Prelude.{remove}
-use Rattle.run_styles.proofs.ByIndex.{remove-seam}
+use Rattle.run_styles.proofs.ByIndex.{remove-seam, length-seam}
 use Rattle.run_styles.proofs.table.join_runs.Goals as goal
 
 pub loop-preserved : goal.loop-preserved
@@ -9,3 +9,9 @@ loop-preserved g c = record {
   length = c.remove.ensures.length ∙ c.loop.invariant.length;
   room = omega arith;
 }
+
+pub returns-clause-start_cells : goal.returns-clause-start_cells
+returns-clause-start_cells g c =
+    let size = ap length c.loop.invariant.starts in
+    let all = length-seam c.args.starts.now.starts c.args.from c.loop.counter (omega arith) (omega arith) in
+    omega (arith, size, all, c.loop.invariant.room)

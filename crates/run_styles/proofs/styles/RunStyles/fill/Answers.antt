@@ -2,6 +2,7 @@ use Rattle.std.proofs.Common.{arith, sym}
 use Rattle.run_styles.specs.Expansion.{expansion}
 use Rattle.run_styles.proofs.ByIndex.{length-table}
 use Rattle.run_styles.proofs.Filling.{filled-none, changed_is}
+use Rattle.run_styles.proofs.Reading.{count_runs}
 use Rattle.run_styles.proofs.styles.RunStyles.fill.Goals as goal
 
 pub returns-then-count-eq0-clause-values : goal.returns-then-count-eq0-clause-values
@@ -34,3 +35,13 @@ pub returns-clause-changed : goal.returns-clause-changed
 returns-clause-changed g c =
     rw (← c.self.view_is, c.overwrite.ensures.list)
     (changed_is (expansion c.self.inside.starts.starts c.self.inside.values.items c.self.inside.starts.length) c.args.place c.args.count c.in-Some.low c.in-Some.high c.args.value c.in-Some.ensures.some)
+
+pub returns-clause-memory : goal.returns-clause-memory
+returns-clause-memory g c =
+    let ensured = c.overwrite.ensures in
+    let was = count_runs g.met.V.Eq.laws c.self.invariant.exact c.self.inside.starts.starts c.self.inside.values.items c.self.inside.starts.length c.self.invariant.table c.self.invariant.differ in
+    let now = count_runs g.met.V.Eq.laws c.self.invariant.exact c.overwrite.new.starts.starts c.overwrite.new.values.items c.overwrite.new.starts.length ensured.table ensured.differ in
+    rw (← c.self.view_is) record {
+      starts = omega (arith, was, now, ensured.start_cells);
+      values = omega (arith, was, now, c.self.invariant.table.paired, ensured.table.paired, ensured.value_cells);
+    }
