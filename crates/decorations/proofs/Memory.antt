@@ -1,10 +1,12 @@
 -- How much memory there is for runs.
-use Rattle.std.proofs.Common.{◌≡◌, ◌≢◌, ℕ, ◌<◌, ◌≤◌, List, [], ◌∷◌, length, Option, Some, None, refl, sym, ap, ◌∙◌, subst, arith, nat_eq, inl, inr}
+use Rattle.std.proofs.Common.{◌≡◌, ◌≢◌, ℕ, zero, suc, ◌<◌, ◌≤◌, List, [], ◌∷◌, length, replicate, set, Option, Some, None, IfSome, MatchOption, refl, sym, ap, ◌∙◌, subst, arith, nat_eq, inl, inr}
 use Rattle.std.proofs.lemmas.Bool.{cases_lt}
-use Rattle.run_styles.specs.Runs.{Runs, Spare, spare, IsSpareFor, run_count}
-use Rattle.decorations.specs.Decorated.{values_of, spare_of, AreRunsFor}
-use Rattle.decorations.specs.Slots.{slot_at, slot_spare, held_by, shown, all_shown, AreSpare, InBoth, InEach, HaveRoomOf}
+use Rattle.std.proofs.lemmas.List.{get_or-set_same, get_or-set_other}
+use Rattle.run_styles.specs.Runs.{Runs, Spare, spare, IsSpareFor, IsSameMemory, run_count}
+use Rattle.decorations.specs.Decorated.{Decorated, decorated, values_of, spare_of, AreRunsFor, IsClear, HasRunsOf, HaveRunsOf, WereFilledFrom}
+use Rattle.decorations.specs.Slots.{slot_at, slot_spare, source_spare, held_by, shown, all_shown, IsKept, InBoth, InEach, HaveRoomOf, TookIn, GaveAway, WasFilled}
 use Rattle.decorations.proofs.Numbered.{numbered_at}
+use Rattle.decorations.proofs.Values.{zeros_clear}
 
 -- memory that stays is no more than may be asked for
 pub spare_stays : (runs count : ℕ) (s : Spare) → IsSpareFor runs count s s
@@ -14,9 +16,6 @@ spare_stays runs count s = record { starts = omega arith; values = omega arith }
 pub one_run : (values : List ℕ) → length values ≡ 0 → run_count nat_eq values ≡ 1
 one_run [] e = refl
 one_run (x ∷ xs) e = absurd (omega (arith, e))
-
-pub grown_spare : (count : ℕ) (runs : Runs ℕ) (new : Spare) → AreSpare 0 runs → IsSpareFor (run_count nat_eq runs.values) count runs.spare new → IsSpareFor 1 count runs.spare new
-grown_spare count runs new are h = let Q : ℕ → Type 0 = λ n. IsSpareFor n count runs.spare new in subst Q (one_run runs.values are.empty) h
 
 -- the memory of one indicator
 pub held_at : (slots : List (Option (Runs ℕ))) (capacity : ℕ) (unused : Option (Runs ℕ)) (k : ℕ) → k < 32 → spare_of (held_by slots capacity unused) k ≡ slot_spare (slot_at slots k)
@@ -56,3 +55,89 @@ pub same_elsewhere : (capacity capacity' indicator : ℕ) (old new : List (Optio
     (k : ℕ) → k < 32 → k ≢ indicator → spare_of (held_by new capacity' unused') k ≡ spare_of (held_by old capacity unused) k
 same_elsewhere capacity capacity' indicator old new unused unused' others k h apart =
     held_at new capacity' unused' k h ∙ ap slot_spare (others k apart) ∙ sym (held_at old capacity unused k h)
+
+-- No runs took memory.
+
+pub zeros_run : (n : ℕ) → run_count nat_eq (replicate n 0) ≡ 1
+zeros_run zero = refl
+zeros_run (suc zero) = refl
+zeros_run (suc (suc n)) = zeros_run (suc n)
+
+-- what becomes of the memory that the runs of a slot come with
+pub record KeepsMemory (size size' : ℕ) (was : Spare) (old new : Option (Runs ℕ)) : Type 0 where
+  pub used : (IsClear (shown size' new) → ⊥) → IsSameMemory (run_count nat_eq (shown size old)) was (run_count nat_eq (shown size' new)) (slot_spare new)
+  pub clear : IsClear (shown size' new) → slot_spare new ≡ spare 0 0
+
+gone_memory : (size size' : ℕ) (was : Spare) (old : Option (Runs ℕ)) → KeepsMemory size size' was old None
+gone_memory size size' was old = record { used = λ unclear. absurd (unclear (zeros_clear size')); clear = λ _. refl }
+
+pub took_memory : (size size' room place count : ℕ) (old new : Option (Runs ℕ)) → IsKept size' room new → InBoth (TookIn place count) old new → KeepsMemory size size' (slot_spare old) old new
+took_memory size size' room place count None None kept took = gone_memory size size' (spare 0 0) None
+took_memory size size' room place count None (Some new) kept took = cc
+took_memory size size' room place count (Some old) None kept took = absurd took
+took_memory size size' room place count (Some old) (Some new) kept took = record { used = λ _. took.memory; clear = λ clear. absurd (kept.used clear) }
+
+pub gave_memory : (size size' place count : ℕ) (old new : Option (Runs ℕ)) → GaveAway place count old new → KeepsMemory size size' (slot_spare old) old new
+gave_memory size size' place count None None gave = gone_memory size size' (spare 0 0) None
+gave_memory size size' place count None (Some new) gave = cc
+gave_memory size size' place count (Some old) None gave = gone_memory size size' old.spare (Some old)
+gave_memory size size' place count (Some old) (Some new) gave = record { used = λ _. gave.memory; clear = λ clear. absurd (gave.used clear) }
+
+pub filled_memory : (size : ℕ) (was : Spare) (values : List ℕ) (old new : Option (Runs ℕ)) → WasFilled values new →
+    IfSome new (λ (runs : Runs ℕ). IsSameMemory (run_count nat_eq (shown size old)) was (run_count nat_eq runs.values) runs.spare) → KeepsMemory size size was old new
+filled_memory size was values old None filled memory = gone_memory size size was old
+filled_memory size was values old (Some new) filled memory = record {
+  used = λ _. memory;
+  clear = λ clear. absurd (filled.2 (let Q : List ℕ → Type 0 = IsClear in subst Q filled.0 clear));
+}
+
+-- the same of an indicator
+has_runs : (k size size' room room' capacity capacity' : ℕ) (ready ready' : Option ℕ) (old new : List (Option (Runs ℕ))) (unused unused' : Option (Runs ℕ)) (was : Spare) → k < 32 → KeepsMemory size size' was (slot_at old k) (slot_at new k) →
+    HasRunsOf k was (decorated size (all_shown size old) room ready (held_by old capacity unused)) (decorated size' (all_shown size' new) room' ready' (held_by new capacity' unused'))
+has_runs k size size' room room' capacity capacity' ready ready' old new unused unused' was h kept =
+    let before : values_of (all_shown size old) k ≡ shown size (slot_at old k) = numbered_at (λ j. shown size (slot_at old j)) k _ h in
+    let after : values_of (all_shown size' new) k ≡ shown size' (slot_at new k) = numbered_at (λ j. shown size' (slot_at new j)) k _ h in
+    record {
+      used = rw (before, after, held_at new capacity' unused' k h) kept.used;
+      clear = rw (after, held_at new capacity' unused' k h) kept.clear;
+    }
+
+-- the same of all
+pub have_runs : (size size' room room' capacity : ℕ) (ready ready' : Option ℕ) (old new : List (Option (Runs ℕ))) (unused : Option (Runs ℕ)) → ((k : ℕ) → KeepsMemory size size' (slot_spare (slot_at old k)) (slot_at old k) (slot_at new k)) →
+    HaveRunsOf (decorated size (all_shown size old) room ready (held_by old capacity unused)) (decorated size' (all_shown size' new) room' ready' (held_by new capacity unused))
+have_runs size size' room room' capacity ready ready' old new unused kept = record {
+  each = λ k h. rw (held_at old capacity unused k h) (has_runs k size size' room room' capacity capacity ready ready' old new unused unused (slot_spare (slot_at old k)) h (kept k));
+  unused = refl;
+}
+
+-- where the runs of a fill come from
+own_source : (size : ℕ) (slot unused unused' : Option (Runs ℕ)) → (IsClear (shown size slot) → ⊥) → MatchOption slot (unused' ≡ None) (λ _. unused' ≡ unused) → (source_spare slot unused ≡ slot_spare slot) × (slot_spare unused' ≡ slot_spare unused)
+own_source size None unused unused' unclear taken = absurd (unclear (zeros_clear size))
+own_source size (Some runs) unused unused' unclear taken = (refl, ap slot_spare taken)
+
+first_source : (size room : ℕ) (slot unused unused' : Option (Runs ℕ)) → IsKept size room slot → IsClear (shown size slot) → MatchOption slot (unused' ≡ None) (λ _. unused' ≡ unused) → (source_spare slot unused ≡ slot_spare unused) × (slot_spare unused' ≡ spare 0 0)
+first_source size room None unused unused' kept clear taken = (refl, ap slot_spare taken)
+first_source size room (Some runs) unused unused' kept clear taken = absurd (kept.used clear)
+
+pub filled_runs : (size room more indicator capacity : ℕ) (ready : Option ℕ) (slots : List (Option (Runs ℕ))) (slot unused unused' : Option (Runs ℕ)) → indicator < 32 → indicator < length slots → IsKept size more (slot_at slots indicator) →
+    KeepsMemory size size (source_spare (slot_at slots indicator) unused) (slot_at slots indicator) slot → MatchOption (slot_at slots indicator) (unused' ≡ None) (λ _. unused' ≡ unused) →
+    WereFilledFrom indicator (decorated size (all_shown size slots) room ready (held_by slots capacity unused)) (decorated size (all_shown size (set slots indicator slot)) room None (held_by (set slots indicator slot) capacity unused'))
+filled_runs size room more indicator capacity ready slots slot unused unused' h inside kept memory taken =
+    let old : Decorated = decorated size (all_shown size slots) room ready (held_by slots capacity unused) in
+    let new : Decorated = decorated size (all_shown size (set slots indicator slot)) room None (held_by (set slots indicator slot) capacity unused') in
+    let source : Spare = source_spare (slot_at slots indicator) unused in
+    let before : values_of (all_shown size slots) indicator ≡ shown size (slot_at slots indicator) = numbered_at (λ j. shown size (slot_at slots j)) indicator _ h in
+    let here : slot_at (set slots indicator slot) indicator ≡ slot = get_or-set_same slots indicator slot None inside in
+    let P : Option (Runs ℕ) → Type 0 = λ s. KeepsMemory size size source (slot_at slots indicator) s in
+    let has : HasRunsOf indicator source old new = has_runs indicator size size room room capacity capacity ready None slots (set slots indicator slot) unused unused' source h (subst P (sym here) memory) in
+    let Q : List ℕ → Type 0 = IsClear in
+    let R : Spare → Type 0 = λ s. HasRunsOf indicator s old new in
+    record {
+      others = same_elsewhere capacity capacity indicator slots (set slots indicator slot) unused unused' (λ k apart. get_or-set_other slots indicator k slot None apart);
+      again = λ unclear.
+          let own = own_source size (slot_at slots indicator) unused unused' (λ clear. unclear (subst Q (sym before) clear)) taken in
+          (subst R (own.0 ∙ sym (held_at slots capacity unused indicator h)) has, own.1);
+      first = λ clear.
+          let first = first_source size more (slot_at slots indicator) unused unused' kept (subst Q before clear) taken in
+          (subst R first.0 has, first.1);
+    }

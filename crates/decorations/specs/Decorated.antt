@@ -1,9 +1,9 @@
 -- What a contract sees of `Decorations`.
-use Rattle.std.specs.Prelude.{ℕ, ◌≡◌, ◌*◌, ◌<◌, ◌≤◌, ◌^◌, ◌==◌, max, nat_eq, not, List, [], map, filter, replicate, sum, pos, slice_index_or, All, Option}
+use Rattle.std.specs.Prelude.{ℕ, ◌≡◌, ◌≢◌, ◌*◌, ◌<◌, ◌≤◌, ◌^◌, ◌==◌, max, nat_eq, not, List, [], map, filter, replicate, sum, pos, slice_index_or, All, Option}
 use Rattle.std.specs.List.{range_with_len}
 use Rattle.ed_model.specs.TextPlans.{at_place}
 use Rattle.ed_model.specs.StylePlans.{run_start, run_past}
-use Rattle.run_styles.specs.Runs.{Spare, spare, IsSpareFor, run_count}
+use Rattle.run_styles.specs.Runs.{Spare, spare, IsSpareFor, IsSameMemory, run_count}
 
 -- The memory that is there. For how many more runs of each indicator, none where it has no runs, and for how many of the next one that
 -- gets runs; how many indicators have a slot, and how many may have one.
@@ -58,6 +58,26 @@ pub record HaveSlotsOf (old new : Held) : Type 0 where
 -- 0 everywhere
 abbrev pub IsClear : List ℕ → Type 0
 IsClear values = All (λ v. v ≡ 0) values
+
+-- how many runs of one value an indicator has
+abbrev pub runs_of : Decorated → ℕ → ℕ
+runs_of d indicator = run_count nat_eq (values_of d.values indicator)
+
+-- The memory of an indicator's runs is what there was, and none where it is 0 everywhere now.
+pub record HasRunsOf (indicator : ℕ) (was : Spare) (old new : Decorated) : Type 0 where
+  pub used : (IsClear (values_of new.values indicator) → ⊥) → IsSameMemory (runs_of old indicator) was (runs_of new indicator) (spare_of new.held indicator)
+  pub clear : IsClear (values_of new.values indicator) → spare_of new.held indicator ≡ spare 0 0
+
+-- no runs of any indicator took memory
+pub record HaveRunsOf (old new : Decorated) : Type 0 where
+  pub each : (k : ℕ) → k < 32 → HasRunsOf k (spare_of old.held k) old new
+  pub unused : new.held.unused ≡ old.held.unused
+
+-- One indicator was filled, and no runs took memory: where it was 0 everywhere, it took those that none had.
+pub record WereFilledFrom (indicator : ℕ) (old new : Decorated) : Type 0 where
+  pub others : (k : ℕ) → k < 32 → k ≢ indicator → spare_of new.held k ≡ spare_of old.held k
+  pub again : (IsClear (values_of old.values indicator) → ⊥) → HasRunsOf indicator (spare_of old.held indicator) old new × (new.held.unused ≡ old.held.unused)
+  pub first : IsClear (values_of old.values indicator) → HasRunsOf indicator old.held.unused old new × (new.held.unused ≡ spare 0 0)
 
 -- where the longest range of one value begins that holds the place, and where it is past
 abbrev pub run_about : List ℕ → ℕ → ℕ × ℕ

@@ -1,6 +1,6 @@
 -- How the lists are kept: a slot for each indicator, up to the last that ever had a value, and in it the runs while there are any.
 use Rattle.std.specs.Prelude.{ℕ, ◌≡◌, ◌+◌, ◌<◌, ◌≤◌, ◌==◌, if◌then◌else◌, nat_eq, List, length, map, replicate, slice_index_or, Option, Some, None, IfSome, IfNone, MatchOption}
-use Rattle.run_styles.specs.Runs.{Runs, Spare, spare, IsSpareFor, run_count, inserted, deleted, inserted_value}
+use Rattle.run_styles.specs.Runs.{Runs, Spare, spare, IsSpareFor, IsSameMemory, run_count, inserted, deleted, inserted_value}
 use Rattle.decorations.specs.Decorated.{Held, indicators, IsClear}
 
 abbrev pub slot_at : List (Option (Runs ℕ)) → ℕ → Option (Runs ℕ)
@@ -90,12 +90,14 @@ pub record TookIn (place count : ℕ) (old new : Runs ℕ) : Type 0 where
   pub values : new.values ≡ inserted old.values place count (inserted_value nat_eq old.default old.values place)
   pub default : new.default ≡ old.default
   pub room : old.room ≤ new.room + 1
+  pub memory : IsSameMemory (run_count nat_eq old.values) old.spare (run_count nat_eq new.values) new.spare
 
 -- what places were taken from, if it is still used
 pub record IsLeft (place count : ℕ) (old new : Runs ℕ) : Type 0 where
   pub values : new.values ≡ deleted old.values place count
   pub default : new.default ≡ old.default
   pub room : old.room ≤ new.room
+  pub memory : IsSameMemory (run_count nat_eq old.values) old.spare (run_count nat_eq new.values) new.spare
   pub used : IsClear new.values → ⊥
 
 -- places were taken away; runs that are all 0 then are gone
@@ -106,3 +108,8 @@ GaveAway place count (Some old) new = MatchOption new (IsClear (deleted old.valu
 -- a slot of an indicator with the values after a fill
 abbrev pub WasFilled : List ℕ → Option (Runs ℕ) → Type 0
 WasFilled values slot = MatchOption slot (IsClear values) (λ (runs : Runs ℕ). (runs.values ≡ values) × (runs.default ≡ 0) × (IsClear values → ⊥))
+
+-- the memory that the runs of a filled slot come with: its own, or that of the spare runs where it has none
+abbrev pub source_spare : Option (Runs ℕ) → Option (Runs ℕ) → Spare
+source_spare None spare = slot_spare spare
+source_spare (Some runs) spare = runs.spare

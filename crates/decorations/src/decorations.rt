@@ -4,7 +4,7 @@ ghost use Rattle.std.specs.List.{AllByRecursion};
 ghost use Rattle.ed_model.specs.Indicators.{indicators_after, filled, changed_range};
 ghost use Rattle.ed_model.specs.Steps.{Insert, Delete};
 ghost use Rattle.ed_model.specs.TextPlans.{at_place};
-ghost use Rattle.decorations.specs.Decorated.{decorated, nothing_held, values_of, spare_of, AreRunsFor, AreSlotsFor, HaveSlotsOf, IsClear, run_about, mask_of};
+ghost use Rattle.decorations.specs.Decorated.{decorated, nothing_held, values_of, spare_of, AreRunsFor, AreSlotsFor, HaveSlotsOf, HaveRunsOf, WereFilledFrom, IsClear, run_about, mask_of};
 
 use crate::slots::{
     Slot, delete_from_all, fill_slot, insert_into_all, reserve_all, reserve_one, runs_in,
@@ -205,6 +205,7 @@ impl<P: Place> Decorations<P> {
         requires room { self.old.ready ≡ Some indicator }
         ensures values { self.new ≡ record self.old { values = slice_set self.old.values indicator (filled start count value (values_of self.old.values indicator)); ready = None; held = self.new.held } }
         ensures slots { HaveSlotsOf self.old.held self.new.held }
+        ensures runs { WereFilledFrom indicator self.old self.new }
         ensures changed { result ≡ changed_range (values_of self.old.values indicator) (filled start count value (values_of self.old.values indicator)) }
     {
         let slot = &mut self.slots[indicator];
@@ -225,6 +226,7 @@ impl<P: Place> Decorations<P> {
         ensures room { self.new.room + 1 ≡ self.old.room }
         ensures ready { self.new.ready ≡ None }
         ensures slots { HaveSlotsOf self.old.held self.new.held }
+        ensures runs { HaveRunsOf self.old self.new }
     {
         insert_into_all(&mut self.slots, place, count);
         self.size += count;
@@ -241,6 +243,7 @@ impl<P: Place> Decorations<P> {
         ensures room { self.new.room ≡ self.old.room }
         ensures ready { self.new.ready ≡ None }
         ensures slots { HaveSlotsOf self.old.held self.new.held }
+        ensures runs { HaveRunsOf self.old self.new }
     {
         delete_from_all(&mut self.slots, place, count);
         self.size -= count;

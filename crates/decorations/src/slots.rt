@@ -1,10 +1,10 @@
 //! What a step does to the runs of all indicators in use. A slot without runs stands for an indicator that is 0
 //! everywhere.
-ghost use Rattle.std.specs.Prelude.{◌≡◌, ◌≤◌, ◌<◌, ◌+◌, ◌≢◌, ◌*◌, ℕ, length, max, Some, None, IfSome, IfNone, MatchOption, OnOk, vec_len, vec_capacity};
+ghost use Rattle.std.specs.Prelude.{◌≡◌, ◌≤◌, ◌<◌, ◌+◌, ◌≢◌, ◌*◌, ℕ, length, max, Some, None, IfSome, IfNone, MatchOption, OnOk, nat_eq, vec_len, vec_capacity};
 ghost use Rattle.ed_model.specs.Indicators.{filled, changed_range};
 ghost use Rattle.std.specs.Option.{is_some, option_copied};
-ghost use Rattle.run_styles.specs.Runs.{IsSpareFor};
-ghost use Rattle.decorations.specs.Slots.{slot_at, slot_spare, AreSpare, HasSpare, InBoth, InEach, HaveRoomOf, AreKept, CanTakeIn, TookIn, GaveAway, WasFilled, shown};
+ghost use Rattle.run_styles.specs.Runs.{IsSpareFor, IsSameMemory, run_count};
+ghost use Rattle.decorations.specs.Slots.{slot_at, slot_spare, AreSpare, HasSpare, InBoth, InEach, HaveRoomOf, AreKept, CanTakeIn, TookIn, GaveAway, WasFilled, shown, source_spare};
 
 use partitioning::Place;
 use run_styles::RunStyles;
@@ -189,6 +189,7 @@ fn taken<P: Place>(slot: &mut Slot<P>, spare: &mut Slot<P>, size: usize) -> RunS
     ensures room { (room : ℕ) → MatchOption slot.old (HasSpare (room + 3) spare.old) (λ runs. room + 2 ≤ runs.room) → room + 2 ≤ result.room }
     ensures slot { slot.new ≡ None }
     ensures spare { MatchOption slot.old (spare.new ≡ None) (λ _. spare.new ≡ spare.old) }
+    ensures memory { IsSameMemory (run_count nat_eq (shown size slot.old)) (source_spare slot.old spare.old) (run_count nat_eq result.values) result.spare }
 {
     if let Some(runs) = slot.take() {
         return runs;
@@ -264,6 +265,8 @@ pub(crate) fn fill_slot<P: Place>(
     ensures room { (room : ℕ) → MatchOption slot.old (HasSpare (room + 3) spare.old) (λ runs. room + 2 ≤ runs.room) → IfSome slot.new (λ runs. room ≤ runs.room) }
     ensures changed { result ≡ changed_range (shown size slot.old) (filled start count value (shown size slot.old)) }
     ensures unused { IfSome spare.old (AreSpare 0) → IfSome spare.new (AreSpare 0) }
+    ensures spare { MatchOption slot.old (spare.new ≡ None) (λ _. spare.new ≡ spare.old) }
+    ensures memory { IfSome slot.new (λ runs. IsSameMemory (run_count nat_eq (shown size slot.old)) (source_spare slot.old spare.old) (run_count nat_eq runs.values) runs.spare) }
 {
     let mut runs = taken(slot, spare, size);
     let changed = runs.fill(start, count, value);

@@ -2,8 +2,9 @@ use Rattle.std.proofs.Common.{◌≡◌, ◌+◌, ◌≤◌, ℕ, length, Option
 use Rattle.ed_model.specs.Indicators.{filled, changed_range}
 use Rattle.run_styles.specs.Runs.{Runs}
 use Rattle.decorations.specs.Decorated.{Decorated, decorated, values_of}
-use Rattle.decorations.specs.Slots.{slot_at, shown, all_shown, held_by, AreSlots, HasSpare}
+use Rattle.decorations.specs.Slots.{slot_at, shown, all_shown, held_by, AreSlots, HasSpare, source_spare}
 use Rattle.decorations.proofs.Kept.{filled_slots, filled_all, fill_runs, fill_room}
+use Rattle.decorations.proofs.Memory.{KeepsMemory, filled_memory, filled_runs}
 use Rattle.decorations.proofs.Values.{filled_length, shown_full}
 use Rattle.decorations.proofs.SlotLists.{slot_read}
 use Rattle.decorations.proofs.Shown.{values_are}
@@ -59,3 +60,21 @@ returns-clause-changed g c =
     let here : slot_at slots i ≡ slot = slot_read slots i slot are.can_fill.slot c.index_mut-slot.ensures.value in
     let values = values_are c.args.self.now d.size d.room d.ready slots i slot c.requires.indicator c.self.view_is (sym here) in
     c.fill_slot-changed.ensures.changed ∙ ap (λ vs. changed_range vs (filled c.args.start c.args.count c.args.value vs)) (sym values)
+
+pub returns-clause-runs : goal.returns-clause-runs
+returns-clause-runs g c =
+    let d = c.self.inside in
+    let i = c.args.indicator in
+    let slots = d.slots.items in
+    let slot = c.index_mut-slot.result.now in
+    let after = c.fill_slot-changed.new in
+    let ready : d.ready ≡ Some i = ap (λ (v : Decorated). v.ready) c.self.view_is ∙ c.requires.room in
+    let Q : Option ℕ → Type 0 = λ r. AreSlots g.P.Place.GREATEST d.size d.room r slots d.spare in
+    let are = subst Q ready c.self.invariant in
+    let here : slot_at slots i ≡ slot = slot_read slots i slot are.can_fill.slot c.index_mut-slot.ensures.value in
+    let R : Option (Runs ℕ) → Type 0 = λ s. KeepsMemory d.size d.size (source_spare s d.spare) s after.slot in
+    let memory = subst R (sym here) (filled_memory d.size (source_spare slot d.spare) (filled c.args.start c.args.count c.args.value (shown d.size slot)) slot after.slot c.fill_slot-changed.ensures.filled c.fill_slot-changed.ensures.memory) in
+    let S : Option (Runs ℕ) → Type 0 = λ s. MatchOption s (after.spare ≡ None) (λ _. after.spare ≡ d.spare) in
+    rw (← c.self.view_is)
+    (filled_runs d.size d.room 2 i (vec_capacity d.slots) d.ready slots after.slot d.spare after.spare c.requires.indicator are.can_fill.slot (fill_runs g.P.Place.GREATEST d.size d.room i slots d.spare are) memory
+    (subst S (sym here) c.fill_slot-changed.ensures.spare))
