@@ -192,7 +192,7 @@ impl<P: Place> Decorations<P> {
     }
 
     /// Sets an indicator to a value at `count` places from `start` on, for which room was reserved. Returns the smallest
-    /// range that holds all places that changed, as its first place and its length, or `None` where none did.
+    /// range that holds all places that changed, as its first place and its length, or `None` where none did. It takes no memory.
     pub fn fill(
         &mut self,
         indicator: usize,
@@ -215,7 +215,7 @@ impl<P: Place> Decorations<P> {
     }
 
     /// Puts `count` bytes in before a place. Of each indicator they get 0 at both ends of the text and where it is 0 at
-    /// the place, and else its value before the place. It takes the room of one insertion, and that of a fill.
+    /// the place, and else its value before the place. It takes the room of one insertion, and that of a fill, and no memory.
     #[inline]
     pub fn insert(&mut self, place: usize, count: usize)
         requires within { place ≤ self.old.length }
@@ -234,7 +234,7 @@ impl<P: Place> Decorations<P> {
         self.ready = None;
     }
 
-    /// Takes `count` bytes away, from a place on. It takes no room but that of a fill.
+    /// Takes `count` bytes away, from a place on. It takes no room but that of a fill, and no memory.
     #[inline]
     pub fn delete(&mut self, place: usize, count: usize)
         requires { place + count ≤ self.old.length }
