@@ -1,15 +1,14 @@
 -- Lines as they are listed.
-use Rattle.std.proofs.Common.{◌≡◌, ℕ, ℤ, pos, List, [], ◌∷◌, ◌++◌, length, take, refl, sym, ◌∙◌, ap, append_assoc, append-nil, codes, flat_map, map, Some, Ok, ◌≤◌, take_all}
+use Rattle.std.proofs.Common.{◌≡◌, ℕ, ℤ, pos, List, [], ◌∷◌, ◌++◌, length, take, refl, sym, ◌∙◌, ap, append_assoc, codes, map, Some, Ok, ◌≤◌, take_all}
 use Rattle.std.specs.List.{join_with_byte}
 use Rattle.ed_types.specs.declared.reply.Note.{Note}
 use Rattle.ed_types.specs.Heard.{with_text}
-use Rattle.ed_model.specs.Printed.{printed_note, printed_answer}
-use Rattle.std.proofs.lemmas.List.Concat.{flat_map-append}
+use Rattle.ed_model.specs.Printed.{printed_note}
 use Rattle.ed_types.specs.declared.message.Message.{Message}
 use Rattle.ed_types.specs.declared.script.Command.{Command}
 use Rattle.ed_types.specs.declared.script.Command.TheVariants.{SendMessage}
 use Rattle.ed_model.specs.Spelling.{space, spelled_int, spelled_text}
-use Rattle.ed_model.specs.Listing.{listed_command, ended_line, version_line, listing}
+use Rattle.ed_model.specs.Listing.{listed_command, ended_line, listing}
 use Rattle.ed_model.specs.ScriptLaws.{ListingsAreRead, IsScript}
 use Rattle.ed_model.specs.Reading.{reading}
 use Rattle.macro_script.specs.Notes.{numbers_of_note}
@@ -18,12 +17,6 @@ use Rattle.macro_script.specs.Appending.{line_of, number_fields}
 -- the listing of the first commands
 abbrev pub listed_so_far : List Command → List ℕ
 listed_so_far commands = listing 2 commands
-
-pub one_more_listed : (commands : List Command) (command : Command) → listing 2 (commands ++ command ∷ []) ≡ listing 2 commands ++ ended_line (listed_command command)
-one_more_listed commands command =
-    let line : Command → List ℕ = λ c. ended_line (listed_command c) in
-    ap (λ bs. ended_line (version_line 2) ++ bs) (flat_map-append line commands (command ∷ []) ∙ ap (λ bs. flat_map line commands ++ bs) (append-nil (line command))) ∙
-    sym (append_assoc (ended_line (version_line 2)) (flat_map line commands) (line command))
 
 -- fields with single spaces between, the last of them a text
 joined_fields : (word text : List ℕ) (numbers : List ℤ) → join_with_byte space (word ∷ (map spelled_int numbers ++ text ∷ [])) ≡ word ++ (number_fields numbers ++ (space ∷ text))
@@ -43,9 +36,6 @@ send_line view message = line_with_text (codes "send") message.text (pos view �
 
 pub note_line : (note : Note) (text : List ℕ) → line_of (codes "@") (numbers_of_note note) (Some text) ≡ printed_note (with_text note text)
 note_line note text = line_with_text (codes "@") text (numbers_of_note note)
-
-pub answer_line : (value : ℤ) (text : List ℕ) → line_of (codes "=") (value ∷ []) (Some text) ≡ printed_answer value text
-answer_line value text = line_with_text (codes "=") text (value ∷ [])
 
 -- a whole listing is read back
 pub whole_read_back : ListingsAreRead → (text : List ℕ) (items commands : List Command) (i : ℕ) → text ≡ listing 2 (take i items) → length items ≤ i → items ≡ commands → IsScript 2 commands → reading text ≡ Ok commands

@@ -7,10 +7,6 @@ use Rattle.macro_script.proofs.Plain.{ArePlainBefore, tail}
 use Rattle.std.specs.declared.alloc.AllocError.{AllocError}
 use Rattle.macro_script.specs.Appending.{Appends, AppendsPart, AppendsSome, number_fields}
 
--- nothing more was appended
-pub nothing : (old text : List ℕ) → AppendsPart old old text
-nothing old text = record { part = []; left = text; split = refl; appended = sym (append-nil old) }
-
 -- a first piece, and then another
 pub then_part : (old mid new first second : List ℕ) → mid ≡ old ++ first → AppendsPart mid new second → AppendsPart old new (first ++ second)
 then_part old mid new first second is more = record {

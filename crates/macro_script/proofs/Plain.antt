@@ -50,9 +50,6 @@ pub record IsReadSoFar (spelling : List ℕ) (at : ℕ) (bytes : List ℕ) : Typ
   pub within : at ≤ length spelling
   pub read : text_past 0 spelling ≡ with_bytes bytes (text_past 0 (drop at spelling))
 
-pub read_nothing : (spelling : List ℕ) → IsReadSoFar spelling 0 []
-read_nothing spelling = record { within = omega arith; read = sym (with_bytes-none (text_past 0 spelling)) }
-
 pub read_run : (spelling : List ℕ) (at n : ℕ) (bytes : List ℕ) → IsReadSoFar spelling at bytes → n ≤ length (drop at spelling) → ArePlainBefore (drop at spelling) n → ((k : ℕ) → get_or (drop at spelling) k 0 < 256) → IsReadSoFar spelling (at + n) (bytes ++ take n (drop at spelling))
 read_run spelling at n bytes so_far h plain all = record {
   within = omega (arith, length-drop at spelling, so_far.within);

@@ -1,5 +1,5 @@
 -- Texts cut into lines, and the commands of lines.
-use Rattle.std.proofs.Common.{◌≡◌, inl, inr, ℕ, ◌+◌, ◌<◌, ◌≤◌, List, [], ◌∷◌, ◌++◌, length, get_or, take, drop, refl, sym, ◌∙◌, ap, subst, arith, Result, Ok, Err, append_assoc, append-nil, length-drop}
+use Rattle.std.proofs.Common.{◌≡◌, inl, inr, ℕ, ◌+◌, ◌<◌, ◌≤◌, List, [], ◌∷◌, ◌++◌, length, get_or, take, drop, refl, sym, ◌∙◌, ap, subst, arith, Result, Ok, Err, append_assoc, length-drop}
 use Rattle.std.specs.Prelude.{◌==◌}
 use Rattle.std.specs.List.{slice_split, position_or_len}
 use Rattle.std.proofs.lemmas.Bool.{false_from_ne_true}
@@ -43,13 +43,6 @@ pub record IsReadTo (version : ℕ) (text : List ℕ) (number : ℕ) (rest : Lis
   pub read : read_from version 2 text ≡ after_commands done (read_from version number rest)
   pub room : number + length rest ≤ length text + 2
 
-after_none : (read : Result (List Command) ScriptFault) → read ≡ after_commands [] read
-after_none (Ok commands) = refl
-after_none (Err fault) = refl
-
-pub read_none : (version : ℕ) (text : List ℕ) → IsReadTo version text 2 text []
-read_none version text = record { read = after_none (read_from version 2 text); room = omega arith }
-
 more_commands : (done : List Command) (command : Command) (read : Result (List Command) ScriptFault) → after_commands done (read >>= (λ commands. Ok (command ∷ commands))) ≡ after_commands (done ++ command ∷ []) read
 more_commands done command (Ok commands) = ap Ok (sym (append_assoc done (command ∷ []) commands))
 more_commands done command (Err fault) = refl
@@ -70,10 +63,6 @@ pub read_fault : (version : ℕ) (text : List ℕ) (number : ℕ) (rest line aft
 read_fault version text number rest line after done fault so_far split here =
     let more : Command → Result (List Command) ScriptFault = λ c. read_from version (number + 1) after >>= (λ cs. Ok (c ∷ cs)) in
     so_far.read ∙ ap (after_commands done) (cut version number rest line after split.0 ∙ ap (λ r. r >>= more) here)
-
--- nothing is left, or a line without its end
-pub read_end : (version : ℕ) (text : List ℕ) (number : ℕ) (rest : List ℕ) (done : List Command) → IsReadTo version text number rest done → rest ≡ [] → read_from version 2 text ≡ Ok done
-read_end version text number rest done so_far is = so_far.read ∙ ap (λ bs. after_commands done (read_from version number bs)) is ∙ ap Ok (append-nil done)
 
 -- What a line that is read, or want of memory, makes of the whole.
 pub fault_found : (version : ℕ) (text : List ℕ) (number : ℕ) (rest line after : List ℕ) (done : List Command) (fault : ScriptFault) → IsReadTo version text number rest done → (slice_split (λ b. b == line_feed) rest ≡ line ∷ slice_split (λ b. b == line_feed) after) × (length after < length rest) → OrMemory (at_line number line (read_command version line)) (Err fault) → OrMemory (read_from version 2 text) (Err fault)

@@ -1,8 +1,7 @@
 -- Whole texts, read from their first line on.
-use Rattle.std.proofs.Common.{◌≡◌, ◌⊎◌, inl, inr, ℕ, ◌≤◌, List, [], ◌∷◌, length, sym, ◌∙◌, ap, Ok, Err, le-leb}
+use Rattle.std.proofs.Common.{◌≡◌, ◌⊎◌, inl, inr, ℕ, ◌≤◌, List, ◌∷◌, length, sym, ◌∙◌, ap, Ok, Err, le-leb}
 use Rattle.std.specs.Prelude.{◌==◌}
 use Rattle.std.specs.List.{slice_split}
-use Rattle.ed_types.specs.declared.script.Cause.TheVariants.{NoLineEnd}
 use Rattle.ed_types.specs.declared.script.Command.{Command}
 use Rattle.ed_types.specs.declared.script.ScriptFault.{ScriptFault}
 use Rattle.ed_model.specs.Text.{line_feed}
@@ -18,20 +17,11 @@ pub from_first : (text first rest : List ℕ) → length text ≤ 16777216 → s
 from_first text first rest short split =
     reads_within text (at_line 1 first (read_version first) >>= (λ version. read_from version 2 rest)) (le-leb (length text) 16777216 short) (ap read_script split ∙ read_script-first first rest)
 
--- a text without a line's end
-pub from_unended : (text : List ℕ) → length text ≤ 16777216 → slice_split (λ b. b == line_feed) text ≡ text ∷ [] → reading text ≡ at_line 1 text (Err NoLineEnd)
-from_unended text short split = reads_within text (at_line 1 text (Err NoLineEnd)) (le-leb (length text) 16777216 short) (ap read_script split)
-
 pub bad_version : (text first rest : List ℕ) (fault : ScriptFault) → length text ≤ 16777216 → slice_split (λ b. b == line_feed) text ≡ first ∷ slice_split (λ b. b == line_feed) rest → at_line 1 first (read_version first) ≡ Err fault → reading text ≡ Err fault
 bad_version text first rest fault short split h = from_first text first rest short split ∙ ap (λ r. r >>= (λ version. read_from version 2 rest)) h
 
 pub good_version : (text first rest : List ℕ) (version : ℕ) → length text ≤ 16777216 → slice_split (λ b. b == line_feed) text ≡ first ∷ slice_split (λ b. b == line_feed) rest → at_line 1 first (read_version first) ≡ Ok version → reading text ≡ read_from version 2 rest
 good_version text first rest version short split h = from_first text first rest short split ∙ ap (λ r. r >>= (λ v. read_from v 2 rest)) h
-
--- the lines' fault is the whole's
-pub lines_fault : (text rest : List ℕ) (version : ℕ) (fault : ScriptFault) → reading text ≡ read_from version 2 rest → OrMemory (read_from version 2 rest) (Err fault) → OrMemory (reading text) (Err fault)
-lines_fault text rest version fault whole (inl is) = inl (is ∙ sym whole)
-lines_fault text rest version fault whole (inr refused) = inr refused
 
 pub lines_found : (text rest : List ℕ) (version : ℕ) (commands : List Command) → reading text ≡ read_from version 2 rest → OrMemory (read_from version 2 rest) (Ok commands) → reading text ≡ Ok commands
 lines_found text rest version commands whole (inl is) = whole ∙ sym is
