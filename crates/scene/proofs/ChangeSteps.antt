@@ -35,12 +35,6 @@ use Rattle.scene.proofs.NotesOfSteps.{length_slice}
 pub some_has : {X : Type 0} (o : Option X) (P : X → Type 0) (x : X) → o ≡ Some x → IsSomeAnd o P → P x
 some_has o P x e h = subst (λ p. IsSomeAnd p P) e h
 
-pub is_some : {X : Type 0} (o : Option X) (P : X → Type 0) (x : X) → o ≡ Some x → P x → IsSomeAnd o P
-is_some o P x e h = subst (λ p. IsSomeAnd p P) (sym e) h
-
-pub some_same : {X : Type 0} (o : Option X) (x y : X) → o ≡ Some x → o ≡ Some y → x ≡ y
-some_same o x y a b = let e : Some x ≡ Some y = sym a ∙ b in cc
-
 length_part : (text : List ℕ) (p n : ℕ) → length (slice_range text p (p + n)) ≤ length text - p
 length_part text p n = simp (length-take, length-drop) (omega arith)
 
@@ -56,18 +50,6 @@ deletes_within p bytes text fits =
 pub ends_in_text : (s : Step) (text : List ℕ) → Fits s text → end_of s ≤ length text
 ends_in_text (model.Insert p bytes) text fits = fits
 ends_in_text (model.Delete p bytes) text fits = deletes_within p bytes text fits
-
--- a step by its place and bytes, or by its place and their number, is the change's step
-pub insertion_is : (p p' : ℕ) (bytes bytes' text : List ℕ) → p ≡ p' → bytes ≡ bytes' → Fits (model.Insert p' bytes') text
-    → (model.Insert p bytes ≡ model.Insert p' bytes') × (p ≤ length text)
-insertion_is p p' bytes bytes' text a b fits = (cc, subst (λ q. q ≤ length text) (sym a) fits)
-
-pub deletion_is : (p p' n : ℕ) (bytes' text : List ℕ) → p ≡ p' → n ≡ length bytes' → Fits (model.Delete p' bytes') text
-    → (model.Delete p (slice_range text p (p + n)) ≡ model.Delete p' bytes') × (p + n ≤ length text)
-deletion_is p p' n bytes' text a b fits =
-    let within = deletes_within p' bytes' text fits in
-    let e : slice_range text p (p + n) ≡ bytes' = rw (a, b) fits.1 in
-    (rw e (ap (λ q. model.Delete q bytes') a), omega arith)
 
 -- The outline of a step: the kinds that it is told under, and what it does to positions.
 

@@ -12,7 +12,7 @@ use Rattle.ed_model.specs.Session.{View, watching}
 use Rattle.ed_model.specs.Performing.{Scene}
 use Rattle.line_ends.specs.Conversion.{completed}
 use Rattle.line_index.specs.RoomLaws.{lines_for_insertion}
-use Rattle.document.specs.Kept.{document_room, no_room, amount_sum, room_sum}
+use Rattle.document.specs.Kept.{document_room, amount_sum, room_sum}
 use Rattle.scene.specs.declared.need.NoteRoom.{NoteRoom}
 use Rattle.scene.specs.Needs.{note_room, leaving_count, notes_of_step, bytes_of_step, notes_of_steps, bytes_of_steps}
 use Rattle.scene.specs.Conversion.{both_rooms, bytes_for, capped, capped_notes, capped_room, deletions_of, notes_for, room_of_many, room_of_step, room_of_steps}
@@ -136,12 +136,6 @@ pub takes_room : (types : LineEndTypes) (views : List View) (to : LineEnd) (text
 takes_room types views to text bytes count one e =
     ap (λ k. capped_room (room_of_many k (room_of_step types (Delete 0 bytes)))) e
     ∙ ap capped_room (sym (many_rooms types views (Delete 0 bytes) (deletions_of to text) (takes_as types views (Delete 0 bytes) (take_as types views bytes one) to (completed to text) false 0)))
-
--- none are needed where there is none
-pub no_takes : (types : LineEndTypes) (views : List View) (steps : List Step) (count : ℕ) → count ≡ length steps → count ≡ 0
-    → (note_room 0 0 ≡ capped_notes (notes_of_steps views steps) (bytes_of_steps views steps)) × (no_room ≡ capped_room (room_of_steps types steps))
-no_takes types views [] count e none = (refl, refl)
-no_takes types views (s ∷ steps) count e none = absurd (omega (arith, e))
 
 -- Both together.
 

@@ -1,9 +1,9 @@
 -- Kinds of notes, and who hears them.
 use Rattle.std.proofs.Common.{◌≡◌, ℕ, ◌+◌, ◌<◌, ◌≤◌, Bool, true, false, cond, List, [], ◌∷◌, length, refl, ap, sym, ◌∙◌, subst, arith}
-use Rattle.std.specs.Prelude.{◌==◌, ◌||◌, not, filter, bit_and, bit_or, nat_lt, zero, suc, ℤ}
+use Rattle.std.specs.Prelude.{◌==◌, ◌||◌, not, filter, bit_and, bit_or, ℤ}
 use Rattle.std.specs.Int.Bits.{and_zero_l}
 use Rattle.std.proofs.lemmas.Nat.{and_assoc, and_comm, and_or_self, and_or_apart, or_comm}
-use Rattle.std.proofs.lemmas.Bool.{eqb-true, eq-eqb, lt-ltb}
+use Rattle.std.proofs.lemmas.Bool.{eqb-true, eq-eqb}
 use Rattle.ed_types.specs.Notices.{Notice}
 use Rattle.ed_types.specs.declared.reply.Note.{Note}
 use Rattle.ed_model.specs.Numbers.{meets}
@@ -163,14 +163,6 @@ none_by_notes views s before after lines none_before none_after =
     omega arith
 
 -- Where it was counted how many hear.
-
-zero_of : (n : ℕ) → nat_lt 0 n ≡ false → n ≡ 0
-zero_of zero h = refl
-zero_of (suc n) h = absurd (let some : nat_lt 0 (suc n) ≡ true = lt-ltb 0 (suc n) (omega arith) in cc)
-
--- none hears where it was answered that not one hears
-pub none_hears : (counted hears : ℕ) → counted ≡ hears → nat_lt 0 counted ≡ false → hears ≡ 0
-none_hears counted hears e none = sym e ∙ zero_of counted none
 
 pub can_tell : (hears : Bool) (before all after : ℕ) (lines : ℤ) (step : TextStep) (text : List ℕ) (views : List View) (g : Gathered)
     → ((m : ℕ) → meets m after ≡ true → meets m all ≡ true) → IsStepOn step (length text)

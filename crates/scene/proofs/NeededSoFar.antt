@@ -9,7 +9,7 @@ use Rattle.document.specs.declared.room.DocumentRoom.{DocumentRoom}
 use Rattle.document.specs.Undoing.{room_of_change}
 use Rattle.document.specs.Kept.{document_room, no_room, amount_sum, room_sum}
 use Rattle.scene.specs.declared.need.NoteRoom.{NoteRoom}
-use Rattle.scene.specs.declared.undoing.HistoryNeed.{HistoryNeed}
+use Rattle.scene.specs.declared.need.SceneNeed.{SceneNeed}
 use Rattle.scene.specs.Needs.{note_room}
 use Rattle.scene.specs.Undoing.{notes_of_change, bytes_of_change, notes_of_changes, bytes_of_changes, free_behind, room_beside, room_of_changes, rooms_beside, capped, capped_room, capped_notes}
 
@@ -17,19 +17,13 @@ use Rattle.scene.specs.Undoing.{notes_of_change, bytes_of_change, notes_of_chang
 abbrev pub IsSum : ℕ → ℕ → ℕ → Type 0
 IsSum so_far rest whole = (so_far < 2 ^ 64) × (amount_sum so_far rest ≡ capped whole)
 
-sum_start : (n rest : ℕ) → n < 2 ^ 64 → IsSum n rest (rest + n)
-sum_start n rest h = (h, omega arith)
-
-sum_none : (rest : ℕ) → IsSum 0 rest rest
-sum_none rest = (omega arith, omega arith)
-
 sum_next : (n c rest whole : ℕ) → IsSum n (c + rest) whole → IsSum (amount_sum n c) rest whole
 sum_next n c rest whole so = let e = so.1 in (omega arith, omega arith)
 
 sum_all : (n whole : ℕ) → IsSum n 0 whole → n ≡ capped whole
 sum_all n whole so = let e = so.1 in let h : n < 2 ^ 64 = so.0 in omega arith
 
-pub record IsNeededSoFar (views : List View) (who : ℕ) (types : LineEndTypes) (told free : ℕ) (rest all : List Change) (need : HistoryNeed) : Type 0 where
+pub record IsNeededSoFar (views : List View) (who : ℕ) (types : LineEndTypes) (told free : ℕ) (rest all : List Change) (need : SceneNeed) : Type 0 where
   pub notes : IsSum need.notes.notes (notes_of_changes views who rest) (notes_of_changes views who all + told)
   pub texts : IsSum need.notes.bytes (bytes_of_changes views who rest) (bytes_of_changes views who all)
   pub text : IsSum need.document.text (rooms_beside types free rest).text (room_of_changes types all).text
@@ -38,22 +32,10 @@ pub record IsNeededSoFar (views : List View) (who : ℕ) (types : LineEndTypes) 
   pub steps : IsSum need.document.steps (rooms_beside types free rest).steps (room_of_changes types all).steps
   pub bytes : IsSum need.document.bytes (rooms_beside types free rest).bytes (room_of_changes types all).bytes
 
-abbrev pub history_need : NoteRoom → DocumentRoom → HistoryNeed
+abbrev pub history_need : NoteRoom → DocumentRoom → SceneNeed
 history_need notes document = record { notes = notes; document = document }
 
-pub needed_none : (views : List View) (who : ℕ) (types : LineEndTypes) (told : ℕ) (all : List Change) → told < 2 ^ 64
-    → IsNeededSoFar views who types told 0 all all (history_need (note_room told 0) no_room)
-needed_none views who types told all h = record {
-  notes = sum_start told (notes_of_changes views who all) h;
-  texts = sum_none (bytes_of_changes views who all);
-  text = sum_none (room_of_changes types all).text;
-  lines = sum_none (room_of_changes types all).lines;
-  insertions = sum_none (room_of_changes types all).insertions;
-  steps = sum_none (room_of_changes types all).steps;
-  bytes = sum_none (room_of_changes types all).bytes;
-}
-
-pub needed_next : (views : List View) (who : ℕ) (types : LineEndTypes) (told free : ℕ) (c : Change) (rest after all : List Change) (need : HistoryNeed)
+pub needed_next : (views : List View) (who : ℕ) (types : LineEndTypes) (told free : ℕ) (c : Change) (rest after all : List Change) (need : SceneNeed)
     → IsNeededSoFar views who types told free rest all need → rest ≡ c ∷ after
     → IsNeededSoFar views who types told (free_behind free c) after all (history_need
     (note_room (amount_sum need.notes.notes (notes_of_change views who c)) (amount_sum need.notes.bytes (bytes_of_change views who c)))
@@ -73,7 +55,7 @@ needed_next views who types told free c rest after all need so e =
       bytes = sum_next need.document.bytes room.bytes left.bytes whole.bytes so.bytes;
     }
 
-pub needed_notes : (views : List View) (who : ℕ) (types : LineEndTypes) (told free : ℕ) (rest all : List Change) (need : HistoryNeed)
+pub needed_notes : (views : List View) (who : ℕ) (types : LineEndTypes) (told free : ℕ) (rest all : List Change) (need : SceneNeed)
     → IsNeededSoFar views who types told free rest all need → rest ≡ [] → need.notes ≡ capped_notes (notes_of_changes views who all + told) (bytes_of_changes views who all)
 needed_notes views who types told free rest all need so e =
     let so = subst (λ cs. IsNeededSoFar views who types told free cs all need) e so in
@@ -84,7 +66,7 @@ needed_notes views who types told free rest all need so e =
 same_room : (a a' b b' c c' d d' e e' : ℕ) → a ≡ a' → b ≡ b' → c ≡ c' → d ≡ d' → e ≡ e' → document_room a b c d e ≡ document_room a' b' c' d' e'
 same_room a a' b b' c c' d d' e e' p q r s t = cc
 
-pub needed_room : (views : List View) (who : ℕ) (types : LineEndTypes) (told free : ℕ) (rest all : List Change) (need : HistoryNeed)
+pub needed_room : (views : List View) (who : ℕ) (types : LineEndTypes) (told free : ℕ) (rest all : List Change) (need : SceneNeed)
     → IsNeededSoFar views who types told free rest all need → rest ≡ [] → need.document ≡ capped_room (room_of_changes types all)
 needed_room views who types told free rest all need so e =
     let so = subst (λ cs. IsNeededSoFar views who types told free cs all need) e so in

@@ -1,25 +1,24 @@
 -- What was performed of undo or redo, and what is still to be performed.
-use Rattle.std.proofs.Common.{◌≡◌, ℕ, ◌+◌, ◌-◌, ◌<◌, ◌≤◌, Bool, true, false, List, [], ◌∷◌, ◌++◌, map, length, drop, get_or, refl, ap, sym, ◌∙◌, subst, arith, inl, inr}
+use Rattle.std.proofs.Common.{◌≡◌, ℕ, ◌+◌, ◌-◌, ◌<◌, ◌≤◌, Bool, true, false, List, [], ◌∷◌, map, length, drop, get_or, refl, ap, sym, ◌∙◌, subst, arith, inl, inr}
 use Rattle.std.specs.Prelude.{◌==◌, ◌&&◌, ◌||◌, bit_and, not, nat_lt, slice_get, Some}
 use Rattle.std.proofs.lemmas.List.{length-drop}
 use Rattle.std.proofs.lemmas.Bool.{and_parts, eq-eqb, ne_eqb, eqb-true, or_cases}
 use Rattle.std.proofs.lemmas.Option.{slice_get-get_or}
-use Rattle.ed_types.specs.Notices.{Notice}
 use Rattle.ed_model.specs.Notes.{bit_if, multi_step, told, blank, save_point_reached, save_point_left}
 use Rattle.ed_model.specs.StepLaws.{CellsFollowBytes}
-use Rattle.ed_model.specs.History.{History, Change, TextStep, ContainerStep}
+use Rattle.ed_model.specs.History.{Change, TextStep, ContainerStep}
 use Rattle.ed_model.specs.Session.{Document, View, text_of, watching}
 use Rattle.ed_model.specs.SoundLaws.{AreStepsOf}
 use Rattle.ed_model.specs.UndoPlans.{text_steps}
-use Rattle.ed_model.specs.Performing.{Scene, is_last, change_performed, changes_performed, save_point_change, with_history}
-use Rattle.id_table.specs.Entries.{Entry, Entries, id_of}
+use Rattle.ed_model.specs.Performing.{Scene, is_last, change_performed, changes_performed, save_point_change}
+use Rattle.id_table.specs.Entries.{Entries, id_of}
 use Rattle.notify.specs.Gathered.{Gathered}
 use Rattle.ed_view.specs.Kept.{KeptView}
 use Rattle.document.specs.declared.undoing.Direction.{Direction}
 use Rattle.document.specs.Kept.{Kept, HasTextRoom, TakesRoom}
-use Rattle.document.specs.Undoing.{changes_of, is_other, room_of_change, save_point_told}
+use Rattle.document.specs.Undoing.{changes_of, room_of_change, save_point_told}
 use Rattle.scene.specs.declared.performing.Turn.{Turn}
-use Rattle.scene.specs.Scenes.{views_of, scene_in, watchers, IsWatched}
+use Rattle.scene.specs.Scenes.{scene_in, watchers, IsWatched}
 use Rattle.scene.specs.Hearing.{hearers, masks_of}
 use Rattle.scene.specs.Undoing.{bits_of, every_kind, notes_of_changes, notes_of_change, bytes_of_changes, free_behind, freed_by, room_of_changes, rooms_beside, save_point_notes}
 use Rattle.scene.specs.Turns.{several_bits, CanPerform, IsPerformed}
@@ -227,12 +226,6 @@ performed_all direction rest changed old now views views' gathered gathered' so 
 
 -- The history behind them, and the save point.
 
-pub finished : (new : History) (d : Document) (entries : List (Entry KeptView)) (ns : List Notice) (was is : Bool) (done : Scene) → scene_in d entries ns ≡ done
-    → scene_in (record d { history = new }) entries (ns ++ save_point_change (watching (views_of entries) d) was is)
-    ≡ with_history new (record done { notes = done.notes ++ save_point_change (watching done.views done.document) was is })
-finished new d entries ns was is done e =
-    ap (λ (s : Scene). with_history new (record s { notes = s.notes ++ save_point_change (watching s.views s.document) was is })) e
-
 -- it changed, and this is how
 pub reached : (views : List View) (is : Bool) → is ≡ true → save_point_change views (not is) is ≡ told views (blank save_point_reached)
 reached views true h = refl
@@ -241,10 +234,3 @@ reached views false h = absurd (cc)
 pub left : (views : List View) (is : Bool) → is ≡ false → save_point_change views (not is) is ≡ told views (blank save_point_left)
 left views false h = refl
 left views true h = absurd (cc)
-
--- if one is so and the other not, all are told
-pub told_if_other : (was is : Bool) (count : ℕ) → was ≡ not is → save_point_notes (is_other was is) count ≡ count
-told_if_other true true count e = absurd (cc)
-told_if_other true false count e = refl
-told_if_other false true count e = refl
-told_if_other false false count e = absurd (cc)

@@ -1,15 +1,14 @@
 -- Steps in turn, out of the room that was made for all of them.
-use Rattle.std.proofs.Common.{zero, suc, ◌≡◌, ℕ, ◌+◌, ◌<◌, ◌≤◌, ◌==◌, Bool, true, false, cond, List, [], ◌∷◌, ◌++◌, length, take, drop, refl, ap, sym, ◌∙◌, subst, arith, slice_range}
-use Rattle.std.proofs.lemmas.Bool.{lt-ltb, le-ltb}
+use Rattle.std.proofs.Common.{zero, suc, ◌≡◌, ℕ, ◌+◌, ◌<◌, ◌≤◌, Bool, true, false, List, [], ◌∷◌, ◌++◌, length, take, drop, refl, ap, sym, ◌∙◌, subst, arith, slice_range}
 use Rattle.std.proofs.lemmas.List.{length-append, length-map, length-take, length-drop, map-append, take-map, drop-map}
 use Rattle.ed_model.specs.declared.plan.LineEnd.{LineEnd}
 use Rattle.ed_model.specs.declared.plan.LineEndTypes.{LineEndTypes}
 use Rattle.ed_model.specs.Text.{Cell, bytes_of, plain_cells}
 use Rattle.ed_model.specs.Steps.{Step, Insert, Delete, step_bytes, edited, edited_cells}
 use Rattle.ed_model.specs.LineEnds.{after_steps, conversion_steps, unwanted_from}
-use Rattle.ed_model.specs.History.{History, Transaction, Change, TextStep, appended, sealed_outside_groups, with_last_sealed}
+use Rattle.ed_model.specs.History.{History, Change, TextStep, appended}
 use Rattle.ed_model.specs.Session.{Document, text_of, watching}
-use Rattle.ed_model.specs.Performing.{Scene, step_made, steps_made, edit_made, sealed_scene}
+use Rattle.ed_model.specs.Performing.{Scene, step_made, steps_made}
 use Rattle.document.specs.declared.room.DocumentRoom.{DocumentRoom}
 use Rattle.document.specs.declared.text_step.TextStep.TheVariants as lent
 use Rattle.document.specs.Kept.{Kept, HasRoom, TakesRoom}
@@ -20,42 +19,11 @@ use Rattle.notify.specs.Gathered.{Gathered}
 use Rattle.line_ends.specs.Conversion.{IsNextMissing, IsNextUnwanted, completed, missing_in, unwanted_in}
 use Rattle.scene.specs.Scenes.{views_of, scene_in, IsWatched}
 use Rattle.scene.specs.Hearing.{bytes_shared, made_kinds}
-use Rattle.scene.specs.Needs.{notes_needed, bytes_needed, NotesAreEnough, BytesAreEnough, SealingNeedsTheSame}
-use Rattle.scene.specs.Conversion.{AreLeft, CanMakeSteps, bytes_for, deletions_of, notes_for, room_of_step, room_of_steps}
-use Rattle.scene.proofs.StepScenes.{watched_with_history}
+use Rattle.scene.specs.Needs.{notes_needed, bytes_needed, NotesAreEnough, BytesAreEnough}
+use Rattle.scene.specs.proved.Enough.{next_notes, next_bytes}
+use Rattle.scene.specs.Conversion.{AreLeft, bytes_for, deletions_of, notes_for, room_of_step, room_of_steps}
 
 -- Notes and their bytes.
-
-pub first_notes : NotesAreEnough → (later : Bool) (step : Step) (steps : List Step) (scene : Scene) (room : ℕ) → notes_needed scene (step ∷ steps) ≤ room
-    → length (step_made later step scene).notes ≤ length scene.notes + room
-first_notes law later step steps scene room h = from (length (step_made later step scene).notes) (notes_needed (step_made later step scene) steps) (length scene.notes) (notes_needed scene (step ∷ steps)) (law later step steps scene) h
-  where
-    from : (put left had need : ℕ) → put + left ≤ had + need → need ≤ room → put ≤ had + room
-    from put left had need a b = omega arith
-
-next_notes : NotesAreEnough → (later : Bool) (step : Step) (steps : List Step) (scene : Scene) (room room' put : ℕ) → notes_needed scene (step ∷ steps) ≤ room
-    → put ≡ length (step_made later step scene).notes → room' + put ≡ room + length scene.notes → notes_needed (step_made later step scene) steps ≤ room'
-next_notes law later step steps scene room room' put h is e = from (length (step_made later step scene).notes) (notes_needed (step_made later step scene) steps) (length scene.notes) (notes_needed scene (step ∷ steps)) (law later step steps scene) h is e
-  where
-    from : (made left had need : ℕ) → made + left ≤ had + need → need ≤ room → put ≡ made → room' + put ≡ room + had → left ≤ room'
-    from made left had need a b is c = omega arith
-
-pub first_bytes : BytesAreEnough → (later : Bool) (step : Step) (steps : List Step) (scene : Scene) (room : ℕ) → bytes_needed scene (step ∷ steps) ≤ room
-    → bytes_shared (made_kinds later step scene.document.history) (watching scene.views scene.document) (length (step_bytes step)) ≤ room
-first_bytes law later step steps scene room h =
-    from (bytes_shared (made_kinds later step scene.document.history) (watching scene.views scene.document) (length (step_bytes step))) (bytes_needed (step_made later step scene) steps) (bytes_needed scene (step ∷ steps)) (law later step steps scene) h
-  where
-    from : (shared left need : ℕ) → shared + left ≤ need → need ≤ room → shared ≤ room
-    from shared left need a b = omega arith
-
-next_bytes : BytesAreEnough → (later : Bool) (step : Step) (steps : List Step) (scene : Scene) (room room' : ℕ) → bytes_needed scene (step ∷ steps) ≤ room
-    → room' + bytes_shared (made_kinds later step scene.document.history) (watching scene.views scene.document) (length (step_bytes step)) ≡ room
-    → bytes_needed (step_made later step scene) steps ≤ room'
-next_bytes law later step steps scene room room' h e =
-    from (bytes_shared (made_kinds later step scene.document.history) (watching scene.views scene.document) (length (step_bytes step))) (bytes_needed (step_made later step scene) steps) (bytes_needed scene (step ∷ steps)) (law later step steps scene) h e
-  where
-    from : (shared left need : ℕ) → shared + left ≤ need → need ≤ room → room' + shared ≡ room → left ≤ room'
-    from shared left need a b e = omega arith
 
 few_notes : (steps : List Step) (scene : Scene) (room : ℕ) → notes_needed scene steps ≤ room → notes_for steps scene ≤ room
 few_notes [] scene room h = omega arith
@@ -79,17 +47,6 @@ deletion_needs types d start count h = ap (λ n. room_of_count n) (length_range 
     room_of_count : ℕ → DocumentRoom
     room_of_count n = record { text = 0; lines = 3; insertions = 0; steps = 1; bytes = n }
 
-pub first_room : (k : Kept) (types : LineEndTypes) (step : Step) (steps : List Step) → HasRoom k (room_of_steps types (step ∷ steps)) → HasRoom k (room_of_step types step)
-first_room k types step steps h =
-    let a = room_of_step types step in
-    let b = room_of_steps types steps in (
-      (less a.text b.text k.room.text h.0.0, less a.lines b.lines k.room.lines h.0.1, less a.insertions b.insertions k.room.insertions h.0.2),
-      λ on. (less a.steps b.steps k.room.steps (h.1 on).0, less a.bytes b.bytes k.room.bytes (h.1 on).1),
-    )
-  where
-    less : (x y z : ℕ) → x + y ≤ z → x ≤ z
-    less x y z h = omega arith
-
 next_room : (k k' : Kept) (types : LineEndTypes) (step : Step) (steps : List Step) → HasRoom k (room_of_steps types (step ∷ steps)) → TakesRoom k.room k'.room (room_of_step types step)
     → k'.document.history.collecting ≡ k.document.history.collecting → HasRoom k' (room_of_steps types steps)
 next_room k k' types step steps h left same =
@@ -108,17 +65,6 @@ appended_collects later c h = go h.collecting refl
     go : (b : Bool) → h.collecting ≡ b → (appended later c h).collecting ≡ b
     go true e = rw e refl
     go false e = rw e refl
-
-sealed_collects : (h : History) → (sealed_outside_groups h).collecting ≡ h.collecting
-sealed_collects h = go (h.depth == 0) h.past
-  where
-    last : (past : List Transaction) → (with_last_sealed (record h { past = past })).collecting ≡ h.collecting
-    last [] = refl
-    last (t ∷ ts) = refl
-
-    go : (b : Bool) (past : List Transaction) → (cond b (with_last_sealed h) h).collecting ≡ h.collecting
-    go true past = last h.past
-    go false past = refl
 
 -- The text after a step.
 
@@ -163,45 +109,6 @@ made_left notes_law bytes_law s rest steps later was k0 k k' v0 v v' n0 n n' lef
       next = next ∙ left.next;
     }
 
-pub all_left : (steps : List Step) (later : Bool) (k : Kept) (v : Entries KeptView) (n : Gathered) → CanMakeSteps steps k v n → AreLeft steps later steps later k k v v n n
-all_left steps later k v n can = record { scene = refl; can = can; next = refl }
-
--- Steps between seals.
-
-abbrev pub sealed_kept : Kept → Kept
-sealed_kept k = record k { document = (let d = k.document in record d { history = sealed_outside_groups d.history }) }
-
-same_notes : SealingNeedsTheSame → (steps : List Step) (scene : Scene) → notes_for steps (sealed_scene scene) ≡ notes_for steps scene
-same_notes law [] scene = refl
-same_notes law (s ∷ steps) scene = (law (s ∷ steps) scene).0
-
-same_bytes : SealingNeedsTheSame → (steps : List Step) (scene : Scene) → bytes_for steps (sealed_scene scene) ≡ bytes_for steps scene
-same_bytes law [] scene = refl
-same_bytes law (s ∷ steps) scene = (law (s ∷ steps) scene).1
-
-pub can_when_sealed : SealingNeedsTheSame → (steps : List Step) (k k' : Kept) (v : Entries KeptView) (n : Gathered) → k' ≡ sealed_kept k → CanMakeSteps steps k v n → CanMakeSteps steps k' v n
-can_when_sealed law steps k k' v n e can = subst (λ x. CanMakeSteps steps x v n) (sym e) (record {
-  watched = watched_with_history k.document (sealed_outside_groups k.document.history) v can.watched;
-  room = (can.room.0, λ on. can.room.1 (sym (sealed_collects k.document.history) ∙ on));
-  notes_there = subst (λ m. m ≤ n.note_room) (sym (same_notes law steps (scene_in k.document v.entries n.notes))) can.notes_there;
-  texts_there = subst (λ m. m ≤ n.text_room) (sym (same_bytes law steps (scene_in k.document v.entries n.notes))) can.texts_there;
-})
-
-pub watched_when_sealed : (k k' : Kept) (v : Entries KeptView) → k' ≡ sealed_kept k → IsWatched k.document v → IsWatched k'.document v
-watched_when_sealed k k' v e w = subst (λ x. IsWatched x.document v) (sym e) (watched_with_history k.document (sealed_outside_groups k.document.history) v w)
-
-pub one_step : (steps : List Step) (scene : Scene) → length steps < 2 → steps_made false steps scene ≡ edit_made steps scene
-one_step steps scene h = ap (λ b. cond b (sealed_scene (steps_made false steps (sealed_scene scene))) (steps_made false steps scene)) (sym (le-ltb 1 (length steps) (omega arith)))
-
-pub several_steps : (steps : List Step) (k k1 k2 k3 : Kept) (v v' : Entries KeptView) (n n' : Gathered) → 2 ≤ length steps → k1 ≡ sealed_kept k
-    → scene_in k2.document v'.entries n'.notes ≡ steps_made false steps (scene_in k1.document v.entries n.notes) → k3 ≡ sealed_kept k2
-    → scene_in k3.document v'.entries n'.notes ≡ edit_made steps (scene_in k.document v.entries n.notes)
-several_steps steps k k1 k2 k3 v v' n n' h before made behind =
-    let scene = scene_in k.document v.entries n.notes in
-    ap (λ (x : Kept). scene_in x.document v'.entries n'.notes) behind
-    ∙ ap sealed_scene (made ∙ ap (λ (x : Kept). steps_made false steps (scene_in x.document v.entries n.notes)) before)
-    ∙ ap (λ b. cond b (sealed_scene (steps_made false steps (sealed_scene scene))) (steps_made false steps scene)) (sym (lt-ltb 1 (length steps) (omega arith)))
-
 -- The insertions of a conversion.
 
 length_text : (d : Document) → length (text_of d) ≡ length d.cells
@@ -212,9 +119,6 @@ pub record PutsLeft (to : LineEnd) (place : ℕ) (later : Bool) (k0 k : Kept) (v
   pub within : place ≤ length k.document.cells
   pub left : AreLeft (missing_in to (text_of k.document) place ++ deletions_of to (text_of k0.document)) later (conversion_steps to (text_of k0.document)) false k0 k v0 v n0 n
   pub text : after_steps (missing_in to (text_of k.document) place) (text_of k.document) ≡ completed to (text_of k0.document)
-
-pub puts_first : (to : LineEnd) (k : Kept) (v : Entries KeptView) (n : Gathered) → CanMakeSteps (conversion_steps to (text_of k.document)) k v n → PutsLeft to 0 false k k v v n n
-puts_first to k v n can = record { within = omega arith; left = all_left (conversion_steps to (text_of k.document)) false k v n can; text = refl }
 
 -- the next one
 abbrev pub put_of : ℕ → ℕ → Step
@@ -228,9 +132,6 @@ pub put_next : (to : LineEnd) (start place byte : ℕ) (later : Bool) (k0 k : Ke
     → AreLeft (put_of place byte ∷ puts_behind to place byte k0 k) later (conversion_steps to (text_of k0.document)) false k0 k v0 v n0 n
 put_next to start place byte later k0 k v0 v n0 n so next =
     subst (λ l. AreLeft (l ++ deletions_of to (text_of k0.document)) later (conversion_steps to (text_of k0.document)) false k0 k v0 v n0 n) next.steps so.left
-
-pub put_within : (to : LineEnd) (start place byte : ℕ) (k : Kept) → IsNextMissing to (text_of k.document) start place byte → place ≤ length k.document.cells
-put_within to start place byte k next = let w = next.within in omega (arith, length_text k.document)
 
 -- it is made
 pub put_made :
@@ -266,24 +167,11 @@ fewer_puts to start place byte text text' next e =
     let n = ap length next.steps in
     subst (λ t. length (missing_in to t (place + 1)) < length (missing_in to text start)) (sym e) (omega arith)
 
--- none is
-pub puts_last : (to : LineEnd) (place : ℕ) (later : Bool) (k0 k : Kept) (v0 v : Entries KeptView) (n0 n : Gathered) → PutsLeft to place later k0 k v0 v n0 n
-    → missing_in to (text_of k.document) place ≡ []
-    → AreLeft (deletions_of to (text_of k0.document)) later (conversion_steps to (text_of k0.document)) false k0 k v0 v n0 n × (text_of k.document ≡ completed to (text_of k0.document))
-puts_last to place later k0 k v0 v n0 n so none = (
-  subst (λ l. AreLeft (l ++ deletions_of to (text_of k0.document)) later (conversion_steps to (text_of k0.document)) false k0 k v0 v n0 n) none so.left,
-  sym (ap (λ l. after_steps l (text_of k.document)) none) ∙ so.text,
-)
-
 -- The deletions.
 
 pub record TakesLeft (to : LineEnd) (place : ℕ) (later was : Bool) (k0 k : Kept) (v0 v : Entries KeptView) (n0 n : Gathered) : Type 0 where
   pub within : place ≤ length k.document.cells
   pub left : AreLeft (unwanted_in to (text_of k.document) place) later (unwanted_from 0 false to (text_of k0.document)) was k0 k v0 v n0 n
-
-pub takes_first : (to : LineEnd) (later : Bool) (k : Kept) (v : Entries KeptView) (n : Gathered) → CanMakeSteps (unwanted_from 0 false to (text_of k.document)) k v n
-    → TakesLeft to 0 later later k k v v n n
-takes_first to later k v n can = record { within = omega arith; left = all_left (unwanted_from 0 false to (text_of k.document)) later k v n can }
 
 abbrev pub take_of : ℕ → Kept → Step
 take_of place k = Delete place (slice_range (text_of k.document) place (place + 1))
@@ -301,10 +189,6 @@ take_within to start place k next = let w = next.within in omega (arith, length_
 pub take_room : (to : LineEnd) (start place : ℕ) (k : Kept) (P : DocumentRoom → Type 0) → IsNextUnwanted to (text_of k.document) start place
     → P (need_of k.document.line_end_types (lent.Delete place 1)) → P (room_of_step k.document.line_end_types (take_of place k))
 take_room to start place k P next h = subst P (sym (deletion_needs k.document.line_end_types k.document place 1 (take_within to start place k next))) h
-
-pub take_room_back : (to : LineEnd) (start place : ℕ) (k : Kept) (P : DocumentRoom → Type 0) → IsNextUnwanted to (text_of k.document) start place
-    → P (room_of_step k.document.line_end_types (take_of place k)) → P (need_of k.document.line_end_types (lent.Delete place 1))
-take_room_back to start place k P next h = subst P (deletion_needs k.document.line_end_types k.document place 1 (take_within to start place k next)) h
 
 pub take_made :
     NotesAreEnough → BytesAreEnough → (to : LineEnd) (start place : ℕ) (later was : Bool) (k0 k k' : Kept) (v0 v v' : Entries KeptView) (n0 n n' : Gathered)
@@ -337,10 +221,6 @@ pub fewer_takes : (to : LineEnd) (start place : ℕ) (k : Kept) (text' : List �
 fewer_takes to start place k text' next e =
     let n = ap length next.steps in
     subst (λ t. length (unwanted_in to t place) < length (unwanted_in to (text_of k.document) start)) (sym e) (omega arith)
-
-pub takes_last : (to : LineEnd) (place : ℕ) (later was : Bool) (k0 k : Kept) (v0 v : Entries KeptView) (n0 n : Gathered) → TakesLeft to place later was k0 k v0 v n0 n
-    → unwanted_in to (text_of k.document) place ≡ [] → AreLeft [] later (unwanted_from 0 false to (text_of k0.document)) was k0 k v0 v n0 n
-takes_last to place later was k0 k v0 v n0 n so none = subst (λ l. AreLeft l later (unwanted_from 0 false to (text_of k0.document)) was k0 k v0 v n0 n) none so.left
 
 -- a text that has something to be deleted
 pub some_cells : (d : Document) (first second : List ℕ) (count : ℕ) → first ++ second ≡ text_of d → (count ≡ 0 → ⊥) → count ≤ length first + length second → 0 + 1 ≤ length d.cells

@@ -7,3 +7,4 @@ pub mod Undoing
 pub mod Turns
 pub mod Performed
 pub mod Conversion
+pub mod proved

@@ -1,15 +1,26 @@
 -- How many notes steps put at most, and how many bytes are shared for them.
-use Rattle.std.specs.Prelude.{ℕ, ◌+◌, ◌*◌, ◌≤◌, ◌≡◌, ◌&&◌, if◌then◌else◌, Bool, true, List, [], ◌∷◌, length}
+use Rattle.std.specs.Prelude.{ℕ, ◌+◌, ◌-◌, ◌*◌, ◌^◌, ◌<◌, ◌≤◌, ◌≡◌, ◌&&◌, if◌then◌else◌, Bool, true, List, [], ◌∷◌, length}
 use Rattle.ed_model.specs.Steps.{Step, step_bytes}
 use Rattle.ed_model.specs.History.{History, at_save_point}
 use Rattle.ed_model.specs.Session.{View, watching}
 use Rattle.ed_model.specs.Notes.{performed_user}
 use Rattle.ed_model.specs.Performing.{Scene, step_made, sealed_scene}
 use Rattle.scene.specs.declared.need.NoteRoom.{NoteRoom}
+use Rattle.scene.specs.declared.need.SceneNeed.{SceneNeed}
 use Rattle.scene.specs.Hearing.{step_kinds, user_bits, made_kinds, hearers, bytes_shared}
 
 abbrev pub note_room : ℕ → ℕ → NoteRoom
 note_room notes bytes = record { notes = notes; bytes = bytes }
+
+-- no amount is the greatest that can be asked for, at which sums stop
+pub record IsCounted (need : SceneNeed) : Type 0 where
+  pub notes : need.notes.notes < 2 ^ 64 - 1
+  pub note_bytes : need.notes.bytes < 2 ^ 64 - 1
+  pub text : need.document.text < 2 ^ 64 - 1
+  pub lines : need.document.lines < 2 ^ 64 - 1
+  pub insertions : need.document.insertions < 2 ^ 64 - 1
+  pub steps : need.document.steps < 2 ^ 64 - 1
+  pub bytes : need.document.bytes < 2 ^ 64 - 1
 
 -- each kind that a step of a message may be told under
 abbrev pub user_kinds : Step → ℕ

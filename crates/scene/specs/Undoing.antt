@@ -1,5 +1,5 @@
 -- Undo and redo: the bits of their notes, and what they need.
-use Rattle.std.specs.Prelude.{ℕ, ◌+◌, ◌-◌, ◌*◌, ◌^◌, ◌<◌, if◌then◌else◌, min, Bool, true, List, [], ◌∷◌, length, bit_or, Option, Some, None}
+use Rattle.std.specs.Prelude.{ℕ, ◌+◌, ◌-◌, ◌*◌, ◌^◌, if◌then◌else◌, min, Bool, true, List, [], ◌∷◌, length, bit_or, Option, Some, None}
 use Rattle.ed_model.specs.declared.plan.LineEndTypes.{LineEndTypes}
 use Rattle.ed_model.specs.Steps.{Step, Insert, Delete, step_bytes}
 use Rattle.ed_model.specs.History.{History, Change, TextStep, ContainerStep}
@@ -17,7 +17,6 @@ use Rattle.document.specs.Kept.{document_room, no_room, amount_sum}
 use Rattle.document.specs.TextSteps.{bytes_out}
 use Rattle.document.specs.Undoing.{changes_of, room_of_change, save_point_told}
 use Rattle.scene.specs.declared.need.NoteRoom.{NoteRoom}
-use Rattle.scene.specs.declared.undoing.HistoryNeed.{HistoryNeed}
 use Rattle.scene.specs.Hearing.{step_kinds, hearers, bytes_shared}
 use Rattle.scene.specs.Needs.{note_room}
 
@@ -118,16 +117,6 @@ capped_room need = document_room (capped need.text) (capped need.lines) (capped 
 
 abbrev pub capped_notes : ℕ → ℕ → NoteRoom
 capped_notes notes bytes = note_room (capped notes) (capped bytes)
-
--- no amount is the greatest that can be asked for, at which sums stop
-pub record IsCounted (need : HistoryNeed) : Type 0 where
-  pub notes : need.notes.notes < 2 ^ 64 - 1
-  pub note_bytes : need.notes.bytes < 2 ^ 64 - 1
-  pub text : need.document.text < 2 ^ 64 - 1
-  pub lines : need.document.lines < 2 ^ 64 - 1
-  pub insertions : need.document.insertions < 2 ^ 64 - 1
-  pub steps : need.document.steps < 2 ^ 64 - 1
-  pub bytes : need.document.bytes < 2 ^ 64 - 1
 
 -- where the caret goes, by the latest step of the text, if there is one
 abbrev pub place_behind_any : Option Step → Option ℕ

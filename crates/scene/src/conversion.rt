@@ -11,7 +11,7 @@ ghost use Rattle.scene.specs.Needs.{leaving_count, notes_of_step, bytes_of_step,
 ghost use Rattle.scene.specs.Conversion.{AreLeft, CanMakeSteps, bytes_for, capped_notes, capped_room, deletions_of, notes_for, room_of_many, room_of_steps};
 
 use crate::laws::needs_are_enough;
-use crate::need::{NoteRoom, leaving_need, note_need};
+use crate::need::{NoteRoom, SceneNeed, leaving_need, note_need};
 use crate::steps::make_step;
 use document::{Document, DocumentRoom, TextStep};
 use ed_model::LineEnd;
@@ -21,15 +21,6 @@ use line_ends::{
     count_missing, count_unwanted, has_conversion, has_several, next_missing, next_unwanted,
 };
 use notify::NoteList;
-
-/// How much memory a conversion of line ends needs. An amount past the greatest `usize` is that one, which is never there.
-#[derive(Clone, Copy, Debug, PartialEq, Eq)]
-pub struct ConversionNeed {
-    /// Notes, and the bytes of texts that they share.
-    pub notes: NoteRoom,
-    /// Room in the document.
-    pub document: DocumentRoom,
-}
 
 // The first byte that is missing from the place on, and where.
 fn missing_behind(document: &Document, from: usize, to: LineEnd) -> Option<(usize, u8)>
@@ -167,7 +158,7 @@ fn need_of_many(
     views: &IdTable<View>,
     step: TextStep,
     count: usize,
-) -> ConversionNeed
+) -> SceneNeed
     requires fits { IsStepOn step (length document.now.document.cells) }
     requires named { AreNamed views.now.entries }
     ensures notes { result.notes ≡ capped_notes (notes_of_step (watchers document.now.document views.now) (step_in step.entry (text_of document.now.document)) * count) (bytes_of_step (watchers document.now.document views.now) (step_in step.entry (text_of document.now.document)) * count) }
@@ -175,7 +166,7 @@ fn need_of_many(
 {
     let notes = note_need(document, views, step);
     let room = document.step_need(step);
-    ConversionNeed {
+    SceneNeed {
         notes: NoteRoom {
             notes: notes.notes.saturating_mul(count),
             bytes: notes.bytes.saturating_mul(count),
@@ -191,7 +182,7 @@ fn need_of_many(
 }
 
 // What the insertions need.
-fn need_of_insertions(document: &Document, views: &IdTable<View>, to: LineEnd) -> ConversionNeed
+fn need_of_insertions(document: &Document, views: &IdTable<View>, to: LineEnd) -> SceneNeed
     requires named { AreNamed views.now.entries }
     ensures notes { result.notes ≡ capped_notes (notes_of_steps (watchers document.now.document views.now) (missing_from 0 false to (text_of document.now.document))) (bytes_of_steps (watchers document.now.document views.now) (missing_from 0 false to (text_of document.now.document))) }
     ensures document { result.document ≡ capped_room (room_of_steps document.now.document.line_end_types (missing_from 0 false to (text_of document.now.document))) }
@@ -205,7 +196,7 @@ fn need_of_insertions(document: &Document, views: &IdTable<View>, to: LineEnd) -
 }
 
 // What the deletions need.
-fn need_of_deletions(document: &Document, views: &IdTable<View>, to: LineEnd) -> ConversionNeed
+fn need_of_deletions(document: &Document, views: &IdTable<View>, to: LineEnd) -> SceneNeed
     requires named { AreNamed views.now.entries }
     ensures notes { result.notes ≡ capped_notes (notes_of_steps (watchers document.now.document views.now) (deletions_of to (text_of document.now.document))) (bytes_of_steps (watchers document.now.document views.now) (deletions_of to (text_of document.now.document))) }
     ensures document { result.document ≡ capped_room (room_of_steps document.now.document.line_end_types (deletions_of to (text_of document.now.document))) }
@@ -213,7 +204,7 @@ fn need_of_deletions(document: &Document, views: &IdTable<View>, to: LineEnd) ->
     let (first, second) = document.halves();
     let count = count_unwanted(first, second, to);
     if count == 0 {
-        return ConversionNeed {
+        return SceneNeed {
             notes: NoteRoom::none(),
             document: DocumentRoom::none(),
         };
@@ -223,7 +214,7 @@ fn need_of_deletions(document: &Document, views: &IdTable<View>, to: LineEnd) ->
 }
 
 /// Returns what a conversion to this kind of line end needs: nothing, if it has no step.
-pub fn conversion_need(document: &Document, views: &IdTable<View>, to: LineEnd) -> ConversionNeed
+pub fn conversion_need(document: &Document, views: &IdTable<View>, to: LineEnd) -> SceneNeed
     requires named { AreNamed views.now.entries }
     ensures notes { result.notes ≡ capped_notes (notes_for (conversion_steps to (text_of document.now.document)) (scene_in document.now.document views.now.entries [])) (bytes_for (conversion_steps to (text_of document.now.document)) (scene_in document.now.document views.now.entries [])) }
     ensures document { result.document ≡ capped_room (room_of_steps document.now.document.line_end_types (conversion_steps to (text_of document.now.document))) }
@@ -234,7 +225,7 @@ pub fn conversion_need(document: &Document, views: &IdTable<View>, to: LineEnd) 
         notes: notes_of_leaving(document, views, to),
         bytes: 0,
     };
-    ConversionNeed {
+    SceneNeed {
         notes: insertions.notes.plus(deletions.notes).plus(leaving),
         document: insertions.document.plus(deletions.document),
     }

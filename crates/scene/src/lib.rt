@@ -16,10 +16,10 @@ mod steps;
 mod telling;
 mod undoing;
 
-pub use conversion::{ConversionNeed, conversion_need, convert};
+pub use conversion::{conversion_need, convert};
 pub use laws::needs_are_enough;
-pub use need::{NoteRoom, leaving_need, note_need};
+pub use need::{NoteRoom, SceneNeed, leaving_need, note_need};
 pub use regrouping::regroup;
 pub use steps::{StepBits, make_step, step_heard};
 pub use telling::{Audience, NoteText, attempt, count_hearers, count_watchers, tell};
-pub use undoing::{HistoryNeed, history_need, perform_history};
+pub use undoing::{history_need, perform_history};

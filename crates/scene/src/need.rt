@@ -1,17 +1,17 @@
-//! What steps need of a list of notes.
+//! What steps need of a list of notes, and of their document.
 
-ghost use Rattle.std.specs.Prelude.{◌≡◌, ◌*◌, length};
+ghost use Rattle.std.specs.Prelude.{◌≡◌, ◌*◌, true, length};
 ghost use Rattle.ed_model.specs.Session.{text_of};
 ghost use Rattle.document.specs.Kept.{amount_sum};
 ghost use Rattle.document.specs.TextSteps.{step_in, IsStepOn};
 ghost use Rattle.scene.specs.Scenes.{watchers, AreNamed};
 ghost use Rattle.scene.specs.Hearing.{hearers, bytes_shared};
-ghost use Rattle.scene.specs.Needs.{note_room, leaving_count, notes_of_step, bytes_of_step};
+ghost use Rattle.scene.specs.Needs.{IsCounted, note_room, leaving_count, notes_of_step, bytes_of_step};
 
 use crate::step_notes::{PERFORMED_USER, START_ACTION, count_of, kind_after, kind_before};
 use crate::steps::leaves_save_point;
 use crate::telling::{count_hearers, count_watchers};
-use document::{Document, TextStep};
+use document::{Document, DocumentRoom, TextStep};
 use ed_view::View;
 use id_table::IdTable;
 
@@ -40,6 +40,33 @@ impl NoteRoom {
             notes: self.notes.saturating_add(other.notes),
             bytes: self.bytes.saturating_add(other.bytes),
         }
+    }
+}
+
+/// How much memory many steps need: undo or redo, or a conversion of line ends. An amount past the greatest `usize` is that
+/// one, which is never there.
+#[derive(Clone, Copy, Debug, PartialEq, Eq)]
+pub struct SceneNeed {
+    /// Notes, and the bytes of texts that they share.
+    pub notes: NoteRoom,
+    /// Room in the document.
+    pub document: DocumentRoom,
+}
+
+impl SceneNeed {
+    /// Returns whether no amount is the greatest, at which sums stop.
+    #[inline]
+    pub fn is_counted(&self) -> bool
+        ensures counted { result ≡ true → IsCounted self.now }
+        ensures all { IsCounted self.now → result ≡ true }
+    {
+        self.notes.notes < usize::MAX
+            && self.notes.bytes < usize::MAX
+            && self.document.text < usize::MAX
+            && self.document.lines < usize::MAX
+            && self.document.insertions < usize::MAX
+            && self.document.steps < usize::MAX
+            && self.document.bytes < usize::MAX
     }
 }
 

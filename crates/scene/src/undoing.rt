@@ -14,9 +14,9 @@ ghost use Rattle.scene.specs.Hearing.{masks_of};
 ghost use Rattle.scene.specs.Needs.{note_room};
 ghost use Rattle.scene.specs.Turns.{turn_of, ChangeFits};
 ghost use Rattle.scene.specs.Performed.{CanPerformAll, AreAllPerformed};
-ghost use Rattle.scene.specs.Undoing.{bits_of, every_kind, free_behind, notes_of_change, bytes_of_change, bytes_of_changes, notes_of_history, room_of_changes, save_point_notes, IsCounted, capped_room, capped_notes, place_behind_any, place_by};
+ghost use Rattle.scene.specs.Undoing.{bits_of, every_kind, free_behind, notes_of_change, bytes_of_change, bytes_of_changes, notes_of_history, room_of_changes, save_point_notes, capped_room, capped_notes, place_behind_any, place_by};
 
-use crate::need::{NoteRoom, told_need};
+use crate::need::{NoteRoom, SceneNeed, told_need};
 use crate::performing::{Turn, kinds_of, kinds_of_all, perform_change};
 use crate::steps::SAVE_POINT_LEFT;
 use crate::telling::{Audience, NoteText, count_hearers, survey, tell};
@@ -28,32 +28,6 @@ use notify::{NoteList, blank};
 
 /// SCN_SAVEPOINTREACHED
 const SAVE_POINT_REACHED: u32 = 2002;
-
-/// How much memory undo or redo needs. An amount past the greatest `usize` is that one, which is never there.
-#[derive(Clone, Copy, Debug, PartialEq, Eq)]
-pub struct HistoryNeed {
-    /// Notes, and the bytes of texts that they share.
-    pub notes: NoteRoom,
-    /// Room in the document.
-    pub document: DocumentRoom,
-}
-
-impl HistoryNeed {
-    /// Whether no amount is the greatest, at which sums stop.
-    #[inline]
-    pub fn is_counted(&self) -> bool
-        ensures counted { result ≡ true → IsCounted self.now }
-        ensures all { IsCounted self.now → result ≡ true }
-    {
-        self.notes.notes < usize::MAX
-            && self.notes.bytes < usize::MAX
-            && self.document.text < usize::MAX
-            && self.document.lines < usize::MAX
-            && self.document.insertions < usize::MAX
-            && self.document.steps < usize::MAX
-            && self.document.bytes < usize::MAX
-    }
-}
 
 // The turn of the change at `index`, of `count`.
 fn turn_at(direction: Direction, index: usize, count: usize) -> Turn
@@ -276,7 +250,7 @@ fn save_point_need(document: &Document, direction: Direction, count: usize) -> u
 }
 
 // What undo or redo of one change needs: that of the change, and no loop that adds up.
-fn need_of_one(document: &Document, views: &IdTable<View>, direction: Direction) -> HistoryNeed
+fn need_of_one(document: &Document, views: &IdTable<View>, direction: Direction) -> SceneNeed
     requires named { AreNamed views.now.entries }
     requires one { length (changes_of direction document.now.document.history) ≡ 1 }
     ensures notes { result.notes ≡ capped_notes (notes_of_history (watchers document.now.document views.now) direction document.now.document.history) (bytes_of_changes (watchers document.now.document views.now) (bits_of direction) (changes_of direction document.now.document.history)) }
@@ -289,7 +263,7 @@ fn need_of_one(document: &Document, views: &IdTable<View>, direction: Direction)
         notes: save_point_need(document, direction, watched.count),
         bytes: 0,
     };
-    HistoryNeed {
+    SceneNeed {
         notes: notes.plus(told),
         document: DocumentRoom::none().plus(room),
     }
@@ -297,7 +271,7 @@ fn need_of_one(document: &Document, views: &IdTable<View>, direction: Direction)
 
 /// Returns what undo or redo needs at most. What goes out of the text makes room for what comes later.
 #[inline(always)]
-pub fn history_need(document: &Document, views: &IdTable<View>, direction: Direction) -> HistoryNeed
+pub fn history_need(document: &Document, views: &IdTable<View>, direction: Direction) -> SceneNeed
     requires named { AreNamed views.now.entries }
     ensures notes { result.notes ≡ capped_notes (notes_of_history (watchers document.now.document views.now) direction document.now.document.history) (bytes_of_changes (watchers document.now.document views.now) (bits_of direction) (changes_of direction document.now.document.history)) }
     ensures document { result.document ≡ capped_room (room_of_changes document.now.document.line_end_types (changes_of direction document.now.document.history)) }
@@ -307,7 +281,7 @@ pub fn history_need(document: &Document, views: &IdTable<View>, direction: Direc
         return need_of_one(document, views, direction);
     }
     let watched = survey(document, views);
-    let mut need = HistoryNeed {
+    let mut need = SceneNeed {
         notes: NoteRoom {
             notes: save_point_need(document, direction, watched.count),
             bytes: 0,
@@ -318,7 +292,7 @@ pub fn history_need(document: &Document, views: &IdTable<View>, direction: Direc
     for index in 0..count {
         let (outline, room) = document.change_with_need(direction, index);
         let notes = change_note_need(document, views, direction, outline, watched.masks);
-        need = HistoryNeed {
+        need = SceneNeed {
             notes: need.notes.plus(notes),
             document: need.document.plus(beside(free, room)),
         };

@@ -1,6 +1,7 @@
 use Rattle.ed_model.specs.Session.{text_of}
 use Rattle.scene.specs.Scenes.{scene_in}
-use Rattle.scene.proofs.StepsInTurn.{first_notes, first_bytes, text_after, put_of, puts_behind, put_next, put_made, fewer_puts}
+use Rattle.scene.specs.proved.Enough.{first_notes, first_bytes}
+use Rattle.scene.proofs.StepsInTurn.{text_after, put_of, puts_behind, put_next, put_made, fewer_puts}
 use Rattle.scene.proofs.conversion.put_missing.Goals as goal
 
 pub make_step-requires-clause-notes : goal.make_step-requires-clause-notes
