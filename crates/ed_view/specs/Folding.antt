@@ -1,7 +1,9 @@
 -- What a change of a view asks for: lines that there are, and room to fold.
-use Rattle.std.specs.Prelude.{Bool, true, false, ℕ, ◌+◌, ◌<◌, ◌≤◌, ◌≡◌, if◌then◌else◌}
+use Rattle.std.specs.Prelude.{Bool, true, false, ℕ, ◌+◌, ◌<◌, ◌≤◌, ◌≡◌, if◌then◌else◌, List, length}
 use Rattle.ed_model.specs.declared.plan.ViewChange.{ViewChange}
 use Rattle.ed_model.specs.declared.plan.ViewChange.TheVariants.{Select, SetTarget, SetSearchFlags, SetMask, SetIndicator, SetIndicatorValue, SetPasteConversion, SetRecording, ShowLines, HideLines, SetExpanded, Contract, Expand, EnsureVisible}
+use Rattle.ed_model.specs.Rows.{Flags}
+use Rattle.ed_model.specs.Folding.{is_visible}
 use Rattle.ed_model.specs.Requests.{Request, line_total}
 use Rattle.ed_model.specs.PlansFit.{IsFitViewChange}
 use Rattle.contraction.specs.ViewLines.{FoldRoom}
@@ -29,14 +31,15 @@ IsWithin lines (Expand line) = line < lines
 IsWithin lines (EnsureVisible line) = line < lines
 IsWithin lines other = Unit {0}
 
--- for how many lines in all there must be room to be hidden, and for how many more to be contracted
-abbrev pub fold_need : ℕ → ViewChange → FoldNeed
-fold_need lines (HideLines first past) = record { hidden = lines; contracted = 0 }
-fold_need lines (SetExpanded line on) = record { hidden = 0; contracted = if on then 0 else 1 }
-fold_need lines (Contract line) = record { hidden = lines; contracted = 1 }
-fold_need lines (Expand line) = record { hidden = lines; contracted = 0 }
-fold_need lines (EnsureVisible line) = record { hidden = lines; contracted = 0 }
-fold_need lines other = record { hidden = 0; contracted = 0 }
+-- for how many lines in all there must be room to be hidden, and for how many more to be contracted, where lines have these
+-- flags: expanding hides the children of contracted headers between, and a line that is visible stays as it is
+abbrev pub fold_need : List Flags → ViewChange → FoldNeed
+fold_need flags (HideLines first past) = record { hidden = length flags; contracted = 0 }
+fold_need flags (SetExpanded line on) = record { hidden = 0; contracted = if on then 0 else 1 }
+fold_need flags (Contract line) = record { hidden = length flags; contracted = 1 }
+fold_need flags (Expand line) = record { hidden = length flags; contracted = 0 }
+fold_need flags (EnsureVisible line) = record { hidden = if is_visible flags line then 0 else length flags; contracted = 0 }
+fold_need flags other = record { hidden = 0; contracted = 0 }
 
 abbrev pub HasFoldRoom : FoldRoom → FoldNeed → Type 0
 HasFoldRoom room need = (need.hidden ≤ room.hidden) × (need.contracted ≤ room.contracted)

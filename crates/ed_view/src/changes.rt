@@ -105,9 +105,9 @@ impl View {
     pub fn change(&mut self, levels: &Levels, change: ViewChange)
         requires levels { length levels.now ≡ length self.old.view.flags }
         requires within { IsWithin (length self.old.view.flags) change }
-        requires room { HasFoldRoom self.old.room (fold_need (length self.old.view.flags) change) }
+        requires room { HasFoldRoom self.old.room (fold_need self.old.view.flags change) }
         ensures view { self.new.view ≡ changed_view levels.now change self.old.view }
-        ensures room_left { LeavesFoldRoom self.old.room self.new.room (fold_need (length self.old.view.flags) change) }
+        ensures room_left { LeavesFoldRoom self.old.room self.new.room (fold_need self.old.view.flags change) }
     {
         if is_setting(change) {
             return self.set(change);

@@ -4,7 +4,7 @@ ghost use Rattle.std.specs.Prelude.{◌≡◌, ◌<◌, ◌≤◌, ◌+◌, ◌*
 ghost use Rattle.split_vector.specs.Split.{most_room};
 ghost use Rattle.contraction.specs.ViewLines.{contracted_lines};
 ghost use Rattle.ed_model.specs.declared.plan.ViewChange.TheVariants as change_to;
-ghost use Rattle.ed_model.specs.Folding.{lines_shown, lines_hidden, with_expanded};
+ghost use Rattle.ed_model.specs.Folding.{is_visible, lines_shown, lines_hidden, with_expanded};
 ghost use Rattle.ed_model.specs.Changes.{changed_view};
 ghost use Rattle.ed_view.specs.Folding.{fold_need as need_of, HasFoldRoom, LeavesFoldRoom};
 
@@ -23,9 +23,16 @@ pub struct FoldNeed {
 }
 
 impl View {
-    /// Returns how much room the change needs.
+    // Whether the line is visible, or is none of the view's.
+    fn shows(&self, line: usize) -> bool
+        ensures { result ≡ is_visible self.now.view.flags line }
+    {
+        line >= self.lines.count() || self.lines.visible(line)
+    }
+
+    /// Returns how much room the change needs. For a line to be made visible that is visible already it is none.
     pub fn fold_need(&self, change: ViewChange) -> FoldNeed
-        ensures { result ≡ need_of (length self.now.view.flags) change }
+        ensures { result ≡ need_of self.now.view.flags change }
     {
         let lines = self.lines.count();
         match change {
@@ -37,10 +44,12 @@ impl View {
                 hidden: lines,
                 contracted: 1,
             },
-            ViewChange::HideLines { .. }
-            | ViewChange::Expand { .. }
-            | ViewChange::EnsureVisible { .. } => FoldNeed {
+            ViewChange::HideLines { .. } | ViewChange::Expand { .. } => FoldNeed {
                 hidden: lines,
+                contracted: 0,
+            },
+            ViewChange::EnsureVisible { line } => FoldNeed {
+                hidden: if self.shows(line) { 0 } else { lines },
                 contracted: 0,
             },
             _ => FoldNeed {
@@ -94,9 +103,9 @@ impl View {
     /// Expands a line or contracts it, and leaves its children as they are. Contracting needs room for one more line.
     pub fn set_expanded(&mut self, line: usize, on: bool)
         requires within { line < length self.old.view.flags }
-        requires room { HasFoldRoom self.old.room (need_of (length self.old.view.flags) (change_to.SetExpanded line on)) }
+        requires room { HasFoldRoom self.old.room (need_of self.old.view.flags (change_to.SetExpanded line on)) }
         ensures view { self.new.view ≡ record self.old.view { flags = with_expanded line on self.old.view.flags } }
-        ensures room_left { LeavesFoldRoom self.old.room self.new.room (need_of (length self.old.view.flags) (change_to.SetExpanded line on)) }
+        ensures room_left { LeavesFoldRoom self.old.room self.new.room (need_of self.old.view.flags (change_to.SetExpanded line on)) }
     {
         self.lines.set_expanded(line, on);
     }
@@ -106,9 +115,9 @@ impl View {
     pub fn contract(&mut self, levels: &Levels, header: usize)
         requires levels { length levels.now ≡ length self.old.view.flags }
         requires within { header < length self.old.view.flags }
-        requires room { HasFoldRoom self.old.room (need_of (length self.old.view.flags) (change_to.Contract header)) }
+        requires room { HasFoldRoom self.old.room (need_of self.old.view.flags (change_to.Contract header)) }
         ensures view { self.new.view ≡ changed_view levels.now (change_to.Contract header) self.old.view }
-        ensures room_left { LeavesFoldRoom self.old.room self.new.room (need_of (length self.old.view.flags) (change_to.Contract header)) }
+        ensures room_left { LeavesFoldRoom self.old.room self.new.room (need_of self.old.view.flags (change_to.Contract header)) }
     {
         self.lines.contract(levels, header);
     }
@@ -120,20 +129,23 @@ impl View {
         requires within { header < length self.old.view.flags }
         requires room { length self.old.view.flags ≤ self.old.room.hidden }
         ensures view { self.new.view ≡ changed_view levels.now (change_to.Expand header) self.old.view }
-        ensures room_left { LeavesFoldRoom self.old.room self.new.room (need_of (length self.old.view.flags) (change_to.Expand header)) }
+        ensures room_left { LeavesFoldRoom self.old.room self.new.room (need_of self.old.view.flags (change_to.Expand header)) }
     {
         self.lines.expand(levels, header);
     }
 
     /// Makes a line visible that is hidden: its fold parents are made visible and expanded first, the outermost before all.
-    /// There must be room for all lines to be hidden.
+    /// There must be room for all lines to be hidden then; a line that is visible needs none.
     pub fn ensure_visible(&mut self, levels: &Levels, line: usize)
         requires levels { length levels.now ≡ length self.old.view.flags }
         requires within { line < length self.old.view.flags }
-        requires room { length self.old.view.flags ≤ self.old.room.hidden }
+        requires room { HasFoldRoom self.old.room (need_of self.old.view.flags (change_to.EnsureVisible line)) }
         ensures view { self.new.view ≡ changed_view levels.now (change_to.EnsureVisible line) self.old.view }
-        ensures room_left { LeavesFoldRoom self.old.room self.new.room (need_of (length self.old.view.flags) (change_to.EnsureVisible line)) }
+        ensures room_left { LeavesFoldRoom self.old.room self.new.room (need_of self.old.view.flags (change_to.EnsureVisible line)) }
     {
+        if self.shows(line) {
+            return;
+        }
         self.lines.ensure(levels, line);
     }
 }

@@ -42,7 +42,7 @@ unrecorded_task s document view m kind r what found planned own unheard fit = re
 
 -- Light changes of a view.
 
-no_fold_room : (what : ViewChange) (v : KeptView) → takes_fold_room what ≡ false → HasFoldRoom v.room (fold_need (length v.view.flags) what)
+no_fold_room : (what : ViewChange) (v : KeptView) → takes_fold_room what ≡ false → HasFoldRoom v.room (fold_need v.view.flags what)
 no_fold_room (change.HideLines first past) v h = absurd (cc)
 no_fold_room (change.SetExpanded line true) v h = (omega arith, omega arith)
 no_fold_room (change.SetExpanded line false) v h = absurd (cc)
@@ -59,7 +59,7 @@ no_fold_room (change.SetPasteConversion on) v h = (omega arith, omega arith)
 no_fold_room (change.SetRecording on) v h = (omega arith, omega arith)
 no_fold_room (change.ShowLines first past) v h = (omega arith, omega arith)
 
-of_any : (o : Option KeptView) (what : ViewChange) → IsSome o → takes_fold_room what ≡ false → IsSomeAnd o (λ v. HasFoldRoom v.room (fold_need (length v.view.flags) what))
+of_any : (o : Option KeptView) (what : ViewChange) → IsSome o → takes_fold_room what ≡ false → IsSomeAnd o (λ v. HasFoldRoom v.room (fold_need v.view.flags what))
 of_any None what e h = absurd (cc)
 of_any (Some v) what e h = no_fold_room what v h
 

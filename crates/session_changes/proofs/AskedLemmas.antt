@@ -17,7 +17,7 @@ use Rattle.message_requests.specs.declared.state.SessionState.{SessionState}
 use Rattle.session_changes.specs.Kept.{IsKept}
 use Rattle.session_changes.specs.Asked.{IsAsked, CanChangeView}
 use Rattle.session_changes.specs.Folding.{HasFoldRoomAt, levels_of, changed_at, CanChange}
-use Rattle.session_changes.proofs.Finding.{view_in, id_of_view, document_in, id_of_document, IsKeptAs, kept_as, own_at, holds_at, found_once, one_changes}
+use Rattle.session_changes.specs.proved.Finding.{view_in, id_of_view, document_in, id_of_document, IsKeptAs, kept_as, own_at, holds_at, found_once, one_changes}
 
 module _ (s : SessionState) (document view : ℕ) (r : Request) (kept : IsKept s) (asked : IsAsked (session_in s) document view r) where
   pub view_found : view_at (session_in s).views view ≡ Some r.view
@@ -94,7 +94,7 @@ can_change law s document view change kept can room k at levels lines =
     let flags : length v.view.flags ≡ lines_in r.document = ap (λ (x : View). length x.flags) there.is ∙ stand.lines in
     let same : k.document ≡ r.document = same_document s document view r kept can.asked k at in
     let within : IsWithin (length v.view.flags) change = subst (λ n. IsWithin n change) (sym flags) (law r change can.fit) in
-    let has : HasFoldRoom v.room (fold_need (length v.view.flags) change) = subst (λ o. IsSomeAnd o (λ w. HasFoldRoom w.room (fold_need (length w.view.flags) change))) there.there room in
+    let has : HasFoldRoom v.room (fold_need v.view.flags change) = subst (λ o. IsSomeAnd o (λ w. HasFoldRoom w.room (fold_need w.view.flags change))) there.there room in
     subst (λ o. IsSomeAnd o (CanChange levels change)) (sym there.there) (lines ∙ ap lines_in same ∙ sym flags, within, has)
 
 -- the session with the views changed so is that of the request

@@ -1,6 +1,6 @@
 -- A view goes from one document to another.
 use Rattle.std.proofs.Common.{◌≡◌, ◌≢◌, ℕ, ◌+◌, ◌<◌, ◌==◌, Bool, true, false, cond, List, [], ◌∷◌, ◌++◌, map, refl, ap, sym, ◌∙◌, subst, arith, Option, Some, None, option_map}
-use Rattle.std.specs.Prelude.{nat_lt, not, find, if◌then◌else◌}
+use Rattle.std.specs.Prelude.{nat_lt, not, if◌then◌else◌}
 use Rattle.std.specs.List.{AllByRecursion}
 use Rattle.std.proofs.lemmas.Bool.{eqb-true, eqb-false, lt-ltb, cond_both}
 use Rattle.std.proofs.lemmas.List.{length-append}
@@ -13,7 +13,8 @@ use Rattle.document_table.specs.Leaving.{documents_in as entries_in, left_over_o
 use Rattle.message_requests.specs.Requested.{documents_in}
 use Rattle.session_changes.specs.Kept.{DocumentsAreNamed}
 use Rattle.session_changes.specs.Moving.{CanMove, with_last}
-use Rattle.session_changes.proofs.Finding.{id_of_document, still_named}
+use Rattle.session_changes.specs.proved.Finding.{id_of_document, still_named}
+use Rattle.session_changes.specs.proved.Names.{IsNamedDocument, named_in, named_out, id_at}
 
 -- Documents in their entries, without their room.
 
@@ -63,25 +64,6 @@ living_left law id next change each entries left named rise referenced alike is 
     ∙ ap (λ ds. living (map each ds)) (values_same entries)
 
 -- Names stay.
-
-abbrev pub IsNamedDocument : Entry Document → Type 0
-IsNamedDocument e = e.id ≡ e.value.id
-
-named_in : (entries : List (Entry Kept)) → DocumentsAreNamed entries → AllByRecursion IsNamedDocument (entries_in entries)
-named_in [] all = tt
-named_in (e ∷ es) all = (all.0, named_in es all.1)
-
-named_out : (entries : List (Entry Kept)) → AllByRecursion IsNamedDocument (entries_in entries) → DocumentsAreNamed entries
-named_out [] all = tt
-named_out (e ∷ es) all = (all.0, named_out es all.1)
-
-id_at : (entries : List (Entry Document)) (id : ℕ) (d : Document) → AllByRecursion IsNamedDocument entries → value_at entries id ≡ Some d → d.id ≡ id
-id_at [] id d all e = absurd (cc)
-id_at (x ∷ xs) id d all e = go (x.id == id) refl e (λ e. id_at xs id d all.1 e)
-  where
-    go : (b : Bool) → (x.id == id) ≡ b → option_map value_of (cond b (Some x) (find (λ (e : Entry Document). e.id == id) xs)) ≡ Some d → (value_at xs id ≡ Some d → d.id ≡ id) → d.id ≡ id
-    go true t e rest = let same : x.value ≡ d = cc in ap (λ (y : Document). y.id) (sym same) ∙ sym all.0 ∙ eqb-true x.id id t
-    go false t e rest = rest e
 
 all_without : (P : Entry Document → Type 0) (id : ℕ) (entries : List (Entry Document)) → AllByRecursion P entries → AllByRecursion P (without_id id entries)
 all_without P id [] all = tt

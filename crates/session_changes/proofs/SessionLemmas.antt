@@ -14,8 +14,8 @@ use Rattle.ed_model.specs.declared.plan.SessionChange.{SessionChange}
 use Rattle.ed_model.specs.declared.plan.SessionChange.TheVariants as change
 use Rattle.ed_model.specs.Text.{Cell}
 use Rattle.ed_model.specs.Lines.{line_count, is_line_start}
-use Rattle.ed_model.specs.Session.{Session, Document, View, view_at, document_at, text_of, lines_in, references, living, left_by, without, is_allowed, is_large, attached_to, new_document, with_view}
-use Rattle.ed_model.specs.SoundLaws.{Rise, IsSoundDocument, IsViewOn, ListsItsViews}
+use Rattle.ed_model.specs.Session.{Session, Document, View, view_at, document_at, text_of, lines_in, references, living, left_by, is_allowed, is_large, attached_to, new_document, with_view}
+use Rattle.ed_model.specs.SoundLaws.{Rise, IsSoundDocument, ListsItsViews}
 use Rattle.ed_model.specs.Requests.{Request}
 use Rattle.ed_model.specs.PlansFit.{IsFitSessionChange}
 use Rattle.ed_model.specs.Changes.{session_changed, held_less, attached, attached_last, with_attached, with_new_document}
@@ -36,7 +36,8 @@ use Rattle.session_changes.specs.Folding.{HasFoldRoomAt, IsFoldRoomAtMost, IsRoo
 use Rattle.session_changes.specs.Moving.{DocumentsRise, CanMove}
 use Rattle.session_changes.specs.Ready.{IsReady, AwaitsView, IsHeld, ArePlacesAtMost}
 use Rattle.session_changes.specs.declared.ready.SessionReady.TheVariants as made
-use Rattle.session_changes.proofs.Finding.{document_in, id_of_document, own_at, holds_at, found_some, kept_as, for_replaced, value_replaced}
+use Rattle.session_changes.specs.proved.Finding.{document_in, id_of_document, own_at, holds_at, found_some, kept_as, for_replaced, value_replaced}
+use Rattle.session_changes.specs.proved.Names.{without_itself, none_listed}
 use Rattle.session_changes.proofs.AskedLemmas.{of_document, view_found, on_document, document_found, kept_view, kept_document, stands, in_its_place}
 use Rattle.session_changes.proofs.MovingLemmas.{ChangesAlike, living_left}
 
@@ -59,32 +60,23 @@ pub places_most : (entries : List (Entry Kept)) (id : ℕ) (old new : Kept) → 
     → ArePlacesAtMost entries (with_value_at id new entries) id
 places_most entries id old new at most = for_some _ _ old at (for_some _ _ new (value_replaced entries id old new at) most)
 
-pub fold_room_is_there : (entries : List (Entry KeptView)) (view : ℕ) (old : KeptView) (change : ViewChange) (need : FoldNeed) → value_at entries view ≡ Some old → need ≡ fold_need (length old.view.flags) change
+pub fold_room_is_there : (entries : List (Entry KeptView)) (view : ℕ) (old : KeptView) (change : ViewChange) (need : FoldNeed) → value_at entries view ≡ Some old → need ≡ fold_need old.view.flags change
     → HasFoldRoomAt entries view change → HasFoldRoom old.room need
 fold_room_is_there entries view old change need at is has =
-    subst (λ n. HasFoldRoom old.room n) (sym is) (there_of_some (λ (v : KeptView). HasFoldRoom v.room (fold_need (length v.view.flags) change)) (value_at entries view) old at has)
+    subst (λ n. HasFoldRoom old.room n) (sym is) (there_of_some (λ (v : KeptView). HasFoldRoom v.room (fold_need v.view.flags change)) (value_at entries view) old at has)
 
 pub fold_room_there : (entries : List (Entry KeptView)) (view : ℕ) (old new : KeptView) (change : ViewChange) (need : FoldNeed) → value_at entries view ≡ Some old → new.view ≡ old.view
-    → need ≡ fold_need (length old.view.flags) change → HasFoldRoom new.room need → HasFoldRoomAt (with_value_at view new entries) view change
+    → need ≡ fold_need old.view.flags change → HasFoldRoom new.room need → HasFoldRoomAt (with_value_at view new entries) view change
 fold_room_there entries view old new change need at same is room =
-    for_replaced (λ w. HasFoldRoom w.room (fold_need (length w.view.flags) change)) entries view old new at
-    (subst (λ (v : View). HasFoldRoom new.room (fold_need (length v.flags) change)) (sym same) (subst (λ n. HasFoldRoom new.room n) is room))
+    for_replaced (λ w. HasFoldRoom w.room (fold_need w.view.flags change)) entries view old new at
+    (subst (λ (v : View). HasFoldRoom new.room (fold_need v.flags change)) (sym same) (subst (λ n. HasFoldRoom new.room n) is room))
 
-pub fold_room_most : (entries : List (Entry KeptView)) (view : ℕ) (old new : KeptView) (change : ViewChange) (need : FoldNeed) → value_at entries view ≡ Some old → need ≡ fold_need (length old.view.flags) change
+pub fold_room_most : (entries : List (Entry KeptView)) (view : ℕ) (old new : KeptView) (change : ViewChange) (need : FoldNeed) → value_at entries view ≡ Some old → need ≡ fold_need old.view.flags change
     → IsFoldRoomAtMost old new.room need → IsRoomAtMostAt entries (with_value_at view new entries) view change
 fold_room_most entries view old new change need at is most =
     for_some _ _ old at (for_some _ _ new (value_replaced entries view old new at) (subst (λ n. IsFoldRoomAtMost old new.room n) is most))
 
 -- The clipboard.
-
-pub starts_empty : (documents : Entries Kept) (what : SessionChange) (bytes : Vec ℕ) → IsReady documents what (made.Clipboard bytes) → bytes.items ≡ []
-starts_empty documents (change.Copy start count) bytes ready = ready.0
-starts_empty documents (change.CopyText count) bytes ready = ready.0
-starts_empty documents (change.Attach id) bytes ready = absurd ready.0
-starts_empty documents change.AttachNew bytes ready = absurd ready
-starts_empty documents (change.Create options) bytes ready = absurd ready
-starts_empty documents (change.AddReference id) bytes ready = absurd ready
-starts_empty documents (change.Release id) bytes ready = absurd ready
 
 pub can_copy : (documents : Entries Kept) (what : SessionChange) (bytes : Vec ℕ) (r : Request) (text : List ℕ) → IsReady documents what (made.Clipboard bytes) → r.message.text ≡ text → IsFitSessionChange r what
     → CanCopy what (length r.document.cells) (length text) (vec_capacity bytes)
@@ -123,9 +115,6 @@ clipboard_so s document view text what bytes done kept ready put r asked is =
 
 pub held_few : (l : Limits) → is_allowed l ≡ true → l.refs ≤ 2 ^ 31 - 1
 held_few l h = grind (arith, nat_tests)
-
-pub ids_few : (l : Limits) → is_allowed l ≡ true → l.ids ≤ 2 ^ 31 - 1
-ids_few l h = grind (arith, nat_tests)
 
 pub texts_few : (l : Limits) → is_allowed l ≡ true → (l.doc_bytes ≤ 2 ^ 31 - 1) × (l.large_bytes ≤ 2 ^ 40)
 texts_few l h = (grind (arith, nat_tests), grind (arith, nat_tests))
@@ -191,25 +180,6 @@ released_so law s id left kept gone next =
     ∙ ap (λ n. record old { documents = living (map (held_less id) old.documents); next_document = n }) next
 
 -- A view is attached.
-
-without_itself : (view : ℕ) (ids : List ℕ) → AllByRecursion (λ id. id ≢ view) ids → without view ids ≡ ids
-without_itself view [] all = refl
-without_itself view (id ∷ ids) all =
-    let t : (id == view) ≡ false = ne_eqb id view all.0 in
-    rw t (ap (λ xs. id ∷ xs) (without_itself view ids all.1))
-
-none_listed : (views : List View) (v : View) (view document : ℕ) (ids : List ℕ) → view_at views view ≡ Some v → document ≢ v.document → AllByRecursion (IsViewOn views document) ids → AllByRecursion (λ id. id ≢ view) ids
-none_listed views v view document [] found other all = tt
-none_listed views v view document (id ∷ ids) found other all = (
-  (λ e. (let listed = all.0 in
-      let w = listed.0 in
-      let at : view_at views id ≡ Some w = listed.1 in
-      let on : w.document ≡ document = listed.2 in
-      let here : view_at views id ≡ Some v = ap (view_at views) e ∙ found in
-      let same : w ≡ v = cc in
-      other (sym on ∙ ap (λ (x : View). x.document) same))),
-  none_listed views v view document ids found other all.1,
-)
 
 listed_elsewhere : (views : List View) (v : View) (view from : ℕ) (ds : List Document) → view_at views view ≡ Some v → v.document ≡ from → AllByRecursion (ListsItsViews views) ds
     → AllByRecursion (λ (d : Document). d.id ≢ from → left_by view d ≡ d) ds

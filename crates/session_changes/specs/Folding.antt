@@ -22,7 +22,7 @@ takes_fold_room other = false
 
 -- the view is there, and has the room
 abbrev pub HasFoldRoomAt : List (Entry KeptView) → ℕ → ViewChange → Type 0
-HasFoldRoomAt entries view change = IsSomeAnd (value_at entries view) (λ v. HasFoldRoom v.room (fold_need (length v.view.flags) change))
+HasFoldRoomAt entries view change = IsSomeAnd (value_at entries view) (λ v. HasFoldRoom v.room (fold_need v.view.flags change))
 
 -- the room is at most what making so much of it for a view comes to
 abbrev pub IsFoldRoomAtMost : KeptView → FoldRoom → FoldNeed → Type 0
@@ -32,7 +32,7 @@ IsFoldRoomAtMost old room need =
 -- .. and so is that of the view of that id, for the change
 abbrev pub IsRoomAtMostAt : List (Entry KeptView) → List (Entry KeptView) → ℕ → ViewChange → Type 0
 IsRoomAtMostAt old new view change =
-    IfSome (value_at old view) (λ before. IfSome (value_at new view) (λ after. IsFoldRoomAtMost before after.room (fold_need (length before.view.flags) change)))
+    IfSome (value_at old view) (λ before. IfSome (value_at new view) (λ after. IsFoldRoomAtMost before after.room (fold_need before.view.flags change)))
 
 -- the fold levels of the document's lines
 abbrev pub levels_of : Document → List ℕ
@@ -45,4 +45,4 @@ changed_at id change views = map (λ (v : View). if v.id == id then change v els
 -- the levels are of as many lines as the view has, the change is within them, and there is room for it
 abbrev pub CanChange : List ℕ → ViewChange → KeptView → Type 0
 CanChange levels change v =
-    (length levels ≡ length v.view.flags) × IsWithin (length v.view.flags) change × HasFoldRoom v.room (fold_need (length v.view.flags) change)
+    (length levels ≡ length v.view.flags) × IsWithin (length v.view.flags) change × HasFoldRoom v.room (fold_need v.view.flags change)

@@ -5,3 +5,4 @@ pub mod Clipboard
 pub mod Folding
 pub mod Moving
 pub mod Ready
+pub mod proved

@@ -1,6 +1,6 @@
 use Rattle.std.proofs.Common.{sym, ap, ◌∙◌}
 use Rattle.std.specs.Option.{option_copied_mut}
-use Rattle.session_changes.proofs.Finding.{document_in, id_of_document, changed, named_with}
+use Rattle.session_changes.specs.proved.Finding.{document_in, id_of_document, changed, named_with}
 use Rattle.session_changes.proofs.MovingLemmas.{given, moved_last, moved_last_so}
 use Rattle.session_changes.proofs.moving.move_last.Goals as goal
 

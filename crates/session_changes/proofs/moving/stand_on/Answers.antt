@@ -1,7 +1,7 @@
 use Rattle.std.proofs.Common.{sym, ap, ◌∙◌}
 use Rattle.std.specs.Option.{option_copied_mut}
 use Rattle.ed_model.specs.Session.{attached_to}
-use Rattle.session_changes.proofs.Finding.{view_in, id_of_view, changed, named_with}
+use Rattle.session_changes.specs.proved.Finding.{view_in, id_of_view, changed, named_with}
 use Rattle.session_changes.proofs.moving.stand_on.Goals as goal
 
 pub returns-clause-views : goal.returns-clause-views

@@ -1,7 +1,7 @@
 use Rattle.std.proofs.Common.{sym, ap, ◌∙◌, ◌<◌}
 use Rattle.std.specs.Option.{option_copied_mut}
 use Rattle.document.specs.Kept.{Kept}
-use Rattle.session_changes.proofs.Finding.{document_in, id_of_document, unchanged, named_with, value_replaced}
+use Rattle.session_changes.specs.proved.Finding.{document_in, id_of_document, unchanged, named_with, value_replaced}
 use Rattle.session_changes.proofs.SessionLemmas.{when_ok, for_some, of_some, places_most}
 use Rattle.session_changes.proofs.ready.reserve_view_in.Goals as goal
 

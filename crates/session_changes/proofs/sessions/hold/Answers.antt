@@ -1,7 +1,7 @@
 use Rattle.std.proofs.Common.{sym, ap, ◌∙◌}
 use Rattle.std.specs.Option.{option_copied_mut}
 use Rattle.document.specs.Kept.{Kept}
-use Rattle.session_changes.proofs.Finding.{document_in, id_of_document, changed, named_with}
+use Rattle.session_changes.specs.proved.Finding.{document_in, id_of_document, changed, named_with}
 use Rattle.session_changes.proofs.SessionLemmas.{given_more}
 use Rattle.session_changes.proofs.sessions.hold.Goals as goal
 

@@ -1,6 +1,6 @@
 use Rattle.std.proofs.Common.{sym, ap, ◌∙◌}
 use Rattle.std.specs.Option.{option_copied_mut}
-use Rattle.session_changes.proofs.Finding.{view_in, id_of_view, unchanged, named_with}
+use Rattle.session_changes.specs.proved.Finding.{view_in, id_of_view, unchanged, named_with}
 use Rattle.session_changes.proofs.SessionLemmas.{when_ok, fold_room_is_there, fold_room_there, fold_room_most}
 use Rattle.session_changes.proofs.views.reserve_in.Goals as goal
 

@@ -2,7 +2,7 @@ use Rattle.std.proofs.Common.{sym, ap, ◌∙◌, []}
 use Rattle.std.specs.Option.{option_copied_mut}
 use Rattle.ed_model.specs.Changes.{changed_view}
 use Rattle.ed_view.specs.Kept.{KeptView}
-use Rattle.session_changes.proofs.Finding.{view_in, id_of_view, changed, named_with}
+use Rattle.session_changes.specs.proved.Finding.{view_in, id_of_view, changed, named_with}
 use Rattle.session_changes.proofs.AskedLemmas.{id_stays}
 use Rattle.session_changes.proofs.views.set_in.Goals as goal
 
