@@ -174,9 +174,6 @@ module _ (view : ℕ) where
     pub same : t ≡ record s { views = t.views }
     pub views : Like s.views t.views
 
-  pub is_same : (s : Session) → Same s s
-  is_same s = record { same = refl; views = refl }
-
   -- the request in the other session, where the sender records or does not
   abbrev other : Request → List View → Bool → Request
   other r ws b = let s = r.session in let v = r.view in record r { session = record s { views = ws }; view = record v { records = b } }

@@ -499,10 +499,6 @@ unmodified_is_the_saved_text c keeps files commands s id d e sound found at kept
 
 -- GETMODIFY.
 
-abbrev AnswersZeroOnlyIf : Bool → Answered → Type 0
-AnswersZeroOnlyIf at (Ok done) = done.1.value ≡ pos 0 → at ≡ true
-AnswersZeroOnlyIf at (Err refusal) = Unit {0}
-
 zero_only_if : (at : Bool) (b : Bool) (r : Request) (done : Session × Response) → done ≡ (r.session, cond b (let q = quiet (flag (not at)) in record q { notes = record_note r ∷ [] }) (quiet (flag (not at)))) → done.1.value ≡ pos 0 → at ≡ true
 zero_only_if true b r done e zero_is = refl
 zero_only_if false true r done e zero_is = let one : done.1.value ≡ pos 1 = ap (λ (x : Session × Response). x.1.value) e in absurd (cc)
