@@ -8,3 +8,4 @@ pub mod StyledCells
 pub mod MarkerLines
 pub mod TypeSettings
 pub mod MarkerNumbers
+pub mod Masks

@@ -1,14 +1,9 @@
 -- What a step makes of the parts of a document.
-use Rattle.std.proofs.Common.{◌≡◌, ◌≤◌, ◌<◌, ◌+◌, ◌^◌, ℕ, Bool, true, false, List, length, min, refl, sym, ap, ◌∙◌, arith}
+use Rattle.std.proofs.Common.{◌≡◌, ◌≤◌, ◌<◌, ◌+◌, ◌^◌, ℕ, Bool, true, false, List, length, refl, sym, ap, ◌∙◌, arith}
 use Rattle.std.proofs.lemmas.List.{length-map}
 use Rattle.ed_model.specs.Text.{Cell, bytes_of}
 use Rattle.ed_model.specs.Lines.{line_count}
-use Rattle.ed_model.specs.Steps.{Step, place_of, edited, edited_cells}
-use Rattle.ed_model.specs.declared.plan.LineEndTypes.{LineEndTypes}
-use Rattle.ed_model.specs.Indicators.{indicators_after}
-use Rattle.ed_model.specs.Rows.{Row}
-use Rattle.ed_model.specs.Session.{Document}
-use Rattle.ed_model.specs.Performing.{document_after}
+use Rattle.ed_model.specs.Steps.{Step, edited, edited_cells}
 use Rattle.ed_model.specs.MergeLaws.{end_of}
 use Rattle.ed_model.specs.proved.Steps.{bytes_of_edited_cells}
 use Rattle.line_index.specs.declared.change.LineChange.{LineChange}
@@ -17,8 +12,7 @@ use Rattle.line_index.specs.StepEdits.{change_of}
 use Rattle.line_rows.specs.Kept.{KeptRows}
 use Rattle.document.specs.Kept.{bound_of}
 use Rattle.document.specs.Places.{LinesOf, IndicatorsOf}
-use Rattle.document.specs.Parts.{document_in, ArePartsOf, HasLinesOf, IsChange, AreCarried}
-use Rattle.document.specs.declared.kept.Document.TheInside.{Inside}
+use Rattle.document.specs.Parts.{ArePartsOf, HasLinesOf, IsChange, AreCarried}
 use Rattle.document.proofs.LineSteps.{lines_of_index}
 
 pub small_bound : (is_large : Bool) → bound_of is_large ≤ 2 ^ 61
@@ -61,18 +55,3 @@ parts_after step cells new_cells room new_room options lines new_lines rows new_
       indicator_width = indicator_width ∙ parts.indicator_width;
       fits = omega (arith, as_long, parts.fits);
     }
-
--- the document with other parts
-abbrev pub document_with : Inside → List Cell → List Row → ℕ → List (List ℕ) → LineEndTypes → ℕ → Document
-document_with d cells rows handle values types styled =
-    let document = document_in d in
-    record document { cells = cells; rows = rows; next_handle = handle; indicators = values; line_end_types = types; end_styled = styled }
-
--- the document of the parts after it
-pub document_of_parts :
-    (step : Step) (d : Inside) (cells : List Cell) (rows : KeptRows) (values : List (List ℕ)) (types : LineEndTypes) (styled : ℕ) → cells ≡ edited_cells step d.cells.cells
-    → AreCarried d.rows rows d.lines.index.types step (bytes_of d.cells.cells) → values ≡ indicators_after step d.indicators.decorated.values → types ≡ d.lines.index.types
-    → styled ≡ min d.end_styled (place_of step)
-    → document_with d cells rows.rows rows.next_handle values types styled ≡ document_after step (document_in d)
-document_of_parts step d cells rows values types styled cells_are carried values_are types_are styled_is =
-    rw (cells_are, carried.rows, carried.next_handle, values_are, types_are, styled_is) refl

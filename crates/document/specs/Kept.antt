@@ -63,6 +63,10 @@ pub record TakesRoom (old new need : DocumentRoom) : Type 0 where
   pub steps_left : old.steps ≤ new.steps + need.steps
   pub bytes_left : old.bytes ≤ new.bytes + need.bytes
 
+-- a room, and that of so many bytes that went out of the text
+abbrev pub with_freed : ℕ → DocumentRoom → DocumentRoom
+with_freed bytes room = record room { text = room.text + bytes }
+
 -- no amount is more than the greater of what there was and what was asked for
 pub record IsAtMost (new old need : DocumentRoom) : Type 0 where
   pub text : new.text ≤ max old.text need.text

@@ -1,5 +1,5 @@
 -- How a document is kept, in parts.
-use Rattle.std.specs.Prelude.{◌≡◌, ℕ, ◌+◌, ◌-◌, ◌^◌, ◌<◌, ◌≤◌, List, length, vec_len, vec_capacity}
+use Rattle.std.specs.Prelude.{◌≡◌, ℕ, ◌+◌, ◌-◌, ◌^◌, ◌<◌, ◌≤◌, List, length, None, vec_len, vec_capacity}
 use Rattle.ed_model.specs.Numbers.{meets}
 use Rattle.ed_model.specs.Text.{Cell, bytes_of}
 use Rattle.ed_model.specs.Lines.{line_count}
@@ -83,13 +83,18 @@ pub record WasChanged (rows : KeptRows) (change : LineChange) : Type 0 where
   pub text : List ℕ
   pub is : IsChange rows change types step text
 
--- The rows are those after the step. So much of the room for lines was taken at most, and no less than lines came.
+-- The rows are those after the step. So much of the room for lines was taken at most, and no less than lines came; none was made.
+-- Markers of lines that go leave their room, and that of levels and states stays.
 pub record AreCarried (old new : KeptRows) (types : LineEndTypes) (step : Step) (text : List ℕ) : Type 0 where
   pub rows : new.rows ≡ carried_by rows_together types step text old.rows
   pub row_count : length new.rows ≡ line_count types (edited step text)
   pub next_handle : new.next_handle ≡ old.next_handle
   pub room_left : old.room.lines ≤ new.room.lines + lines_for_step types step
   pub room_for_lines : new.room.lines + length new.rows ≤ old.room.lines + length old.rows
+  pub none_made : new.room.lines ≤ old.room.lines
+  pub levels : new.room.levels ≡ old.room.levels
+  pub states : new.room.states ≡ old.room.states
+  pub markers : old.room.markers ≤ new.room.markers
 
 -- the index has the lines of these cells' bytes, which line ends of these types end; no public clause cites this
 pub record HasLinesOf (types : LineEndTypes) (cells : List Cell) (lines : Index) : Type 0 where
@@ -122,7 +127,8 @@ pub record CanTake (p : TextParts) (need : DocumentRoom) : Type 0 where
   pub lines : need.lines ≤ p.rows.room.lines
   pub insertions : need.insertions ≤ p.indicators.decorated.room
 
--- the parts after the step, for which no more room was taken than it needs; what goes out of the text leaves its room
+-- The parts after the step, for which no more room was taken than it needs. What goes out of the text leaves its room, and no other is
+-- made; that for a fill is gone.
 pub record AreStepped (old new : TextParts) (step : Step) (need : DocumentRoom) : Type 0 where
   pub together : (options : ℕ) → AreTogether options old → AreTogether options new
   pub cells : new.cells ≡ edited_cells step old.cells
@@ -131,3 +137,6 @@ pub record AreStepped (old new : TextParts) (step : Step) (need : DocumentRoom) 
   pub values : new.indicators.decorated.values ≡ indicators_after step old.indicators.decorated.values
   pub text_left : old.room + bytes_out step ≤ new.room + need.text
   pub insertions_left : old.indicators.decorated.room ≤ new.indicators.decorated.room + need.insertions
+  pub text_made : new.room ≤ old.room + bytes_out step
+  pub insertions_made : new.indicators.decorated.room ≤ old.indicators.decorated.room
+  pub unfilled : new.indicators.decorated.ready ≡ None

@@ -117,12 +117,13 @@ impl Document {
         self.views.push_reserved(view);
     }
 
-    /// Lets a view go, if it is attached.
+    /// Lets a view go, if it is attached. Its room comes back.
     pub fn detach(&mut self, view: u32)
         ensures document { self.new.document ≡ left_by view self.old.document }
         ensures room { self.new.room ≡ self.old.room }
         ensures spare { self.new.spare ≡ record self.old.spare { views = self.new.spare.views } }
         ensures room_stays { self.old.spare.views ≤ self.new.spare.views }
+        ensures view_room { self.new.spare.views + length self.new.document.views ≡ self.old.spare.views + length self.old.document.views }
     {
         leave(&mut self.views, view);
     }
@@ -132,6 +133,7 @@ impl Document {
 fn leave(views: &mut Vec<u32>, view: u32)
     ensures items { views.new.items ≡ without view views.old.items }
     ensures room_stays { vec_capacity views.old - vec_len views.old ≤ vec_capacity views.new - vec_len views.new }
+    ensures capacity { vec_capacity views.new ≡ vec_capacity views.old }
 {
     views.retain(|id| *id != view);
 }

@@ -30,6 +30,7 @@ fn insert(
     requires fits { place ≤ length cells.old.cells }
     requires room { CanTake (text_parts cells.old.cells cells.old.room lines.old rows.old indicators.old) (document_room (length bytes.now) (lines_for_insertion lines.old.index.types bytes.now) 1 0 0) }
     ensures stepped { AreStepped (text_parts cells.old.cells cells.old.room lines.old rows.old indicators.old) (text_parts cells.new.cells cells.new.room lines.new rows.new indicators.new) (Insert place bytes.now) (document_room (length bytes.now) (lines_for_insertion lines.old.index.types bytes.now) 1 0 0) }
+    ensures styles { cells.new.keeps_styles ≡ cells.old.keeps_styles }
     ensures lines { result ≡ change_of lines.old.index.types (Insert place bytes.now) (bytes_of cells.old.cells) }
     ensures small { SmallLines result.old_lines × SmallLines result.new_lines }
 {
@@ -53,6 +54,7 @@ fn delete(
     requires fits { place + count ≤ length cells.old.cells }
     requires room { CanTake (text_parts cells.old.cells cells.old.room lines.old rows.old indicators.old) (document_room 0 lines_for_deletion 0 0 0) }
     ensures stepped { AreStepped (text_parts cells.old.cells cells.old.room lines.old rows.old indicators.old) (text_parts cells.new.cells cells.new.room lines.new rows.new indicators.new) (Delete place (slice_range (bytes_of cells.old.cells) place (place + count))) (document_room 0 lines_for_deletion 0 0 0) }
+    ensures styles { cells.new.keeps_styles ≡ cells.old.keeps_styles }
     ensures lines { result ≡ change_of lines.old.index.types (Delete place (slice_range (bytes_of cells.old.cells) place (place + count))) (bytes_of cells.old.cells) }
     ensures small { SmallLines result.old_lines × SmallLines result.new_lines }
 {
@@ -76,6 +78,7 @@ pub(crate) fn make_step(
     requires fits { IsStepOn step (length cells.old.cells) }
     requires room { CanTake (text_parts cells.old.cells cells.old.room lines.old rows.old indicators.old) (text_part (need_of lines.old.index.types step)) }
     ensures stepped { AreStepped (text_parts cells.old.cells cells.old.room lines.old rows.old indicators.old) (text_parts cells.new.cells cells.new.room lines.new rows.new indicators.new) (step_in step.entry (bytes_of cells.old.cells)) (text_part (need_of lines.old.index.types step.entry)) }
+    ensures styles { cells.new.keeps_styles ≡ cells.old.keeps_styles }
     ensures lines { result ≡ change_of lines.old.index.types (step_in step.entry (bytes_of cells.old.cells)) (bytes_of cells.old.cells) }
     ensures small { SmallLines result.old_lines × SmallLines result.new_lines }
 {

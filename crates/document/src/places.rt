@@ -1,6 +1,6 @@
 //! Line starts and indicators of a text whose places are kept as 32 bits, or as 64 where the text may be large.
 
-ghost use Rattle.std.specs.Prelude.{◌≡◌, ◌↔◌, IsTrue, pos, ℕ, List, take, drop, ◌<◌, ◌≤◌, ◌+◌, ◌^◌, ◌++◌, [], length, max, replicate, slice_index, slice_set, IfOk, OnOk, OnErr, IsOk, Some, None, ◌*◌, vec_len, vec_capacity};
+ghost use Rattle.std.specs.Prelude.{◌≡◌, pos, ℕ, List, take, drop, ◌<◌, ◌≤◌, ◌+◌, ◌^◌, ◌++◌, [], length, max, replicate, slice_index, slice_set, IfOk, OnOk, OnErr, IsOk, Some, None, ◌*◌, vec_len, vec_capacity};
 ghost use Rattle.ed_model.specs.Lines.{line_count, line_of, end_of_line};
 ghost use Rattle.std.specs.List.{AllByRecursion};
 ghost use Rattle.ed_model.specs.TextPlans.{at_place};
@@ -11,7 +11,7 @@ ghost use Rattle.line_index.specs.Change.{change_about, change_since, lines_abou
 ghost use Rattle.line_index.specs.Settings.{edits_of_setting};
 ghost use Rattle.line_index.specs.StepEdits.{SmallLines};
 ghost use Rattle.document.specs.Kept.{bound_of};
-ghost use Rattle.decorations.specs.Decorated.{decorated, nothing_held, AreRunsFor, AreSlotsFor, HaveSlotsOf, values_of, IsClear, run_about, mask_of};
+ghost use Rattle.decorations.specs.Decorated.{decorated, nothing_held, AreRunsFor, AreSlotsFor, HaveSlotsOf, values_of, run_about, mask_of};
 
 use decorations::Decorations;
 use ed_model::LineEndTypes;
@@ -29,7 +29,7 @@ pub(crate) enum LinesByWidth {
 
 /// Where the lines of a document start.
 #[derive(Drop)]
-pub struct Lines {
+pub(crate) struct Lines {
     pub(crate) kept: LinesByWidth,
 }
 
@@ -60,7 +60,7 @@ impl Lines {
     }
 
     /// Returns which line ends count.
-    pub fn types(&self) -> LineEndTypes
+    pub(crate) fn types(&self) -> LineEndTypes
         ensures { result ≡ self.now.index.types }
     {
         match &self.kept {
@@ -70,7 +70,7 @@ impl Lines {
     }
 
     /// Returns the number of lines, which is at least 1.
-    pub fn count(&self) -> usize
+    pub(crate) fn count(&self) -> usize
         ensures count { result ≡ length self.now.index.starts }
         ensures some { 0 < length self.now.index.starts }
         ensures within { length self.now.index.starts + self.now.index.room < 2 ^ 63 }
@@ -82,7 +82,7 @@ impl Lines {
     }
 
     /// Returns the length of the text, in bytes.
-    pub fn length(&self) -> usize
+    pub(crate) fn length(&self) -> usize
         ensures { result ≡ self.now.index.length }
     {
         match &self.kept {
@@ -92,7 +92,7 @@ impl Lines {
     }
 
     /// Returns where the line starts.
-    pub fn start(&self, line: usize) -> usize
+    pub(crate) fn start(&self, line: usize) -> usize
         requires { line < length self.now.index.starts }
         ensures start { result ≡ slice_index self.now.index.starts line }
         ensures within { result ≤ self.now.index.length }
@@ -105,7 +105,7 @@ impl Lines {
 
     /// Returns where the end of the line begins, or for the last line the end of the text. `before` and `after` are the
     /// halves of the text, of which at most two bytes are read.
-    pub fn end(&self, line: usize, before: &[u8], after: &[u8]) -> usize
+    pub(crate) fn end(&self, line: usize, before: &[u8], after: &[u8]) -> usize
         requires line { line < length self.now.index.starts }
         requires text { IsIndexOf (before.now ++ after.now) self.now.index }
         ensures { result ≡ end_of_line self.now.index.types (before.now ++ after.now) line }
@@ -118,7 +118,7 @@ impl Lines {
 
     /// Returns the line that holds the place: the last that starts there or before it, and the last of all for a place
     /// past the end. Each start that it reads is counted in `probes`.
-    pub fn line_of(&self, place: usize, probes: &mut Probes) -> usize
+    pub(crate) fn line_of(&self, place: usize, probes: &mut Probes) -> usize
         ensures line { result ≡ line_of self.now.index.starts place }
         ensures within { result < length self.now.index.starts }
     {
@@ -299,17 +299,6 @@ impl Indicators {
         }
     }
 
-    /// Returns whether an indicator has another value than 0 somewhere.
-    pub fn is_used(&self, indicator: usize) -> bool
-        requires { indicator < 32 }
-        ensures { IsTrue result ↔ (IsClear (values_of self.now.decorated.values indicator) → ⊥) }
-    {
-        match &self.kept {
-            IndicatorsByWidth::Small(indicators) => indicators.is_used(indicator),
-            IndicatorsByWidth::Large(indicators) => indicators.is_used(indicator),
-        }
-    }
-
     /// Returns the value of an indicator at a place, and 0 past the end of the text.
     pub fn value(&self, indicator: usize, place: usize) -> u32
         requires { indicator < 32 }
@@ -371,6 +360,7 @@ impl Indicators {
         ensures length { self.new.decorated.length ≡ self.old.decorated.length + count }
         ensures values { (bytes : List ℕ) → length bytes ≡ count → self.new.decorated.values ≡ indicators_after (Insert place bytes) self.old.decorated.values }
         ensures room { self.new.decorated.room + 1 ≡ self.old.decorated.room }
+        ensures ready { self.new.decorated.ready ≡ None }
     {
         match &mut self.kept {
             IndicatorsByWidth::Small(indicators) => indicators.insert(place, count),
@@ -385,6 +375,7 @@ impl Indicators {
         ensures length { self.new.decorated.length + count ≡ self.old.decorated.length }
         ensures values { (bytes : List ℕ) → length bytes ≡ count → self.new.decorated.values ≡ indicators_after (Delete place bytes) self.old.decorated.values }
         ensures room { self.new.decorated.room ≡ self.old.decorated.room }
+        ensures ready { self.new.decorated.ready ≡ None }
     {
         match &mut self.kept {
             IndicatorsByWidth::Small(indicators) => indicators.delete(place, count),

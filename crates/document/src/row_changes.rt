@@ -12,17 +12,12 @@ use line_rows::LineRows;
 use std::alloc::AllocError;
 
 /// How many markers a mask has a bit for.
+#[tactic(auto, using(crate::proofs::Masks::ones_are_numbers))]
 pub fn count_numbers(mask: u32) -> usize
     ensures count { result ≡ length (numbers_in mask) }
     ensures few { result ≤ 32 }
 {
-    let mut count = 0;
-    'counting: for number in 0..32u32 {
-        if (mask >> number) % 2 == 1 {
-            count += 1;
-        }
-    }
-    count
+    mask.count_ones() as usize
 }
 
 // Puts a marker for each bit of a mask behind those of a line.

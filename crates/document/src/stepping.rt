@@ -1,11 +1,11 @@
 //! Steps of a document's text, and their room.
 
-ghost use Rattle.std.specs.Prelude.{◌≡◌, ℕ, true, ◌≤◌, ◌<◌, ◌+◌, length, OnOk, OnErr, IsOk};
+ghost use Rattle.std.specs.Prelude.{◌≡◌, ℕ, true, ◌≤◌, ◌<◌, ◌+◌, length, None, OnOk, OnErr, IsOk};
 ghost use Rattle.ed_model.specs.History.{TextStep as Text, appended, begins_transaction};
 ghost use Rattle.ed_model.specs.Session.{text_of};
 ghost use Rattle.ed_model.specs.Performing.{document_after};
 ghost use Rattle.line_index.specs.StepEdits.{SmallLines, change_of};
-ghost use Rattle.document.specs.Kept.{HasRoom, HasTextRoom, HasHistoryRoom, TakesRoom, IsAtMost, FitsWidth, no_room, text_part, history_part};
+ghost use Rattle.document.specs.Kept.{HasRoom, HasTextRoom, HasHistoryRoom, TakesRoom, IsAtMost, FitsWidth, no_room, with_freed, text_part, history_part};
 ghost use Rattle.line_index.specs.RoomLaws.{lines_for_insertion, lines_for_deletion};
 ghost use Rattle.document.specs.TextSteps.{bytes_out, step_in, IsStepOn, need_of};
 
@@ -75,6 +75,7 @@ impl Document {
 
     /// Makes a step of the text. The cells, the line starts, the rows, the indicators and how far it is styled go with it. Returns
     /// what became of the lines. The history is left alone. There must be room for all but the history; what goes out of the text leaves its room.
+    /// The room for a fill is gone, and there may be room for more markers, where lines go.
     #[inline(always)]
     pub fn step(&mut self, step: TextStep) -> LineChange
         requires fits { IsStepOn step (length self.old.document.cells) }
@@ -82,9 +83,11 @@ impl Document {
         ensures document { self.new.document ≡ document_after (step_in step.entry (text_of self.old.document)) self.old.document }
         ensures room_left { TakesRoom self.old.room self.new.room (text_part (need_of self.old.document.line_end_types step.entry)) }
         ensures text_freed { self.old.room.text + bytes_out (step_in step.entry (text_of self.old.document)) ≤ self.new.room.text + (need_of self.old.document.line_end_types step.entry).text }
+        ensures none_made { IsAtMost self.new.room (with_freed (bytes_out (step_in step.entry (text_of self.old.document))) self.old.room) no_room }
         ensures lines { result ≡ change_of self.old.document.line_end_types (step_in step.entry (text_of self.old.document)) (text_of self.old.document) }
         ensures small { SmallLines result.old_lines × SmallLines result.new_lines }
-        ensures views { self.new.spare.views ≡ self.old.spare.views }
+        ensures spare { self.new.spare ≡ record self.old.spare { markers = self.new.spare.markers; fill = None } }
+        ensures marker_room { self.old.spare.markers ≤ self.new.spare.markers }
     {
         self.end_styled = self.end_styled.min(step.place());
         make_step(
@@ -104,6 +107,7 @@ impl Document {
         ensures document { self.new.document ≡ record self.old.document { history = appended later (Text (step_in step.entry (text_of self.old.document))) self.old.document.history } }
         ensures begins { result ≡ begins_transaction later (Text (step_in step.entry (text_of self.old.document))) self.old.document.history }
         ensures room_left { TakesRoom self.old.room self.new.room (history_part (need_of self.old.document.line_end_types step.entry)) }
+        ensures none_made { IsAtMost self.new.room self.old.room no_room }
         ensures spare { self.new.spare ≡ self.old.spare }
     {
         match step {

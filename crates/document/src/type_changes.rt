@@ -79,6 +79,7 @@ impl Document {
         requires { HasHistoryRoom self.old container_need }
         ensures document { self.new.document ≡ changed_document [] (AppendContainer token coalesce) self.old.document }
         ensures room_left { TakesRoom self.old.room self.new.room container_need }
+        ensures none_made { IsAtMost self.new.room self.old.room no_room }
         ensures spare { self.new.spare ≡ self.old.spare }
     {
         self.history.append_container_reserved(token, coalesce);

@@ -1,13 +1,13 @@
 //! Undo and redo of a document: their changes one by one, and the history behind them.
 
-ghost use Rattle.std.specs.Prelude.{◌≡◌, ◌<◌, ◌≤◌, ◌+◌, ℕ, List, length, slice_get, Some, IsSomeAnd};
+ghost use Rattle.std.specs.Prelude.{◌≡◌, ◌<◌, ◌≤◌, ◌+◌, ℕ, List, length, slice_get, None, Some, IsSomeAnd};
 ghost use Rattle.ed_model.specs.History.{TextStep as Text, at_save_point, inverse_change};
 ghost use Rattle.ed_model.specs.Performing.{document_after};
 ghost use Rattle.ed_model.specs.Session.{text_of};
 ghost use Rattle.ed_model.specs.Steps.{Step};
 ghost use Rattle.line_index.specs.StepEdits.{SmallLines, change_of as change_of_lines};
 ghost use Rattle.undo_history.specs.Records.{change_of, HasItsBytes};
-ghost use Rattle.document.specs.Kept.{TakesRoom};
+ghost use Rattle.document.specs.Kept.{IsAtMost, TakesRoom, no_room, with_freed};
 ghost use Rattle.document.specs.TextSteps.{bytes_out};
 ghost use Rattle.document.specs.Undoing.{changes_of, history_behind, save_point_told, outline_of, bytes_in, room_of_step, room_of_change, CanMake, IsLentOf};
 
@@ -166,23 +166,8 @@ impl Document {
         change_at(&self.history, direction, index).bytes
     }
 
-    /// The room that this change needs; none of it is in the history.
-    pub fn change_need(&self, direction: Direction, index: usize) -> DocumentRoom
-        requires there { index < length (changes_of direction self.now.document.history) }
-        ensures need { IsSomeAnd (slice_get (changes_of direction self.now.document.history) index) (λ change. result ≡ room_of_change self.now.document.line_end_types change) }
-    {
-        match step_at(&self.history, direction, index) {
-            Some(step) => DocumentRoom {
-                steps: 0,
-                bytes: 0,
-                ..self.step_need(step)
-            },
-            None => DocumentRoom::none(),
-        }
-    }
-
-    /// The change at `index` without its bytes, as `change_outline` answers it, and the room that it needs, as `change_need`
-    /// does: both by one look at the history.
+    /// The change at `index` without its bytes, as `change_outline` answers it, and the room that it needs, of which none is in the
+    /// history: both by one look at it.
     pub fn change_with_need(
         &self,
         direction: Direction,
@@ -230,9 +215,11 @@ impl Document {
         ensures document { (step : Step) → slice_get (changes_of direction self.old.document.history) index ≡ Some (Text step) → self.new.document ≡ document_after step self.old.document }
         ensures room_left { (step : Step) → slice_get (changes_of direction self.old.document.history) index ≡ Some (Text step) → TakesRoom self.old.room self.new.room (room_of_step self.old.document.line_end_types step) }
         ensures text_freed { (step : Step) → slice_get (changes_of direction self.old.document.history) index ≡ Some (Text step) → self.old.room.text + bytes_out step ≤ self.new.room.text + (room_of_step self.old.document.line_end_types step).text }
+        ensures none_made { (step : Step) → slice_get (changes_of direction self.old.document.history) index ≡ Some (Text step) → IsAtMost self.new.room (with_freed (bytes_out step) self.old.room) no_room }
         ensures lines { (step : Step) → slice_get (changes_of direction self.old.document.history) index ≡ Some (Text step) → result ≡ change_of_lines self.old.document.line_end_types step (text_of self.old.document) }
         ensures small { SmallLines result.old_lines × SmallLines result.new_lines }
-        ensures views { self.new.spare.views ≡ self.old.spare.views }
+        ensures spare { self.new.spare ≡ record self.old.spare { markers = self.new.spare.markers; fill = None } }
+        ensures marker_room { self.old.spare.markers ≤ self.new.spare.markers }
     {
         let Some(step) = step_at(&self.history, direction, index) else {
             unreachable!();

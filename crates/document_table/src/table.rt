@@ -1,5 +1,5 @@
 //! `DocumentTable` and its calls.
-ghost use Rattle.std.specs.Prelude.{◌≡◌, ◌≢◌, ◌≤◌, ◌<◌, ◌+◌, ◌^◌, ◌∷◌, ◌++◌, ℕ, [], map, length, max, IsOk, IfSome, IsSomeAnd, OnOk, OnErr, option_copied};
+ghost use Rattle.std.specs.Prelude.{◌≡◌, ◌≢◌, ◌≤◌, ◌<◌, ◌+◌, ◌^◌, ◌∷◌, ◌++◌, ℕ, [], map, max, IsOk, IfSome, IsSomeAnd, OnOk, OnErr, option_copied};
 ghost use Rattle.std.specs.Option.{option_copied_mut};
 ghost use Rattle.std.specs.Borrow.{sem};
 ghost use Rattle.ed_model.specs.Session.{left_by};
@@ -44,13 +44,6 @@ impl DocumentTable {
         ensures ids { Rise 1 result (map id_of self.now.entries) }
     {
         self.documents.next()
-    }
-
-    /// The number of documents.
-    pub fn len(&self) -> usize
-        ensures { result ≡ length self.now.entries }
-    {
-        self.documents.len()
     }
 
     /// The document with an id, or `None` where there is none.

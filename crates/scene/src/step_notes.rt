@@ -20,8 +20,8 @@ use id_table::IdTable;
 use notify::{NoteList, blank};
 use selection::Movement;
 
-/// SCN_MODIFIED
-pub(crate) const MODIFIED: u32 = 2008;
+/// The code of the notes that something changes or changed, `SCN_MODIFIED`.
+pub const MODIFIED: u32 = 2008;
 
 // Bits of its kind, SC_MOD_ and SC_ left out.
 pub(crate) const INSERT_TEXT: u32 = 0x1;

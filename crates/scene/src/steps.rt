@@ -26,8 +26,8 @@ use id_table::IdTable;
 use line_index::edits_of_steps;
 use notify::{NoteList, blank};
 
-/// SCN_SAVEPOINTLEFT
-pub(crate) const SAVE_POINT_LEFT: u32 = 2003;
+/// The code of the note that the save point is left, `SCN_SAVEPOINTLEFT`.
+pub const SAVE_POINT_LEFT: u32 = 2003;
 
 /// The bits of a step's notes that say who makes it, and as which of several.
 #[derive(Clone, Copy, Debug, PartialEq, Eq)]
@@ -181,8 +181,9 @@ fn user_bits(begins: bool) -> StepBits
     }
 }
 
-// Whether a step of a message leaves the save point.
-pub(crate) fn leaves_save_point(document: &Document) -> bool
+/// Whether the next step that is appended to the history leaves the save point: the history collects steps, and the document is at
+/// its save point.
+pub fn leaves_save_point(document: &Document) -> bool
     ensures { result ≡ (document.now.document.history.collecting && at_save_point document.now.document.history) }
 {
     let history = document.history();

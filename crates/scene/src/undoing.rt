@@ -26,8 +26,8 @@ use ed_view::View;
 use id_table::IdTable;
 use notify::{NoteList, blank};
 
-/// SCN_SAVEPOINTREACHED
-const SAVE_POINT_REACHED: u32 = 2002;
+/// The code of the note that the save point is reached, `SCN_SAVEPOINTREACHED`.
+pub const SAVE_POINT_REACHED: u32 = 2002;
 
 // The turn of the change at `index`, of `count`.
 fn turn_at(direction: Direction, index: usize, count: usize) -> Turn

@@ -51,4 +51,7 @@ returns-clause-stepped c =
       values = c.delete.ensures.values (slice_range (bytes_of cells) c.args.place (c.args.place + c.args.count)) counted;
       text_left = omega (arith, put.room, counted);
       insertions_left = omega (arith, c.delete.ensures.room);
+      text_made = omega (arith, put.room, counted);
+      insertions_made = omega (arith, c.delete.ensures.room);
+      unfilled = c.delete.ensures.ready;
     }

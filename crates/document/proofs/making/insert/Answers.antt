@@ -49,4 +49,7 @@ returns-clause-stepped c =
       values = c.insert.ensures.values c.args.bytes.now refl;
       text_left = omega (arith, put.room);
       insertions_left = omega (arith, c.insert.ensures.room);
+      text_made = omega (arith, put.room);
+      insertions_made = omega (arith, c.insert.ensures.room);
+      unfilled = c.insert.ensures.ready;
     }

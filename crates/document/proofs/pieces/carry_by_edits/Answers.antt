@@ -55,5 +55,9 @@ returns c =
               ap length (c.carry.ensures.rows ∙ ap (λ (es : List LineEdit). after_edits rows_together es rows) edits),
               edits_add rows_together (edits_of (change_of types step text)) rows fit,
             );
+            none_made = omega (arith, c.carry.ensures.line_room);
+            levels = c.carry.ensures.level_room;
+            states = c.carry.ensures.state_room;
+            markers = c.carry.ensures.marker_room;
           };
     }

@@ -20,5 +20,9 @@ returns-then-is_quiet c =
             next_handle = refl;
             room_left = omega arith;
             room_for_lines = omega arith;
+            none_made = omega arith;
+            levels = refl;
+            states = refl;
+            markers = omega arith;
           };
     }
