@@ -3,3 +3,4 @@ pub mod Told
 pub mod Counts
 pub mod Ranges
 pub mod States
+pub mod RoomLeft

@@ -8,6 +8,7 @@ ghost use Rattle.scene.specs.Scenes.{views_of, watchers, IsWatched};
 ghost use Rattle.document_changes.specs.Changed.{IsChanged};
 ghost use Rattle.document_changes.specs.Fit.{IsFitChange, bytes_read};
 ghost use Rattle.document_changes.specs.Needs.{IsReady, notes_of_change};
+ghost use Rattle.document_changes.specs.RoomLeft.{LeavesRoom};
 
 use crate::history_changes::{append_container, change_quietly, set_save_point};
 use crate::marker_changes::{
@@ -40,7 +41,8 @@ fn perform(
     requires ready { IsReady document.old change edits.now }
     requires watched { IsWatched document.old.document views.old }
     requires room { notes_of_change change document.old.document.history (watchers document.old.document views.old) ≤ notes.old.note_room }
-    ensures { IsChanged text.now change sender document.old.document document.new.document views.old views.new notes.old notes.new }
+    ensures changed { IsChanged text.now change sender document.old.document document.new.document views.old views.new notes.old notes.new }
+    ensures room { LeavesRoom change document.old document.new }
 {
     match change {
         DocumentChange::SetReadOnly { .. }
@@ -86,7 +88,7 @@ fn perform(
 
 /// Makes a change of the document, and tells of it: the views that watch and hear it, or for a style that is needed the one
 /// whose id is `sender`. Their flags go with the lines where other line ends count. There must be room for the change and
-/// for its notes.
+/// for its notes; it takes that room, and makes none but what markers leave that go.
 pub fn change_document(
     document: &mut Document,
     views: &mut IdTable<View>,
@@ -110,6 +112,7 @@ pub fn change_document(
     ensures ids { map id_of views.new.entries ≡ map id_of views.old.entries }
     ensures next { views.new.next ≡ views.old.next }
     ensures view_room { views.new.room ≡ views.old.room }
+    ensures room_left { LeavesRoom change document.old document.new }
 {
     perform(
         document,

@@ -1,8 +1,7 @@
 //! The document's settings and its history change.
 
-ghost use Rattle.std.specs.Prelude.{◌≡◌, ◌≤◌, ◌&&◌, true, List, ℕ, length};
+ghost use Rattle.std.specs.Prelude.{◌≡◌, ◌≤◌, true, List, ℕ, length};
 ghost use Rattle.ed_model.specs.declared.plan.DocumentChange.TheVariants as change;
-ghost use Rattle.ed_model.specs.History.{at_save_point};
 ghost use Rattle.ed_model.specs.Changes.{changed_document};
 ghost use Rattle.document.specs.Kept.{HasHistoryRoom};
 ghost use Rattle.document.specs.Changes.{container_need};
@@ -14,6 +13,7 @@ ghost use Rattle.scene.specs.Needs.{leaving_count};
 ghost use Rattle.document_changes.specs.Changed.{IsChanged};
 ghost use Rattle.document_changes.specs.Fit.{IsFitChange};
 ghost use Rattle.document_changes.specs.Needs.{is_quiet};
+ghost use Rattle.document_changes.specs.RoomLeft.{LeavesRoom};
 
 use crate::telling::tell_all;
 use document::Document;
@@ -21,18 +21,14 @@ use ed_model::DocumentChange;
 use ed_view::View;
 use id_table::IdTable;
 use notify::NoteList;
-
-// SCN_SAVEPOINTREACHED
-const SAVE_POINT_REACHED: u32 = 2002;
-
-// SCN_SAVEPOINTLEFT
-const SAVE_POINT_LEFT: u32 = 2003;
+use scene::{SAVE_POINT_LEFT, SAVE_POINT_REACHED, leaves_save_point};
 
 // Sets what no view is told of, and what needs no room.
 fn set(document: &mut Document, change: DocumentChange)
     requires fits { IsFitChange document.old.document change }
     requires quiet { is_quiet change ≡ true }
-    ensures { (text : List ℕ) → document.new.document ≡ changed_document text change document.old.document }
+    ensures document { (text : List ℕ) → document.new.document ≡ changed_document text change document.old.document }
+    ensures rest { document.new ≡ record document.old { document = document.new.document } }
 {
     match change {
         DocumentChange::SetReadOnly { on } => document.set_read_only(on),
@@ -50,7 +46,8 @@ fn set(document: &mut Document, change: DocumentChange)
 pub(crate) fn change_quietly(document: &mut Document, change: DocumentChange)
     requires fits { IsFitChange document.old.document change }
     requires quiet { is_quiet change ≡ true }
-    ensures { (text : List ℕ) (sender : ℕ) (views : Entries KeptView) (notes : Gathered) → IsWatched document.old.document views → IsChanged text change sender document.old.document document.new.document views views notes notes }
+    ensures changed { (text : List ℕ) (sender : ℕ) (views : Entries KeptView) (notes : Gathered) → IsWatched document.old.document views → IsChanged text change sender document.old.document document.new.document views views notes notes }
+    ensures room { LeavesRoom change document.old document.new }
 {
     set(document, change);
 }
@@ -60,18 +57,11 @@ pub(crate) fn change_quietly(document: &mut Document, change: DocumentChange)
 pub(crate) fn set_save_point(document: &mut Document, views: &IdTable<View>, notes: &mut NoteList)
     requires watched { IsWatched document.old.document views.now }
     requires room { length (watchers document.old.document views.now) ≤ notes.old.note_room }
-    ensures { (text : List ℕ) (sender : ℕ) → IsChanged text change.SetSavePoint sender document.old.document document.new.document views.now views.now notes.old notes.new }
+    ensures changed { (text : List ℕ) (sender : ℕ) → IsChanged text change.SetSavePoint sender document.old.document document.new.document views.now views.now notes.old notes.new }
+    ensures room { LeavesRoom change.SetSavePoint document.old document.new }
 {
     document.set_save_point();
     tell_all(document, views, notes, SAVE_POINT_REACHED);
-}
-
-// Whether a step of a message leaves the save point.
-fn leaves_save_point(document: &Document) -> bool
-    ensures { result ≡ (document.now.document.history.collecting && at_save_point document.now.document.history) }
-{
-    let history = document.history();
-    history.is_collecting() && history.is_at_save_point()
 }
 
 /// Appends a container's step to the history. If the document was at its save point, each view is told that it left it. There
@@ -87,7 +77,8 @@ pub(crate) fn append_container(
     requires ready { HasHistoryRoom document.old container_need }
     requires watched { IsWatched document.old.document views.now }
     requires room { leaving_count (watchers document.old.document views.now) document.old.document.history ≤ notes.old.note_room }
-    ensures { (text : List ℕ) (sender : ℕ) → IsChanged text (change.AppendContainer token coalesce) sender document.old.document document.new.document views.now views.now notes.old notes.new }
+    ensures changed { (text : List ℕ) (sender : ℕ) → IsChanged text (change.AppendContainer token coalesce) sender document.old.document document.new.document views.now views.now notes.old notes.new }
+    ensures room { LeavesRoom (change.AppendContainer token coalesce) document.old document.new }
 {
     let is_left = leaves_save_point(document);
     document.append_container_reserved(token, coalesce);

@@ -11,6 +11,7 @@ ghost use Rattle.scene.specs.Scenes.{watchers, AreNamed, IsWatched};
 ghost use Rattle.scene.specs.Hearing.{hearers};
 ghost use Rattle.document_changes.specs.Changed.{AreTold, IsChanged};
 ghost use Rattle.document_changes.specs.Lines.{marker_notice};
+ghost use Rattle.document_changes.specs.RoomLeft.{LeavesRoom};
 
 use crate::telling::{CHANGE_MARKER, change_note, line_note, tell_heard};
 use document::{Document, count_numbers};
@@ -62,7 +63,8 @@ pub(crate) fn add_marker(
     requires ready { 0 < document.old.spare.markers }
     requires watched { IsWatched document.old.document views.now }
     requires room { hearers change_marker (watchers document.old.document views.now) ≤ notes.old.note_room }
-    ensures { (text : List ℕ) (sender : ℕ) → IsChanged text (change.AddMarker line number) sender document.old.document document.new.document views.now views.now notes.old notes.new }
+    ensures changed { (text : List ℕ) (sender : ℕ) → IsChanged text (change.AddMarker line number) sender document.old.document document.new.document views.now views.now notes.old notes.new }
+    ensures room { LeavesRoom (change.AddMarker line number) document.old document.new }
 {
     let _ = document.rows(); // it says that each line has one
     document.add_marker_reserved(line, number);
@@ -84,7 +86,8 @@ pub(crate) fn add_markers(
     requires ready { length (numbers_in mask) ≤ document.old.spare.markers }
     requires watched { IsWatched document.old.document views.now }
     requires room { hearers change_marker (watchers document.old.document views.now) ≤ notes.old.note_room }
-    ensures { (text : List ℕ) (sender : ℕ) → IsChanged text (change.AddMarkers line mask) sender document.old.document document.new.document views.now views.now notes.old notes.new }
+    ensures changed { (text : List ℕ) (sender : ℕ) → IsChanged text (change.AddMarkers line mask) sender document.old.document document.new.document views.now views.now notes.old notes.new }
+    ensures room { LeavesRoom (change.AddMarkers line mask) document.old document.new }
 {
     let _ = document.rows(); // it says that each line has one
     document.add_markers_reserved(line, mask);
@@ -106,7 +109,8 @@ pub(crate) fn delete_marker(
     requires line { line < lines_in document.old.document }
     requires watched { IsWatched document.old.document views.now }
     requires room { hearers change_marker (watchers document.old.document views.now) ≤ notes.old.note_room }
-    ensures { (text : List ℕ) (sender : ℕ) → IsChanged text (change.DeleteMarker line number) sender document.old.document document.new.document views.now views.now notes.old notes.new }
+    ensures changed { (text : List ℕ) (sender : ℕ) → IsChanged text (change.DeleteMarker line number) sender document.old.document document.new.document views.now views.now notes.old notes.new }
+    ensures room { LeavesRoom (change.DeleteMarker line number) document.old document.new }
 {
     if document.delete_marker(line, number) {
         tell_markers(document, views, notes, line);
@@ -123,7 +127,8 @@ pub(crate) fn delete_markers(
 )
     requires watched { IsWatched document.old.document views.now }
     requires room { hearers change_marker (watchers document.old.document views.now) ≤ notes.old.note_room }
-    ensures { (text : List ℕ) (sender : ℕ) → IsChanged text (change.DeleteMarkers number) sender document.old.document document.new.document views.now views.now notes.old notes.new }
+    ensures changed { (text : List ℕ) (sender : ℕ) → IsChanged text (change.DeleteMarkers number) sender document.old.document document.new.document views.now views.now notes.old notes.new }
+    ensures room { LeavesRoom (change.DeleteMarkers number) document.old document.new }
 {
     if document.delete_markers(number) {
         let mut note = change_note(CHANGE_MARKER);
@@ -143,7 +148,8 @@ pub(crate) fn delete_handle(
     requires handle { handle < document.old.document.next_handle }
     requires watched { IsWatched document.old.document views.now }
     requires room { hearers change_marker (watchers document.old.document views.now) ≤ notes.old.note_room }
-    ensures { (text : List ℕ) (sender : ℕ) → IsChanged text (change.DeleteHandle handle) sender document.old.document document.new.document views.now views.now notes.old notes.new }
+    ensures changed { (text : List ℕ) (sender : ℕ) → IsChanged text (change.DeleteHandle handle) sender document.old.document document.new.document views.now views.now notes.old notes.new }
+    ensures room { LeavesRoom (change.DeleteHandle handle) document.old document.new }
 {
     let _ = document.rows().next_handle(); // it says that the handle is small
     if let Some(line) = document.delete_handle(handle as u32) {

@@ -9,6 +9,7 @@ ghost use Rattle.scene.specs.Scenes.{watchers, AreNamed, IsWatched};
 ghost use Rattle.scene.specs.Hearing.{hearers};
 ghost use Rattle.document_changes.specs.Changed.{AreTold, IsChanged};
 ghost use Rattle.document_changes.specs.Lines.{level_notice};
+ghost use Rattle.document_changes.specs.RoomLeft.{LeavesRoom};
 
 use crate::telling::{CHANGE_FOLD, CHANGE_LINE_STATE, line_note, tell_heard};
 use document::Document;
@@ -50,7 +51,8 @@ pub(crate) fn set_level(
     requires ready { line < document.old.spare.levels }
     requires watched { IsWatched document.old.document views.now }
     requires room { hearers change_fold (watchers document.old.document views.now) ≤ notes.old.note_room }
-    ensures { (text : List ℕ) (sender : ℕ) → IsChanged text (change.SetLevel line level) sender document.old.document document.new.document views.now views.now notes.old notes.new }
+    ensures changed { (text : List ℕ) (sender : ℕ) → IsChanged text (change.SetLevel line level) sender document.old.document document.new.document views.now views.now notes.old notes.new }
+    ensures room { LeavesRoom (change.SetLevel line level) document.old document.new }
 {
     let _ = document.line_count(); // it says that lines are few
     let before = document.set_level(line, level);
@@ -97,7 +99,8 @@ pub(crate) fn set_state(
     requires ready { line < document.old.spare.states }
     requires watched { IsWatched document.old.document views.now }
     requires room { hearers change_line_state (watchers document.old.document views.now) ≤ notes.old.note_room }
-    ensures { (text : List ℕ) (sender : ℕ) → IsChanged text (change.SetState line state) sender document.old.document document.new.document views.now views.now notes.old notes.new }
+    ensures changed { (text : List ℕ) (sender : ℕ) → IsChanged text (change.SetState line state) sender document.old.document document.new.document views.now views.now notes.old notes.new }
+    ensures room { LeavesRoom (change.SetState line state) document.old document.new }
 {
     let _ = document.line_count(); // it says that lines are few
     let state = narrowed(state);

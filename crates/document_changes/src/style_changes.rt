@@ -8,6 +8,7 @@ ghost use Rattle.document.specs.Changes.{CanStyle};
 ghost use Rattle.scene.specs.Scenes.{watchers, AreNamed, IsWatched};
 ghost use Rattle.scene.specs.Hearing.{hearers};
 ghost use Rattle.document_changes.specs.Changed.{AreTold, IsChanged};
+ghost use Rattle.document_changes.specs.RoomLeft.{LeavesRoom};
 
 use crate::telling::{CHANGE_INDICATOR, CHANGE_STYLE, range_note, tell_heard, tell_style_needed};
 use document::Document;
@@ -70,7 +71,8 @@ pub(crate) fn style_run(
     requires ready { CanStyle document.old }
     requires watched { IsWatched document.old.document views.now }
     requires room { hearers (bit_or change_style performed_user) (watchers document.old.document views.now) ≤ notes.old.note_room }
-    ensures { (text : List ℕ) (sender : ℕ) → IsChanged text (change.StyleRun count style) sender document.old.document document.new.document views.now views.now notes.old notes.new }
+    ensures changed { (text : List ℕ) (sender : ℕ) → IsChanged text (change.StyleRun count style) sender document.old.document document.new.document views.now views.now notes.old notes.new }
+    ensures room { LeavesRoom (change.StyleRun count style) document.old document.new }
 {
     let _ = document.len(); // it says that ranges are small
     let changed = document.style_run(count, style as u8);
@@ -90,7 +92,8 @@ pub(crate) fn style_bytes(
     requires ready { CanStyle document.old }
     requires watched { IsWatched document.old.document views.now }
     requires room { hearers (bit_or change_style performed_user) (watchers document.old.document views.now) ≤ notes.old.note_room }
-    ensures { (sender : ℕ) → IsChanged text.now (change.StyleBytes count) sender document.old.document document.new.document views.now views.now notes.old notes.new }
+    ensures changed { (sender : ℕ) → IsChanged text.now (change.StyleBytes count) sender document.old.document document.new.document views.now views.now notes.old notes.new }
+    ensures room { LeavesRoom (change.StyleBytes count) document.old document.new }
 {
     let _ = document.len(); // it says that ranges are small
     let changed = document.style_bytes(&text[..count]);
@@ -110,7 +113,8 @@ pub(crate) fn need_style(
     requires end { end ≤ length document.old.document.cells }
     requires watched { IsWatched document.old.document views.now }
     requires room { 1 ≤ notes.old.note_room }
-    ensures { (text : List ℕ) → IsChanged text (change.NeedStyle start end) sender document.old.document document.new.document views.now views.now notes.old notes.new }
+    ensures changed { (text : List ℕ) → IsChanged text (change.NeedStyle start end) sender document.old.document document.new.document views.now views.now notes.old notes.new }
+    ensures room { LeavesRoom (change.NeedStyle start end) document.old document.new }
 {
     let _ = document.len(); // it says that places are small
     let styled = document.end_styled();
@@ -133,7 +137,8 @@ pub(crate) fn fill_indicator(
     requires ready { document.old.spare.fill ≡ Some indicator }
     requires watched { IsWatched document.old.document views.now }
     requires room { hearers (bit_or change_indicator performed_user) (watchers document.old.document views.now) ≤ notes.old.note_room }
-    ensures { (text : List ℕ) (sender : ℕ) → IsChanged text (change.FillIndicator indicator start count value) sender document.old.document document.new.document views.now views.now notes.old notes.new }
+    ensures changed { (text : List ℕ) (sender : ℕ) → IsChanged text (change.FillIndicator indicator start count value) sender document.old.document document.new.document views.now views.now notes.old notes.new }
+    ensures room { LeavesRoom (change.FillIndicator indicator start count value) document.old document.new }
 {
     let _ = document.len(); // it says that ranges are small
     let _ = document.indicators().length(); // and that each byte has a value

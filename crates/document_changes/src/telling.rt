@@ -14,13 +14,10 @@ use ed_types::Note;
 use ed_view::View;
 use id_table::IdTable;
 use notify::{NoteList, blank};
-use scene::{Audience, NoteText, tell};
+use scene::{Audience, MODIFIED, NoteText, tell};
 
 // SCN_STYLENEEDED
 const STYLE_NEEDED: u32 = 2000;
-
-// SCN_MODIFIED
-const MODIFIED: u32 = 2008;
 
 // Bits of the kind of SCN_MODIFIED, SC_MOD_ and SC_ left out.
 pub(crate) const CHANGE_FOLD: u32 = 0x8;

@@ -8,6 +8,7 @@ ghost use Rattle.line_index.specs.Settings.{edits_of_setting};
 ghost use Rattle.notify.specs.Gathered.{Gathered};
 ghost use Rattle.scene.specs.Scenes.{IsWatched};
 ghost use Rattle.document_changes.specs.Changed.{IsChanged};
+ghost use Rattle.document_changes.specs.RoomLeft.{LeavesRoom};
 
 use document::Document;
 use ed_model::LineEndTypes;
@@ -28,7 +29,8 @@ pub(crate) fn set_line_end_types(
     requires edits { edits.now ≡ edits_of_setting document.old.document.line_end_types types (text_of document.old.document) }
     requires ready { fresh_lines edits.now ≤ document.old.room.lines }
     requires watched { IsWatched document.old.document views.old }
-    ensures { (text : List ℕ) (sender : ℕ) (notes : Gathered) → IsChanged text (change.SetLineEndTypes types) sender document.old.document document.new.document views.old views.new notes notes }
+    ensures changed { (text : List ℕ) (sender : ℕ) (notes : Gathered) → IsChanged text (change.SetLineEndTypes types) sender document.old.document document.new.document views.old views.new notes notes }
+    ensures room { LeavesRoom (change.SetLineEndTypes types) document.old document.new }
 {
     regroup(document, views, types, edits);
     document.set_line_end_types(types, edits);

@@ -1,6 +1,6 @@
 //! Frequent changes of which nobody hears, made without anything that notes need.
 
-ghost use Rattle.std.specs.Prelude.{◌≡◌, ◌<◌, ◌+◌, ◌≤◌, ◌^◌, [], List, ℕ, true, false, length};
+ghost use Rattle.std.specs.Prelude.{◌≡◌, ◌<◌, ◌+◌, ◌-◌, ◌≤◌, ◌^◌, [], List, ℕ, true, false, length, max};
 ghost use Rattle.ed_model.specs.declared.plan.DocumentChange.TheVariants as change;
 ghost use Rattle.ed_model.specs.Changes.{changed_document};
 ghost use Rattle.ed_model.specs.Session.{lines_in};
@@ -9,7 +9,8 @@ ghost use Rattle.notify.specs.Gathered.{Gathered};
 ghost use Rattle.scene.specs.Scenes.{watchers, IsWatched};
 ghost use Rattle.document_changes.specs.Changed.{IsChanged};
 ghost use Rattle.document_changes.specs.Fit.{IsFitChange};
-ghost use Rattle.document_changes.specs.Needs.{IsReady, is_frequent, notes_of_change};
+ghost use Rattle.document_changes.specs.Needs.{IsReady, is_frequent, notes_of_change, spare_for};
+ghost use Rattle.document_changes.specs.RoomLeft.{spare_left};
 
 use crate::need::change_note_need;
 use document::Document;
@@ -25,7 +26,9 @@ fn add_marker(document: &mut Document, line: usize, number: u32) -> bool
     requires handles { document.old.document.next_handle + 1 < 2 ^ 32 }
     ensures made { result ≡ true → document.new.document ≡ changed_document [] (change.AddMarker line number) document.old.document }
     ensures room_is_there { 0 < document.old.spare.markers → result ≡ true }
-    ensures same { result ≡ false → document.new.document ≡ document.old.document }
+    ensures room { document.new.room ≡ document.old.room }
+    ensures spare { result ≡ true → document.new.spare ≡ record document.old.spare { markers = max document.old.spare.markers 1 - 1 } }
+    ensures same { result ≡ false → document.new ≡ document.old }
 {
     let Ok(()) = document.reserve_markers(1) else {
         return false;
@@ -40,7 +43,9 @@ fn set_level(document: &mut Document, line: usize, level: u32) -> bool
     requires line { line < lines_in document.old.document }
     ensures made { result ≡ true → document.new.document ≡ changed_document [] (change.SetLevel line level) document.old.document }
     ensures room_is_there { line < document.old.spare.levels → result ≡ true }
-    ensures same { result ≡ false → document.new.document ≡ document.old.document }
+    ensures room { document.new.room ≡ document.old.room }
+    ensures spare { result ≡ true → document.new.spare ≡ record document.old.spare { levels = max document.old.spare.levels (line + 1) } }
+    ensures same { result ≡ false → document.new ≡ document.old }
 {
     let _ = document.line_count(); // it says that lines are few
     let Ok(()) = document.reserve_levels(line + 1) else {
@@ -57,7 +62,9 @@ fn style_run(document: &mut Document, count: usize, style: u32) -> bool
     requires style { style ≤ 255 }
     ensures made { result ≡ true → document.new.document ≡ changed_document [] (change.StyleRun count style) document.old.document }
     ensures room_is_there { CanStyle document.old → result ≡ true }
-    ensures same { result ≡ false → document.new.document ≡ document.old.document }
+    ensures room { document.new.room ≡ document.old.room }
+    ensures spare { document.new.spare ≡ record document.old.spare { styles = document.new.spare.styles } }
+    ensures same { result ≡ false → document.new ≡ document.old }
 {
     let Ok(()) = document.reserve_styles() else {
         return false;
@@ -67,7 +74,8 @@ fn style_run(document: &mut Document, count: usize, style: u32) -> bool
 }
 
 /// Makes a change that is one of the frequent ones, where no view is told of it, and returns whether it did. Where there is no room for
-/// it, memory is taken; where that is refused, and of all other changes, none is made, and the document is as it was.
+/// it, memory is taken, as `reserve_change` takes it; where that is refused, and of all other changes, none is made, and the document is as
+/// it was.
 #[inline(always)]
 pub fn change_unheard(
     document: &mut Document,
@@ -79,7 +87,9 @@ pub fn change_unheard(
     ensures made { result ≡ true → (text : List ℕ) (sender : ℕ) (notes : Gathered) → IsChanged text change sender document.old.document document.new.document views.now views.now notes notes }
     ensures only { result ≡ true → is_frequent change ≡ true }
     ensures room_is_there { is_frequent change ≡ true → notes_of_change change document.old.document.history (watchers document.old.document views.now) ≡ 0 → IsReady document.old change [] → result ≡ true }
-    ensures same { result ≡ false → document.new.document ≡ document.old.document }
+    ensures room { document.new.room ≡ document.old.room }
+    ensures spare { result ≡ true → document.new.spare ≡ spare_left change document.new.spare.markers (spare_for change document.new.spare.styles document.old.spare) }
+    ensures same { result ≡ false → document.new ≡ document.old }
 {
     if change_note_need(document, views, change) > 0 {
         return false;

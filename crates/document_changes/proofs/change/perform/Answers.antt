@@ -6,53 +6,53 @@ use Rattle.ed_model.specs.declared.plan.DocumentChange.TheVariants as change
 use Rattle.document_changes.specs.Changed.{IsChanged}
 use Rattle.document_changes.proofs.change.perform.Goals as goal
 
-pub returns-in-SetReadOnly : goal.returns-in-SetReadOnly
-returns-in-SetReadOnly c = c.change_quietly.ensures c.args.text.now c.args.sender c.args.views.now c.args.notes.now c.requires.watched
+pub returns-in-SetReadOnly-clause-changed : goal.returns-in-SetReadOnly-clause-changed
+returns-in-SetReadOnly-clause-changed c = c.change_quietly.ensures.changed c.args.text.now c.args.sender c.args.views.now c.args.notes.now c.requires.watched
 
-pub returns-in-SetLineEndTypes : goal.returns-in-SetLineEndTypes
-returns-in-SetLineEndTypes c = rw c.in-SetLineEndTypes.is (c.set_line_end_types.ensures c.args.text.now c.args.sender c.args.notes.now)
+pub returns-in-SetLineEndTypes-clause-changed : goal.returns-in-SetLineEndTypes-clause-changed
+returns-in-SetLineEndTypes-clause-changed c = rw c.in-SetLineEndTypes.is (c.set_line_end_types.ensures.changed c.args.text.now c.args.sender c.args.notes.now)
 
-pub returns-in-StyleBytes : goal.returns-in-StyleBytes
-returns-in-StyleBytes c = rw c.in-StyleBytes.is (c.style_bytes.ensures c.args.sender)
+pub returns-in-StyleBytes-clause-changed : goal.returns-in-StyleBytes-clause-changed
+returns-in-StyleBytes-clause-changed c = rw c.in-StyleBytes.is (c.style_bytes.ensures.changed c.args.sender)
 
-pub returns-in-NeedStyle : goal.returns-in-NeedStyle
-returns-in-NeedStyle c = rw c.in-NeedStyle.is (c.need_style.ensures c.args.text.now)
+pub returns-in-NeedStyle-clause-changed : goal.returns-in-NeedStyle-clause-changed
+returns-in-NeedStyle-clause-changed c = rw c.in-NeedStyle.is (c.need_style.ensures.changed c.args.text.now)
 
-pub returns-in-SetSavePoint : goal.returns-in-SetSavePoint
-returns-in-SetSavePoint c = rw c.in-SetSavePoint.is (c.set_save_point.ensures c.args.text.now c.args.sender)
+pub returns-in-SetSavePoint-clause-changed : goal.returns-in-SetSavePoint-clause-changed
+returns-in-SetSavePoint-clause-changed c = rw c.in-SetSavePoint.is (c.set_save_point.ensures.changed c.args.text.now c.args.sender)
 
-pub returns-in-AppendContainer : goal.returns-in-AppendContainer
-returns-in-AppendContainer c =
+pub returns-in-AppendContainer-clause-changed : goal.returns-in-AppendContainer-clause-changed
+returns-in-AppendContainer-clause-changed c =
     let fits : SFits w64 c.in-AppendContainer.token = search rules in
     rw c.in-AppendContainer.is (subst (λ (z : ℤ). IsChanged c.args.text.now (change.AppendContainer z c.in-AppendContainer.coalesce) c.args.sender c.args.document.now.document c.append_container.new.document.document c.args.views.now c.args.views.now c.args.notes.now c.append_container.new.notes)
-    (to_z-of_z w64 c.in-AppendContainer.token fits) (c.append_container.ensures c.args.text.now c.args.sender))
+    (to_z-of_z w64 c.in-AppendContainer.token fits) (c.append_container.ensures.changed c.args.text.now c.args.sender))
 
-pub returns-in-AddMarker : goal.returns-in-AddMarker
-returns-in-AddMarker c = rw c.in-AddMarker.is (c.add_marker.ensures c.args.text.now c.args.sender)
+pub returns-in-AddMarker-clause-changed : goal.returns-in-AddMarker-clause-changed
+returns-in-AddMarker-clause-changed c = rw c.in-AddMarker.is (c.add_marker.ensures.changed c.args.text.now c.args.sender)
 
-pub returns-in-AddMarkers : goal.returns-in-AddMarkers
-returns-in-AddMarkers c = rw c.in-AddMarkers.is (c.add_markers.ensures c.args.text.now c.args.sender)
+pub returns-in-AddMarkers-clause-changed : goal.returns-in-AddMarkers-clause-changed
+returns-in-AddMarkers-clause-changed c = rw c.in-AddMarkers.is (c.add_markers.ensures.changed c.args.text.now c.args.sender)
 
-pub returns-in-DeleteMarker : goal.returns-in-DeleteMarker
-returns-in-DeleteMarker c = rw c.in-DeleteMarker.is (c.delete_marker.ensures c.args.text.now c.args.sender)
+pub returns-in-DeleteMarker-clause-changed : goal.returns-in-DeleteMarker-clause-changed
+returns-in-DeleteMarker-clause-changed c = rw c.in-DeleteMarker.is (c.delete_marker.ensures.changed c.args.text.now c.args.sender)
 
-pub returns-in-DeleteMarkers : goal.returns-in-DeleteMarkers
-returns-in-DeleteMarkers c = rw c.in-DeleteMarkers.is (c.delete_markers.ensures c.args.text.now c.args.sender)
+pub returns-in-DeleteMarkers-clause-changed : goal.returns-in-DeleteMarkers-clause-changed
+returns-in-DeleteMarkers-clause-changed c = rw c.in-DeleteMarkers.is (c.delete_markers.ensures.changed c.args.text.now c.args.sender)
 
-pub returns-in-DeleteHandle : goal.returns-in-DeleteHandle
-returns-in-DeleteHandle c = rw c.in-DeleteHandle.is (c.delete_handle.ensures c.args.text.now c.args.sender)
+pub returns-in-DeleteHandle-clause-changed : goal.returns-in-DeleteHandle-clause-changed
+returns-in-DeleteHandle-clause-changed c = rw c.in-DeleteHandle.is (c.delete_handle.ensures.changed c.args.text.now c.args.sender)
 
-pub returns-in-SetLevel : goal.returns-in-SetLevel
-returns-in-SetLevel c = rw c.in-SetLevel.is (c.set_level.ensures c.args.text.now c.args.sender)
+pub returns-in-SetLevel-clause-changed : goal.returns-in-SetLevel-clause-changed
+returns-in-SetLevel-clause-changed c = rw c.in-SetLevel.is (c.set_level.ensures.changed c.args.text.now c.args.sender)
 
-pub returns-in-SetState : goal.returns-in-SetState
-returns-in-SetState c =
+pub returns-in-SetState-clause-changed : goal.returns-in-SetState-clause-changed
+returns-in-SetState-clause-changed c =
     let fits : SFits w64 c.in-SetState.state = search rules in
     rw c.in-SetState.is (subst (λ (z : ℤ). IsChanged c.args.text.now (change.SetState c.in-SetState.line z) c.args.sender c.args.document.now.document c.set_state.new.document.document c.args.views.now c.args.views.now c.args.notes.now c.set_state.new.notes)
-    (to_z-of_z w64 c.in-SetState.state fits) (c.set_state.ensures c.args.text.now c.args.sender))
+    (to_z-of_z w64 c.in-SetState.state fits) (c.set_state.ensures.changed c.args.text.now c.args.sender))
 
-pub returns-in-StyleRun : goal.returns-in-StyleRun
-returns-in-StyleRun c = rw c.in-StyleRun.is (c.style_run.ensures c.args.text.now c.args.sender)
+pub returns-in-StyleRun-clause-changed : goal.returns-in-StyleRun-clause-changed
+returns-in-StyleRun-clause-changed c = rw c.in-StyleRun.is (c.style_run.ensures.changed c.args.text.now c.args.sender)
 
-pub returns-in-FillIndicator : goal.returns-in-FillIndicator
-returns-in-FillIndicator c = rw c.in-FillIndicator.is (c.fill_indicator.ensures c.args.text.now c.args.sender)
+pub returns-in-FillIndicator-clause-changed : goal.returns-in-FillIndicator-clause-changed
+returns-in-FillIndicator-clause-changed c = rw c.in-FillIndicator.is (c.fill_indicator.ensures.changed c.args.text.now c.args.sender)

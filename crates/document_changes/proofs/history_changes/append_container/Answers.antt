@@ -13,8 +13,8 @@ use Rattle.document_changes.proofs.Told.{told_nothing}
 use Rattle.document_changes.proofs.Unmoved.{is_changed}
 use Rattle.document_changes.proofs.history_changes.append_container.Goals as goal
 
-pub returns-then-is_left : goal.returns-then-is_left
-returns-then-is_left c = λ text sender.
+pub returns-then-is_left-clause-changed : goal.returns-then-is_left-clause-changed
+returns-then-is_left-clause-changed c = λ text sender.
     let d = c.args.document.now.document in
     let views = watchers d c.args.views.now in
     let made = c.append_container_reserved.ensures.document
@@ -24,8 +24,8 @@ returns-then-is_left c = λ text sender.
     (sym (choose_true (d.history.collecting && at_save_point d.history) (told views (blank save_point_left)) [] (sym c.leaves_save_point-is_left.ensures ∙ c.if-is_left.true)))
     (rw made at c.tell_all.ensures))
 
-pub returns-else-is_left : goal.returns-else-is_left
-returns-else-is_left c = λ text sender.
+pub returns-else-is_left-clause-changed : goal.returns-else-is_left-clause-changed
+returns-else-is_left-clause-changed c = λ text sender.
     let d = c.args.document.now.document in
     let views = watchers d c.args.views.now in
     let made = c.append_container_reserved.ensures.document

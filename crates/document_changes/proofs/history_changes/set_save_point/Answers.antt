@@ -4,8 +4,8 @@ use Rattle.document.specs.Kept.{Kept}
 use Rattle.document_changes.proofs.Unmoved.{is_changed}
 use Rattle.document_changes.proofs.history_changes.set_save_point.Goals as goal
 
-pub returns : goal.returns
-returns c = λ text sender.
+pub returns-clause-changed : goal.returns-clause-changed
+returns-clause-changed c = λ text sender.
     let made = ap (λ (k : Kept). k.document) c.set_save_point.ensures in
     is_changed text change.SetSavePoint sender c.args.document.now.document _ c.args.views.now c.args.notes.now _ refl c.requires.watched made
     (λ v _. rw made at c.tell_all.ensures)

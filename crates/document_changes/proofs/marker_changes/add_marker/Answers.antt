@@ -8,8 +8,8 @@ use Rattle.document_changes.proofs.Counts.{marker_told, some_added}
 use Rattle.document_changes.proofs.Unmoved.{is_changed}
 use Rattle.document_changes.proofs.marker_changes.add_marker.Goals as goal
 
-pub returns : goal.returns
-returns c = λ text sender.
+pub returns-clause-changed : goal.returns-clause-changed
+returns-clause-changed c = λ text sender.
     let d = c.args.document.now.document in
     let made = c.add_marker_reserved.ensures.document in
     let within : c.args.line < length d.rows = subst (λ n. c.args.line < n) (sym c.rows.ensures.count) c.requires.line in

@@ -10,8 +10,8 @@ use Rattle.document_changes.proofs.Told.{told_nothing}
 use Rattle.document_changes.proofs.Unmoved.{is_changed}
 use Rattle.document_changes.proofs.marker_changes.add_markers.Goals as goal
 
-pub returns-then-count_numbers-gt0 : goal.returns-then-count_numbers-gt0
-returns-then-count_numbers-gt0 c = λ text sender.
+pub returns-then-count_numbers-gt0-clause-changed : goal.returns-then-count_numbers-gt0-clause-changed
+returns-then-count_numbers-gt0-clause-changed c = λ text sender.
     let d = c.args.document.now.document in
     let made = c.add_markers_reserved.ensures.document in
     let within : c.args.line < length d.rows = subst (λ n. c.args.line < n) (sym c.rows.ensures.count) c.requires.line in
@@ -23,8 +23,8 @@ returns-then-count_numbers-gt0 c = λ text sender.
     (marker_told c.args.line d (with_new_markers c.args.line numbers d) (watchers d c.args.views.now) (some_added c.args.line numbers d within (omega arith)))
     (rw made at c.tell_markers.ensures)))
 
-pub returns-else-count_numbers-gt0 : goal.returns-else-count_numbers-gt0
-returns-else-count_numbers-gt0 c = λ text sender.
+pub returns-else-count_numbers-gt0-clause-changed : goal.returns-else-count_numbers-gt0-clause-changed
+returns-else-count_numbers-gt0-clause-changed c = λ text sender.
     let d = c.args.document.now.document in
     let made = c.add_markers_reserved.ensures.document in
     let within : c.args.line < length d.rows = subst (λ n. c.args.line < n) (sym c.rows.ensures.count) c.requires.line in

@@ -21,8 +21,8 @@ tell_markers-requires-clause-line c =
     let same = left.1 in
     rw made (omega arith)
 
-pub returns-in-Some : goal.returns-in-Some
-returns-in-Some c = λ text sender.
+pub returns-in-Some-clause-changed : goal.returns-in-Some-clause-changed
+returns-in-Some-clause-changed c = λ text sender.
     let d = c.args.document.now.document in
     let what = change.DeleteHandle c.args.handle in
     let new = changed_document [] what d in
@@ -35,8 +35,8 @@ returns-in-Some c = λ text sender.
     (ap (λ l. heard views (marker_notice d l)) (sym left.1) ∙ marker_told line d new views left.0)
     (rw made at c.tell_markers.ensures)))
 
-pub returns-in_default : goal.returns-in_default
-returns-in_default c = λ text sender.
+pub returns-in_default-clause-changed : goal.returns-in_default-clause-changed
+returns-in_default-clause-changed c = λ text sender.
     let d = c.args.document.now.document in
     let what = change.DeleteHandle c.args.handle in
     let new = changed_document [] what d in

@@ -9,8 +9,8 @@ use Rattle.document_changes.proofs.Told.{told_nothing}
 use Rattle.document_changes.proofs.Unmoved.{is_changed}
 use Rattle.document_changes.proofs.marker_changes.delete_marker.Goals as goal
 
-pub returns-then-delete_marker : goal.returns-then-delete_marker
-returns-then-delete_marker c = λ text sender.
+pub returns-then-delete_marker-clause-changed : goal.returns-then-delete_marker-clause-changed
+returns-then-delete_marker-clause-changed c = λ text sender.
     let d = c.args.document.now.document in
     let what = change.DeleteMarker c.args.line c.args.number in
     let made = c.delete_marker.ensures.document in
@@ -20,8 +20,8 @@ returns-then-delete_marker c = λ text sender.
     (marker_told c.args.line d (changed_document [] what d) (watchers d c.args.views.now) (not_true _ went))
     (rw made at c.tell_markers.ensures)))
 
-pub returns-else-delete_marker : goal.returns-else-delete_marker
-returns-else-delete_marker c = λ text sender.
+pub returns-else-delete_marker-clause-changed : goal.returns-else-delete_marker-clause-changed
+returns-else-delete_marker-clause-changed c = λ text sender.
     let d = c.args.document.now.document in
     let what = change.DeleteMarker c.args.line c.args.number in
     let made = c.delete_marker.ensures.document in

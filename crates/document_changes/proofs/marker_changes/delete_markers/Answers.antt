@@ -12,8 +12,8 @@ use Rattle.document_changes.proofs.Told.{told_nothing}
 use Rattle.document_changes.proofs.Unmoved.{is_changed}
 use Rattle.document_changes.proofs.marker_changes.delete_markers.Goals as goal
 
-pub returns-then-delete_markers : goal.returns-then-delete_markers
-returns-then-delete_markers c = λ text sender.
+pub returns-then-delete_markers-clause-changed : goal.returns-then-delete_markers-clause-changed
+returns-then-delete_markers-clause-changed c = λ text sender.
     let d = c.args.document.now.document in
     let what = change.DeleteMarkers c.args.number in
     let new = changed_document [] what d in
@@ -28,8 +28,8 @@ returns-then-delete_markers c = λ text sender.
     (ap (λ (m : Notice). heard views m) is ∙ sym (choose_false (marker_count d.rows == marker_count new.rows) [] (heard views n) (not_true _ went)))
     (rw made at c.tell_heard.ensures)))
 
-pub returns-else-delete_markers : goal.returns-else-delete_markers
-returns-else-delete_markers c = λ text sender.
+pub returns-else-delete_markers-clause-changed : goal.returns-else-delete_markers-clause-changed
+returns-else-delete_markers-clause-changed c = λ text sender.
     let d = c.args.document.now.document in
     let what = change.DeleteMarkers c.args.number in
     let new = changed_document [] what d in

@@ -14,8 +14,8 @@ use Rattle.document_changes.proofs.Told.{told_nothing, told_nobody}
 use Rattle.document_changes.proofs.Unmoved.{is_changed}
 use Rattle.document_changes.proofs.row_changes.set_level.Goals as goal
 
-pub returns-then-before-level : goal.returns-then-before-level
-returns-then-before-level c = λ text sender.
+pub returns-then-before-level-clause-changed : goal.returns-then-before-level-clause-changed
+returns-then-before-level-clause-changed c = λ text sender.
     let d = c.args.document.now.document in
     let old = (document_row d c.args.line).level in
     let views = watchers d c.args.views.now in
@@ -26,8 +26,8 @@ returns-then-before-level c = λ text sender.
     (sym (choose_true (old == c.args.level) [] (heard views (level_notice c.args.line c.args.level old)) same))
     (told_nothing c.args.notes.now))
 
-pub returns-then-is_full : goal.returns-then-is_full
-returns-then-is_full c = λ text sender.
+pub returns-then-is_full-clause-changed : goal.returns-then-is_full-clause-changed
+returns-then-is_full-clause-changed c = λ text sender.
     let d = c.args.document.now.document in
     let old = (document_row d c.args.line).level in
     let views = watchers d c.args.views.now in
@@ -39,8 +39,8 @@ returns-then-is_full c = λ text sender.
     (sym (choose_false (old == c.args.level) [] (heard views n) other))
     (told_nobody views n c.args.notes.now c.requires.room (sym c.is_full.ensures ∙ c.if-is_full.true)))
 
-pub returns : goal.returns
-returns c = λ text sender.
+pub returns-clause-changed : goal.returns-clause-changed
+returns-clause-changed c = λ text sender.
     let d = c.args.document.now.document in
     let old = (document_row d c.args.line).level in
     let views = watchers d c.args.views.now in

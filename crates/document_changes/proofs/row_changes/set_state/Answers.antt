@@ -15,8 +15,8 @@ use Rattle.document_changes.proofs.Told.{told_nothing, told_nobody}
 use Rattle.document_changes.proofs.Unmoved.{is_changed}
 use Rattle.document_changes.proofs.row_changes.set_state.Goals as goal
 
-pub returns-then-before-state : goal.returns-then-before-state
-returns-then-before-state c = λ text sender.
+pub returns-then-before-state-clause-changed : goal.returns-then-before-state-clause-changed
+returns-then-before-state-clause-changed c = λ text sender.
     let d = c.args.document.now.document in
     let old = (document_row d c.args.line).state in
     let views = watchers d c.args.views.now in
@@ -32,8 +32,8 @@ returns-then-before-state c = λ text sender.
     (sym (choose_true (is_same old c.args.state) [] (heard views n) same))
     (told_nothing c.args.notes.now))
 
-pub returns-then-is_full : goal.returns-then-is_full
-returns-then-is_full c = λ text sender.
+pub returns-then-is_full-clause-changed : goal.returns-then-is_full-clause-changed
+returns-then-is_full-clause-changed c = λ text sender.
     let d = c.args.document.now.document in
     let old = (document_row d c.args.line).state in
     let views = watchers d c.args.views.now in
@@ -48,8 +48,8 @@ returns-then-is_full c = λ text sender.
     (sym (choose_false (is_same old c.args.state) [] (heard views n) other))
     (told_nobody views n c.args.notes.now c.requires.room (sym c.is_full.ensures ∙ c.if-is_full.true)))
 
-pub returns : goal.returns
-returns c = λ text sender.
+pub returns-clause-changed : goal.returns-clause-changed
+returns-clause-changed c = λ text sender.
     let d = c.args.document.now.document in
     let old = (document_row d c.args.line).state in
     let views = watchers d c.args.views.now in

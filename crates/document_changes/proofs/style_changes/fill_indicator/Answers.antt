@@ -17,8 +17,8 @@ tell_range-requires-clause-small c =
     let small = c.len.ensures.small in
     range_small c.fill-changed.result old (slice_index_or c.fill-changed.new.self.document.indicators c.args.indicator []) c.fill-changed.ensures.changed (omega arith)
 
-pub returns : goal.returns
-returns c = λ text sender.
+pub returns-clause-changed : goal.returns-clause-changed
+returns-clause-changed c = λ text sender.
     let d = c.args.document.now.document in
     let made = c.fill-changed.ensures.document in
     is_changed text (change.FillIndicator c.args.indicator c.args.start c.args.count c.args.value) sender d _ c.args.views.now c.args.notes.now _ refl c.requires.watched made

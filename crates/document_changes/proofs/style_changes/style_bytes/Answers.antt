@@ -19,8 +19,8 @@ tell_range-requires-clause-small c =
     let small = c.len.ensures.small in
     range_small c.style_bytes-changed.result (styles_of d.cells) (styles_of c.style_bytes-changed.new.self.document.cells) c.style_bytes-changed.ensures.changed (omega arith)
 
-pub returns : goal.returns
-returns c = λ sender.
+pub returns-clause-changed : goal.returns-clause-changed
+returns-clause-changed c = λ sender.
     let d = c.args.document.now.document in
     let made = ap (λ (k : Kept). k.document) c.style_bytes-changed.ensures.document ∙ ap (λ ss. styled ss d) (take_own (take c.args.count c.args.text.now)) in
     is_changed c.args.text.now (change.StyleBytes c.args.count) sender d _ c.args.views.now c.args.notes.now _ refl c.requires.watched made

@@ -19,8 +19,8 @@ tell_range-requires-clause-small c =
     let small = c.len.ensures.small in
     range_small c.style_run-changed.result (styles_of d.cells) (styles_of c.style_run-changed.new.self.document.cells) c.style_run-changed.ensures.changed (omega arith)
 
-pub returns : goal.returns
-returns c = λ text sender.
+pub returns-clause-changed : goal.returns-clause-changed
+returns-clause-changed c = λ text sender.
     let d = c.args.document.now.document in
     let made = ap (λ (k : Kept). k.document) c.style_run-changed.ensures.document in
     is_changed text (change.StyleRun c.args.count c.args.style) sender d _ c.args.views.now c.args.notes.now _ refl c.requires.watched made

@@ -4,8 +4,8 @@ use Rattle.ed_model.specs.Session.{text_of}
 use Rattle.document_changes.proofs.Told.{told_nothing}
 use Rattle.document_changes.proofs.type_changes.set_line_end_types.Goals as goal
 
-pub returns : goal.returns
-returns c = λ text sender notes.
+pub returns-clause-changed : goal.returns-clause-changed
+returns-clause-changed c = λ text sender notes.
     let d = c.args.document.now.document in
     let made = c.set_line_end_types.ensures.document in
     record {

@@ -1,6 +1,7 @@
 use Rattle.std.proofs.Common.{◌++◌, [], sym, ap, subst, ◌∙◌, List, ℕ, IfSome}
 use Rattle.std.specs.Option.{option_copied_mut}
 use Rattle.ed_model.specs.Changes.{changed_document, change_told}
+use Rattle.document.specs.Kept.{Kept}
 use Rattle.id_table.specs.Entries.{with_value_at}
 use Rattle.scene.specs.Scenes.{watchers}
 use Rattle.editor_session.specs.Doing.{IsChangedIn}
@@ -32,7 +33,7 @@ returns-clause-changed c = λ so.
 pub returns-clause-same : goal.returns-clause-same
 returns-clause-same c = λ not.
     let at = sym c.get_mut.ensures.value ∙ ap option_copied_mut c.in-Some.is in
-    roomier c.args.documents.now.entries c.args.document c.args.documents.now.next c.in-Some.document.now c.change_unheard.new.document c.requires.named c.requires.rise at (c.change_unheard.ensures.same not)
+    roomier c.args.documents.now.entries c.args.document c.args.documents.now.next c.in-Some.document.now c.change_unheard.new.document c.requires.named c.requires.rise at (ap (λ (k : Kept). k.document) (c.change_unheard.ensures.same not))
 
 pub returns-clause-documents : goal.returns-clause-documents
 returns-clause-documents c =
@@ -41,5 +42,5 @@ returns-clause-documents c =
     let e = c.change_unheard.ensures in
     let at = sym c.get_mut.ensures.value ∙ ap option_copied_mut c.in-Some.is in
     still_named document_in id_of_document documents.entries c.args.document c.change_unheard.new.document
-    (same_id c.args.change old.document c.change_unheard.new.document.document c.change_unheard.result (λ so. (e.made so [] 0 no_notes).document) e.same
+    (same_id c.args.change old.document c.change_unheard.new.document.document c.change_unheard.result (λ so. (e.made so [] 0 no_notes).document) (λ not. ap (λ (k : Kept). k.document) (e.same not))
     ∙ id_of_document_at _ c.args.document old.document (found_some document_in id_of_document documents.entries c.args.document old c.requires.named at)) c.requires.named

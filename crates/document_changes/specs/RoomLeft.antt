@@ -1,0 +1,38 @@
+-- The room that a document has left once a change is made.
+use Rattle.std.specs.Prelude.{◌≡◌, ◌≤◌, ◌+◌, ◌-◌, ℕ, length, None}
+use Rattle.ed_model.specs.declared.plan.DocumentChange.{DocumentChange}
+use Rattle.ed_model.specs.declared.plan.DocumentChange.TheVariants as change
+use Rattle.ed_model.specs.Changes.{marker_count}
+use Rattle.ed_model.specs.LinePlans.{numbers_in}
+use Rattle.document.specs.Kept.{Kept, ChangeRoom, TakesRoom, IsAtMost, no_room}
+use Rattle.document_changes.specs.Needs.{room_for}
+
+-- What else there is room for: a marker takes its room, a fill what was made for it. Where markers may go, there is room for so many.
+abbrev pub spare_left : DocumentChange → ℕ → ChangeRoom → ChangeRoom
+spare_left (change.SetLineEndTypes to) markers s = record s { markers = markers }
+spare_left (change.AddMarker line number) markers s = record s { markers = s.markers - 1 }
+spare_left (change.AddMarkers line mask) markers s = record s { markers = s.markers - length (numbers_in mask) }
+spare_left (change.DeleteMarker line number) markers s = record s { markers = markers }
+spare_left (change.DeleteMarkers number) markers s = record s { markers = markers }
+spare_left (change.DeleteHandle handle) markers s = record s { markers = markers }
+spare_left (change.FillIndicator indicator start count value) markers s = record s { fill = None }
+spare_left other markers s = s
+
+-- there is room for as many markers more as went
+abbrev pub GivesBack : Kept → Kept → Type 0
+GivesBack old new = new.spare.markers + marker_count new.document.rows ≡ old.spare.markers + marker_count old.document.rows
+
+-- Markers that are taken out leave their room, and no more; so do those of lines that go where other line ends count, and perhaps more.
+abbrev pub LeavesMarkers : DocumentChange → Kept → Kept → Type 0
+LeavesMarkers (change.SetLineEndTypes to) old new = old.spare.markers ≤ new.spare.markers
+LeavesMarkers (change.DeleteMarker line number) old new = GivesBack old new
+LeavesMarkers (change.DeleteMarkers number) old new = GivesBack old new
+LeavesMarkers (change.DeleteHandle handle) old new = GivesBack old new
+LeavesMarkers other old new = Unit {0}
+
+-- no more room was taken than the change needs, and none was made
+pub record LeavesRoom (what : DocumentChange) (old new : Kept) : Type 0 where
+  pub taken : TakesRoom old.room new.room (room_for old.document what)
+  pub none_made : IsAtMost new.room old.room no_room
+  pub spare : new.spare ≡ spare_left what new.spare.markers old.spare
+  pub markers : LeavesMarkers what old new
