@@ -5,6 +5,7 @@ ghost use Rattle.ed_model.specs.PlansFit.{IsSoundRequest};
 ghost use Rattle.ed_model.specs.Requests.{answer};
 ghost use Rattle.ed_model.specs.LinePlans.{convert_eols, get_eol_mode, get_line_state, has_handles, line_end_kind, line_end_number, line_of_handle, marker_add, marker_add_set, marker_delete, marker_delete_all, marker_delete_handle, marker_get, marker_line_from_handle, marker_next, marker_previous, numbers_in, set_eol_mode, set_line_state};
 
+use document::count_numbers;
 use ed_model::{DocumentChange, LineEnd, Plan, Planned};
 use ed_types::Refusal;
 use message_requests::Request;
@@ -96,19 +97,11 @@ pub fn marker_add(r: &Request) -> Planned
     })
 }
 
-/// How many numbers of markers a mask has a bit of.
-#[tactic(auto, using(crate::proofs::Masks::ones_are_numbers))]
-fn count_numbers(mask: u32) -> u32
-    ensures { result ≡ length (numbers_in mask) }
-{
-    mask.count_ones()
-}
-
 /// Whether a handle is left for each number of a mask.
 fn has_handles_for(r: &Request, mask: u32) -> bool
     ensures { result ≡ has_handles r.now (length (numbers_in mask)) }
 {
-    has_handles(r, count_numbers(mask))
+    has_handles(r, count_numbers(mask) as u32)
 }
 
 /// MARKERADDSET: a marker on line `w` for each bit of `l`.
