@@ -1,9 +1,10 @@
 -- Replies that are left in a place.
-use Rattle.std.proofs.Common.{◌≡◌, ℤ, refl, ap, sym, subst, Ok, Err, IfErr}
+use Rattle.std.proofs.Common.{◌≡◌, ◌⊎◌, ◌&&◌, ◌∙◌, ℤ, Bool, true, false, cond, inl, inr, refl, ap, sym, subst, Ok, Err, IfErr}
 use Rattle.std.specs.Prelude.{Result, IsOk}
 use Rattle.ed_types.specs.declared.refusal.Refusal.{Refusal}
 use Rattle.ed_types.specs.Notices.{Response}
-use Rattle.editor_session.specs.Left.{told}
+use Rattle.ed_model.specs.Performing.{quiet}
+use Rattle.editor_session.specs.Left.{told, is_value_alone, IsLeft}
 
 -- what holds of a refusal that was made holds of what is told
 pub err_told : (P : Refusal → Type 0) (r : Result ℤ Refusal) (left : Response) (made : Result Response Refusal) → told r left ≡ made → IfErr made P → IfErr r P
@@ -13,6 +14,14 @@ err_told P (Err refusal) left made is h = subst (λ t. IfErr t P) (sym is) h
 pub ok_told : (r : Result ℤ Refusal) (left : Response) (made : Result Response Refusal) → told r left ≡ made → IsOk made → IsOk r
 ok_told (Ok value) left made is h = refl
 ok_told (Err refusal) left made is h = subst IsOk (sym is) h
+
+-- what was left in the place of a value alone is the whole reply, or is a value alone too
+pub left_of_quiet : (value start : ℤ) (left : Response) → IsLeft (Ok value) (quiet start) left → (left.value ≡ value) ⊎ (left ≡ quiet left.value)
+left_of_quiet value start left = go (is_value_alone left && is_value_alone (quiet start))
+  where
+    go : (b : Bool) → left ≡ cond b (quiet start) (record left { value = value }) → (left.value ≡ value) ⊎ (left ≡ quiet left.value)
+    go true is = inr (is ∙ ap quiet (sym (ap (λ (r : Response). r.value) is)))
+    go false is = inl (ap (λ (r : Response). r.value) is)
 
 abbrev pub refusing : (R : Type 0) → Refusal → Result R Refusal
 refusing R refusal = Err refusal

@@ -4,17 +4,13 @@ use Rattle.std.specs.Prelude.{find, nat_le}
 use Rattle.std.proofs.lemmas.Bool.Decides.{nat_tests}
 use Rattle.ed_types.specs.declared.refusal.Refusal.TheVariants.{NoSuchView, BadArgument}
 use Rattle.std.proofs.lemmas.Bool.{eqb-true, ne_eqb}
-use Rattle.ed_model.specs.Session.{Document, View, document_at, text_of}
-use Rattle.ed_model.specs.SoundLaws.{Rise, IsSoundView}
+use Rattle.ed_model.specs.Session.{Session, Document, View, document_at, view_at, text_of}
+use Rattle.ed_model.specs.SoundLaws.{Rise}
 use Rattle.id_table.specs.Entries.{Entry, Entries, entry, id_of, value_of, value_at, with_value_at}
 use Rattle.document.specs.Kept.{Kept}
-use Rattle.ed_view.specs.Kept.{KeptView}
-use Rattle.message_requests.specs.Requested.{documents_in, session_in}
-use Rattle.message_requests.specs.declared.state.SessionState.{SessionState}
+use Rattle.message_requests.specs.Requested.{documents_in}
 use Rattle.editor_session.specs.Lent.{lent_range, lent_from, lent_of, lent_if}
-use Rattle.editor_session.proofs.Finding.{view_in, id_of_view, document_in, id_of_document, found_some, found_none}
-use Rattle.session_changes.specs.Kept.{DocumentsAreNamed, IsKept}
-use Rattle.editor_session.proofs.Performing.{found_all}
+use Rattle.session_changes.specs.Kept.{DocumentsAreNamed}
 
 above_stays : (k : Kept) (id low high : ℕ) (es : List (Entry Kept)) → Rise low high (map id_of es) → id < low → with_value_at id k es ≡ es
 above_stays k id low high [] r l = refl
@@ -54,28 +50,15 @@ ends_past a b h = grind (arith, nat_tests)
 pub ends_within : (a b : ℕ) → a ≤ b → nat_le a b ≡ true
 ends_within a b h = grind (arith, nat_tests)
 
-pub no_view_lends : (s : SessionState) (view start count : ℕ) → IsKept s → value_at s.views.entries view ≡ None → lent_range (session_in s) view start count ≡ Err NoSuchView
-no_view_lends s view start count kept none = ap (lent_from (session_in s) start count) (found_none view_in id_of_view s.views.entries view kept.views none)
+pub no_view_lends : (s : Session) (view start count : ℕ) → view_at s.views view ≡ None → lent_range s view start count ≡ Err NoSuchView
+no_view_lends s view start count none = ap (lent_from s start count) none
 
-module _ (s : SessionState) (view start count : ℕ) (kept : IsKept s) (v : KeptView) (seen : value_at s.views.entries view ≡ Some v) where
-  to_document : lent_range (session_in s) view start count ≡ lent_of start count (document_at (session_in s).documents v.view.document)
-  to_document = ap (lent_from (session_in s) start count) (found_some view_in id_of_view s.views.entries view v kept.views seen)
+module _ (s : Session) (view start count : ℕ) (v : View) (d : Document) (seen : view_at s.views view ≡ Some v) (there : document_at s.documents v.document ≡ Some d) where
+  lends_if : lent_range s view start count ≡ lent_if (nat_le (start + count) (length d.cells)) start count d
+  lends_if = ap (lent_from s start count) seen ∙ ap (lent_of start count) there
 
-  -- in a sound session the document of a view is there
-  pub document_is_there : (id : ℕ) → id ≡ v.view.document → value_at s.documents.entries id ≡ None → ⊥
-  document_is_there id is none =
-      let sound = found_all (IsSoundView (session_in s).documents) (λ (w : View). w.id == view) (session_in s).views v.view kept.sound.views (found_some view_in id_of_view s.views.entries view v kept.views seen) in
-      let there : document_at (session_in s).documents v.view.document ≡ Some sound.document = sound.found in
-      let gone : document_at (session_in s).documents v.view.document ≡ None = ap (document_at (session_in s).documents) (sym is) ∙ found_none document_in id_of_document s.documents.entries id kept.documents none in
-      absurd (cc)
+  pub past_end : length d.cells < start + count → lent_range s view start count ≡ Err BadArgument
+  past_end h = lends_if ∙ ap (λ b. lent_if b start count d) (ends_past (start + count) (length d.cells) h)
 
-  lends_if : (id : ℕ) (k : Kept) → id ≡ v.view.document → value_at s.documents.entries id ≡ Some k → lent_range (session_in s) view start count ≡ lent_if (nat_le (start + count) (length k.document.cells)) start count k.document
-  lends_if id k is at =
-      to_document ∙ ap (λ n. lent_of start count (document_at (session_in s).documents n)) (sym is) ∙ ap (lent_of start count) (found_some document_in id_of_document s.documents.entries id k kept.documents at)
-
-  pub past_end : (id : ℕ) (k : Kept) → id ≡ v.view.document → value_at s.documents.entries id ≡ Some k → length k.document.cells < start + count → lent_range (session_in s) view start count ≡ Err BadArgument
-  past_end id k is at h = lends_if id k is at ∙ ap (λ b. lent_if b start count k.document) (ends_past (start + count) (length k.document.cells) h)
-
-  pub range_lent : (id : ℕ) (k : Kept) → id ≡ v.view.document → value_at s.documents.entries id ≡ Some k → start + count ≤ length k.document.cells
-      → lent_range (session_in s) view start count ≡ Ok (slice_range (text_of k.document) start (start + count))
-  range_lent id k is at h = lends_if id k is at ∙ ap (λ b. lent_if b start count k.document) (ends_within (start + count) (length k.document.cells) h)
+  pub range_lent : start + count ≤ length d.cells → lent_range s view start count ≡ Ok (slice_range (text_of d) start (start + count))
+  range_lent h = lends_if ∙ ap (λ b. lent_if b start count d) (ends_within (start + count) (length d.cells) h)

@@ -6,6 +6,7 @@ pub mod TableWay
 pub mod Stepping
 pub mod Replacing
 pub mod Performing
+pub mod Attaching
 pub mod Changing
 pub mod Preparing
 pub mod Keeping

@@ -103,10 +103,6 @@ no_question s id m none = ap (value_from_kind s id m) none
 pub asked_of_no_view : (s : Session) (id : ℕ) (m : Message) (kind : Kind) → question_of m.number ≡ Some kind → view_at s.views id ≡ None → value_to s id m ≡ None
 asked_of_no_view s id m kind is none = ap (value_from_kind s id m) is ∙ ap (value_from_view s kind m) none
 
-pub asked_of_no_document : (s : Session) (id : ℕ) (m : Message) (kind : Kind) (v : View) → question_of m.number ≡ Some kind → view_at s.views id ≡ Some v → document_at s.documents v.document ≡ None
-    → value_to s id m ≡ None
-asked_of_no_document s id m kind v is found none = ap (value_from_kind s id m) is ∙ ap (value_from_view s kind m) found ∙ ap (value_from_document s v kind m) none
-
 pub asked_of : (s : Session) (id : ℕ) (m : Message) (kind : Kind) (v : View) (d : Document) → question_of m.number ≡ Some kind → view_at s.views id ≡ Some v → document_at s.documents v.document ≡ Some d
     → value_to s id m ≡ value_asked kind (request s v d m)
 asked_of s id m kind v d is found there = ap (value_from_kind s id m) is ∙ ap (value_from_view s kind m) found ∙ ap (value_from_document s v kind m) there

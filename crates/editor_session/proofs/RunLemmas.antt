@@ -1,6 +1,6 @@
 -- What a run makes of a command that is refused.
 use Rattle.std.proofs.Common.{◌≡◌, ◌⊎◌, ◌↔◌, ℕ, pos, refl, ap, sym, ◌∙◌, inl, inr, Some, None, Ok, Err, List, [], ◌∷◌, ◌++◌, take, drop, zero, suc, ◌+◌, slice_get, arith, IfOk, OnOk, IsErr, true, false}
-use Rattle.std.specs.Prelude.{Result}
+use Rattle.std.specs.Prelude.{◌≢◌, Result, Option, IsOk}
 use Rattle.std.specs.declared.alloc.AllocError.{AllocError}
 use Rattle.ed_types.specs.declared.refusal.Refusal.{Refusal}
 use Rattle.ed_types.specs.declared.refusal.Refusal.TheVariants.{OutOfMemory}
@@ -9,8 +9,8 @@ use Rattle.ed_types.specs.declared.script.Command.TheVariants.{OpenView}
 use Rattle.ed_types.specs.declared.script.Outcome.{Outcome}
 use Rattle.ed_types.specs.declared.script.Outcome.TheVariants.{Refused}
 use Rattle.ed_types.specs.Notices.{Response}
-use Rattle.ed_model.specs.Session.{Session}
-use Rattle.ed_model.specs.Table.{opened}
+use Rattle.ed_model.specs.Session.{Session, View, view_at}
+use Rattle.ed_model.specs.Table.{opened, closed, closed_view}
 use Rattle.ed_model.specs.Run.{Running, outcomes, run_to, after_command, after_message, after_opening}
 use Rattle.editor_session.specs.Answers.{AnswersBy}
 
@@ -46,6 +46,21 @@ refused_outcome run says session refusal result answer memory outcome =
     (λ e outcome. tt)
     (λ o refused same is outcome. outcome ∙ ap (λ t. (after_message run.session t).1) (sym refused))
     answer memory outcome
+
+-- Commands that take no memory.
+
+-- a run goes on behind a refusal that is not for want of memory
+pub goes_on : (result : Result Outcome AllocError) (refusal : Refusal) → (IsErr result ↔ (refusal ≡ OutOfMemory)) → refusal ≢ OutOfMemory → IsOk result
+goes_on (Ok o) refusal memory other = refl
+goes_on (Err e) refusal memory other = absurd (other (memory.0 refl))
+
+-- and closing is refused for no other than that no view has the id
+pub closing_refused : (s : Session) (view : ℕ) (refusal : Refusal) → closed s view ≡ Err refusal → refusal ≢ OutOfMemory
+closing_refused s view refusal = go (view_at s.views view)
+  where
+    go : (o : Option View) → closed_view s o ≡ Err refusal → refusal ≢ OutOfMemory
+    go None e = λ is. absurd (cc)
+    go (Some v) e = absurd (cc)
 
 -- One command more.
 

@@ -4,7 +4,7 @@ use Rattle.std.specs.Prelude.{Result, not, ◌+◌, slice_range, IsOk, IfOk, IfE
 use Rattle.ed_types.specs.declared.message.Message.{Message}
 use Rattle.ed_types.specs.declared.kind.Kind.{Kind}
 use Rattle.ed_types.specs.declared.refusal.Refusal.{Refusal}
-use Rattle.ed_types.specs.declared.refusal.Refusal.TheVariants.{NoSuchView, UnknownMessage, NoSuchDocument, OutOfMemory}
+use Rattle.ed_types.specs.declared.refusal.Refusal.TheVariants.{NoSuchView, UnknownMessage, OutOfMemory}
 use Rattle.ed_types.specs.Notices.{Response}
 use Rattle.ed_types.specs.Messages.{kind_of, marks_of}
 use Rattle.ed_model.specs.Session.{Session, View, Document, document_at, view_at, watching, text_of}
@@ -41,10 +41,6 @@ no_kind s id m v found none = ap (table_from_view s m) found ∙ ap (table_from_
 to_document : (s : Session) (id : ℕ) (m : Message) (v : View) (kind : Kind) → view_at s.views id ≡ Some v → kind_of m.number ≡ Some kind →
     table s id m ≡ table_from_document s v kind m (document_at s.documents v.document)
 to_document s id m v kind found is = ap (table_from_view s m) found ∙ ap (table_from_kind s v m) is
-
-pub no_document : (s : Session) (id : ℕ) (m : Message) (v : View) (kind : Kind) → view_at s.views id ≡ Some v → kind_of m.number ≡ Some kind → document_at s.documents v.document ≡ None →
-    table s id m ≡ Err NoSuchDocument
-no_document s id m v kind found is none = to_document s id m v kind found is ∙ ap (table_from_document s v kind m) none
 
 pub is_found : (s : Session) (id : ℕ) (m : Message) (v : View) (kind : Kind) (d : Document) → IsSound s → view_at s.views id ≡ Some v → kind_of m.number ≡ Some kind →
     document_at s.documents v.document ≡ Some d → IsFound s id m kind (request s v d m)

@@ -81,10 +81,6 @@ no_question s id m none = ap (reply_from_kind s id m) none
 pub asked_of_no_view : (s : Session) (id : ℕ) (m : Message) (kind : Kind) → text_question_of m.number ≡ Some kind → view_at s.views id ≡ None → reply_to s id m ≡ None
 asked_of_no_view s id m kind is none = ap (reply_from_kind s id m) is ∙ ap (reply_from_view s kind m) none
 
-pub asked_of_no_document : (s : Session) (id : ℕ) (m : Message) (kind : Kind) (v : View) → text_question_of m.number ≡ Some kind → view_at s.views id ≡ Some v → document_at s.documents v.document ≡ None
-    → reply_to s id m ≡ None
-asked_of_no_document s id m kind v is found none = ap (reply_from_kind s id m) is ∙ ap (reply_from_view s kind m) found ∙ ap (reply_from_document s v kind m) none
-
 pub asked_of : (s : Session) (id : ℕ) (m : Message) (kind : Kind) (v : View) (d : Document) → text_question_of m.number ≡ Some kind → view_at s.views id ≡ Some v → document_at s.documents v.document ≡ Some d
     → reply_to s id m ≡ reply_handing d (handed_asked kind (request s v d m))
 asked_of s id m kind v d is found there = ap (reply_from_kind s id m) is ∙ ap (reply_from_view s kind m) found ∙ ap (reply_from_document s v kind m) there

@@ -1,8 +1,7 @@
 -- A reply that is left in a place, its value apart.
-use Rattle.std.specs.Prelude.{◌≡◌, ◌⊎◌, ◌==◌, ◌&&◌, ℤ, Bool, length, Result, Ok, Err}
+use Rattle.std.specs.Prelude.{◌≡◌, ◌==◌, ◌&&◌, if◌then◌else◌, ℤ, Bool, length, Result, Ok, Err}
 use Rattle.ed_types.specs.declared.refusal.Refusal.{Refusal}
 use Rattle.ed_types.specs.Notices.{Response}
-use Rattle.ed_model.specs.Performing.{quiet}
 
 -- it has neither a text nor notes
 abbrev pub is_value_alone : Response → Bool
@@ -13,7 +12,11 @@ abbrev pub told : Result ℤ Refusal → Response → Result Response Refusal
 told (Ok value) left = Ok (record left { value = value })
 told (Err refusal) left = Err refusal
 
--- What was left has the value too, or is a value alone; after a refusal all is as it was.
+-- what stands where a reply was, once another took its place: where neither has a text or notes, nothing is written
+abbrev pub left_by : Response → Response → Response
+left_by reply before = if is_value_alone reply && is_value_alone before then before else reply
+
+-- The answer took the place of the reply before; after a refusal all is as it was.
 abbrev pub IsLeft : Result ℤ Refusal → Response → Response → Type 0
-IsLeft (Ok value) before left = (left.value ≡ value) ⊎ (left ≡ quiet left.value)
+IsLeft (Ok value) before left = left ≡ left_by (record left { value = value }) before
 IsLeft (Err refusal) before left = left ≡ before

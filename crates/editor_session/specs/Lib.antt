@@ -15,3 +15,4 @@ pub mod PartLends
 pub mod Unheard
 pub mod PlainEdits
 pub mod Left
+pub mod Commands

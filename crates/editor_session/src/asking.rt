@@ -9,6 +9,7 @@ ghost use Rattle.session_changes.specs.Kept.{IsKept};
 ghost use Rattle.editor_session.specs.Answers.{message_with};
 ghost use Rattle.editor_session.specs.Asked.{value_to};
 
+use crate::attached::look_up;
 use ed_types::{Kind, kinds_and_numbers};
 use message_plans::{question_of, value_of};
 use message_requests::{Request, SentMessage, SessionState};
@@ -23,10 +24,7 @@ fn ask_as(state: &SessionState, view: u32, kind: Kind, number: u32, w: i64, l: i
 {
     // The law that each kind is found by its number.
     kinds_and_numbers();
-    let Some(view) = state.views.get(view) else {
-        return None;
-    };
-    let Some(document) = state.documents.get(view.document()) else {
+    let Some(found) = look_up(state, view) else {
         return None;
     };
     // No plain question reads a text.
@@ -38,8 +36,8 @@ fn ask_as(state: &SessionState, view: u32, kind: Kind, number: u32, w: i64, l: i
     };
     let request = Request {
         session: state,
-        view,
-        document,
+        view: found.view,
+        document: found.document,
         message,
     };
     value_of(kind, &request)

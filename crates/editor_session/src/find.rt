@@ -8,6 +8,7 @@ ghost use Rattle.editor_session.specs.Answers.{message_with};
 ghost use Rattle.session_changes.specs.Kept.{IsKept};
 ghost use Rattle.editor_session.specs.Tasks.{IsFound};
 
+use crate::attached::look_up;
 use ed_model::Plan;
 use ed_types::{Kind, Refusal};
 use message_requests::{Request, SentMessage, SessionState};
@@ -29,7 +30,7 @@ pub(crate) struct Task {
 ///
 /// # Errors
 ///
-/// `NoSuchView`, `UnknownMessage` or `NoSuchDocument`, whichever holds first.
+/// `NoSuchView` or `UnknownMessage`, whichever holds first.
 #[inline(always)]
 pub(crate) fn find<'a>(
     state: &'a SessionState,
@@ -44,19 +45,16 @@ pub(crate) fn find<'a>(
     ensures refused { IfErr result (λ refusal. table (session_in state.now) view (message_with number w l text.now) ≡ Err refusal) }
     ensures memory { IfErr result (λ refusal. refusal ≢ OutOfMemory) }
 {
-    let Some(view) = state.views.get(view) else {
+    let Some(found) = look_up(state, view) else {
         return Err(Refusal::NoSuchView);
     };
     let Some(kind) = Kind::from_number(number) else {
         return Err(Refusal::UnknownMessage);
     };
-    let Some(document) = state.documents.get(view.document()) else {
-        return Err(Refusal::NoSuchDocument);
-    };
     let request = Request {
         session: state,
-        view,
-        document,
+        view: found.view,
+        document: found.document,
         message: SentMessage { number, w, l, text },
     };
     Ok((kind, request))

@@ -17,6 +17,7 @@ ghost use Rattle.editor_session.specs.Doing.{CanBeMade, IsChangedIn};
 ghost use Rattle.editor_session.specs.Tasks.{IsTask};
 ghost use Rattle.editor_session.specs.Unheard.{unrecorded, going, no_notes, IsSent};
 
+use crate::attached::look_up;
 use crate::history::go_unheard;
 use document::Direction;
 use document_changes::change_unheard;
@@ -29,6 +30,9 @@ use message_plans::{change_of, frequent_change_of, is_performed, transaction_of}
 use message_requests::{Request, SentMessage, SessionState};
 use std::alloc::Global;
 
+/// The bits of a view's mask by which it hears of frequent changes: CHANGESTYLE, CHANGEFOLD and CHANGEMARKER of Scintilla.
+const FREQUENT_CHANGES: u32 = 0x4 | 0x8 | 0x200;
+
 /// What a frequent change is, and the value that its message answers.
 #[derive(Clone, Copy, Debug)]
 struct FrequentChange {
@@ -38,7 +42,8 @@ struct FrequentChange {
     value: i64,
 }
 
-/// Finds what this message to the view of an id changes. `None` where the table refuses it, or it changes nothing.
+/// Finds what this message to the view of an id changes. `None` where the table refuses it or it changes nothing, and where that view
+/// hears of such changes.
 #[inline(always)]
 fn find_change(
     state: &SessionState,
@@ -55,13 +60,13 @@ fn find_change(
     // The laws that each kind is found by its number, and that a plan's numbers are in range.
     kinds_and_numbers();
     plans_are_fit();
-    let Some(view) = state.views.get(view) else {
+    let Some(found) = look_up(state, view) else {
         return None;
     };
-    let id = view.document();
-    let Some(document) = state.documents.get(id) else {
+    // A view that hears of such changes is told of it, mostly: it goes the longer way at once.
+    if found.view.mask() & FREQUENT_CHANGES != 0 {
         return None;
-    };
+    }
     // No such message reads a text.
     let message = SentMessage {
         number,
@@ -71,15 +76,15 @@ fn find_change(
     };
     let request = Request {
         session: state,
-        view,
-        document,
+        view: found.view,
+        document: found.document,
         message,
     };
     let Some((change, value)) = change_of(kind, &request) else {
         return None;
     };
     Some(FrequentChange {
-        document: id,
+        document: found.document.id(),
         change,
         value,
     })
@@ -177,17 +182,13 @@ fn find_transaction(
     // The laws that each kind is found by its number, and that a plan's numbers are in range.
     kinds_and_numbers();
     plans_are_fit();
-    let Some(view) = state.views.get(view) else {
+    let Some(found) = look_up(state, view) else {
         return None;
     };
     // A view that hears is told of it, mostly: it goes the longer way at once.
-    if view.mask() != 0 {
+    if found.view.mask() != 0 {
         return None;
     }
-    let id = view.document();
-    let Some(document) = state.documents.get(id) else {
-        return None;
-    };
     // Neither reads a text.
     let message = SentMessage {
         number,
@@ -197,12 +198,12 @@ fn find_transaction(
     };
     let request = Request {
         session: state,
-        view,
-        document,
+        view: found.view,
+        document: found.document,
         message,
     };
     if is_performed(kind, &request) {
-        Some(id)
+        Some(found.document.id())
     } else {
         None
     }

@@ -1,6 +1,6 @@
 //! Where a reply is left: in a place of the caller's, who keeps the value apart.
 
-ghost use Rattle.std.specs.Prelude.{◌≡◌, ◌==◌, ◌&&◌, ◌⊎◌, length};
+ghost use Rattle.std.specs.Prelude.{◌≡◌, ◌==◌, ◌&&◌, ◌⊎◌, length, Ok};
 ghost use Rattle.ed_model.specs.Performing.{quiet};
 ghost use Rattle.editor_session.specs.Left.{told, is_value_alone, IsLeft};
 
@@ -35,7 +35,7 @@ fn put(reply: &mut Reply, new: Reply)
 #[inline(always)]
 pub(crate) fn keep(reply: &mut Reply, new: Reply) -> i64
     ensures whole { record reply.new { value = result } ≡ new }
-    ensures place { (reply.new.value ≡ result) ⊎ (reply.new ≡ quiet reply.new.value) }
+    ensures place { IsLeft (Ok result) reply.old reply.new }
 {
     let value = new.value();
     if is_value_alone(&new) && is_value_alone(reply) {

@@ -11,6 +11,7 @@ ghost use Rattle.session_changes.specs.Kept.{IsKept, DocumentsAreNamed};
 ghost use Rattle.editor_session.specs.Lent.{lent_range};
 ghost use Rattle.editor_session.specs.PartLends.{documents_back, state_back};
 
+use crate::attached::look_up;
 use document_table::DocumentTable;
 use ed_types::Refusal;
 use message_requests::SessionState;
@@ -32,20 +33,17 @@ pub(crate) fn document_with(
     ensures refused { IfErr result (λ refusal. lent_range (session_in state.now) view start count ≡ Err refusal) }
     ensures refusals { IfErr result (λ refusal. (refusal ≡ NoSuchView) ⊎ (refusal ≡ BadArgument)) }
 {
-    let Some(open) = state.views.get(view) else {
+    let Some(found) = look_up(state, view) else {
         return Err(Refusal::NoSuchView);
     };
-    let Some(document) = state.documents.get(open.document()) else {
-        unreachable!()
-    };
-    let length = document.len();
+    let length = found.document.len();
     if length < start {
         return Err(Refusal::BadArgument);
     }
     if length - start < count {
         return Err(Refusal::BadArgument);
     }
-    Ok(open.document())
+    Ok(found.view.document())
 }
 
 /// Lends the `count` bytes of a document from `start` on. All documents stay as they are.

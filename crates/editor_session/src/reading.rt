@@ -10,6 +10,7 @@ ghost use Rattle.session_changes.specs.Kept.{IsKept};
 ghost use Rattle.editor_session.specs.Answers.{message_with};
 ghost use Rattle.editor_session.specs.Asked.{reply_to};
 
+use crate::attached::look_up;
 use document::Document;
 use ed_model::plans_are_fit;
 use ed_types::{Kind, kinds_and_numbers};
@@ -48,7 +49,7 @@ fn read_bytes(
 }
 
 /// Answers this text question to the view of an id. `None` where the table refuses it or no bytes are handed out, and where memory is
-/// refused. It stands apart, as `ask_as` does.
+/// refused. It stands apart, so that other messages set up nothing of it.
 #[inline(never)]
 fn read_as(
     alloc: Global,
@@ -70,10 +71,7 @@ fn read_as(
     // The laws that each kind is found by its number, and that what is handed out lies in the text.
     kinds_and_numbers();
     plans_are_fit();
-    let Some(view) = state.views.get(view) else {
-        return None;
-    };
-    let Some(document) = state.documents.get(view.document()) else {
+    let Some(found) = look_up(state, view) else {
         return None;
     };
     // No text question reads a text.
@@ -85,14 +83,14 @@ fn read_as(
     };
     let request = Request {
         session: state,
-        view,
-        document,
+        view: found.view,
+        document: found.document,
         message,
     };
     let Some(handed) = handed_of(kind, &request) else {
         return None;
     };
-    match read_bytes(alloc, document, handed.start, handed.count, into) {
+    match read_bytes(alloc, found.document, handed.start, handed.count, into) {
         Ok(()) => Some(handed.value),
         Err(_) => None,
     }

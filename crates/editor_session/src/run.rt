@@ -1,11 +1,12 @@
 //! Runs of commands.
 
-ghost use Rattle.std.specs.Prelude.{◌≡◌, ◌↔◌, IfOk, IsErr, OnOk, OnErr, Some, None, Err};
+ghost use Rattle.std.specs.Prelude.{◌≡◌, ◌↔◌, true, IfOk, IsOk, IsErr, OnOk, OnErr, Some, None, Err};
 ghost use Rattle.ed_types.specs.declared.refusal.Refusal.TheVariants.{OutOfMemory};
 ghost use Rattle.ed_types.specs.declared.script.Outcome.TheVariants.{Refused};
 ghost use Rattle.ed_model.specs.Session.{view_at};
 ghost use Rattle.ed_model.specs.Run.{starting, after_command, outcomes, run_to, loaded, file_at};
 ghost use Rattle.editor_session.specs.Answers.{AnswersBy, StopsWithin};
+ghost use Rattle.editor_session.specs.Commands.{takes_no_memory};
 
 use crate::session::Session;
 use ed_types::{Bytes, Command, Kind, Outcome, Refusal, Reply};
@@ -49,11 +50,13 @@ impl Run {
     ///
     /// # Errors
     ///
-    /// `AllocError` where the command was refused for want of memory; the run is then as it was.
+    /// `AllocError` where the command was refused for want of memory, which never comes of one that takes none; the run is then as it
+    /// was.
     pub fn step(&mut self, files: &[Bytes], command: &Command) -> Result<Outcome, AllocError>
         ensures state { OnOk result (self.new ≡ (after_command files.now command.now self.old).0) }
         ensures outcome { IfOk result (λ outcome. outcome ≡ (after_command files.now command.now self.old).1) }
         ensures err { OnErr result (self.new ≡ self.old) }
+        ensures free { takes_no_memory self.old.session command.now ≡ true → IsOk result }
     {
         match command {
             Command::OpenView => match self.session.new_view() {

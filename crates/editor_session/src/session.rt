@@ -188,8 +188,8 @@ impl Session {
     }
 
     /// Sends a message that is no plain question, or was asked in vain: it goes the longer way at once, which serves for all messages.
-    /// The value of its reply is returned, and the reply's text and notes take the place of those of `reply`; where neither has any,
-    /// nothing is written.
+    /// The value of its reply is returned, and its reply takes the place of `reply`; where neither has a text or notes, nothing is
+    /// written, and `reply.value()` is not this message's value: the result alone is.
     ///
     /// # Errors
     ///

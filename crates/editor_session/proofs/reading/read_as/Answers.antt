@@ -1,16 +1,15 @@
 use Rattle.std.proofs.Common.{rules, ◌≡◌, ◌≤◌, ◌+◌, [], to_z, of_z, w64, true, false, length, slice_range, sym, ap, refl, subst, ◌∙◌, Ok, Some, None}
-use Rattle.std.specs.Prelude.{option_copied, IfSome, vec_capacity}
+use Rattle.std.specs.Prelude.{IfSome, vec_capacity}
 use Rattle.ed_types.specs.Notices.{Response}
 use Rattle.ed_model.specs.Performing.{response}
-use Rattle.ed_model.specs.Session.{view_at, document_at, text_of}
+use Rattle.ed_model.specs.Session.{text_of}
 use Rattle.ed_model.specs.Table.{request}
 use Rattle.message_requests.specs.Requested.{session_in}
 use Rattle.message_plans.specs.Asking.{handed_asked}
 use Rattle.editor_session.specs.Answers.{message_with}
 use Rattle.editor_session.specs.Asked.{reply_to, reply_handing}
-use Rattle.editor_session.proofs.Finding.{found_some, found_none, view_in, id_of_view, document_in, id_of_document}
 use Rattle.editor_session.proofs.Questions.{sound_request}
-use Rattle.editor_session.proofs.TextQuestions.{asked_of_no_view, asked_of_no_document, asked_of, none_promised, all_promised, handing, handed_within, handing_length, text_reply}
+use Rattle.editor_session.proofs.TextQuestions.{asked_of_no_view, asked_of, none_promised, all_promised, handing, handed_within, handing_length, text_reply}
 use Rattle.editor_session.proofs.reading.read_as.Goals as goal
 
 pub returns-in_default-clause-room : goal.returns-in_default-clause-room
@@ -18,104 +17,62 @@ returns-in_default-clause-room c =
     let a = c.args in
     let s = session_in a.state.now in
     let m = message_with a.number a.w a.l [] in
-    let none : view_at s.views a.view ≡ None =
-    found_none view_in id_of_view a.state.now.views.entries a.view c.requires.kept.views (sym c.get.ensures ∙ ap option_copied c.in_default.is) in
-    none_promised (reply_to s a.view m) _ (asked_of_no_view s a.view m a.kind c.requires.question none)
-
-pub returns-in_default-get-clause-room : goal.returns-in_default-get-clause-room
-returns-in_default-get-clause-room c =
-    let a = c.args in
-    let s = session_in a.state.now in
-    let m = message_with a.number a.w a.l [] in
-    let v = c.in-Some.view.now.view in
-    let found : view_at s.views a.view ≡ Some v =
-    found_some view_in id_of_view a.state.now.views.entries a.view c.in-Some.view.now c.requires.kept.views (sym c.get.ensures ∙ ap option_copied c.in-Some.is) in
-    let none : document_at s.documents v.document ≡ None =
-    subst (λ id. document_at s.documents id ≡ None) c.document.ensures
-    (found_none document_in id_of_document a.state.now.documents.entries c.document.result c.requires.kept.documents (sym c.get-2.ensures ∙ ap option_copied c.in_default-get.is)) in
-    none_promised (reply_to s a.view m) _ (asked_of_no_document s a.view m a.kind v c.requires.question found none)
+    none_promised (reply_to s a.view m) _ (asked_of_no_view s a.view m a.kind c.requires.question c.in_default.ensures.none)
 
 pub handed_of-requires : goal.handed_of-requires
 handed_of-requires c =
     let a = c.args in
-    let s = session_in a.state.now in
-    let v = c.in-Some.view.now.view in
-    let d = c.in-Some-get.document.now.document in
-    let found : view_at s.views a.view ≡ Some v =
-    found_some view_in id_of_view a.state.now.views.entries a.view c.in-Some.view.now c.requires.kept.views (sym c.get.ensures ∙ ap option_copied c.in-Some.is) in
-    let there : document_at s.documents v.document ≡ Some d =
-    subst (λ id. document_at s.documents id ≡ Some d) c.document.ensures
-    (found_some document_in id_of_document a.state.now.documents.entries c.document.result c.in-Some-get.document.now c.requires.kept.documents (sym c.get-2.ensures ∙ ap option_copied c.in-Some-get.is)) in
-    record { sound = sound_request s a.view (message_with a.number (to_z w64 (of_z w64 a.w)) (to_z w64 (of_z w64 a.l)) []) v d c.requires.kept.sound found there }
+    let f = c.in-Some.found in
+    record { sound = sound_request (session_in a.state.now) a.view (message_with a.number (to_z w64 (of_z w64 a.w)) (to_z w64 (of_z w64 a.l)) []) f.view.now.view f.document.now.document c.requires.kept.sound c.in-Some.ensures.view c.in-Some.ensures.document }
 
 pub returns-in_default-handed_of-clause-room : goal.returns-in_default-handed_of-clause-room
 returns-in_default-handed_of-clause-room c =
     let a = c.args in
     let s = session_in a.state.now in
     let m = message_with a.number a.w a.l [] in
-    let v = c.in-Some.view.now.view in
-    let d = c.in-Some-get.document.now.document in
-    let found : view_at s.views a.view ≡ Some v =
-    found_some view_in id_of_view a.state.now.views.entries a.view c.in-Some.view.now c.requires.kept.views (sym c.get.ensures ∙ ap option_copied c.in-Some.is) in
-    let there : document_at s.documents v.document ≡ Some d =
-    subst (λ id. document_at s.documents id ≡ Some d) c.document.ensures
-    (found_some document_in id_of_document a.state.now.documents.entries c.document.result c.in-Some-get.document.now c.requires.kept.documents (sym c.get-2.ensures ∙ ap option_copied c.in-Some-get.is)) in
+    let v = c.in-Some.found.view.now.view in
+    let d = c.in-Some.found.document.now.document in
     let same : message_with a.number (to_z w64 (of_z w64 a.w)) (to_z w64 (of_z w64 a.l)) [] ≡ m = search rules in
     let nothing : handed_asked a.kind (request s v d m) ≡ None = subst (λ x. handed_asked a.kind (request s v d x) ≡ None) same (sym c.handed_of.ensures ∙ c.in_default-handed_of.is) in
-    none_promised (reply_to s a.view m) _ (asked_of s a.view m a.kind v d c.requires.question found there ∙ ap (reply_handing d) nothing)
+    none_promised (reply_to s a.view m) _ (asked_of s a.view m a.kind v d c.requires.question c.in-Some.ensures.view c.in-Some.ensures.document ∙ ap (reply_handing d) nothing)
 
 pub read_bytes-requires : goal.read_bytes-requires
 read_bytes-requires c =
     let a = c.args in
     let s = session_in a.state.now in
-    let v = c.in-Some.view.now.view in
-    let d = c.in-Some-get.document.now.document in
+    let v = c.in-Some.found.view.now.view in
+    let d = c.in-Some.found.document.now.document in
     let m = message_with a.number (to_z w64 (of_z w64 a.w)) (to_z w64 (of_z w64 a.l)) [] in
-    let found : view_at s.views a.view ≡ Some v =
-    found_some view_in id_of_view a.state.now.views.entries a.view c.in-Some.view.now c.requires.kept.views (sym c.get.ensures ∙ ap option_copied c.in-Some.is) in
-    let there : document_at s.documents v.document ≡ Some d =
-    subst (λ id. document_at s.documents id ≡ Some d) c.document.ensures
-    (found_some document_in id_of_document a.state.now.documents.entries c.document.result c.in-Some-get.document.now c.requires.kept.documents (sym c.get-2.ensures ∙ ap option_copied c.in-Some-get.is)) in
     let is : handed_asked a.kind (request s v d m) ≡ Some c.in-Some-handed_of.handed = sym c.handed_of.ensures ∙ c.in-Some-handed_of.is in
-    record { range = handed_within c.plans_are_fit.ensures.in_range a.kind (request s v d m) c.in-Some-handed_of.handed (sound_request s a.view m v d c.requires.kept.sound found there) is }
+    record { range = handed_within c.plans_are_fit.ensures.in_range a.kind (request s v d m) c.in-Some-handed_of.handed (sound_request s a.view m v d c.requires.kept.sound c.in-Some.ensures.view c.in-Some.ensures.document) is }
 
 pub returns-in-Ok-clause-reply : goal.returns-in-Ok-clause-reply
 returns-in-Ok-clause-reply c =
     let a = c.args in
     let s = session_in a.state.now in
     let m = message_with a.number a.w a.l [] in
-    let v = c.in-Some.view.now.view in
-    let d = c.in-Some-get.document.now.document in
+    let v = c.in-Some.found.view.now.view in
+    let d = c.in-Some.found.document.now.document in
     let h = c.in-Some-handed_of.handed in
-    let found : view_at s.views a.view ≡ Some v =
-    found_some view_in id_of_view a.state.now.views.entries a.view c.in-Some.view.now c.requires.kept.views (sym c.get.ensures ∙ ap option_copied c.in-Some.is) in
-    let there : document_at s.documents v.document ≡ Some d =
-    subst (λ id. document_at s.documents id ≡ Some d) c.document.ensures
-    (found_some document_in id_of_document a.state.now.documents.entries c.document.result c.in-Some-get.document.now c.requires.kept.documents (sym c.get-2.ensures ∙ ap option_copied c.in-Some-get.is)) in
     let same : message_with a.number (to_z w64 (of_z w64 a.w)) (to_z w64 (of_z w64 a.l)) [] ≡ m = search rules in
     let is : handed_asked a.kind (request s v d m) ≡ Some h = subst (λ x. handed_asked a.kind (request s v d x) ≡ Some h) same (sym c.handed_of.ensures ∙ c.in-Some-handed_of.is) in
     let bytes : c.read_bytes.new.into.items ≡ slice_range (text_of d) h.start (h.start + h.count) = search rules in
     let value : to_z w64 (of_z w64 h.value) ≡ h.value = search rules in
-    asked_of s a.view m a.kind v d c.requires.question found there ∙ ap (reply_handing d) is ∙ ap (λ t. Some (response h.value t [])) (sym bytes) ∙ ap (λ x. Some (response x c.read_bytes.new.into.items [])) (sym value)
+    asked_of s a.view m a.kind v d c.requires.question c.in-Some.ensures.view c.in-Some.ensures.document ∙ ap (reply_handing d) is ∙ ap (λ t. Some (response h.value t [])) (sym bytes) ∙ ap (λ x. Some (response x c.read_bytes.new.into.items [])) (sym value)
 
 pub returns-in-Ok-clause-answer : goal.returns-in-Ok-clause-answer
 returns-in-Ok-clause-answer c text =
     let a = c.args in
     let s = session_in a.state.now in
     let m = message_with a.number a.w a.l [] in
-    let v = c.in-Some.view.now.view in
-    let d = c.in-Some-get.document.now.document in
+    let v = c.in-Some.found.view.now.view in
+    let d = c.in-Some.found.document.now.document in
     let h = c.in-Some-handed_of.handed in
-    let found : view_at s.views a.view ≡ Some v =
-    found_some view_in id_of_view a.state.now.views.entries a.view c.in-Some.view.now c.requires.kept.views (sym c.get.ensures ∙ ap option_copied c.in-Some.is) in
-    let there : document_at s.documents v.document ≡ Some d =
-    subst (λ id. document_at s.documents id ≡ Some d) c.document.ensures
-    (found_some document_in id_of_document a.state.now.documents.entries c.document.result c.in-Some-get.document.now c.requires.kept.documents (sym c.get-2.ensures ∙ ap option_copied c.in-Some-get.is)) in
     let same : message_with a.number (to_z w64 (of_z w64 a.w)) (to_z w64 (of_z w64 a.l)) [] ≡ m = search rules in
     let is : handed_asked a.kind (request s v d m) ≡ Some h = subst (λ x. handed_asked a.kind (request s v d x) ≡ Some h) same (sym c.handed_of.ensures ∙ c.in-Some-handed_of.is) in
     let bytes : c.read_bytes.new.into.items ≡ slice_range (text_of d) h.start (h.start + h.count) = search rules in
     let value : to_z w64 (of_z w64 h.value) ≡ h.value = search rules in
-    text_reply c.kinds_and_numbers.ensures.found s a.view a.number a.w a.l a.kind v d h c.requires.question found there is text
+    text_reply c.kinds_and_numbers.ensures.found s a.view a.number a.w a.l a.kind v d h c.requires.question c.in-Some.ensures.view c.in-Some.ensures.document is text
     ∙ ap (λ t. Ok (s, response h.value t [])) (sym bytes) ∙ ap (λ x. Ok (s, response x c.read_bytes.new.into.items [])) (sym value)
 
 pub returns-in-Ok-clause-room : goal.returns-in-Ok-clause-room
@@ -128,17 +85,12 @@ returns-in-Err-clause-room c =
     let a = c.args in
     let s = session_in a.state.now in
     let m = message_with a.number a.w a.l [] in
-    let v = c.in-Some.view.now.view in
-    let d = c.in-Some-get.document.now.document in
+    let v = c.in-Some.found.view.now.view in
+    let d = c.in-Some.found.document.now.document in
     let h = c.in-Some-handed_of.handed in
-    let found : view_at s.views a.view ≡ Some v =
-    found_some view_in id_of_view a.state.now.views.entries a.view c.in-Some.view.now c.requires.kept.views (sym c.get.ensures ∙ ap option_copied c.in-Some.is) in
-    let there : document_at s.documents v.document ≡ Some d =
-    subst (λ id. document_at s.documents id ≡ Some d) c.document.ensures
-    (found_some document_in id_of_document a.state.now.documents.entries c.document.result c.in-Some-get.document.now c.requires.kept.documents (sym c.get-2.ensures ∙ ap option_copied c.in-Some-get.is)) in
     let same : message_with a.number (to_z w64 (of_z w64 a.w)) (to_z w64 (of_z w64 a.l)) [] ≡ m = search rules in
     let is : handed_asked a.kind (request s v d m) ≡ Some h = subst (λ x. handed_asked a.kind (request s v d x) ≡ Some h) same (sym c.handed_of.ensures ∙ c.in-Some-handed_of.is) in
-    let whole : reply_to s a.view m ≡ Some (handing d h) = asked_of s a.view m a.kind v d c.requires.question found there ∙ ap (reply_handing d) is in
-    let count : length (handing d h).text ≡ h.count = handing_length d h (handed_within c.plans_are_fit.ensures.in_range a.kind (request s v d m) h (sound_request s a.view m v d c.requires.kept.sound found there) is) in
+    let whole : reply_to s a.view m ≡ Some (handing d h) = asked_of s a.view m a.kind v d c.requires.question c.in-Some.ensures.view c.in-Some.ensures.document ∙ ap (reply_handing d) is in
+    let count : length (handing d h).text ≡ h.count = handing_length d h (handed_within c.plans_are_fit.ensures.in_range a.kind (request s v d m) h (sound_request s a.view m v d c.requires.kept.sound c.in-Some.ensures.view c.in-Some.ensures.document) is) in
     subst (λ o. IfSome o (λ (reply : Response). length reply.text ≤ vec_capacity a.into.now → false ≡ true)) (sym whole)
     (λ fits. let bad = c.in-Err.ensures.room_is_there (subst (λ n. n ≤ vec_capacity a.into.now) count fits) in absurd (cc))

@@ -5,15 +5,17 @@ use Rattle.ed_model.specs.Performing.{quiet}
 use Rattle.ed_model.specs.Table.{table}
 use Rattle.message_requests.specs.Requested.{session_in}
 use Rattle.editor_session.specs.Answers.{AnswersBy, message_with}
+use Rattle.editor_session.specs.Left.{IsLeft}
 use Rattle.editor_session.specs.Plans.{is_free}
-use Rattle.editor_session.proofs.Leaving.{refusing, refused_too}
+use Rattle.editor_session.proofs.Leaving.{left_of_quiet, refusing, refused_too}
 use Rattle.editor_session.proofs.sending.answer_by_plan.Goals as goal
 
 pub whole-requires : goal.whole-requires
 whole-requires c =
     let left = c.answer_into_by_plan.new.reply in
     let value : c.in-Ok.value ≡ to_z w64 (of_z w64 c.in-Ok.value) = search rules in
-    record { place = subst (λ v. (left.value ≡ v) ⊎ (left ≡ quiet left.value)) value c.in-Ok.ensures.place }
+    let before = subst (λ b. IsLeft (Ok c.in-Ok.value) b left) c.answer-reply.ensures c.in-Ok.ensures.place in
+    record { place = subst (λ v. (left.value ≡ v) ⊎ (left ≡ quiet left.value)) value (left_of_quiet c.in-Ok.value _ left before) }
 
 pub returns-in-Ok-clause-answer : goal.returns-in-Ok-clause-answer
 returns-in-Ok-clause-answer c =

@@ -1,9 +1,12 @@
-use Rattle.std.proofs.Common.{rules, ◌≡◌, Some, None, Ok, Err, pos, OnOk, ◌∙◌}
-use Rattle.ed_types.specs.declared.script.Command.TheVariants.{OpenView, SendMessage}
+use Rattle.std.proofs.Common.{rules, ◌≡◌, Some, None, Ok, Err, pos, OnOk, sym, ap, subst, true, false, ◌∙◌}
+use Rattle.ed_types.specs.declared.script.Command.TheVariants.{OpenView, LoadFile, SendMessage}
 use Rattle.ed_types.specs.Notices.{Response}
+use Rattle.ed_model.specs.Run.{Running}
+use Rattle.ed_model.specs.Session.{Session}
 use Rattle.ed_model.specs.Table.{table, opened}
 use Rattle.editor_session.specs.Answers.{AnswersBy}
-use Rattle.editor_session.proofs.RunLemmas.{opened_state, refused_state, refused_outcome}
+use Rattle.editor_session.specs.Commands.{takes_no_memory}
+use Rattle.editor_session.proofs.RunLemmas.{opened_state, refused_state, refused_outcome, goes_on, closing_refused}
 use Rattle.editor_session.proofs.run.Run.step.Goals as goal
 
 pub returns-in-Ok-clause-state : goal.returns-in-Ok-clause-state
@@ -31,3 +34,35 @@ returns-in-Err-send-clause-outcome c =
     let says = table run.session p.view p.message in
     let answer : AnswersBy {R = Response} says run.session c.send.new.self (Err c.in-Err-send.refusal) = search rules in
     rw command (refused_outcome run says c.send.new.self c.in-Err-send.refusal c.refused-in-Err-send.result answer c.refused-in-Err-send.ensures.memory c.refused-in-Err-send.ensures.outcome)
+
+-- commands that may take memory
+
+pub returns-in-Err-clause-free : goal.returns-in-Err-clause-free
+returns-in-Err-clause-free c free =
+    let command : c.args.command.now ≡ OpenView = search rules in
+    let bad : false ≡ true = subst (λ k. takes_no_memory c.args.self.now.session k ≡ true) command free in
+    absurd (cc)
+
+pub returns-in-Err-load-clause-free : goal.returns-in-Err-load-clause-free
+returns-in-Err-load-clause-free c free =
+    let command : c.args.command.now ≡ LoadFile c.in-LoadFile.view c.in-LoadFile.file = search rules in
+    let bad : false ≡ true = subst (λ k. takes_no_memory c.args.self.now.session k ≡ true) command free in
+    absurd (cc)
+
+-- .. and those that take none
+
+pub returns-in-Err-close_view-clause-free : goal.returns-in-Err-close_view-clause-free
+returns-in-Err-close_view-clause-free c free =
+    let e = c.in-Err-close_view in
+    let r = c.refused-in-Err-close_view in
+    goes_on r.result e.refusal r.ensures.memory (closing_refused c.self-in-CloseView.inside.session c.in-CloseView.view e.refusal e.ensures.refused)
+
+pub returns-in-Err-send-clause-free : goal.returns-in-Err-send-clause-free
+returns-in-Err-send-clause-free c free =
+    let e = c.in-Err-send in
+    let r = c.refused-in-Err-send in
+    let command : c.args.command.now ≡ SendMessage c.in-SendMessage.view c.in-SendMessage.message = search rules in
+    let is_free = subst (λ k. takes_no_memory c.args.self.now.session k ≡ true) command free in
+    let own = ap (λ (r : Running). r.session) c.self-in-SendMessage.view_is in
+    goes_on r.result e.refusal r.ensures.memory
+    (e.ensures.free (subst (λ (s : Session). takes_no_memory s (SendMessage c.in-SendMessage.view c.in-SendMessage.message) ≡ true) (sym own) is_free))

@@ -1,0 +1,38 @@
+//! The view that a message is sent to, and the document that it is attached to.
+
+ghost use Rattle.std.specs.Prelude.{◌≡◌, IfSome, IfNone, Some, None};
+ghost use Rattle.ed_model.specs.Session.{view_at, document_at};
+ghost use Rattle.id_table.specs.Entries.{value_at};
+ghost use Rattle.message_requests.specs.Requested.{session_in};
+ghost use Rattle.session_changes.specs.Kept.{IsKept};
+
+use document::Document;
+use ed_view::View;
+use message_requests::SessionState;
+
+/// A view of a session with its document, both lent.
+#[derive(Clone, Copy)]
+pub(crate) struct Attached<'a> {
+    /// The view.
+    pub view: &'a View,
+    /// The document that it is attached to.
+    pub document: &'a Document,
+}
+
+/// The view of an id with its document, which is always there. `None` where no view has this id.
+#[inline(always)]
+pub(crate) fn look_up(state: &SessionState, view: u32) -> Option<Attached<'_>>
+    requires kept { IsKept state.now }
+    ensures view { IfSome result (λ found. view_at (session_in state.now).views view ≡ Some found.view.now.view) }
+    ensures document { IfSome result (λ found. document_at (session_in state.now).documents found.view.now.view.document ≡ Some found.document.now.document) }
+    ensures entry { IfSome result (λ found. value_at state.now.documents.entries found.view.now.view.document ≡ Some found.document.now) }
+    ensures none { IfNone result (view_at (session_in state.now).views view ≡ None) }
+{
+    let Some(view) = state.views.get(view) else {
+        return None;
+    };
+    let Some(document) = state.documents.get(view.document()) else {
+        unreachable!()
+    };
+    Some(Attached { view, document })
+}
