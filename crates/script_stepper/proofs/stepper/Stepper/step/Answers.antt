@@ -1,4 +1,4 @@
-use Rattle.std.proofs.Common.{rules, ◌≡◌, ◌≤◌, ◌<◌, length, get_or, slice_get, Some, refl, ap, ◌∙◌, subst}
+use Rattle.std.proofs.Common.{rules, ◌≡◌, ◌≤◌, ◌<◌, length, get_or, slice_get, Some, refl, ap, ◌∙◌}
 use Rattle.std.proofs.lemmas.Option.{slice_get_read}
 use Rattle.script_stepper.specs.Stepping.{next_outcome}
 use Rattle.script_stepper.proofs.NextCommand.{stands_on, came_next, none_next}
