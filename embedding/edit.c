@@ -28,9 +28,7 @@ static pane bottom; /* the last row, whose text has a view of its own */
 static int pane_count = 1, active = 0;
 static int rows = 24, columns = 80;
 static int64_t goal = -1, goal_before = -1; /* the column that moves by rows keep to, of this key and the one before; or -1 */
-static char file_name[4096];
-static char needle[256];
-static char notice[256];
+static char file_name[4096], needle[256], notice[256];
 static bool is_over;
 static volatile sig_atomic_t is_resized;
 
@@ -104,21 +102,22 @@ static int64_t last_row(const pane *p) {
   return ask_of(p, SCI_VISIBLEFROMDOCLINE, ask_of(p, SCI_GETLINECOUNT, 0) - 1);
 }
 
-/* The column behind the character at a position, which begins at this column. */
-static int64_t column_behind(const pane *p, int64_t position, int64_t column) {
-  return ask_of(p, SCI_GETCHARAT, position) == '\t' ? (column / TAB_COLUMNS + 1) * TAB_COLUMNS : column + 1;
+/* Goes past the character at a position, which begins at this column: most have one byte. */
+static int64_t pass(const pane *p, int64_t at, int64_t *column) {
+  int64_t byte = ask_of(p, SCI_GETCHARAT, at);
+  *column = byte == '\t' ? (*column / TAB_COLUMNS + 1) * TAB_COLUMNS : *column + 1;
+  return 0 <= byte && byte < 0x80 ? at + 1 : ask_of(p, SCI_POSITIONAFTER, at);
 }
 
 static int64_t column_of(const pane *p, int64_t position) {
   int64_t column = 0;
-  for (int64_t at = start_of(p, line_at(p, position)); at < position; at = ask_of(p, SCI_POSITIONAFTER, at))
-    column = column_behind(p, at, column);
+  for (int64_t at = start_of(p, line_at(p, position)); at < position;) at = pass(p, at, &column);
   return column;
 }
 
 static int64_t position_in(const pane *p, int64_t line, int64_t column) {
-  int64_t at = start_of(p, line), end = end_of(p, line), behind = 0;
-  while (at < end && (behind = column_behind(p, at, behind)) <= column) at = ask_of(p, SCI_POSITIONAFTER, at);
+  int64_t at = start_of(p, line), end = end_of(p, line), next = at, behind = 0;
+  while (at < end && (next = pass(p, at, &behind), behind <= column)) at = next;
   return at;
 }
 
@@ -130,7 +129,7 @@ static bool is_blank(const pane *p, int64_t position) {
 /* The column where a line's text begins, or -1 if it has none. */
 static int64_t indentation(const pane *p, int64_t line) {
   int64_t at = start_of(p, line), column = 0;
-  for (; is_blank(p, at); at++) column = column_behind(p, at, column);
+  while (is_blank(p, at)) at = pass(p, at, &column);
   return at == end_of(p, line) ? -1 : least(column, DEEPEST);
 }
 
@@ -226,7 +225,7 @@ static void draw_text(const pane *p, int64_t line, int64_t width) {
   bool is_reverse = false;
   const uint8_t *bytes;
   while (position < line_end && column < end) {
-    int64_t behind = ask_of(p, SCI_POSITIONAFTER, position), next = column_behind(p, position, column);
+    int64_t next = column, behind = pass(p, position, &next);
     size_t count = (size_t)(behind - position);
     bool is_selected = from <= position && position < to;
     if (next > p->left && hongpilas_lend_range(&session, p->view, (size_t)position, count, &bytes) == HONGPILAS_DONE) {
