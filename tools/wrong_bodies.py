@@ -146,7 +146,7 @@ def batches(bodies):
 
 def standing_in(bodies, functions):
     """Those of the bodies that stand in one of these functions, which a check names whole."""
-    return [it for it in bodies if any(name.endswith(f"::{of}") for name in functions for of in it.functions())]
+    return [it for it in bodies if any(name.endswith(f"::{of}") for name in functions for of in it.functions() or ())]
 
 
 def refused_together(crate, bodies, functions):
