@@ -1,4 +1,4 @@
-//! Where a text may be cut so that no character is cut in two.
+//! Where a text may be cut so that no character is cut in two, and which bytes words are made of.
 //!
 //! ```text
 //! text    61  C3 A9  0D 0A  80        `a`, U+00E9, CRLF, and a byte that begins no sequence
@@ -12,5 +12,7 @@
 
 mod cuts;
 mod sequences;
+mod words;
 
 pub use cuts::{after, before};
+pub use words::is_word;

@@ -4,6 +4,7 @@ ghost use Rattle.std.specs.Prelude.{◌≡◌, ◌≤◌, ◌<◌, ◌+◌, ◌+
 ghost use Rattle.ed_model.specs.Text.{bytes_of, styles_of};
 ghost use Rattle.ed_model.specs.Lines.{line_starts, line_count, line_of, start_of_line, start_after_line, end_of_line};
 ghost use Rattle.ed_model.specs.Session.{new_document, text_of, lines_in, references, is_large};
+ghost use Rattle.line_index.specs.Index.{IsIndexOf};
 ghost use Rattle.document.specs.Kept.{FitsWidth, bound_of, no_room};
 
 use crate::places::{Indicators, Lines};
@@ -212,6 +213,14 @@ impl Document {
         ensures { result ≡ self.now.document.line_end_types }
     {
         self.lines.types()
+    }
+
+    /// Where its lines start.
+    pub fn lines(&self) -> &Lines
+        ensures index { IsIndexOf (text_of self.now.document) result.now.index }
+        ensures types { result.now.index.types ≡ self.now.document.line_end_types }
+    {
+        &self.lines
     }
 
     /// The rows of its lines: markers, fold levels and line states.

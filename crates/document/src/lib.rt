@@ -20,7 +20,7 @@ mod type_changes;
 mod undoing;
 
 pub use kept::Document;
-pub use places::Indicators;
+pub use places::{Indicators, Lines};
 pub use room::DocumentRoom;
 pub use row_changes::count_numbers;
 pub use text_step::TextStep;

@@ -29,7 +29,7 @@ pub(crate) enum LinesByWidth {
 
 /// Where the lines of a document start.
 #[derive(Drop)]
-pub(crate) struct Lines {
+pub struct Lines {
     pub(crate) kept: LinesByWidth,
 }
 
@@ -60,7 +60,7 @@ impl Lines {
     }
 
     /// Returns which line ends count.
-    pub(crate) fn types(&self) -> LineEndTypes
+    pub fn types(&self) -> LineEndTypes
         ensures { result ≡ self.now.index.types }
     {
         match &self.kept {
@@ -70,7 +70,7 @@ impl Lines {
     }
 
     /// Returns the number of lines, which is at least 1.
-    pub(crate) fn count(&self) -> usize
+    pub fn count(&self) -> usize
         ensures count { result ≡ length self.now.index.starts }
         ensures some { 0 < length self.now.index.starts }
         ensures within { length self.now.index.starts + self.now.index.room < 2 ^ 63 }
@@ -82,7 +82,7 @@ impl Lines {
     }
 
     /// Returns the length of the text, in bytes.
-    pub(crate) fn length(&self) -> usize
+    pub fn length(&self) -> usize
         ensures { result ≡ self.now.index.length }
     {
         match &self.kept {
@@ -92,7 +92,7 @@ impl Lines {
     }
 
     /// Returns where the line starts.
-    pub(crate) fn start(&self, line: usize) -> usize
+    pub fn start(&self, line: usize) -> usize
         requires { line < length self.now.index.starts }
         ensures start { result ≡ slice_index self.now.index.starts line }
         ensures within { result ≤ self.now.index.length }
@@ -105,7 +105,7 @@ impl Lines {
 
     /// Returns where the end of the line begins, or for the last line the end of the text. `before` and `after` are the
     /// halves of the text, of which at most two bytes are read.
-    pub(crate) fn end(&self, line: usize, before: &[u8], after: &[u8]) -> usize
+    pub fn end(&self, line: usize, before: &[u8], after: &[u8]) -> usize
         requires line { line < length self.now.index.starts }
         requires text { IsIndexOf (before.now ++ after.now) self.now.index }
         ensures { result ≡ end_of_line self.now.index.types (before.now ++ after.now) line }
@@ -118,7 +118,7 @@ impl Lines {
 
     /// Returns the line that holds the place: the last that starts there or before it, and the last of all for a place
     /// past the end. Each start that it reads is counted in `probes`.
-    pub(crate) fn line_of(&self, place: usize, probes: &mut Probes) -> usize
+    pub fn line_of(&self, place: usize, probes: &mut Probes) -> usize
         ensures line { result ≡ line_of self.now.index.starts place }
         ensures within { result < length self.now.index.starts }
     {

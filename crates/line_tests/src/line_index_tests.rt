@@ -180,20 +180,28 @@ fn assert_edits(rt: &impl Abort, change: &LineChange, wanted: &[LineEdit]) {
     assert_eq!(rt; edits.as_slice(), wanted);
 }
 
+// The old lines come to these new ones.
+fn assert_moves(rt: &impl Abort, change: &LineChange, lines: &[usize]) {
+    for (line, new) in lines.iter().enumerate() {
+        assert!(rt; line <= usize::MAX - change.new_lines.two_behind);
+        assert_eq!(rt; change.line_after(line), *new);
+    }
+}
+
 fn follow_lines(rt: &impl Abort, alloc: Global, index: &mut LineIndex<u32>)
     requires { IsIndexOf [] index.old }
 {
     let (text, change) = insert(rt, alloc, index, b"", 0, b"x\ry", 1);
-    assert_edits(rt, &change, &[LineEdit::Come { line: 0, count: 1 }]);
+    assert_moves(rt, &change, &[1]);
     let (text, change) = insert(rt, alloc, index, text.as_slice(), 2, b"\n", 1);
     assert_starts(rt, index, &[0, 3], 4);
-    assert_edits(rt, &change, &[]);
+    assert_moves(rt, &change, &[0, 1]);
     let (text, change) = insert(rt, alloc, index, text.as_slice(), 3, b"1\n2\n", 4);
     assert_starts(rt, index, &[0, 3, 5, 7], 8);
-    assert_edits(rt, &change, &[LineEdit::Come { line: 1, count: 2 }]);
+    assert_moves(rt, &change, &[0, 3]);
     let (_, change) = delete(rt, alloc, index, text.as_slice(), 1, 5, 2);
     assert_starts(rt, index, &[0, 2], 3);
-    assert_edits(rt, &change, &[LineEdit::Join { line: 0, count: 2 }]);
+    assert_moves(rt, &change, &[0, 0, 0, 1]);
 }
 
 #[test]

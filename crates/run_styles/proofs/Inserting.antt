@@ -1,9 +1,10 @@
 -- The rule for inserted values, and the run that takes the inserted places in.
-use Rattle.std.proofs.Common.{◌≡◌, ◌≢◌, ◌⊎◌, ℕ, ◌+◌, ◌-◌, ◌<◌, ◌≤◌, suc, Bool, true, false, not, cond, List, [], ◌∷◌, ◌++◌, length, get_or, take, drop, map, refl, sym, ap, ◌∙◌, arith, ⊎_elim, ne_eqb, eq-eqb, true≢false}
+use Rattle.std.proofs.Common.{◌≡◌, ◌≢◌, ◌⊎◌, ℕ, ◌+◌, ◌-◌, ◌<◌, ◌≤◌, suc, Bool, true, false, not, cond, List, [], ◌∷◌, ◌++◌, length, get_or, take, drop, map, refl, sym, ap, ◌∙◌, arith, ⊎_elim, ne_eqb, eq-eqb, true≢false, replicate, length-append}
 use Rattle.std.proofs.lemmas.Bool.{cases_lt}
-use Rattle.std.proofs.lemmas.List.{get_or_default, get_or_past}
+use Rattle.std.proofs.lemmas.List.{get_or_default, get_or_past, length-take-le, length-replicate, length-drop}
+use Rattle.run_styles.proofs.Pieces.{fill_middle}
 use Rattle.run_styles.specs.Expansion.{expansion, IsTable, IsExact}
-use Rattle.run_styles.specs.Runs.{inserted, inserted_value}
+use Rattle.run_styles.specs.Runs.{inserted, filled, inserted_value}
 use Rattle.run_styles.proofs.Tables.{rise_lt}
 use Rattle.run_styles.proofs.Steps.{Stands}
 use Rattle.run_styles.proofs.ByIndex.{grow_stands, length-table, value_in_run}
@@ -88,3 +89,10 @@ module _ {V : Type 0} where
       some_runs : (S : List ℕ) (W : List V) (end : ℕ) → IsTable S W end → 0 < length S
       some_runs [] W end t = absurd (omega (arith, t.from_zero))
       some_runs (s ∷ S) W end t = omega arith
+
+  -- places that are put in, and then set
+  pub filled-inserted : (xs : List V) (p k : ℕ) (v w : V) → p ≤ length xs → filled (inserted xs p k v) p k w ≡ inserted xs p k w
+  filled-inserted xs p k v w h = fill_middle (take p xs) (replicate k v) (drop p xs) p k w (length-take-le p xs h) (length-replicate k v)
+
+  pub length-inserted : (xs : List V) (p k : ℕ) (v : V) → p ≤ length xs → length (inserted xs p k v) ≡ length xs + k
+  length-inserted xs p k v h = omega (arith, length-append (take p xs) (replicate k v ++ drop p xs), length-append (replicate k v) (drop p xs), length-take-le p xs h, length-replicate k v, length-drop p xs)

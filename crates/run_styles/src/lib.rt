@@ -2,7 +2,7 @@
 //! long the list is. Two neighbouring runs never have one value.
 //!
 //! A run is a start in a `Partitioning` and a value in a `SplitVector`. Room for runs is reserved first, and the calls
-//! that may add a run ask for it: `fill` for two, `insert_space` for one.
+//! that may add a run ask for it: `fill` and `insert_value` for two, `insert_space` for one.
 #![tactic(auto)]
 
 mod edits;

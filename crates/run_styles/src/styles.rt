@@ -4,7 +4,7 @@ ghost use Rattle.run_styles.specs.Expansion.{IsExact};
 ghost use Rattle.run_styles.specs.Runs.{runs, spare, inserted, deleted, filled, inserted_value, run_count, IsSpareFor, IsSameMemory, IsRunStart, IsRunEnd, IsChangedRange};
 
 use crate::edits::{delete_places, insert_default};
-use crate::table::{changed_range, end_of, overwrite, run_near, run_of};
+use crate::table::{changed_range, end_of, overwrite, run_at, run_near, run_of};
 use partitioning::{Partitioning, Place};
 use split_vector::SplitVector;
 use std::alloc::{AllocError, Allocator, Global};
@@ -75,6 +75,22 @@ impl<P: Place, V: Copy + Eq, A: Allocator> RunStyles<P, V, A> {
         ensures { slice_get self.now.values place ≡ Some result }
     {
         self.values.get(run_of(&self.starts, place))
+    }
+
+    /// Returns where the run of one value begins that holds a place.
+    pub fn start_run(&self, place: usize) -> usize
+        requires { place < length self.now.values }
+        ensures { IsRunStart self.now.values place result }
+    {
+        self.starts.start_of(run_of(&self.starts, place))
+    }
+
+    /// Returns where the run of one value ends that holds a place: the first place behind it.
+    pub fn end_run(&self, place: usize) -> usize
+        requires { place < length self.now.values }
+        ensures { IsRunEnd self.now.values place result }
+    {
+        end_of(&self.starts, run_of(&self.starts, place))
     }
 
     /// Returns where the run of one value begins that holds a place, and where it ends: the first place behind it. The run is
@@ -190,6 +206,24 @@ impl<P: Place, V: Copy + Eq, A: Allocator> RunStyles<P, V, A> {
             self.default,
         );
         self.room -= 1;
+    }
+
+    /// Puts `count` places with a value in before `place`. It takes at most two runs of room, and no memory.
+    pub fn insert_value(&mut self, place: usize, count: usize, value: V)
+        requires within { place ≤ length self.old.values }
+        requires fits { length self.old.values + count ≤ P.GREATEST }
+        requires room { 2 ≤ self.old.room }
+        ensures values { self.new.values ≡ inserted self.old.values place count value }
+        ensures default { self.new.default ≡ self.old.default }
+        ensures room { self.old.room ≤ self.new.room + 2 }
+        ensures memory { IsSameMemory (run_count V.eq self.old.values) self.old.spare (run_count V.eq self.new.values) self.new.spare }
+    {
+        if count == 0 {
+            return;
+        }
+        let run = run_at(&self.starts, place);
+        self.starts.insert_text(run, count);
+        let _ = self.fill(place, count, value);
     }
 
     /// Takes `count` places away, from `place` on. It takes no room, and no memory.

@@ -56,6 +56,20 @@ pub(crate) fn run_near<P: Place, A: Allocator>(
     run_of(starts, place)
 }
 
+/// Returns a run that a place lies in or at the end of.
+pub(crate) fn run_at<P: Place, A: Allocator>(starts: &Partitioning<P, A>, place: usize) -> usize
+    requires { place ≤ starts.now.length }
+    ensures within { result < length starts.now.starts }
+    ensures from { slice_index starts.now.starts result ≤ place }
+    ensures to { place ≤ slice_index_or starts.now.starts (result + 1) starts.now.length }
+{
+    if place == starts.length() {
+        starts.count() - 1
+    } else {
+        run_of(starts, place)
+    }
+}
+
 /// Joins the runs from `from` up to `to` with the one before them.
 pub(crate) fn join_runs<P: Place, V: Copy, A: Allocator>(
     starts: &mut Partitioning<P, A>,

@@ -1,2 +1,3 @@
 pub mod Positions
+pub mod Keys
 pub mod Laws

@@ -1,6 +1,6 @@
 //! Cuts of a text with a character of each kind, at each place and in each two halves.
 
-use char_cut::{after, before};
+use char_cut::{after, before, is_word};
 
 // `a`, U+00E9, CRLF, and a byte that begins no sequence
 const MIXED: [u8; 6] = [0x61, 0xC3, 0xA9, 0x0D, 0x0A, 0x80];
@@ -62,5 +62,15 @@ fn lengths_of_sequences(rt: HostRuntime) {
     for text in broken {
         assert_eq!(rt; after(text, &[], 0), 1);
         assert_eq!(rt; before(&[], text, text.len()), text.len() - 1);
+    }
+}
+
+#[test]
+fn bytes_of_words(rt: HostRuntime) {
+    for byte in [b'A', b'Z', b'a', b'z', b'0', b'9', b'_', 0x80, 0xFF] {
+        assert!(rt; is_word(byte));
+    }
+    for byte in [0, b' ', b'/', b':', b'@', b'[', b'^', b'`', b'{', 0x7F] {
+        assert!(rt; !is_word(byte));
     }
 }

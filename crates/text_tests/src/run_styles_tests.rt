@@ -25,8 +25,10 @@ fn put_value<P: Place, V: Copy + Eq>(
     count: usize,
     value: V,
 ) {
-    put_space(rt, styles, place, count);
-    let _ = set(rt, styles, place, count, value);
+    styles.reserve(2).expect(rt, "memory");
+    let length = styles.length();
+    assert!(rt; place <= length && count <= P::GREATEST - length);
+    styles.insert_value(place, count, value);
 }
 
 fn set<P: Place, V: Copy + Eq>(
@@ -68,8 +70,8 @@ fn assert_values<P: Place, V: Copy + Eq>(
         let want = if others[place] { other } else { default };
         assert!(rt; styles.value_at(place) == want);
         if place > 0 && others[place - 1] != others[place] {
-            assert_eq!(rt; styles.run(place).0, place);
-            assert_eq!(rt; styles.run(place - 1).1, place);
+            assert_eq!(rt; styles.start_run(place), place);
+            assert_eq!(rt; styles.end_run(place - 1), place);
             assert!(rt; runs < length);
             runs += 1;
         }
@@ -173,6 +175,8 @@ fn long_list<P: Place, V: Copy + Eq>(
     assert!(rt; 1 + half <= styles.length());
     assert_eq!(rt; styles.fill(1, half, other), Some((1, half)));
     assert!(rt; half < styles.length());
+    assert_eq!(rt; styles.start_run(half), 1);
+    assert_eq!(rt; styles.end_run(half), half + 1);
     assert!(rt; styles.run(half) == (1, half + 1));
     take_out(rt, &mut styles, 2, half);
     assert_eq!(rt; styles.length(), size - half);

@@ -1,0 +1,11 @@
+//! The bytes of words.
+
+ghost use Rattle.std.specs.Prelude.{◌≡◌};
+ghost use Rattle.ed_model.specs.Matches.{is_word_byte};
+
+/// Returns whether words are made of such bytes: ASCII letters and digits, `_`, and each byte from 0x80 on.
+pub fn is_word(byte: u8) -> bool
+    ensures { result ≡ is_word_byte byte }
+{
+    byte.is_ascii_alphanumeric() || byte == b'_' || !byte.is_ascii()
+}
