@@ -21,6 +21,7 @@ use message_requests::SessionState;
 /// # Errors
 ///
 /// `NoSuchView` where no view has this id, `BadArgument` where `start + count` is past the end of the text.
+#[inline(always)]
 pub(crate) fn document_with(
     state: &SessionState,
     view: u32,
@@ -61,6 +62,7 @@ fn lend_in(documents: &mut DocumentTable, document: u32, start: usize, count: us
 }
 
 /// The same in a session's state, which stays as it is.
+#[inline(always)]
 pub(crate) fn lend(state: &mut SessionState, document: u32, start: usize, count: usize) -> &[u8]
     requires there { IsSomeAnd (value_at state.old.documents.entries document) (λ k. start + count ≤ length k.document.cells) }
     requires kept { IsKept state.old }

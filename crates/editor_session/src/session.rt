@@ -243,6 +243,7 @@ impl Session {
     /// # Errors
     ///
     /// `NoSuchView` where no view has this id now; `BadArgument` where `start + count` is past the end of the text.
+    #[inline(always)]
     pub fn lend_range(&mut self, view: u32, start: usize, count: usize) -> Result<&[u8], Refusal>
         ensures* back { sem 𝓛 (lent_and_back self.entry) }
         ensures lent { IfOk result (λ bytes. lent_range self.old view start count ≡ Ok bytes.now) }

@@ -70,6 +70,7 @@ impl<'a> Model for Request<'a> {
 // What plans read of a request, in the words of the model's `Requests`.
 impl<'a> Request<'a> {
     /// The length of the text, in bytes.
+    #[inline(always)]
     pub fn size(&self) -> usize
         ensures size { result ≡ size self.now }
         ensures bounded { result < 2 ^ 62 }
@@ -78,6 +79,7 @@ impl<'a> Request<'a> {
     }
 
     /// The number of lines.
+    #[inline(always)]
     pub fn line_total(&self) -> usize
         ensures lines { result ≡ line_total self.now }
         ensures some { 0 < line_total self.now }
@@ -87,6 +89,7 @@ impl<'a> Request<'a> {
     }
 
     /// Where a line starts.
+    #[inline(always)]
     pub fn line_start(&self, line: usize) -> usize
         requires { line < line_total self.now }
         ensures start { result ≡ line_start self.now line }
@@ -96,6 +99,7 @@ impl<'a> Request<'a> {
     }
 
     /// Where the line behind a line starts, or the length of the text where there is none.
+    #[inline(always)]
     pub fn line_past(&self, line: usize) -> usize
         ensures past { result ≡ line_past self.now line }
         ensures bounded { result < 2 ^ 62 }
@@ -104,6 +108,7 @@ impl<'a> Request<'a> {
     }
 
     /// Where the end of a line begins, or the length of the text for the last line and all behind it.
+    #[inline(always)]
     pub fn line_end(&self, line: usize) -> usize
         ensures end { result ≡ line_end self.now line }
         ensures bounded { result < 2 ^ 62 }
@@ -112,6 +117,7 @@ impl<'a> Request<'a> {
     }
 
     /// The line that holds a place.
+    #[inline(always)]
     pub fn line_at(&self, place: usize) -> usize
         ensures line { result ≡ line_at self.now place }
         ensures within { result < line_total self.now }
@@ -121,6 +127,7 @@ impl<'a> Request<'a> {
     }
 
     /// The byte at a place.
+    #[inline(always)]
     pub fn byte(&self, place: usize) -> u8
         requires { place < size self.now }
         ensures { slice_get (text self.now) place ≡ Some result }
@@ -129,6 +136,7 @@ impl<'a> Request<'a> {
     }
 
     /// The last cut between characters before a place, or 0.
+    #[inline(always)]
     #[tactic(auto, using(crate::specs::proved::Standing::length_text))]
     pub fn cut_before(&self, place: usize) -> usize
         requires { place ≤ size self.now }
@@ -140,6 +148,7 @@ impl<'a> Request<'a> {
     }
 
     /// The next cut between characters behind a place, or the length of the text.
+    #[inline(always)]
     #[tactic(auto, using(crate::specs::proved::Standing::length_text))]
     pub fn cut_after(&self, place: usize) -> usize
         requires { place ≤ size self.now }
@@ -151,6 +160,7 @@ impl<'a> Request<'a> {
     }
 
     /// The anchor's place, which lies in the text.
+    #[inline(always)]
     #[tactic(auto, using(crate::specs::proved::Standing::anchor_in_text))]
     pub fn anchor(&self) -> usize
         requires { IsSoundRequest self.now }
@@ -164,6 +174,7 @@ impl<'a> Request<'a> {
     }
 
     /// The caret's place, which lies in the text.
+    #[inline(always)]
     #[tactic(auto, using(crate::specs::proved::Standing::caret_in_text))]
     pub fn caret(&self) -> usize
         requires { IsSoundRequest self.now }
@@ -177,6 +188,7 @@ impl<'a> Request<'a> {
     }
 
     /// Where the selection starts.
+    #[inline(always)]
     pub fn selection_start(&self) -> usize
         requires { IsSoundRequest self.now }
         ensures start { result ≡ selection_start self.now }
@@ -186,6 +198,7 @@ impl<'a> Request<'a> {
     }
 
     /// Where the selection ends.
+    #[inline(always)]
     pub fn selection_end(&self) -> usize
         requires { IsSoundRequest self.now }
         ensures end { result ≡ selection_end self.now }
@@ -196,6 +209,7 @@ impl<'a> Request<'a> {
     }
 
     /// Up to where the text is styled, which lies in it.
+    #[inline(always)]
     #[tactic(auto, using(crate::specs::proved::Standing::styled_in_text))]
     pub fn end_styled(&self) -> usize
         requires { IsSoundRequest self.now }
@@ -209,6 +223,7 @@ impl<'a> Request<'a> {
     }
 
     /// Where the target starts, which lies in the text.
+    #[inline(always)]
     #[tactic(auto, using(crate::specs::proved::Standing::target_start_in_text))]
     pub fn target_start(&self) -> usize
         requires { IsSoundRequest self.now }
@@ -222,6 +237,7 @@ impl<'a> Request<'a> {
     }
 
     /// Where the target ends, which lies in the text; it may lie before its start.
+    #[inline(always)]
     #[tactic(auto, using(crate::specs::proved::Standing::target_end_in_text))]
     pub fn target_end(&self) -> usize
         requires { IsSoundRequest self.now }
@@ -254,6 +270,7 @@ impl<'a> Request<'a> {
     }
 
     /// The rows of all lines.
+    #[inline(always)]
     pub fn rows(&self) -> &LineRows
         ensures rows { result.now.rows ≡ self.now.document.rows }
         ensures next_handle { result.now.next_handle ≡ self.now.document.next_handle }
@@ -266,6 +283,7 @@ impl<'a> Request<'a> {
     }
 
     /// The fold levels of all lines.
+    #[inline(always)]
     pub fn levels(&self) -> Levels<'_>
         ensures levels { result ≡ levels self.now }
         ensures lines { length (levels self.now) ≡ line_total self.now }

@@ -116,6 +116,7 @@ pub fn toggle_fold(r: &Request) -> Planned
 }
 
 /// VISIBLEFROMDOCLINE: the display line of line `w`, and for a hidden one that of the visible line before it.
+#[inline(always)]
 #[tactic(auto, using(message_requests::specs::proved::Standing::flags_of_lines, crate::proofs::Ranges::display_bounded))]
 pub fn visible_from_doc_line(r: &Request) -> i64
     requires { IsSoundRequest r.now }
@@ -128,6 +129,7 @@ pub fn visible_from_doc_line(r: &Request) -> i64
 }
 
 /// The line that is shown at a display line, of which those below 0 are the first.
+#[inline(always)]
 fn line_shown_at(r: &Request, argument: i64) -> usize
     ensures { result ≡ line_shown_at r.now argument }
 {
@@ -139,6 +141,7 @@ fn line_shown_at(r: &Request, argument: i64) -> usize
 }
 
 /// DOCLINEFROMVISIBLE: the line that is shown at display line `w`, or how many lines there are for one past the last.
+#[inline(always)]
 #[tactic(auto, using(message_requests::specs::proved::Standing::flags_of_lines, crate::proofs::Ranges::shown_bounded))]
 pub fn doc_line_from_visible(r: &Request) -> i64
     requires { IsSoundRequest r.now }
@@ -206,6 +209,7 @@ pub fn ensure_visible(r: &Request) -> Planned
 }
 
 /// GETFOLDLEVEL: the level of line `w`.
+#[inline(always)]
 pub fn get_fold_level(r: &Request) -> i64
     ensures { answer result ≡ get_fold_level r.now }
 {
@@ -216,6 +220,7 @@ pub fn get_fold_level(r: &Request) -> i64
 }
 
 /// GETLINEVISIBLE: whether line `w` is visible.
+#[inline(always)]
 #[tactic(auto, using(message_requests::specs::proved::Standing::flags_of_lines))]
 pub fn get_line_visible(r: &Request) -> i64
     requires { IsSoundRequest r.now }
@@ -235,6 +240,7 @@ pub fn get_all_lines_visible(r: &Request) -> Planned
 }
 
 /// GETFOLDEXPANDED: whether line `w` counts as expanded.
+#[inline(always)]
 #[tactic(auto, using(message_requests::specs::proved::Standing::flags_of_lines))]
 pub fn get_fold_expanded(r: &Request) -> i64
     requires { IsSoundRequest r.now }

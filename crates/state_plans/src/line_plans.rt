@@ -146,6 +146,7 @@ pub fn marker_delete_all(r: &Request) -> Planned
 }
 
 /// MARKERGET: the mask of line `w`, with a bit for each number that a marker there has.
+#[inline(always)]
 pub fn marker_get(r: &Request) -> i64
     ensures { answer result ≡ marker_get r.now }
 {
@@ -156,6 +157,7 @@ pub fn marker_get(r: &Request) -> i64
 }
 
 /// MARKERNEXT: the first line, from `w` on, whose mask has a bit in common with the low 32 bits of `l`.
+#[inline(always)]
 #[tactic(auto, using(crate::proofs::Ranges::next_bounded))]
 pub fn marker_next(r: &Request) -> i64
     ensures { answer result ≡ marker_next r.now }
@@ -165,6 +167,7 @@ pub fn marker_next(r: &Request) -> i64
 }
 
 /// MARKERPREVIOUS: the last such line, up to and with `w`.
+#[inline(always)]
 #[tactic(auto, using(crate::proofs::Ranges::previous_bounded))]
 pub fn marker_previous(r: &Request) -> i64
     ensures { answer result ≡ marker_previous r.now }
@@ -224,6 +227,7 @@ pub fn set_line_state(r: &Request) -> Planned
 }
 
 /// GETLINESTATE: the state of line `w`.
+#[inline(always)]
 pub fn get_line_state(r: &Request) -> i64
     ensures { answer result ≡ get_line_state r.now }
 {

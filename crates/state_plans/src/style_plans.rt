@@ -13,6 +13,7 @@ use message_requests::arguments::within;
 use message_requests::{Request, past_argument};
 
 /// The style of the byte at a place that may be outside the text; 0 there.
+#[inline(always)]
 fn style_at(r: &Request, argument: i64) -> u8
     ensures { result ≡ at_place (styles r.now) argument }
 {
@@ -28,6 +29,7 @@ fn style_at(r: &Request, argument: i64) -> u8
 }
 
 /// GETSTYLEAT: the style of the byte at `w`.
+#[inline(always)]
 pub fn get_style_at(r: &Request) -> i64
     ensures { answer result ≡ get_style_at r.now }
 {
@@ -51,6 +53,7 @@ pub fn get_styled_text(r: &Request) -> Planned
 }
 
 /// GETENDSTYLED: up to where the text is styled.
+#[inline(always)]
 pub fn get_end_styled(r: &Request) -> i64
     requires { IsSoundRequest r.now }
     ensures { answer result ≡ get_end_styled r.now }
@@ -204,6 +207,7 @@ pub fn indicator_all_on_for(r: &Request) -> Planned
 }
 
 /// The value of an indicator at a place that may be outside the text; 0 there.
+#[inline(always)]
 fn value_at(r: &Request, indicator: usize, argument: i64) -> u32
     requires { indicator < 32 }
     ensures { result ≡ at_place (values_of r.now indicator) argument }
@@ -215,6 +219,7 @@ fn value_at(r: &Request, indicator: usize, argument: i64) -> u32
 }
 
 /// INDICATORVALUEAT: the value of indicator `w` at place `l`; none where there is no such indicator, which is refused.
+#[inline(always)]
 pub fn indicator_value_at(r: &Request) -> Option<i64>
     ensures { with_argument result answer ≡ indicator_value_at r.now }
 {
@@ -226,6 +231,7 @@ pub fn indicator_value_at(r: &Request) -> Option<i64>
 
 /// Where the longest range of one value of an indicator starts that holds a place, and where it is past; both 0 for a place
 /// outside the text.
+#[inline(always)]
 fn run_at(r: &Request, indicator: usize, argument: i64) -> (usize, usize)
     requires { indicator < 32 }
     ensures start { result.0 ≡ run_end_at run_start (values_of r.now indicator) argument }
@@ -246,6 +252,7 @@ fn run_at(r: &Request, indicator: usize, argument: i64) -> (usize, usize)
 }
 
 /// INDICATORSTART: where the range of one value of indicator `w` starts that holds place `l`.
+#[inline(always)]
 pub fn indicator_start(r: &Request) -> Option<i64>
     ensures { with_argument result answer ≡ indicator_start r.now }
 {
@@ -256,6 +263,7 @@ pub fn indicator_start(r: &Request) -> Option<i64>
 }
 
 /// INDICATOREND: where that range is past.
+#[inline(always)]
 pub fn indicator_end(r: &Request) -> Option<i64>
     ensures { with_argument result answer ≡ indicator_end r.now }
 {

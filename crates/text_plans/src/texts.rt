@@ -98,6 +98,7 @@ pub fn delete_range(r: &Request) -> Planned
 }
 
 /// GETLENGTH and GETTEXTLENGTH: the length of the text.
+#[inline(always)]
 pub fn get_length(r: &Request) -> i64
     ensures { answer result ≡ get_length r.now }
 {
@@ -105,6 +106,7 @@ pub fn get_length(r: &Request) -> i64
 }
 
 /// The byte at a place that may be outside the text; 0 there.
+#[inline(always)]
 fn byte_at(r: &Request, argument: i64) -> u8
     ensures { result ≡ at_place (text r.now) argument }
 {
@@ -116,6 +118,7 @@ fn byte_at(r: &Request, argument: i64) -> u8
 }
 
 /// GETCHARAT: the byte at `w`.
+#[inline(always)]
 pub fn get_char_at(r: &Request) -> i64
     ensures { answer result ≡ get_char_at r.now }
 {
@@ -144,6 +147,7 @@ pub fn get_text_range(r: &Request) -> Option<HandedOut>
 }
 
 /// GETLINECOUNT: how many lines there are.
+#[inline(always)]
 pub fn get_line_count(r: &Request) -> i64
     ensures { answer result ≡ get_line_count r.now }
 {
@@ -176,6 +180,7 @@ pub fn get_cur_line(r: &Request) -> HandedOut
 }
 
 /// LINELENGTH: how many bytes line `w` has, its end with them.
+#[inline(always)]
 pub fn line_length(r: &Request) -> i64
     ensures { answer result ≡ line_length r.now }
 {
@@ -186,6 +191,7 @@ pub fn line_length(r: &Request) -> i64
 }
 
 /// GETLINEENDPOSITION: where the end of line `w` begins; the end of the text for the last line and all behind it.
+#[inline(always)]
 pub fn get_line_end_position(r: &Request) -> i64
     ensures { answer result ≡ get_line_end_position r.now }
 {
@@ -196,6 +202,7 @@ pub fn get_line_end_position(r: &Request) -> i64
 }
 
 /// LINEFROMPOSITION: the line that holds `w`, brought into the text.
+#[inline(always)]
 pub fn line_from_position(r: &Request) -> i64
     ensures { answer result ≡ line_from_position r.now }
 {
@@ -204,6 +211,7 @@ pub fn line_from_position(r: &Request) -> i64
 
 /// POSITIONFROMLINE: the start of line `w`; of the selection's line for a negative one; the end of the text just behind the last
 /// line; -1 for what is further behind.
+#[inline(always)]
 pub fn position_from_line(r: &Request) -> i64
     requires { IsSoundRequest r.now }
     ensures { answer result ≡ position_from_line r.now }
@@ -224,6 +232,7 @@ pub fn position_from_line(r: &Request) -> i64
 }
 
 /// POSITIONBEFORE: the cut between characters before `w`, brought into the text.
+#[inline(always)]
 pub fn position_before(r: &Request) -> i64
     ensures { answer result ≡ position_before r.now }
 {
@@ -231,6 +240,7 @@ pub fn position_before(r: &Request) -> i64
 }
 
 /// POSITIONAFTER: the cut between characters behind `w`, brought into the text.
+#[inline(always)]
 pub fn position_after(r: &Request) -> i64
     ensures { answer result ≡ position_after r.now }
 {
