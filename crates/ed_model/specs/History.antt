@@ -110,7 +110,7 @@ group_begun h = let g = sealed_outside_groups h in record g { depth = h.depth + 
 abbrev pub group_ended : History → History
 group_ended h = if h.depth == 0 then h else sealed_outside_groups (record h { depth = h.depth - 1 })
 
--- a container's step appended; one that does not join seals its own outside groups
+-- a container's step appended; one that does not coalesce seals its own outside groups
 abbrev pub with_container_step : ℤ → Bool → History → History
 with_container_step token coalesce h =
     let a = appended false (ContainerStep token coalesce) h in

@@ -48,6 +48,7 @@ pub(crate) fn document_with(
 }
 
 /// Lends the `count` bytes of a document from `start` on. All documents stay as they are.
+#[inline(always)]
 fn lend_in(documents: &mut DocumentTable, document: u32, start: usize, count: usize) -> &[u8]
     requires there { IsSomeAnd (value_at documents.old.entries document) (λ k. start + count ≤ length k.document.cells) }
     requires named { DocumentsAreNamed documents.old.entries }

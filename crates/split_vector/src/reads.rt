@@ -41,7 +41,8 @@ impl<T, A: Allocator> Block<T, A> {
         }
     }
 
-    /// Moves the gap, if it lies between `low` and `high`, to the nearer of the two.
+    /// Moves the gap, if it lies between `low` and `high`, to the nearer of the two. Mostly it lies elsewhere.
+    #[inline(always)]
     pub(crate) fn settle(&mut self, low: usize, high: usize)
         requires { IsBlock self.old × (low ≤ high) × (high ≤ self.old.len) }
         ensures fields { IsBlock self.new × (self.new.len ≡ self.old.len) × (self.new.spare ≡ self.old.spare) × (self.new.moved ≡ self.old.moved) }
@@ -50,11 +51,24 @@ impl<T, A: Allocator> Block<T, A> {
         ensures beside { (self.new.gap ≤ low) ⊎ (high ≤ self.new.gap) }
     {
         if low < self.gap && self.gap < high {
-            if self.gap - low <= high - self.gap {
-                self.slide(low);
-            } else {
-                self.slide(high);
-            }
+            self.settle_from_between(low, high);
+        }
+    }
+
+    // Moves the gap from between `low` and `high` to the nearer of the two.
+    #[inline(never)]
+    fn settle_from_between(&mut self, low: usize, high: usize)
+        requires inside { IsBlock self.old × (high ≤ self.old.len) }
+        requires between { (low < self.old.gap) × (self.old.gap < high) }
+        ensures fields { IsBlock self.new × (self.new.len ≡ self.old.len) × (self.new.spare ≡ self.old.spare) × (self.new.moved ≡ self.old.moved) }
+        ensures items { block_items self.new ≡ block_items self.old }
+        ensures gap { self.new.gap ≡ gap_beside low high self.old.gap }
+        ensures beside { (self.new.gap ≤ low) ⊎ (high ≤ self.new.gap) }
+    {
+        if self.gap - low <= high - self.gap {
+            self.slide(low);
+        } else {
+            self.slide(high);
         }
     }
 
