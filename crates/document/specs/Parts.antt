@@ -5,6 +5,7 @@ use Rattle.ed_model.specs.Text.{Cell, bytes_of}
 use Rattle.ed_model.specs.Lines.{line_count}
 use Rattle.ed_model.specs.Rows.{rows_together}
 use Rattle.ed_model.specs.Carry.{carried_by}
+use Rattle.ed_model.specs.Changes.{marker_count}
 use Rattle.ed_model.specs.Steps.{Step, edited, edited_cells}
 use Rattle.ed_model.specs.Indicators.{indicators_after}
 use Rattle.ed_model.specs.MergeLaws.{end_of}
@@ -84,7 +85,7 @@ pub record WasChanged (rows : KeptRows) (change : LineChange) : Type 0 where
   pub is : IsChange rows change types step text
 
 -- The rows are those after the step. So much of the room for lines was taken at most, and no less than lines came; none was made.
--- Markers of lines that go leave their room, and that of levels and states stays.
+-- Markers that go leave their room, and no more; that of levels and states stays.
 pub record AreCarried (old new : KeptRows) (types : LineEndTypes) (step : Step) (text : List ℕ) : Type 0 where
   pub rows : new.rows ≡ carried_by rows_together types step text old.rows
   pub row_count : length new.rows ≡ line_count types (edited step text)
@@ -95,6 +96,7 @@ pub record AreCarried (old new : KeptRows) (types : LineEndTypes) (step : Step) 
   pub levels : new.room.levels ≡ old.room.levels
   pub states : new.room.states ≡ old.room.states
   pub markers : old.room.markers ≤ new.room.markers
+  pub markers_in_all : new.room.markers + marker_count new.rows ≡ old.room.markers + marker_count old.rows
 
 -- the index has the lines of these cells' bytes, which line ends of these types end; no public clause cites this
 pub record HasLinesOf (types : LineEndTypes) (cells : List Cell) (lines : Index) : Type 0 where

@@ -1,6 +1,7 @@
 //! Steps of a document's text, and their room.
 
 ghost use Rattle.std.specs.Prelude.{◌≡◌, ℕ, true, ◌≤◌, ◌<◌, ◌+◌, length, None, OnOk, OnErr, IsOk};
+ghost use Rattle.ed_model.specs.Changes.{marker_count};
 ghost use Rattle.ed_model.specs.History.{TextStep as Text, appended, begins_transaction};
 ghost use Rattle.ed_model.specs.Session.{text_of};
 ghost use Rattle.ed_model.specs.Performing.{document_after};
@@ -75,7 +76,7 @@ impl Document {
 
     /// Makes a step of the text. The cells, the line starts, the rows, the indicators and how far it is styled go with it. Returns
     /// what became of the lines. The history is left alone. There must be room for all but the history; what goes out of the text leaves its room.
-    /// The room for a fill is gone, and there may be room for more markers, where lines go.
+    /// The room for a fill is gone. Markers that go leave their room, and no more comes.
     #[inline(always)]
     pub fn step(&mut self, step: TextStep) -> LineChange
         requires fits { IsStepOn step (length self.old.document.cells) }
@@ -88,6 +89,7 @@ impl Document {
         ensures small { SmallLines result.old_lines × SmallLines result.new_lines }
         ensures spare { self.new.spare ≡ record self.old.spare { markers = self.new.spare.markers; fill = None } }
         ensures marker_room { self.old.spare.markers ≤ self.new.spare.markers }
+        ensures markers_in_all { self.new.spare.markers + marker_count self.new.document.rows ≡ self.old.spare.markers + marker_count self.old.document.rows }
     {
         self.end_styled = self.end_styled.min(step.place());
         make_step(

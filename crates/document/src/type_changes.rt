@@ -2,7 +2,7 @@
 
 ghost use Rattle.std.specs.Prelude.{◌≡◌, ◌≤◌, ◌+◌, ◌-◌, [], length, OnOk, IsOk, IfOk, ◌*◌, vec_len, vec_capacity};
 ghost use Rattle.ed_model.specs.declared.plan.DocumentChange.TheVariants.{AppendContainer, SetLineEndTypes};
-ghost use Rattle.ed_model.specs.Changes.{changed_document};
+ghost use Rattle.ed_model.specs.Changes.{changed_document, marker_count};
 ghost use Rattle.ed_model.specs.Session.{lines_in, text_of};
 ghost use Rattle.line_index.specs.Edits.{fresh_lines};
 ghost use Rattle.line_index.specs.Settings.{edits_of_setting};
@@ -64,6 +64,7 @@ impl Document {
         ensures room { self.new.room ≡ record self.old.room { lines = self.old.room.lines - fresh_lines edits.now } }
         ensures spare { self.new.spare ≡ record self.old.spare { markers = self.new.spare.markers } }
         ensures marker_room { self.old.spare.markers ≤ self.new.spare.markers }
+        ensures markers_in_all { self.new.spare.markers + marker_count self.new.document.rows ≡ self.old.spare.markers + marker_count self.old.document.rows }
     {
         edits_of_settings();
         rows_that_meet();

@@ -1,6 +1,7 @@
 //! Undo and redo of a document: their changes one by one, and the history behind them.
 
 ghost use Rattle.std.specs.Prelude.{◌≡◌, ◌<◌, ◌≤◌, ◌+◌, ℕ, List, length, slice_get, None, Some, IsSomeAnd};
+ghost use Rattle.ed_model.specs.Changes.{marker_count};
 ghost use Rattle.ed_model.specs.History.{TextStep as Text, at_save_point, inverse_change};
 ghost use Rattle.ed_model.specs.Performing.{document_after};
 ghost use Rattle.ed_model.specs.Session.{text_of};
@@ -220,6 +221,7 @@ impl Document {
         ensures small { SmallLines result.old_lines × SmallLines result.new_lines }
         ensures spare { self.new.spare ≡ record self.old.spare { markers = self.new.spare.markers; fill = None } }
         ensures marker_room { self.old.spare.markers ≤ self.new.spare.markers }
+        ensures markers_in_all { self.new.spare.markers + marker_count self.new.document.rows ≡ self.old.spare.markers + marker_count self.old.document.rows }
     {
         let Some(step) = step_at(&self.history, direction, index) else {
             unreachable!();

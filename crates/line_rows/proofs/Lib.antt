@@ -1,3 +1,4 @@
+pub mod MarkerTotals
 pub mod Padded
 pub mod RowParts
 pub mod RowReads

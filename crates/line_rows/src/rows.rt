@@ -4,6 +4,7 @@ ghost use Rattle.ed_model.specs.Changes.{with_markers, new_markers, without_mark
 ghost use Rattle.ed_model.specs.LinePlans.{mask_of};
 ghost use Rattle.ed_model.specs.Rows.{Marker, base_level, fresh_row, rows_together};
 ghost use Rattle.line_index.specs.Edits.{after_edit, after_edits, FitsLines, FitLines, fresh_by, fresh_lines};
+ghost use Rattle.marker_store.specs.Lines.{marker_total};
 ghost use Rattle.split_vector.specs.Split.{most_room};
 ghost use Rattle.line_rows.specs.Values.{most_block, stored_after};
 ghost use Rattle.line_rows.specs.Kept.{kept_rows, row_room, row_blocks, row_at, levels_of, is_marked, has_handle, first_from, last_up_to};
@@ -44,6 +45,7 @@ fn carry_one(markers: &mut MarkerStore, edit: LineEdit)
     ensures lines { markers.new.lines ≡ after_edit markers_together markers.old.lines edit }
     ensures next_handle { markers.new.next_handle ≡ markers.old.next_handle }
     ensures room { markers.old.room ≤ markers.new.room }
+    ensures markers_in_all { markers.new.room + marker_total markers.new.lines ≡ markers.old.room + marker_total markers.old.lines }
     ensures block { markers.new.block ≡ markers.old.block }
 {
     match edit {
@@ -60,6 +62,7 @@ fn carry_markers(markers: &mut MarkerStore, edits: &[LineEdit])
     ensures lines { markers.new.lines ≡ after_edits markers_together edits.now markers.old.lines }
     ensures next_handle { markers.new.next_handle ≡ markers.old.next_handle }
     ensures room { markers.old.room ≤ markers.new.room }
+    ensures markers_in_all { markers.new.room + marker_total markers.new.lines ≡ markers.old.room + marker_total markers.old.lines }
     ensures block { markers.new.block ≡ markers.old.block }
 {
     for edit in edits {
@@ -177,8 +180,8 @@ impl LineRows {
         Ok(())
     }
 
-    /// Carries the rows through edits of lines. There must be room for the fresh lines. Markers of lines that go give
-    /// their room back.
+    /// Carries the rows through edits of lines. There must be room for the fresh lines. Markers that go give their room
+    /// back, and no more comes.
     #[inline(always)]
     pub fn carry(&mut self, edits: &[LineEdit])
         requires lines { FitLines (length self.old.rows) edits.now }
@@ -190,6 +193,7 @@ impl LineRows {
         ensures level_room { self.new.room.levels ≡ self.old.room.levels }
         ensures state_room { self.new.room.states ≡ self.old.room.states }
         ensures marker_room { self.old.room.markers ≤ self.new.room.markers }
+        ensures markers_in_all { self.new.room.markers + marker_count self.new.rows ≡ self.old.room.markers + marker_count self.old.rows }
         ensures blocks { self.new.blocks ≡ record self.old.blocks { stored_levels = stored_after edits.now self.old.blocks.stored_levels; stored_states = stored_after edits.now self.old.blocks.stored_states; state_lines = self.old.blocks.state_lines - fresh_lines edits.now } }
     {
         if !edits.is_empty() {
@@ -209,6 +213,7 @@ impl LineRows {
         ensures level_room { self.new.room.levels ≡ self.old.room.levels }
         ensures state_room { self.new.room.states ≡ self.old.room.states }
         ensures marker_room { self.old.room.markers ≤ self.new.room.markers }
+        ensures markers_in_all { self.new.room.markers + marker_count self.new.rows ≡ self.old.room.markers + marker_count self.old.rows }
         ensures blocks { self.new.blocks ≡ record self.old.blocks { stored_levels = stored_after edits.now self.old.blocks.stored_levels; stored_states = stored_after edits.now self.old.blocks.stored_states; state_lines = self.old.blocks.state_lines - fresh_lines edits.now } }
     {
         carry_markers(&mut self.markers, edits);

@@ -59,5 +59,6 @@ returns c =
             levels = c.carry.ensures.level_room;
             states = c.carry.ensures.state_room;
             markers = c.carry.ensures.marker_room;
+            markers_in_all = c.carry.ensures.markers_in_all;
           };
     }

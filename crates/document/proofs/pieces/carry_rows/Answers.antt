@@ -24,5 +24,6 @@ returns-then-is_quiet c =
             levels = refl;
             states = refl;
             markers = omega arith;
+            markers_in_all = refl;
           };
     }

@@ -27,5 +27,6 @@ loop-edit-preserved c =
       lines = rw long fit.1;
       fits = omega (arith, c.loop-edit.invariant.fits);
       room = omega (arith, c.loop-edit.invariant.room, c.carry_one.ensures.room);
+      in_all = c.carry_one.ensures.markers_in_all ∙ c.loop-edit.invariant.in_all;
       block = c.carry_one.ensures.block ∙ c.loop-edit.invariant.block;
     }

@@ -1,6 +1,7 @@
 use Rattle.std.proofs.Common.{◌≡◌, ◌+◌, ◌≤◌, ◌^◌, length, drop}
 use Rattle.line_index.specs.Edits.{after_edits, FitLines, fresh_lines}
 use Rattle.line_rows.specs.Rows.{markers_together}
+use Rattle.marker_store.specs.Lines.{marker_total}
 use Rattle.line_rows.proofs.rows.carry_markers.Given as goal
 
 -- the edits that are left lead to the same markers
@@ -13,5 +14,6 @@ invariant-loop-edit l =
       lines : FitLines (length l.markers.lines) left;
       fits : length l.markers.lines + fresh_lines left ≤ 2 ^ 62;
       room : l.initial.markers.room ≤ l.markers.room;
+      in_all : l.markers.room + marker_total l.markers.lines ≡ l.initial.markers.room + marker_total l.initial.markers.lines;
       block : l.markers.block ≡ l.initial.markers.block;
     }

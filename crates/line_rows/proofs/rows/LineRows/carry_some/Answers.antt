@@ -1,7 +1,8 @@
-use Rattle.std.proofs.Common.{ℕ, length, sym, ap, ◌∙◌, subst, arith}
-use Rattle.line_rows.proofs.RowReads.{parts_length}
+use Rattle.std.proofs.Common.{◌≡◌, ◌+◌, ℕ, length, sym, ap, ◌∙◌, subst, arith}
+use Rattle.line_rows.proofs.RowReads.{parts_length, rows_count}
 use Rattle.line_rows.proofs.RowParts.{same_edits, carried}
 use Rattle.line_index.specs.Edits.{FitLines, after_edits}
+use Rattle.ed_model.specs.Changes.{marker_count}
 use Rattle.ed_model.specs.Rows.{rows_together}
 use Rattle.line_rows.specs.Rows.{markers_together}
 use Rattle.line_rows.specs.Values.{first_or}
@@ -59,3 +60,14 @@ returns-clause-rows c =
     carried c.args.edits.now d.markers.lines c.carry_markers.new.markers.lines d.levels.values c.carry.new.self.values d.states.values c.carry-2.new.self.values d.levels.default d.states.default c.self.invariant.levelled c.self.invariant.stated c.self.invariant.base c.self.invariant.zero_state
     c.carry_markers.ensures.lines c.carry.ensures.values c.carry-2.ensures.values
     ∙ ap (λ (v : KeptRows). after_edits rows_together c.args.edits.now v.rows) c.self.view_is
+
+pub returns-clause-markers_in_all : goal.returns-clause-markers_in_all
+returns-clause-markers_in_all c =
+    let d = c.self.inside in
+    let edits = c.args.edits.now in
+    let new = c.carry_markers.new.markers in
+    let levelled : length new.lines ≡ length c.carry.new.self.values = ap length c.carry_markers.ensures.lines ∙ same_edits markers_together (first_or d.levels.default) edits d.markers.lines d.levels.values c.self.invariant.levelled ∙ sym (ap length c.carry.ensures.values) in
+    let stated : length new.lines ≡ length c.carry-2.new.self.values = ap length c.carry_markers.ensures.lines ∙ same_edits markers_together (first_or d.states.default) edits d.markers.lines d.states.values c.self.invariant.stated ∙ sym (ap length c.carry-2.ensures.values) in
+    ap (λ n. new.room + n) (sym (rows_count new.lines c.carry.new.self.values c.carry-2.new.self.values levelled stated)) ∙ c.carry_markers.ensures.markers_in_all
+    ∙ ap (λ n. d.markers.room + n) (rows_count d.markers.lines d.levels.values d.states.values c.self.invariant.levelled c.self.invariant.stated)
+    ∙ ap (λ (v : KeptRows). v.room.markers + marker_count v.rows) c.self.view_is

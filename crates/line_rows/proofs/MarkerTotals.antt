@@ -1,0 +1,41 @@
+-- An edit of lines moves their markers, and takes none away but where all begins anew.
+use Rattle.std.proofs.Common.{◌≡◌, ◌+◌, ◌-◌, ℕ, zero, suc, List, [], ◌∷◌, ◌++◌, length, take, drop, replicate, slice_range, refl, ap, ◌∙◌, arith}
+use Rattle.std.proofs.lemmas.List.{drop-drop}
+use Rattle.std.proofs.lemmas.List.Sums.{sum_by-cons, sum_by-append, sum_by-take-drop}
+use Rattle.std.proofs.lemmas.List.Concat.{length-flat_map}
+use Rattle.ed_model.specs.Rows.{Marker}
+use Rattle.marker_store.specs.Lines.{marker_total, with_fresh, with_joined}
+use Rattle.line_rows.specs.Rows.{markers_together}
+
+total_none : (count : ℕ) → marker_total (replicate count []) ≡ 0
+total_none zero = refl
+total_none (suc count) =
+    let none : List Marker = [] in
+    omega (arith, sum_by-cons length none (replicate count none), total_none count)
+
+pub total_with_fresh : (line count : ℕ) (lines : List (List Marker)) → marker_total (with_fresh line count lines) ≡ marker_total lines
+total_with_fresh line count lines =
+    let fresh : List (List Marker) = replicate count [] in
+    omega (
+      arith,
+      sum_by-append length (take line lines) (fresh ++ drop line lines),
+      sum_by-append length fresh (drop line lines),
+      total_none count,
+      sum_by-take-drop length lines line,
+    )
+
+pub total_with_joined : (line count : ℕ) (lines : List (List Marker)) → marker_total (with_joined line count lines) ≡ marker_total lines
+total_with_joined line count lines =
+    let end = line + (count + 1) in
+    let joined : List (List Marker) = slice_range lines line end in
+    let rest : List (List Marker) = drop line lines in
+    let behind : drop (end - line) rest ≡ drop end lines = drop-drop (end - line) line lines ∙ ap (λ n. drop n lines) (omega arith) in
+    omega (
+      arith,
+      sum_by-append length (take line lines) (markers_together joined ∷ drop end lines),
+      sum_by-cons length (markers_together joined) (drop end lines),
+      length-flat_map (λ (ms : List Marker). ms) joined,
+      sum_by-take-drop length rest (end - line),
+      ap marker_total behind,
+      sum_by-take-drop length lines line,
+    )
