@@ -22,9 +22,9 @@ spare_left other markers s = s
 abbrev pub GivesBack : Kept → Kept → Type 0
 GivesBack old new = new.spare.markers + marker_count new.document.rows ≡ old.spare.markers + marker_count old.document.rows
 
--- Markers that are taken out leave their room, and no more; so do those of lines that go where other line ends count, and perhaps more.
+-- Markers that are taken out leave their room, and no more; so do those that go with lines where other line ends count.
 abbrev pub LeavesMarkers : DocumentChange → Kept → Kept → Type 0
-LeavesMarkers (change.SetLineEndTypes to) old new = old.spare.markers ≤ new.spare.markers
+LeavesMarkers (change.SetLineEndTypes to) old new = (old.spare.markers ≤ new.spare.markers) × GivesBack old new
 LeavesMarkers (change.DeleteMarker line number) old new = GivesBack old new
 LeavesMarkers (change.DeleteMarkers number) old new = GivesBack old new
 LeavesMarkers (change.DeleteHandle handle) old new = GivesBack old new
