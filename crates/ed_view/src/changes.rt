@@ -2,6 +2,7 @@
 
 ghost use Rattle.std.specs.Prelude.{◌≡◌, true, ℕ, List, length};
 ghost use Rattle.ed_model.specs.Changes.{changed_view};
+ghost use Rattle.ed_view.specs.Kept.{contracted_in_all};
 ghost use Rattle.ed_view.specs.Folding.{is_setting, IsWithin, fold_need, HasFoldRoom, LeavesFoldRoom};
 
 use crate::view::{Target, View};
@@ -108,6 +109,7 @@ impl View {
         requires room { HasFoldRoom self.old.room (fold_need self.old.view.flags change) }
         ensures view { self.new.view ≡ changed_view levels.now change self.old.view }
         ensures room_left { LeavesFoldRoom self.old.room self.new.room (fold_need self.old.view.flags change) }
+        ensures in_all { contracted_in_all self.new ≡ contracted_in_all self.old }
     {
         if is_setting(change) {
             return self.set(change);

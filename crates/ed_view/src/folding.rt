@@ -6,6 +6,7 @@ ghost use Rattle.contraction.specs.ViewLines.{contracted_lines};
 ghost use Rattle.ed_model.specs.declared.plan.ViewChange.TheVariants as change_to;
 ghost use Rattle.ed_model.specs.Folding.{is_visible, lines_shown, lines_hidden, with_expanded};
 ghost use Rattle.ed_model.specs.Changes.{changed_view};
+ghost use Rattle.ed_view.specs.Kept.{contracted_in_all};
 ghost use Rattle.ed_view.specs.Folding.{fold_need as need_of, HasFoldRoom, LeavesFoldRoom};
 
 use crate::view::View;
@@ -69,6 +70,8 @@ impl View {
         ensures ok { OnOk result (HasFoldRoom self.new.room need) }
         ensures room_is_there { HasFoldRoom self.old.room need → IsOk result × (self.new ≡ self.old) }
         ensures room_stays { (self.old.room.hidden ≤ self.new.room.hidden) × (self.old.room.contracted ≤ self.new.room.contracted) }
+        ensures hidden_is_there { need.hidden ≤ self.old.room.hidden → self.new.room.hidden ≡ self.old.room.hidden }
+        ensures contracted_is_there { need.contracted ≤ self.old.room.contracted → self.new.room.contracted ≡ self.old.room.contracted }
         ensures at_most_hidden { self.new.room.hidden ≤ max need.hidden (2 * self.old.room.hidden + 1) }
         ensures at_most_contracted { self.new.room.contracted ≤ most_room (contracted_lines self.old.view.flags + 1) self.old.room.contracted need.contracted }
     {
@@ -106,6 +109,7 @@ impl View {
         requires room { HasFoldRoom self.old.room (need_of self.old.view.flags (change_to.SetExpanded line on)) }
         ensures view { self.new.view ≡ record self.old.view { flags = with_expanded line on self.old.view.flags } }
         ensures room_left { LeavesFoldRoom self.old.room self.new.room (need_of self.old.view.flags (change_to.SetExpanded line on)) }
+        ensures in_all { contracted_in_all self.new ≡ contracted_in_all self.old }
     {
         self.lines.set_expanded(line, on);
     }
@@ -118,6 +122,7 @@ impl View {
         requires room { HasFoldRoom self.old.room (need_of self.old.view.flags (change_to.Contract header)) }
         ensures view { self.new.view ≡ changed_view levels.now (change_to.Contract header) self.old.view }
         ensures room_left { LeavesFoldRoom self.old.room self.new.room (need_of self.old.view.flags (change_to.Contract header)) }
+        ensures in_all { contracted_in_all self.new ≡ contracted_in_all self.old }
     {
         self.lines.contract(levels, header);
     }
@@ -130,6 +135,7 @@ impl View {
         requires room { length self.old.view.flags ≤ self.old.room.hidden }
         ensures view { self.new.view ≡ changed_view levels.now (change_to.Expand header) self.old.view }
         ensures room_left { LeavesFoldRoom self.old.room self.new.room (need_of self.old.view.flags (change_to.Expand header)) }
+        ensures in_all { contracted_in_all self.new ≡ contracted_in_all self.old }
     {
         self.lines.expand(levels, header);
     }
@@ -142,6 +148,7 @@ impl View {
         requires room { HasFoldRoom self.old.room (need_of self.old.view.flags (change_to.EnsureVisible line)) }
         ensures view { self.new.view ≡ changed_view levels.now (change_to.EnsureVisible line) self.old.view }
         ensures room_left { LeavesFoldRoom self.old.room self.new.room (need_of self.old.view.flags (change_to.EnsureVisible line)) }
+        ensures in_all { contracted_in_all self.new ≡ contracted_in_all self.old }
     {
         if self.shows(line) {
             return;

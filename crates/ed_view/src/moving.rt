@@ -4,6 +4,7 @@ ghost use Rattle.std.specs.Prelude.{◌≡◌, ◌<◌, ◌≤◌, ◌+◌, ◌^
 ghost use Rattle.ed_model.specs.Session.{Document, lines_in, attached_to};
 ghost use Rattle.line_index.specs.Edits.{FitLines, fresh_lines};
 ghost use Rattle.selection.specs.Positions.{count_of};
+ghost use Rattle.ed_view.specs.Kept.{contracted_in_all};
 ghost use Rattle.ed_view.specs.Moving.{view_moved, with_edited_lines};
 
 use crate::view::{Target, View};
@@ -19,6 +20,7 @@ impl View {
         ensures view { self.new.view ≡ with_edited_lines edits.now self.old.view }
         ensures hidden { self.new.room.hidden ≡ self.old.room.hidden }
         ensures contracted { self.old.room.contracted ≤ self.new.room.contracted }
+        ensures in_all { contracted_in_all self.new ≡ contracted_in_all self.old }
     {
         self.lines.carry(edits);
     }
@@ -35,6 +37,7 @@ impl View {
         ensures view { self.new.view ≡ view_moved movement edits.now self.old.view }
         ensures hidden { self.new.room.hidden ≡ self.old.room.hidden }
         ensures contracted { self.old.room.contracted ≤ self.new.room.contracted }
+        ensures in_all { contracted_in_all self.new ≡ contracted_in_all self.old }
     {
         self.selection.moved(movement);
         self.target = Target {
@@ -52,6 +55,7 @@ impl View {
         ensures view { (d : Document) → d.id ≡ document → lines_in d ≡ lines → self.new.view ≡ attached_to d self.old.view }
         ensures hidden { self.new.room.hidden ≡ self.old.room.hidden }
         ensures contracted { self.old.room.contracted ≤ self.new.room.contracted }
+        ensures in_all { contracted_in_all self.new ≡ contracted_in_all self.old }
     {
         // all lines go, and as many fresh ones come: no new flags are made, which could fail
         let fresh = [
