@@ -299,15 +299,25 @@ module _ (s : SessionState) (task : Task) (bytes : List ℕ) (kept : IsKept s) (
   pub document_here : IsSome (value_at s.documents.entries task.document)
   document_here = subst (λ o. IsSome o) (sym kept_at.at) refl
 
-  pub view_here : IsSome (value_at s.views.entries task.view)
-  view_here = go (value_at s.views.entries task.view) (sym (found view_in id_of_view s.views.entries task.view kept.views) ∙ at)
-    where
-      at : view_at (session_in s).views task.view ≡ Some r.view
-      at = subst (λ (x : Session). view_at x.views task.view ≡ Some r.view) session_is (ap (view_at r.session.views) (sym by.asked.view_id) ∙ by.asked.sound.view)
+  view_there : option_map view_in (value_at s.views.entries task.view) ≡ Some r.view
+  view_there =
+      let seen : view_at (session_in s).views task.view ≡ Some r.view = subst (λ (x : Session). view_at x.views task.view ≡ Some r.view) session_is (ap (view_at r.session.views) (sym by.asked.view_id) ∙ by.asked.sound.view) in
+      sym (found view_in id_of_view s.views.entries task.view kept.views) ∙ seen
 
+  pub view_here : IsSome (value_at s.views.entries task.view)
+  view_here = go (value_at s.views.entries task.view) view_there
+    where
       go : (o : Option KeptView) → option_map view_in o ≡ Some r.view → IsSome o
       go None e = absurd (cc)
       go (Some k) e = refl
+
+  -- a fact of the view that is kept
+  pub for_view : (P : KeptView → Type 0) → ((v : KeptView) → v.view ≡ r.view → P v) → IsSomeAnd (value_at s.views.entries task.view) P
+  for_view P h = go (value_at s.views.entries task.view) view_there
+    where
+      go : (o : Option KeptView) → option_map view_in o ≡ Some r.view → IsSomeAnd o P
+      go None e = absurd (cc)
+      go (Some v) e = let same : v.view ≡ r.view = cc in h v same
 
   pub same_document : (k : Kept) → value_at s.documents.entries task.document ≡ Some k → r.document ≡ k.document
   same_document k at =

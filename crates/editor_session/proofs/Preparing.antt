@@ -4,11 +4,13 @@ use Rattle.std.specs.Prelude.{Result, not, vec_capacity}
 use Rattle.std.proofs.lemmas.Bool.{and_parts}
 use Rattle.ed_model.specs.declared.plan.Source.TheVariants as source
 use Rattle.ed_model.specs.declared.plan.Edit.TheVariants as edit
+use Rattle.ed_model.specs.declared.plan.ViewChange.{ViewChange}
+use Rattle.ed_model.specs.declared.plan.ViewChange.TheVariants as view_change
 use Rattle.ed_model.specs.declared.plan.Plan.{Plan}
 use Rattle.ed_model.specs.declared.plan.Plan.TheVariants as plan
 use Rattle.ed_model.specs.LineEnds.{converted}
 use Rattle.ed_model.specs.Steps.{Step, insertion}
-use Rattle.ed_model.specs.Session.{Session, Document}
+use Rattle.ed_model.specs.Session.{Session, Document, View}
 use Rattle.ed_model.specs.Requests.{Request, text}
 use Rattle.ed_model.specs.Edits.{steps_of, has_steps}
 use Rattle.document_changes.specs.Needs.{needs_room, notes_of_change}
@@ -18,18 +20,24 @@ use Rattle.document.specs.declared.room.DocumentRoom.{DocumentRoom}
 use Rattle.id_table.specs.Entries.{value_at}
 use Rattle.message_requests.specs.Requested.{session_in}
 use Rattle.message_requests.specs.declared.state.SessionState.{SessionState}
+use Rattle.session_changes.specs.Folding.{takes_fold_room}
 use Rattle.session_changes.specs.Kept.{IsKept, DocumentsAreNamed}
+use Rattle.session_changes.specs.Ready.{takes_memory}
+use Rattle.ed_view.specs.Folding.{fold_need, HasFoldRoom}
+use Rattle.ed_view.specs.Kept.{KeptView}
 use Rattle.editor_session.specs.declared.find.Task.{Task}
 use Rattle.editor_session.specs.declared.need.Need.{Need}
 use Rattle.editor_session.specs.declared.prepare.Prepared.{Prepared}
 use Rattle.editor_session.specs.declared.ready.Ready.{Ready}
-use Rattle.editor_session.specs.Plans.{needs_no_memory, takes_nothing_along}
+use Rattle.editor_session.specs.Plans.{needs_no_fold_room, needs_no_memory, takes_nothing_along}
 use Rattle.editor_session.specs.Tasks.{IsAskedBy}
 use Rattle.editor_session.specs.Needs.{IsAtLeast, IsCounted, NeedsTask, room_of_plan}
 use Rattle.editor_session.specs.Edited.{IsPastedFor}
-use Rattle.editor_session.specs.Prepared.{IsReadyFor, IsPastedIn, IsTaken, HasAll, is_turned, takes_nothing}
-use Rattle.editor_session.proofs.Performing.{kept_at, of_kept, of_room, for_document, session_is}
+use Rattle.editor_session.specs.Prepared.{IsReadyFor, IsPastedIn, IsTaken, HasAll, TakesNothing, is_turned}
+use Rattle.editor_session.proofs.Performing.{kept_at, of_kept, of_room, for_document, for_view, session_is}
 use Rattle.editor_session.proofs.Keeping.{kept_with}
+use Rattle.editor_session.proofs.TableWay.{not_true}
+use Rattle.editor_session.proofs.Unheard.{no_fold_room}
 use Rattle.ed_model.specs.SoundLaws.{IsSound}
 use Rattle.scene.specs.Scenes.{AreNamed}
 use Rattle.std.specs.declared.alloc.AllocError.{AllocError}
@@ -105,17 +113,27 @@ turned_empty s task bytes kept r by P e h =
 
 -- Plans that need no memory.
 
-pub needs_none : (r : Request) (what : Plan) → needs_no_memory r what ≡ true → takes_nothing what ≡ true
-needs_none r (plan.ChangeDocument change value) h = (and_parts (not (needs_room change)) (notes_of_change change r.document.history (watching r.session.views r.document) == 0) h).0
-needs_none r (plan.ChangeView change value) h = h
-needs_none r (plan.ChangeSession change value) h = h
-needs_none r (plan.Edit change value after) h = refl
-needs_none r plan.Undo h = refl
-needs_none r plan.Redo h = refl
-needs_none r (plan.Answer value) h = refl
-needs_none r (plan.HandOut value start count) h = refl
-needs_none r (plan.HandOutStyled start count) h = refl
-needs_none r plan.Attempt h = refl
+-- the room to fold is there where none is needed
+has_fold_room : (v : KeptView) (change : ViewChange) → needs_no_fold_room v.view.flags change ≡ true → HasFoldRoom v.room (fold_need v.view.flags change)
+has_fold_room v (view_change.EnsureVisible line) h = rw h (omega arith, omega arith)
+has_fold_room v other h = no_fold_room other v (not_true (takes_fold_room other) h)
+
+pub needs_none : (s : SessionState) (task : Task) (bytes : List ℕ) → IsKept s → (r : Request) → IsAskedBy (session_in s) task bytes r → needs_no_memory r task.plan ≡ true → TakesNothing task.plan s task
+needs_none s task bytes kept r by = go task.plan
+  where
+    go : (what : Plan) → needs_no_memory r what ≡ true → TakesNothing what s task
+    go (plan.ChangeDocument change value) h = not_true (needs_room change) (and_parts (not (needs_room change)) (notes_of_change change r.document.history (watching r.session.views r.document) == 0) h).0
+    go (plan.ChangeView change value) h =
+        for_view s task bytes kept r by (λ v. HasFoldRoom v.room (fold_need v.view.flags change))
+        (λ v is. has_fold_room v change (subst (λ (x : View). needs_no_fold_room x.flags change ≡ true) (sym is) h))
+    go (plan.ChangeSession change value) h = not_true (takes_memory change) h
+    go (plan.Edit change value after) h = tt
+    go plan.Undo h = tt
+    go plan.Redo h = tt
+    go (plan.Answer value) h = tt
+    go (plan.HandOut value start count) h = tt
+    go (plan.HandOutStyled start count) h = tt
+    go plan.Attempt h = tt
 
 inserts_nothing : (gone : List Step) (start : ℕ) (bytes : List ℕ) → not (has_steps (gone ++ insertion start bytes)) ≡ true → bytes ≡ []
 inserts_nothing [] start [] h = refl

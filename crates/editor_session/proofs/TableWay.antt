@@ -8,6 +8,7 @@ use Rattle.ed_types.specs.declared.refusal.Refusal.TheVariants.{NoSuchView, Unkn
 use Rattle.ed_types.specs.Notices.{Response}
 use Rattle.ed_types.specs.Messages.{kind_of, marks_of}
 use Rattle.ed_model.specs.Session.{Session, View, Document, document_at, view_at, watching, text_of}
+use Rattle.ed_model.specs.Rows.{Flags}
 use Rattle.ed_model.specs.SoundLaws.{IsSound}
 use Rattle.ed_model.specs.Requests.{Request, Planned}
 use Rattle.ed_model.specs.PlansFit.{IsFitPlan, IsFitPlanned}
@@ -17,7 +18,7 @@ use Rattle.ed_model.specs.declared.plan.Plan.TheVariants as plan
 use Rattle.ed_model.specs.Table.{table, record_note, table_from_view, table_from_kind, table_from_document, answered, request, plan_of}
 use Rattle.editor_session.proofs.Finding.{id_of_view_at}
 use Rattle.editor_session.specs.declared.find.Task.{Task}
-use Rattle.editor_session.specs.Plans.{needs_no_memory, planned_without_memory, is_free, is_free_request, is_free_from_document, is_free_from_kind, is_free_from_view, is_marked_free, is_recorded_by, MarkedMessagesAreFree}
+use Rattle.editor_session.specs.Plans.{needs_no_fold_room, needs_no_memory, planned_without_memory, is_free, is_free_request, is_free_from_document, is_free_from_kind, is_free_from_view, is_marked_free, is_recorded_by, MarkedMessagesAreFree}
 use Rattle.editor_session.specs.Answers.{AnswersBy}
 use Rattle.editor_session.specs.Tasks.{IsFound, IsTask}
 use Rattle.ed_model.specs.FreePlans.{IsFreeDocumentChange, IsFreeViewChange, IsFreeSessionChange, IsFreePlan, IsFreePlanned, MarkedPlansAreFree}
@@ -29,7 +30,6 @@ use Rattle.ed_model.specs.declared.plan.SessionChange.{SessionChange}
 use Rattle.ed_model.specs.declared.plan.SessionChange.TheVariants as session_change
 use Rattle.ed_model.specs.History.{History}
 use Rattle.document_changes.specs.Needs.{needs_room, notes_of_change}
-use Rattle.session_changes.specs.Folding.{takes_fold_room}
 use Rattle.session_changes.specs.Ready.{takes_memory}
 
 pub no_view : (s : Session) (id : ℕ) (m : Message) → view_at s.views id ≡ None → table s id m ≡ Err NoSuchView
@@ -99,7 +99,7 @@ both_true : (a b : Bool) → (a && b) ≡ true → (a ≡ true) × (b ≡ true)
 both_true true b h = (refl, h)
 both_true false b h = absurd (cc)
 
-not_true : (b : Bool) → not b ≡ true → b ≡ false
+pub not_true : (b : Bool) → not b ≡ true → b ≡ false
 not_true true h = absurd (cc)
 not_true false h = refl
 
@@ -129,13 +129,13 @@ free_change (document_change.CollectUndo on) h views f = refl
 free_change (document_change.SetEndStyled place) h views f = refl
 free_change _ h views f = absurd f
 
-free_view_change : (change : ViewChange) → IsFreeViewChange change → not (takes_fold_room change) ≡ true
-free_view_change (view_change.HideLines first past) f = absurd f
-free_view_change (view_change.SetExpanded line on) f = absurd f
-free_view_change (view_change.Contract line) f = absurd f
-free_view_change (view_change.Expand line) f = absurd f
-free_view_change (view_change.EnsureVisible line) f = absurd f
-free_view_change _ f = refl
+free_view_change : (flags : List Flags) (change : ViewChange) → IsFreeViewChange change → needs_no_fold_room flags change ≡ true
+free_view_change flags (view_change.HideLines first past) f = absurd f
+free_view_change flags (view_change.SetExpanded line on) f = absurd f
+free_view_change flags (view_change.Contract line) f = absurd f
+free_view_change flags (view_change.Expand line) f = absurd f
+free_view_change flags (view_change.EnsureVisible line) f = absurd f
+free_view_change flags _ f = refl
 
 free_session_change : (change : SessionChange) → IsFreeSessionChange change → not (takes_memory change) ≡ true
 free_session_change (session_change.AddReference id) f = refl
@@ -151,7 +151,7 @@ free_needs_none r plan.Attempt h = absurd h
 free_needs_none r plan.Undo h = absurd h
 free_needs_none r plan.Redo h = absurd h
 free_needs_none r (plan.ChangeDocument change value) h = free_change change r.document.history (watching r.session.views r.document) h
-free_needs_none r (plan.ChangeView change value) h = free_view_change change h
+free_needs_none r (plan.ChangeView change value) h = free_view_change r.view.flags change h
 free_needs_none r (plan.ChangeSession change value) h = free_session_change change h
 
 pub marked_are_free : MarkedPlansAreFree → MarkedMessagesAreFree

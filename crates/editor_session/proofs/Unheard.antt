@@ -1,5 +1,5 @@
 -- Messages that are not recorded, and changes of a view that take no memory.
-use Rattle.std.proofs.Common.{◌≡◌, ℕ, ◌&&◌, ℤ, true, false, [], length, refl, sym, arith, Option, Some, None, Ok, IsSome, IsSomeAnd}
+use Rattle.std.proofs.Common.{◌≡◌, ℕ, ◌&&◌, ℤ, true, false, [], refl, sym, arith, Option, Some, None, Ok, IsSome, IsSomeAnd}
 use Rattle.ed_types.specs.declared.kind.Kind.{Kind}
 use Rattle.ed_types.specs.declared.message.Message.{Message}
 use Rattle.ed_types.specs.Messages.{marks_of}
@@ -42,7 +42,7 @@ unrecorded_task s document view m kind r what found planned own unheard fit = re
 
 -- Light changes of a view.
 
-no_fold_room : (what : ViewChange) (v : KeptView) → takes_fold_room what ≡ false → HasFoldRoom v.room (fold_need v.view.flags what)
+pub no_fold_room : (what : ViewChange) (v : KeptView) → takes_fold_room what ≡ false → HasFoldRoom v.room (fold_need v.view.flags what)
 no_fold_room (change.HideLines first past) v h = absurd (cc)
 no_fold_room (change.SetExpanded line true) v h = (omega arith, omega arith)
 no_fold_room (change.SetExpanded line false) v h = absurd (cc)

@@ -1,12 +1,16 @@
 -- Plans that need no memory.
-use Rattle.std.specs.Prelude.{◌≡◌, ℕ, ◌==◌, ◌&&◌, not, Bool, true, false, Option, Some, None, Ok, Err}
+use Rattle.std.specs.Prelude.{◌≡◌, ℕ, ◌==◌, ◌&&◌, not, Bool, true, false, List, Option, Some, None, Ok, Err}
 use Rattle.ed_types.specs.declared.kind.Kind.{Kind}
 use Rattle.ed_types.specs.declared.message.Message.{Message}
 use Rattle.ed_types.specs.Messages.{kind_of, marks_of}
 use Rattle.ed_model.specs.declared.plan.Follow.{Follow}
 use Rattle.ed_model.specs.declared.plan.Follow.TheVariants as follow
+use Rattle.ed_model.specs.declared.plan.ViewChange.{ViewChange}
+use Rattle.ed_model.specs.declared.plan.ViewChange.TheVariants as view_change
 use Rattle.ed_model.specs.declared.plan.Plan.{Plan}
 use Rattle.ed_model.specs.declared.plan.Plan.TheVariants as plan
+use Rattle.ed_model.specs.Rows.{Flags}
+use Rattle.ed_model.specs.Folding.{is_visible}
 use Rattle.ed_model.specs.Requests.{Request, Planned}
 use Rattle.ed_model.specs.Session.{Session, View, Document, view_at, document_at, watching}
 use Rattle.ed_model.specs.Edits.{steps_of, has_steps}
@@ -19,6 +23,11 @@ abbrev pub takes_nothing_along : Follow → Bool
 takes_nothing_along (follow.Clipboard start count) = count == 0
 takes_nothing_along other = true
 
+-- a change of a view whose lines have these flags: a line that is visible already is made visible without any
+abbrev pub needs_no_fold_room : List Flags → ViewChange → Bool
+needs_no_fold_room flags (view_change.EnsureVisible line) = is_visible flags line
+needs_no_fold_room flags other = not (takes_fold_room other)
+
 -- an answer needs none, nor does a text without bytes, an edit without steps, or a change that needs no room and tells nothing
 abbrev pub needs_no_memory : Request → Plan → Bool
 needs_no_memory r (plan.Answer value) = true
@@ -26,7 +35,7 @@ needs_no_memory r (plan.HandOut value start count) = count == 0
 needs_no_memory r (plan.HandOutStyled start count) = count == 0
 needs_no_memory r (plan.Edit change value after) = not (has_steps (steps_of r change)) && takes_nothing_along after
 needs_no_memory r (plan.ChangeDocument change value) = not (needs_room change) && (notes_of_change change r.document.history (watching r.session.views r.document) == 0)
-needs_no_memory r (plan.ChangeView change value) = not (takes_fold_room change)
+needs_no_memory r (plan.ChangeView change value) = needs_no_fold_room r.view.flags change
 needs_no_memory r (plan.ChangeSession change value) = not (takes_memory change)
 needs_no_memory r other = false
 

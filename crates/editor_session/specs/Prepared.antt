@@ -1,5 +1,5 @@
 -- The memory that was taken for a message.
-use Rattle.std.specs.Prelude.{◌≡◌, ℕ, ◌+◌, ◌≤◌, not, Bool, true, false, List, [], IsSomeAnd, vec_capacity}
+use Rattle.std.specs.Prelude.{◌≡◌, ℕ, ◌+◌, ◌≤◌, Bool, false, List, [], IsSomeAnd, vec_capacity}
 use Rattle.ed_model.specs.declared.plan.DocumentChange.{DocumentChange}
 use Rattle.ed_model.specs.declared.plan.SessionChange.{SessionChange}
 use Rattle.ed_model.specs.declared.plan.Source.TheVariants as source
@@ -11,7 +11,7 @@ use Rattle.id_table.specs.Entries.{Entry, value_at}
 use Rattle.document.specs.Kept.{Kept, HasRoom}
 use Rattle.document.specs.declared.room.DocumentRoom.{DocumentRoom}
 use Rattle.document_changes.specs.Needs.{needs_room, IsReady as IsChangeReady}
-use Rattle.session_changes.specs.Folding.{takes_fold_room, HasFoldRoomAt}
+use Rattle.session_changes.specs.Folding.{HasFoldRoomAt}
 use Rattle.session_changes.specs.Ready.{takes_memory, IsReady as IsSessionReady}
 use Rattle.message_requests.specs.declared.state.SessionState.{SessionState}
 use Rattle.editor_session.specs.declared.find.Task.{Task}
@@ -45,12 +45,12 @@ IsReadyFor (plan.ChangeView change value) room s task made = HasFoldRoomAt s.vie
 IsReadyFor (plan.ChangeSession change value) room s task made = IsReadyForSession s change made
 IsReadyFor other room s task made = Unit {0}
 
--- its change asks for nothing
-abbrev pub takes_nothing : Plan → Bool
-takes_nothing (plan.ChangeDocument change value) = not (needs_room change)
-takes_nothing (plan.ChangeView change value) = not (takes_fold_room change)
-takes_nothing (plan.ChangeSession change value) = not (takes_memory change)
-takes_nothing other = true
+-- its change asks for nothing, or for what is there
+abbrev pub TakesNothing : Plan → SessionState → Task → Type 0
+TakesNothing (plan.ChangeDocument change value) s task = needs_room change ≡ false
+TakesNothing (plan.ChangeView change value) s task = HasFoldRoomAt s.views.entries task.view change
+TakesNothing (plan.ChangeSession change value) s task = takes_memory change ≡ false
+TakesNothing other s task = Unit {0}
 
 -- it puts in the clipboard with other line ends
 abbrev pub is_turned : Plan → Bool

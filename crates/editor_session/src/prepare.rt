@@ -10,7 +10,7 @@ ghost use Rattle.session_changes.specs.Kept.{IsKept, DocumentsAreNamed};
 ghost use Rattle.editor_session.specs.Plans.{needs_no_memory};
 ghost use Rattle.editor_session.specs.Tasks.{IsAskedBy, IsPlanned};
 ghost use Rattle.editor_session.specs.Needs.{no_need};
-ghost use Rattle.editor_session.specs.Prepared.{HasAll, IsTaken, IsPastedIn, is_turned, takes_nothing};
+ghost use Rattle.editor_session.specs.Prepared.{HasAll, IsTaken, IsPastedIn, TakesNothing, is_turned};
 
 use crate::find::Task;
 use crate::handing_out::line_end_in;
@@ -96,7 +96,7 @@ fn take(
     ensures documents { DocumentsAreNamed state.new.documents.entries }
     ensures views { AreNamed state.new.views.entries }
     ensures ok { IfOk result (λ prepared. IsTaken need state.new task.now pasted.items prepared) }
-    ensures free { need ≡ no_need → takes_nothing task.now.plan ≡ true → IsOk result }
+    ensures free { need ≡ no_need → TakesNothing task.now.plan state.old task.now → IsOk result }
 {
     if !need.is_counted() {
         return Err(AllocError);

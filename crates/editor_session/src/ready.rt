@@ -11,8 +11,8 @@ ghost use Rattle.scene.specs.Scenes.{AreNamed};
 ghost use Rattle.message_requests.specs.Requested.{session_in, documents_in};
 ghost use Rattle.session_changes.specs.Kept.{IsKept, DocumentsAreNamed};
 ghost use Rattle.editor_session.specs.Tasks.{IsPlanned};
-ghost use Rattle.editor_session.specs.Prepared.{HasRoomAt, IsReadyFor, IsReadyForChange, IsReadyForSession, takes_nothing};
-ghost use Rattle.session_changes.specs.Folding.{takes_fold_room, HasFoldRoomAt};
+ghost use Rattle.editor_session.specs.Prepared.{HasRoomAt, IsReadyFor, IsReadyForChange, IsReadyForSession, TakesNothing};
+ghost use Rattle.session_changes.specs.Folding.{HasFoldRoomAt};
 ghost use Rattle.session_changes.specs.Ready.{takes_memory};
 
 use crate::find::Task;
@@ -168,7 +168,7 @@ fn ready_view(state: &mut SessionState, view: u32, change: ViewChange) -> Result
     ensures documents { DocumentsAreNamed state.new.documents.entries }
     ensures views { AreNamed state.new.views.entries }
     ensures ok { IfOk result (λ made. HasFoldRoomAt state.new.views.entries view change) }
-    ensures free { takes_fold_room change ≡ false → IsOk result }
+    ensures free { HasFoldRoomAt state.old.views.entries view change → IsOk result }
 {
     match reserve_view_change(state, view, change) {
         Ok(()) => Ok(Ready::Room),
@@ -219,7 +219,7 @@ pub(crate) fn make_ready(
     ensures documents { DocumentsAreNamed state.new.documents.entries }
     ensures views { AreNamed state.new.views.entries }
     ensures ok { IfOk result (λ made. IsReadyFor task.now.plan room state.new task.now made) }
-    ensures free { room ≡ no_room → takes_nothing task.now.plan ≡ true → IsOk result }
+    ensures free { room ≡ no_room → TakesNothing task.now.plan state.old task.now → IsOk result }
 {
     match task.plan {
         Plan::Edit { .. } => ready_room(state, task.document, room),

@@ -10,7 +10,7 @@ returns-clause-ok c =
     all_taken a.state.now c.take.new.state a.task.now a.message_text.now c.in-Ok.pasted.items c.task_need-need.result c.take.result c.requires.kept t.same t.limits t.documents t.views c.task_need-need.ensures.enough c.in-Ok.ensures.pasted t.ok
 
 pub returns-clause-free : goal.returns-clause-free
-returns-clause-free c = λ r by h n. c.take.ensures.free ((c.task_need-need.ensures.enough r by).free h n) (needs_none r c.args.task.now.plan h)
+returns-clause-free c = λ r by h n. c.take.ensures.free ((c.task_need-need.ensures.enough r by).free h n) (needs_none c.args.state.now c.args.task.now c.args.message_text.now c.requires.kept r by h)
 
 pub returns-in_default-clause-free : goal.returns-in_default-clause-free
 returns-in_default-clause-free c = λ r by h n.

@@ -1,18 +1,10 @@
-use Rattle.std.proofs.Common.{◌≡◌, true, false, Bool, refl, sym, subst, IfOk}
-use Rattle.std.specs.Prelude.{not}
+use Rattle.std.proofs.Common.{sym, subst, IfOk}
 use Rattle.ed_model.specs.PlansFit.{IsFitPlan}
 use Rattle.ed_model.specs.Session.{Document}
 use Rattle.document_changes.specs.Fit.{IsFitChange}
-use Rattle.document_changes.specs.Needs.{needs_room}
-use Rattle.session_changes.specs.Folding.{takes_fold_room}
-use Rattle.session_changes.specs.Ready.{takes_memory}
-use Rattle.editor_session.specs.Prepared.{IsReadyFor, takes_nothing}
+use Rattle.editor_session.specs.Prepared.{IsReadyFor, TakesNothing}
 use Rattle.editor_session.proofs.Performing.{document_here, view_here, for_document, change_fits}
 use Rattle.editor_session.proofs.ready.make_ready.Goals as goal
-
-not_true : (b : Bool) → not b ≡ true → b ≡ false
-not_true true h = absurd (cc)
-not_true false h = refl
 
 pub ready_room-requires-clause-there : goal.ready_room-requires-clause-there
 ready_room-requires-clause-there c = document_here c.args.state.now c.args.task.now c.args.text.now c.requires.kept c.requires.planned.request c.requires.planned.asked
@@ -47,16 +39,16 @@ pub returns-in-ChangeDocument-clause-ok : goal.returns-in-ChangeDocument-clause-
 returns-in-ChangeDocument-clause-ok c = subst (λ x. IfOk c.ready_change.result (λ made. IsReadyFor x c.args.room c.ready_change.new.state c.args.task.now made)) (sym c.in-ChangeDocument.is) c.ready_change.ensures.ok
 
 pub returns-in-ChangeDocument-clause-free : goal.returns-in-ChangeDocument-clause-free
-returns-in-ChangeDocument-clause-free c = λ none h. c.ready_change.ensures.free (not_true (needs_room c.in-ChangeDocument.change) (subst (λ x. takes_nothing x ≡ true) c.in-ChangeDocument.is h))
+returns-in-ChangeDocument-clause-free c = λ none h. c.ready_change.ensures.free (subst (λ x. TakesNothing x c.args.state.now c.args.task.now) c.in-ChangeDocument.is h)
 
 pub returns-in-ChangeView-clause-ok : goal.returns-in-ChangeView-clause-ok
 returns-in-ChangeView-clause-ok c = subst (λ x. IfOk c.ready_view.result (λ made. IsReadyFor x c.args.room c.ready_view.new.state c.args.task.now made)) (sym c.in-ChangeView.is) c.ready_view.ensures.ok
 
 pub returns-in-ChangeView-clause-free : goal.returns-in-ChangeView-clause-free
-returns-in-ChangeView-clause-free c = λ none h. c.ready_view.ensures.free (not_true (takes_fold_room c.in-ChangeView.change) (subst (λ x. takes_nothing x ≡ true) c.in-ChangeView.is h))
+returns-in-ChangeView-clause-free c = λ none h. c.ready_view.ensures.free (subst (λ x. TakesNothing x c.args.state.now c.args.task.now) c.in-ChangeView.is h)
 
 pub returns-in-ChangeSession-clause-ok : goal.returns-in-ChangeSession-clause-ok
 returns-in-ChangeSession-clause-ok c = subst (λ x. IfOk c.ready_session.result (λ made. IsReadyFor x c.args.room c.ready_session.new.state c.args.task.now made)) (sym c.in-ChangeSession.is) c.ready_session.ensures.ok
 
 pub returns-in-ChangeSession-clause-free : goal.returns-in-ChangeSession-clause-free
-returns-in-ChangeSession-clause-free c = λ none h. c.ready_session.ensures.free (not_true (takes_memory c.in-ChangeSession.change) (subst (λ x. takes_nothing x ≡ true) c.in-ChangeSession.is h))
+returns-in-ChangeSession-clause-free c = λ none h. c.ready_session.ensures.free (subst (λ x. TakesNothing x c.args.state.now c.args.task.now) c.in-ChangeSession.is h)
