@@ -8,8 +8,8 @@ use Rattle.ed_view.specs.Kept.{KeptView}
 use Rattle.message_requests.specs.Requested.{session_in}
 use Rattle.message_requests.specs.declared.state.SessionState.{SessionState}
 use Rattle.session_changes.specs.Kept.{IsKept}
-use Rattle.editor_session.proofs.Finding.{view_in, id_of_view, document_in, id_of_document, found_some, found_none}
-use Rattle.editor_session.proofs.Performing.{found_all}
+use Rattle.session_changes.specs.proved.Finding.{view_in, id_of_view, document_in, id_of_document, found_some, found_none}
+use Rattle.message_requests.specs.proved.Standing.{found_all}
 
 module _ (s : SessionState) (view : ℕ) (kept : IsKept s) (v : KeptView) (seen : value_at s.views.entries view ≡ Some v) where
   pub view_is : view_at (session_in s).views view ≡ Some v.view

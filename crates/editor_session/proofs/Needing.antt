@@ -1,12 +1,12 @@
 -- What is told of needs.
-use Rattle.std.proofs.Common.{◌≡◌, ℕ, ◌+◌, ◌-◌, ◌<◌, ◌≤◌, ◌^◌, ◌*◌, ◌==◌, ℤ, Bool, true, false, cond, List, [], ◌∷◌, length, map, refl, ap, sym, ◌∙◌, subst, arith, Option, Some, None, option_map, IsSomeAnd}
-use Rattle.std.specs.Prelude.{filter_map, find, min, not, if◌then◌else◌}
+use Rattle.std.proofs.Common.{◌≡◌, ℕ, ◌+◌, ◌-◌, ◌<◌, ◌≤◌, ◌^◌, ◌*◌, ◌==◌, ℤ, true, false, List, [], ◌∷◌, length, refl, ap, sym, ◌∙◌, subst, arith, Option, Some, None}
+use Rattle.std.specs.Prelude.{filter_map, min, not}
 use Rattle.std.specs.List.{cons_option}
-use Rattle.std.proofs.lemmas.Bool.{and_parts, eqb-true, eq-eqb, ne_eqb}
+use Rattle.std.proofs.lemmas.Bool.{and_parts, eqb-true}
 use Rattle.ed_model.specs.declared.plan.Plan.{Plan}
 use Rattle.ed_model.specs.declared.plan.Plan.TheVariants as plan
 use Rattle.ed_model.specs.Steps.{Step}
-use Rattle.ed_model.specs.Session.{Session, Document, View, document_at, view_at, watching}
+use Rattle.ed_model.specs.Session.{Session, Document, View, view_at, watching}
 use Rattle.ed_model.specs.Requests.{Request}
 use Rattle.ed_model.specs.Performing.{Scene, scene_of}
 use Rattle.ed_model.specs.declared.plan.Edit.{Edit}
@@ -23,17 +23,12 @@ use Rattle.editor_session.specs.Plans.{takes_nothing_along}
 use Rattle.editor_session.specs.Edited.{IsPastedFor}
 use Rattle.editor_session.specs.Edits.{edit_steps}
 use Rattle.editor_session.proofs.Performing.{same_edit}
-use Rattle.ed_model.specs.SoundLaws.{Rise}
-use Rattle.id_table.specs.Entries.{Entry, entry, value_of, value_at, with_value_at}
 use Rattle.document.specs.declared.room.DocumentRoom.{DocumentRoom}
-use Rattle.document.specs.Kept.{Kept, HasRoom, amount_sum, room_sum, no_room}
+use Rattle.document.specs.Kept.{amount_sum, room_sum, no_room}
 use Rattle.scene.specs.Needs.{note_room, notes_of_step, bytes_of_step, leaving_count}
 use Rattle.editor_session.specs.declared.need.Need.{Need}
-use Rattle.session_changes.specs.Kept.{DocumentsAreNamed}
-use Rattle.editor_session.specs.Prepared.{HasRoomAt}
 use Rattle.editor_session.specs.Needs.{no_need, need_sum, clipboard_need, IsAtLeast, IsCounted, IsEnoughFor, IsAbout, text_of_plan, clipboard_of_plan, notes_of_plan, bytes_of_plan, room_of_plan, notes_of_history_of, bytes_of_history_of, room_of_history_of, NeedsSteps, NeedsEdit, NeedsTask}
 use Rattle.scene.specs.Conversion.{room_of_step, room_of_steps, notes_for, bytes_for}
-use Rattle.editor_session.proofs.Finding.{document_in, id_of_document, replaced, still_named, found_some, id_of_document_at}
 
 -- One step.
 
@@ -247,52 +242,3 @@ recorded_needs r what need all bytes was is e = rw e (record {
   where
     more : {x : ℕ} (y : ℕ) → amount_sum y 0 < 2 ^ 64 - 1 → x ≤ y → x ≤ amount_sum y 0
     more y c h = omega arith
-
--- Room in a document of a table.
-
-above_stays : (d : Document) (id low high : ℕ) (ds : List Document) → Rise low high (map (λ (d : Document). d.id) ds) → id < low → map (λ (x : Document). if x.id == id then d else x) ds ≡ ds
-above_stays d id low high [] r l = refl
-above_stays d id low high (e ∷ es) r l =
-    let at_least : low ≤ e.id = r.0 in
-    let test : (e.id == id) ≡ false = ne_eqb e.id id (λ (k : e.id ≡ id). omega arith) in
-    rw (test, above_stays d id (e.id + 1) high es r.2 (omega arith)) refl
-
-put_itself : (d : Document) (id low high : ℕ) (ds : List Document) → Rise low high (map (λ (d : Document). d.id) ds) → document_at ds id ≡ Some d → map (λ (x : Document). if x.id == id then d else x) ds ≡ ds
-put_itself d id low high [] r f = refl
-put_itself d id low high (e ∷ es) r f = go (e.id == id) refl f (λ f. put_itself d id (e.id + 1) high es r.2 f)
-  where
-    go : (b : Bool) → (e.id == id) ≡ b → cond b (Some e) (document_at es id) ≡ Some d → (document_at es id ≡ Some d → map (λ (x : Document). if x.id == id then d else x) es ≡ es)
-        → cond b d e ∷ map (λ (x : Document). if x.id == id then d else x) es ≡ e ∷ es
-    go true t f rest =
-        let same : e ≡ d = cc in
-        let own : e.id ≡ id = eqb-true e.id id t in
-        rw (above_stays d id (e.id + 1) high es r.2 (omega arith)) (ap (λ x. x ∷ es) (sym same))
-    go false t f rest = ap (λ xs. e ∷ xs) (rest f)
-
-pub roomier : (entries : List (Entry Kept)) (id high : ℕ) (old new : Kept) → DocumentsAreNamed entries → Rise 0 high (map (λ (d : Document). d.id) (map (λ (e : Entry Kept). e.value.document) entries)) → value_at entries id ≡ Some old → new.document ≡ old.document
-    → map (λ (e : Entry Kept). e.value.document) (with_value_at id new entries) ≡ map (λ (e : Entry Kept). e.value.document) entries
-roomier entries id high old new named rise at same =
-    let ds = map (λ (e : Entry Kept). e.value.document) entries in
-    replaced document_in id_of_document entries id new named ∙ ap (λ (d : Document). map (λ (x : Document). if x.id == id then d else x) ds) same
-    ∙ put_itself old.document id 0 high ds rise (found_some document_in id_of_document entries id old named at)
-
-pub still_named_there : (entries : List (Entry Kept)) (id : ℕ) (old new : Kept) → DocumentsAreNamed entries → value_at entries id ≡ Some old → new.document ≡ old.document → DocumentsAreNamed (with_value_at id new entries)
-still_named_there entries id old new named at same =
-    still_named document_in id_of_document entries id new
-    (ap (λ (d : Document). d.id) same ∙ id_of_document_at (map (λ (e : Entry Kept). e.value.document) entries) id old.document (found_some document_in id_of_document entries id old named at)) named
-
-value_replaced : (entries : List (Entry Kept)) (id : ℕ) (old new : Kept) → value_at entries id ≡ Some old → value_at (with_value_at id new entries) id ≡ Some new
-value_replaced [] id old new e = absurd (cc)
-value_replaced (x ∷ xs) id old new e = go (x.id == id) refl e (λ e. value_replaced xs id old new e)
-  where
-    go : (b : Bool) → (x.id == id) ≡ b → option_map value_of (cond b (Some x) (find (λ (e : Entry Kept). e.id == id) xs)) ≡ Some old
-        → (value_at xs id ≡ Some old → value_at (with_value_at id new xs) id ≡ Some new)
-        → option_map value_of (cond ((cond b (entry id new) x).id == id) (Some (cond b (entry id new) x)) (find (λ (e : Entry Kept). e.id == id) (with_value_at id new xs))) ≡ Some new
-    go true t e rest = let same : (id == id) ≡ true = eq-eqb id id refl in rw same refl
-    go false t e rest = rw t (rest e)
-
-pub has_room_there : (entries : List (Entry Kept)) (id : ℕ) (old new : Kept) (need : DocumentRoom) → value_at entries id ≡ Some old → HasRoom new need → HasRoomAt (with_value_at id new entries) id need
-has_room_there entries id old new need at room = subst (λ o. IsSomeAnd o (λ k. HasRoom k need)) (sym (value_replaced entries id old new at)) room
-
-pub there_after : (P : Kept → Type 0) (entries : List (Entry Kept)) (id : ℕ) (old new : Kept) → value_at entries id ≡ Some old → P new → IsSomeAnd (value_at (with_value_at id new entries) id) P
-there_after P entries id old new at h = subst (λ o. IsSomeAnd o P) (sym (value_replaced entries id old new at)) h

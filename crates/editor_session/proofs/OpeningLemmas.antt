@@ -1,13 +1,13 @@
 -- Views that are opened and closed.
 use Rattle.std.proofs.Common.{◌≡◌, ◌≢◌, ℕ, ◌+◌, ◌<◌, ◌==◌, Bool, true, false, cond, List, [], ◌∷◌, ◌++◌, map, refl, ap, sym, ◌∙◌, subst, Option, Some, None, Ok, Err, option_map}
 use Rattle.ed_types.specs.declared.refusal.Refusal.TheVariants.{NoSuchView}
-use Rattle.std.specs.Prelude.{nat_lt, not, filter, find}
+use Rattle.std.specs.Prelude.{nat_lt, not, filter}
 use Rattle.std.specs.List.{AllByRecursion}
-use Rattle.std.proofs.lemmas.Bool.{eqb-true, ne_eqb, cond_both}
+use Rattle.std.proofs.lemmas.Bool.{cond_both}
 use Rattle.std.proofs.lemmas.List.{map-append}
 use Rattle.ed_types.specs.declared.limits.Limits.{Limits}
-use Rattle.ed_model.specs.Session.{Document, View, view_at, new_document, new_view, living, left_by, without, references}
-use Rattle.ed_model.specs.SoundLaws.{Rise, IsSoundDocument, IsViewOn, ListsItsViews}
+use Rattle.ed_model.specs.Session.{Document, View, view_at, new_document, new_view, living, left_by, references}
+use Rattle.ed_model.specs.SoundLaws.{Rise, IsSoundDocument, ListsItsViews}
 use Rattle.ed_model.specs.Table.{closed, closed_view}
 use Rattle.id_table.specs.Entries.{Rise as IdsRise, Entry, Entries, entry, id_of, value_of, value_at, with_value_at, without_id}
 use Rattle.document.specs.Kept.{Kept}
@@ -18,7 +18,8 @@ use Rattle.message_requests.specs.Requested.{session_in, documents_in}
 use Rattle.message_requests.specs.declared.state.SessionState.{SessionState}
 use Rattle.session_changes.specs.Kept.{IsKept, DocumentsAreNamed}
 use Rattle.editor_session.specs.Opening.{document_for, with_view_on_new}
-use Rattle.editor_session.proofs.Finding.{view_in, id_of_view, id_of_document, found_some, found_none, still_named, id_of_view_at}
+use Rattle.session_changes.specs.proved.Names.{IsNamedDocument, named_in, named_out, id_at, without_itself, none_listed}
+use Rattle.session_changes.specs.proved.Finding.{view_in, id_of_view, id_of_document, own_at, found_some, found_none, still_named}
 
 -- Opening.
 
@@ -74,25 +75,6 @@ pub others_named : (entries : List (Entry KeptView)) (view : ℕ) → AreNamed e
 others_named entries view all = all_without (λ (e : Entry KeptView). e.id ≡ e.value.view.id) view entries all
 
 -- a document that is not that of a view does not list it
-without_itself : (view : ℕ) (ids : List ℕ) → AllByRecursion (λ id. id ≢ view) ids → without view ids ≡ ids
-without_itself view [] all = refl
-without_itself view (id ∷ ids) all =
-    let t : (id == view) ≡ false = ne_eqb id view all.0 in
-    rw t (ap (λ xs. id ∷ xs) (without_itself view ids all.1))
-
-none_listed : (views : List View) (v : View) (view document : ℕ) (ids : List ℕ) → view_at views view ≡ Some v → document ≢ v.document → AllByRecursion (IsViewOn views document) ids → AllByRecursion (λ id. id ≢ view) ids
-none_listed views v view document [] found other all = tt
-none_listed views v view document (id ∷ ids) found other all = (
-  (λ e. (let listed = all.0 in
-      let w = listed.0 in
-      let at : view_at views id ≡ Some w = listed.1 in
-      let on : w.document ≡ document = listed.2 in
-      let here : view_at views id ≡ Some v = ap (view_at views) e ∙ found in
-      let same : w ≡ v = cc in
-      other (sym on ∙ ap (λ (x : View). x.document) same))),
-  none_listed views v view document ids found other all.1,
-)
-
 stays_alike : (views : List View) (v : View) (view : ℕ) (d : Document) → view_at views view ≡ Some v → d.id ≢ v.document → ListsItsViews views d → left_by view d ≡ d
 stays_alike views v view d found other lists = ap (λ ids. record d { views = ids }) (without_itself view d.views (none_listed views v view d.id d.views found other lists))
 
@@ -132,24 +114,6 @@ living_left law s view v left kept found is =
     ∙ ap (λ ds. living (map (left_by view) ds)) (values_same entries)
 
 -- names stay
-abbrev pub IsNamedDocument : Entry Document → Type 0
-IsNamedDocument e = e.id ≡ e.value.id
-
-named_in : (entries : List (Entry Kept)) → DocumentsAreNamed entries → AllByRecursion IsNamedDocument (entries_in entries)
-named_in [] all = tt
-named_in (e ∷ es) all = (all.0, named_in es all.1)
-
-named_out : (entries : List (Entry Kept)) → AllByRecursion IsNamedDocument (entries_in entries) → DocumentsAreNamed entries
-named_out [] all = tt
-named_out (e ∷ es) all = (all.0, named_out es all.1)
-
-id_at : (entries : List (Entry Document)) (id : ℕ) (d : Document) → AllByRecursion IsNamedDocument entries → value_at entries id ≡ Some d → d.id ≡ id
-id_at [] id d all e = absurd (cc)
-id_at (x ∷ xs) id d all e = go (x.id == id) refl e (λ e. id_at xs id d all.1 e)
-  where
-    go : (b : Bool) → (x.id == id) ≡ b → option_map value_of (cond b (Some x) (find (λ (e : Entry Document). e.id == id) xs)) ≡ Some d → (value_at xs id ≡ Some d → d.id ≡ id) → d.id ≡ id
-    go true t e rest = let same : x.value ≡ d = cc in ap (λ (y : Document). y.id) (sym same) ∙ sym all.0 ∙ eqb-true x.id id t
-    go false t e rest = rest e
 
 named_left : (id view : ℕ) (entries : List (Entry Document)) → AllByRecursion IsNamedDocument entries → AllByRecursion IsNamedDocument (let_go id (left_by view) entries)
 named_left id view entries all = go (value_at entries id) refl
@@ -169,7 +133,7 @@ pub closed_so : LeavesTheLiving → (s : SessionState) (view : ℕ) (v : KeptVie
 closed_so law s view v left views kept at is next rest =
     let old = session_in s in
     let found : view_at old.views view ≡ Some v.view = found_some view_in id_of_view s.views.entries view v kept.views at in
-    let own : v.view.id ≡ view = id_of_view_at old.views view v.view found in
+    let own : v.view.id ≡ view = own_at id_of_view old.views view v.view found in
     let ds : map (λ (e : Entry Kept). e.value.document) left.entries ≡ living (map (left_by view) old.documents) = living_left law s view v.view left.entries kept found is in
     let vs : views_of views.entries ≡ filter (λ (w : View). not (w.id == view)) old.views = ap (λ (t : Entries KeptView). views_of t.entries) rest ∙ others s.views.entries view kept.views in
     let nv : views.next ≡ s.views.next = ap (λ (t : Entries KeptView). t.next) rest in

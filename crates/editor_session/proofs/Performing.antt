@@ -1,6 +1,6 @@
 -- What is done is what the plan says.
-use Rattle.std.proofs.Common.{◌≡◌, ℕ, ◌+◌, ◌-◌, ◌^◌, ◌≤◌, ℤ, pos, ◌==◌, Bool, true, false, cond, ◌&&◌, List, [], ◌∷◌, ◌++◌, length, map, refl, ap, sym, ◌∙◌, subst, arith, Option, Some, None, Ok, IfSome, IsSome, IsSomeAnd, option_map, slice_range}
-use Rattle.std.specs.Prelude.{find, nat_lt, reverse}
+use Rattle.std.proofs.Common.{◌≡◌, ℕ, ◌+◌, ◌-◌, ◌^◌, ◌≤◌, ℤ, pos, ◌==◌, Bool, true, false, cond, ◌&&◌, List, [], ◌∷◌, ◌++◌, length, map, refl, ap, sym, ◌∙◌, subst, arith, Some, Ok, IfSome, IsSome, IsSomeAnd, slice_range}
+use Rattle.std.specs.Prelude.{nat_lt, reverse}
 use Rattle.std.specs.List.{AllByRecursion}
 use Rattle.ed_types.specs.declared.message.Message.{Message}
 use Rattle.ed_types.specs.Notices.{Notice, Response}
@@ -45,6 +45,7 @@ use Rattle.scene.specs.Scenes.{views_of, scene_in, watchers, StandsIfOn, IsWatch
 use Rattle.scene.specs.Conversion.{notes_for, bytes_for, room_of_steps}
 use Rattle.scene.specs.Undoing.{bits_of, notes_of_history, bytes_of_changes, room_of_changes}
 use Rattle.message_requests.specs.Requested.{session_in}
+use Rattle.message_requests.specs.proved.Standing.{found_all}
 use Rattle.message_requests.specs.declared.state.SessionState.{SessionState}
 use Rattle.session_changes.specs.Kept.{IsKept}
 use Rattle.editor_session.specs.declared.find.Task.{Task}
@@ -53,16 +54,7 @@ use Rattle.editor_session.specs.Needs.{IsAbout, notes_if, bytes_if, clipboard_ne
 use Rattle.editor_session.specs.Edited.{IsStoredIn, IsTurnedFor, IsPastedFor, IsEditWithin, IsWithin, stored_bytes, CanTake}
 use Rattle.editor_session.specs.Edits.{edit_steps, scene_after, CanEdit, Edits}
 use Rattle.editor_session.specs.Doing.{IsDone, CanGo, Goes, CanTell, Changes}
-use Rattle.editor_session.proofs.Finding.{document_in, id_of_document, view_in, id_of_view, found, id_of_document_at}
-
--- A fact of each is one of the one found.
-pub found_all : {X : Type 0} (P : X → Type 0) (test : X → Bool) (xs : List X) (x : X) → AllByRecursion P xs → find test xs ≡ Some x → P x
-found_all P test [] x all e = absurd (cc)
-found_all {X} P test (y ∷ ys) x all e = go (test y) e (λ e. found_all P test ys x all.1 e)
-  where
-    go : (b : Bool) → cond b (Some y) (find test ys) ≡ Some x → (find test ys ≡ Some x → P x) → P x
-    go true e rest = let same : y ≡ x = cc in subst P same all.0
-    go false e rest = rest e
+use Rattle.session_changes.specs.proved.Finding.{view_in, id_of_view, document_in, id_of_document, own_at, IsKeptAs, kept_as}
 
 -- The scene of a document of a sound session.
 
@@ -260,11 +252,7 @@ pub record AtDocument (s : SessionState) (id : ℕ) (d : Document) : Type 0 wher
   pub is : k.document ≡ d
 
 pub at_document : (s : SessionState) (id : ℕ) (d : Document) → IsKept s → document_at (session_in s).documents id ≡ Some d → AtDocument s id d
-at_document s id d kept there = go (value_at s.documents.entries id) refl (sym (found document_in id_of_document s.documents.entries id kept.documents) ∙ there)
-  where
-    go : (o : Option Kept) → value_at s.documents.entries id ≡ o → option_map document_in o ≡ Some d → AtDocument s id d
-    go None e h = absurd (cc)
-    go (Some k) e h = let same : k.document ≡ d = cc in record { k = k; at = e; is = same }
+at_document s id d kept there = (let known = kept_as document_in id_of_document s.documents.entries id d kept.documents there in record { k = known.value; at = known.there; is = known.is })
 
 module _ (s : SessionState) (task : Task) (bytes : List ℕ) (kept : IsKept s) (r : Request) (by : IsAskedBy (session_in s) task bytes r) where
   pub session_is : r.session ≡ session_in s
@@ -272,7 +260,7 @@ module _ (s : SessionState) (task : Task) (bytes : List ℕ) (kept : IsKept s) (
 
   pub document_there : document_at (session_in s).documents task.document ≡ Some r.document
   document_there =
-      let own : r.document.id ≡ r.view.document = id_of_document_at r.session.documents r.view.document r.document by.asked.sound.document in
+      let own : r.document.id ≡ r.view.document = own_at id_of_document r.session.documents r.view.document r.document by.asked.sound.document in
       let there : document_at r.session.documents task.document ≡ Some r.document = ap (document_at r.session.documents) (sym by.asked.document_id ∙ own) ∙ by.asked.sound.document in
       subst (λ (x : Session). document_at x.documents task.document ≡ Some r.document) session_is there
 
@@ -299,25 +287,17 @@ module _ (s : SessionState) (task : Task) (bytes : List ℕ) (kept : IsKept s) (
   pub document_here : IsSome (value_at s.documents.entries task.document)
   document_here = subst (λ o. IsSome o) (sym kept_at.at) refl
 
-  view_there : option_map view_in (value_at s.views.entries task.view) ≡ Some r.view
-  view_there =
+  view_kept : IsKeptAs view_in id_of_view (value_at s.views.entries task.view) r.view
+  view_kept =
       let seen : view_at (session_in s).views task.view ≡ Some r.view = subst (λ (x : Session). view_at x.views task.view ≡ Some r.view) session_is (ap (view_at r.session.views) (sym by.asked.view_id) ∙ by.asked.sound.view) in
-      sym (found view_in id_of_view s.views.entries task.view kept.views) ∙ seen
+      kept_as view_in id_of_view s.views.entries task.view r.view kept.views seen
 
   pub view_here : IsSome (value_at s.views.entries task.view)
-  view_here = go (value_at s.views.entries task.view) view_there
-    where
-      go : (o : Option KeptView) → option_map view_in o ≡ Some r.view → IsSome o
-      go None e = absurd (cc)
-      go (Some k) e = refl
+  view_here = subst (λ o. IsSome o) (sym view_kept.there) refl
 
   -- a fact of the view that is kept
   pub for_view : (P : KeptView → Type 0) → ((v : KeptView) → v.view ≡ r.view → P v) → IsSomeAnd (value_at s.views.entries task.view) P
-  for_view P h = go (value_at s.views.entries task.view) view_there
-    where
-      go : (o : Option KeptView) → option_map view_in o ≡ Some r.view → IsSomeAnd o P
-      go None e = absurd (cc)
-      go (Some v) e = let same : v.view ≡ r.view = cc in h v same
+  for_view P h = subst (λ o. IsSomeAnd o P) (sym view_kept.there) (h view_kept.value view_kept.is)
 
   pub same_document : (k : Kept) → value_at s.documents.entries task.document ≡ Some k → r.document ≡ k.document
   same_document k at =

@@ -17,7 +17,7 @@ use Rattle.ed_model.specs.SoundLaws.{IsSound}
 use Rattle.ed_model.specs.PlansFit.{IsSoundRequest}
 use Rattle.ed_model.specs.Table.{table, record_note, table_from_view, table_from_kind, table_from_document, answered, request, plan_of}
 use Rattle.message_plans.specs.Asking.{questions, question_of, is_question, value_planned, value_asked}
-use Rattle.editor_session.proofs.Finding.{id_of_view_at}
+use Rattle.session_changes.specs.proved.Finding.{id_of_view, own_at}
 use Rattle.editor_session.specs.Answers.{message_with}
 use Rattle.editor_session.specs.Asked.{value_from_document, value_from_view, value_from_kind, value_to}
 
@@ -108,4 +108,4 @@ pub asked_of : (s : Session) (id : ℕ) (m : Message) (kind : Kind) (v : View) (
 asked_of s id m kind v d is found there = ap (value_from_kind s id m) is ∙ ap (value_from_view s kind m) found ∙ ap (value_from_document s v kind m) there
 
 pub sound_request : (s : Session) (id : ℕ) (m : Message) (v : View) (d : Document) → IsSound s → view_at s.views id ≡ Some v → document_at s.documents v.document ≡ Some d → IsSoundRequest (request s v d m)
-sound_request s id m v d sound found there = record { sound = sound; view = ap (view_at s.views) (id_of_view_at s.views id v found) ∙ found; document = there }
+sound_request s id m v d sound found there = record { sound = sound; view = ap (view_at s.views) (own_at id_of_view s.views id v found) ∙ found; document = there }

@@ -18,7 +18,7 @@ use Rattle.scene.specs.Scenes.{scene_in}
 use Rattle.message_requests.specs.Requested.{documents_in}
 use Rattle.session_changes.specs.Kept.{DocumentsAreNamed}
 use Rattle.editor_session.specs.Edited.{Becomes}
-use Rattle.editor_session.proofs.Finding.{document_in, id_of_document, found_some, replaced, still_named, id_of_document_at}
+use Rattle.session_changes.specs.proved.Finding.{document_in, id_of_document, own_at, found_some, replaced, still_named}
 
 steps_keep_id : (later : Bool) (steps : List Step) (scene : Scene) → (steps_made later steps scene).document.id ≡ scene.document.id
 steps_keep_id later [] scene = refl
@@ -32,7 +32,7 @@ edit_keeps_id steps scene =
 module _ (documents : Entries Kept) (views' : Entries KeptView) (notes' : Gathered) (id : ℕ) (k k' : Kept) (scene : Scene) (named : DocumentsAreNamed documents.entries) (at : value_at documents.entries id ≡ Some k)
     (made : scene_in k'.document views'.entries notes'.notes ≡ scene) (same : scene.document.id ≡ k.document.id) where
   pub id_after : k'.document.id ≡ id
-  id_after = ap (λ (x : Scene). x.document.id) made ∙ same ∙ id_of_document_at (documents_in documents) id k.document (found_some document_in id_of_document documents.entries id k named at)
+  id_after = ap (λ (x : Scene). x.document.id) made ∙ same ∙ own_at id_of_document (documents_in documents) id k.document (found_some document_in id_of_document documents.entries id k named at)
 
   replaced_at : documents_in (record documents { entries = with_value_at id k' documents.entries }) ≡ with_document scene.document (documents_in documents)
   replaced_at =
@@ -97,7 +97,7 @@ change_keeps_id text (change.FillIndicator indicator start count value) d = refl
 pub document_put : (documents : Entries Kept) (id : ℕ) (k k' : Kept) (d : Document) → DocumentsAreNamed documents.entries → value_at documents.entries id ≡ Some k → k'.document ≡ d → d.id ≡ k.document.id
     → documents_in (record documents { entries = with_value_at id k' documents.entries }) ≡ with_document d (documents_in documents)
 document_put documents id k k' d named at is same =
-    let own : k.document.id ≡ id = id_of_document_at (documents_in documents) id k.document (found_some document_in id_of_document documents.entries id k named at) in
+    let own : k.document.id ≡ id = own_at id_of_document (documents_in documents) id k.document (found_some document_in id_of_document documents.entries id k named at) in
     replaced document_in id_of_document documents.entries id k' named
     ∙ ap (λ (x : Document). map (λ (e : Document). if e.id == id then x else e) (documents_in documents)) is
     ∙ ap (λ n. map (λ (e : Document). if e.id == n then d else e) (documents_in documents)) (sym (same ∙ own))
@@ -105,4 +105,4 @@ document_put documents id k k' d named at is same =
 pub put_named : (documents : Entries Kept) (id : ℕ) (k k' : Kept) (d : Document) → DocumentsAreNamed documents.entries → value_at documents.entries id ≡ Some k → k'.document ≡ d → d.id ≡ k.document.id → DocumentsAreNamed (with_value_at id k' documents.entries)
 put_named documents id k k' d named at is same =
     still_named document_in id_of_document documents.entries id k'
-    (ap (λ (x : Document). x.id) is ∙ same ∙ id_of_document_at (documents_in documents) id k.document (found_some document_in id_of_document documents.entries id k named at)) named
+    (ap (λ (x : Document). x.id) is ∙ same ∙ own_at id_of_document (documents_in documents) id k.document (found_some document_in id_of_document documents.entries id k named at)) named

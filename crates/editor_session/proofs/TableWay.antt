@@ -16,7 +16,7 @@ use Rattle.ed_model.specs.Performing.{quiet, response}
 use Rattle.ed_model.specs.declared.plan.Plan.{Plan}
 use Rattle.ed_model.specs.declared.plan.Plan.TheVariants as plan
 use Rattle.ed_model.specs.Table.{table, record_note, table_from_view, table_from_kind, table_from_document, answered, request, plan_of}
-use Rattle.editor_session.proofs.Finding.{id_of_view_at}
+use Rattle.session_changes.specs.proved.Finding.{id_of_view, own_at}
 use Rattle.editor_session.specs.declared.find.Task.{Task}
 use Rattle.editor_session.specs.Plans.{needs_no_fold_room, needs_no_memory, planned_without_memory, is_free, is_free_request, is_free_from_document, is_free_from_kind, is_free_from_view, is_marked_free, is_recorded_by, MarkedMessagesAreFree}
 use Rattle.editor_session.specs.Answers.{AnswersBy}
@@ -45,7 +45,7 @@ to_document s id m v kind found is = ap (table_from_view s m) found ∙ ap (tabl
 pub is_found : (s : Session) (id : ℕ) (m : Message) (v : View) (kind : Kind) (d : Document) → IsSound s → view_at s.views id ≡ Some v → kind_of m.number ≡ Some kind →
     document_at s.documents v.document ≡ Some d → IsFound s id m kind (request s v d m)
 is_found s id m v kind d sound found is there =
-    let own : v.id ≡ id = id_of_view_at s.views id v found in
+    let own : v.id ≡ id = own_at id_of_view s.views id v found in
     record {
       sound = record { sound = sound; view = ap (view_at s.views) own ∙ found; document = there };
       decoded = is;

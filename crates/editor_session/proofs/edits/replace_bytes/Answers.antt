@@ -5,7 +5,8 @@ use Rattle.ed_model.specs.Performing.{edit_made}
 use Rattle.ed_model.specs.Session.{text_of}
 use Rattle.scene.specs.Scenes.{scene_in}
 use Rattle.scene.specs.Conversion.{notes_for, bytes_for}
-use Rattle.editor_session.proofs.Stepping.{first_notes, first_bytes, deletes_some, deletes_none, inserts_some, inserts_none, positive}
+use Rattle.scene.specs.proved.Enough.{first_notes, first_bytes}
+use Rattle.editor_session.proofs.Stepping.{deletes_some, deletes_none, inserts_some, inserts_none, positive}
 use Rattle.editor_session.proofs.edits.replace_bytes.Goals as goal
 
 pub make_step-requires-clause-notes : goal.make_step-requires-clause-notes

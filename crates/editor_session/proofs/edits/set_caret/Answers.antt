@@ -2,25 +2,26 @@ use Rattle.std.proofs.Common.{sym, ap, ◌∙◌}
 use Rattle.std.specs.Option.{option_copied_mut}
 use Rattle.ed_view.specs.Kept.{KeptView}
 use Rattle.selection.specs.declared.selections.Selection.{Selection}
-use Rattle.editor_session.proofs.Finding.{view_in, id_of_view, still_named, view_changed, no_view_changed, id_of_found}
+use Rattle.session_changes.specs.proved.Finding.{view_in, id_of_view, changed, named_with}
+use Rattle.editor_session.proofs.Finding.{no_view_changed}
 use Rattle.editor_session.proofs.edits.set_caret.Goals as goal
 
 pub returns-in-Some-clause-views : goal.returns-in-Some-clause-views
 returns-in-Some-clause-views c =
     let old = c.in-Some.view.now in
-    view_changed (λ v. record v { anchor = c.args.place; caret = c.args.place }) c.args.views.now.entries c.args.view c.args.views.now.next c.requires.named c.requires.rise old c.select.new.self
+    changed view_in id_of_view c.args.views.now.entries c.args.view c.args.views.now.next c.requires.named c.requires.rise old c.select.new.self
     (sym c.get_mut.ensures.value ∙ ap option_copied_mut c.in-Some.is)
+    (λ v. record v { anchor = c.args.place; caret = c.args.place })
     (ap (λ (k : KeptView). k.view) c.select.ensures ∙ ap (λ (s : Selection). let v = old.view in record v { anchor = s.anchor; caret = s.caret }) c.at.ensures)
 
 pub returns-in-Some-clause-named : goal.returns-in-Some-clause-named
 returns-in-Some-clause-named c =
     let old = c.in-Some.view.now in
-    still_named view_in id_of_view c.args.views.now.entries c.args.view c.select.new.self
-    (ap (λ (k : KeptView). k.view.id) c.select.ensures
-    ∙ id_of_found (λ v. v) c.args.views.now.entries c.args.view c.args.views.now.next c.requires.named c.requires.rise old (sym c.get_mut.ensures.value ∙ ap option_copied_mut c.in-Some.is))
-    c.requires.named
+    named_with view_in id_of_view c.args.views.now.entries c.args.view c.args.views.now.next c.requires.named c.requires.rise old c.select.new.self
+    (sym c.get_mut.ensures.value ∙ ap option_copied_mut c.in-Some.is)
+    (ap (λ (k : KeptView). k.view.id) c.select.ensures)
 
 pub returns-in_default-clause-views : goal.returns-in_default-clause-views
 returns-in_default-clause-views c =
-    no_view_changed (λ v. record v { anchor = c.args.place; caret = c.args.place }) c.args.views.now.entries c.args.view c.args.views.now.next c.requires.named c.requires.rise
+    no_view_changed (λ v. record v { anchor = c.args.place; caret = c.args.place }) c.args.views.now.entries c.args.view c.requires.named
     (sym c.get_mut.ensures.value ∙ ap option_copied_mut c.in_default.is)

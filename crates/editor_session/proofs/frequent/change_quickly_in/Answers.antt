@@ -6,9 +6,8 @@ use Rattle.id_table.specs.Entries.{with_value_at}
 use Rattle.scene.specs.Scenes.{watchers}
 use Rattle.editor_session.specs.Doing.{IsChangedIn}
 use Rattle.editor_session.specs.Unheard.{no_notes}
-use Rattle.editor_session.proofs.Finding.{document_in, id_of_document, found_some, id_of_document_at, still_named}
+use Rattle.session_changes.specs.proved.Finding.{document_in, id_of_document, unchanged, named_with}
 use Rattle.editor_session.proofs.FrequentChanges.{same_id}
-use Rattle.editor_session.proofs.Needing.{roomier}
 use Rattle.editor_session.proofs.Replacing.{document_put, change_keeps_id}
 use Rattle.editor_session.proofs.frequent.change_quickly_in.Goals as goal
 
@@ -33,7 +32,7 @@ returns-clause-changed c = λ so.
 pub returns-clause-same : goal.returns-clause-same
 returns-clause-same c = λ not.
     let at = sym c.get_mut.ensures.value ∙ ap option_copied_mut c.in-Some.is in
-    roomier c.args.documents.now.entries c.args.document c.args.documents.now.next c.in-Some.document.now c.change_unheard.new.document c.requires.named c.requires.rise at (ap (λ (k : Kept). k.document) (c.change_unheard.ensures.same not))
+    unchanged document_in id_of_document c.args.documents.now.entries c.args.document c.args.documents.now.next c.requires.named c.requires.rise c.in-Some.document.now c.change_unheard.new.document at (ap (λ (k : Kept). k.document) (c.change_unheard.ensures.same not))
 
 pub returns-clause-documents : goal.returns-clause-documents
 returns-clause-documents c =
@@ -41,6 +40,5 @@ returns-clause-documents c =
     let old = c.in-Some.document.now in
     let e = c.change_unheard.ensures in
     let at = sym c.get_mut.ensures.value ∙ ap option_copied_mut c.in-Some.is in
-    still_named document_in id_of_document documents.entries c.args.document c.change_unheard.new.document
-    (same_id c.args.change old.document c.change_unheard.new.document.document c.change_unheard.result (λ so. (e.made so [] 0 no_notes).document) (λ not. ap (λ (k : Kept). k.document) (e.same not))
-    ∙ id_of_document_at _ c.args.document old.document (found_some document_in id_of_document documents.entries c.args.document old c.requires.named at)) c.requires.named
+    named_with document_in id_of_document documents.entries c.args.document documents.next c.requires.named c.requires.rise old c.change_unheard.new.document at
+    (same_id c.args.change old.document c.change_unheard.new.document.document c.change_unheard.result (λ so. (e.made so [] 0 no_notes).document) (λ not. ap (λ (k : Kept). k.document) (e.same not)))

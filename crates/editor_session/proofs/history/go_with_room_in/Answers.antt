@@ -7,9 +7,8 @@ use Rattle.document.specs.Undoing.{changes_of, history_behind}
 use Rattle.scene.specs.Scenes.{scene_in}
 use Rattle.scene.specs.Undoing.{bits_of, place_behind_any}
 use Rattle.editor_session.specs.Doing.{scene_gone}
-use Rattle.editor_session.proofs.Finding.{document_in, id_of_document, found_some, id_of_document_at, still_named}
+use Rattle.session_changes.specs.proved.Finding.{document_in, id_of_document, unchanged, named_with}
 use Rattle.editor_session.proofs.Going.{on_ok, if_ok, on_err}
-use Rattle.editor_session.proofs.Needing.{roomier}
 use Rattle.editor_session.proofs.Replacing.{becomes_so, transaction_keeps_id}
 use Rattle.editor_session.proofs.history.go_with_room_in.Goals as goal
 
@@ -35,12 +34,11 @@ pub returns-clause-same : goal.returns-clause-same
 returns-clause-same c =
     let at = sym c.get_mut.ensures.value ∙ ap option_copied_mut c.in-Some.is in
     on_err c.go_with_room.result _ _ c.go_with_room.ensures.same
-    (λ same. roomier c.args.documents.now.entries c.args.document c.args.documents.now.next c.in-Some.document.now c.go_with_room.new.document c.requires.named c.requires.rise at same)
+    (λ same. unchanged document_in id_of_document c.args.documents.now.entries c.args.document c.args.documents.now.next c.requires.named c.requires.rise c.in-Some.document.now c.go_with_room.new.document at same)
 
 pub returns-clause-documents : goal.returns-clause-documents
 returns-clause-documents c =
     let documents = c.args.documents.now in
     let old = c.in-Some.document.now in
     let at = sym c.get_mut.ensures.value ∙ ap option_copied_mut c.in-Some.is in
-    still_named document_in id_of_document documents.entries c.args.document c.go_with_room.new.document
-    (c.go_with_room.ensures.id ∙ id_of_document_at _ c.args.document old.document (found_some document_in id_of_document documents.entries c.args.document old c.requires.named at)) c.requires.named
+    named_with document_in id_of_document documents.entries c.args.document documents.next c.requires.named c.requires.rise old c.go_with_room.new.document at c.go_with_room.ensures.id

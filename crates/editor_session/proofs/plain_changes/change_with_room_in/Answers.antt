@@ -5,9 +5,8 @@ use Rattle.document_changes.specs.Needs.{needs_room, notes_of_change}
 use Rattle.id_table.specs.Entries.{with_value_at}
 use Rattle.scene.specs.Scenes.{watchers}
 use Rattle.editor_session.specs.Doing.{IsChangedIn}
-use Rattle.editor_session.proofs.Finding.{document_in, id_of_document, found_some, id_of_document_at, still_named}
+use Rattle.session_changes.specs.proved.Finding.{document_in, id_of_document, unchanged, named_with}
 use Rattle.editor_session.proofs.Going.{on_err}
-use Rattle.editor_session.proofs.Needing.{roomier}
 use Rattle.editor_session.proofs.PlainChanges.{all_ok}
 use Rattle.editor_session.proofs.Replacing.{document_put, change_keeps_id}
 use Rattle.editor_session.proofs.plain_changes.change_with_room_in.Goals as goal
@@ -34,15 +33,14 @@ pub returns-clause-same : goal.returns-clause-same
 returns-clause-same c =
     let at = sym c.get_mut.ensures.value ∙ ap option_copied_mut c.in-Some.is in
     on_err c.change_with_room.result _ _ c.change_with_room.ensures.same
-    (λ same. roomier c.args.documents.now.entries c.args.document c.args.documents.now.next c.in-Some.document.now c.change_with_room.new.document c.requires.named c.requires.rise at same)
+    (λ same. unchanged document_in id_of_document c.args.documents.now.entries c.args.document c.args.documents.now.next c.requires.named c.requires.rise c.in-Some.document.now c.change_with_room.new.document at same)
 
 pub returns-clause-documents : goal.returns-clause-documents
 returns-clause-documents c =
     let documents = c.args.documents.now in
     let old = c.in-Some.document.now in
     let at = sym c.get_mut.ensures.value ∙ ap option_copied_mut c.in-Some.is in
-    still_named document_in id_of_document documents.entries c.args.document c.change_with_room.new.document
-    (c.change_with_room.ensures.id ∙ id_of_document_at _ c.args.document old.document (found_some document_in id_of_document documents.entries c.args.document old c.requires.named at)) c.requires.named
+    named_with document_in id_of_document documents.entries c.args.document documents.next c.requires.named c.requires.rise old c.change_with_room.new.document at c.change_with_room.ensures.id
 
 pub returns-clause-free : goal.returns-clause-free
 returns-clause-free c =

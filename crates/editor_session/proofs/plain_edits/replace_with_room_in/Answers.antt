@@ -6,8 +6,7 @@ use Rattle.ed_model.specs.Steps.{replacement}
 use Rattle.id_table.specs.Entries.{with_value_at}
 use Rattle.scene.specs.Scenes.{scene_in}
 use Rattle.editor_session.specs.Edited.{stored_bytes}
-use Rattle.editor_session.proofs.Finding.{document_in, id_of_document, found_some, id_of_document_at, still_named}
-use Rattle.editor_session.proofs.Needing.{roomier}
+use Rattle.session_changes.specs.proved.Finding.{document_in, id_of_document, unchanged, named_with}
 use Rattle.editor_session.proofs.Replacing.{becomes_so, edit_keeps_id}
 use Rattle.editor_session.proofs.Going.{on_ok, on_err}
 use Rattle.editor_session.proofs.plain_edits.replace_with_room_in.Goals as goal
@@ -33,15 +32,14 @@ pub returns-clause-same : goal.returns-clause-same
 returns-clause-same c =
     let at = sym c.get_mut.ensures.value ∙ ap option_copied_mut c.in-Some.is in
     on_err c.replace_with_room.result _ _ c.replace_with_room.ensures.same
-    (λ same. roomier c.args.documents.now.entries c.args.document c.args.documents.now.next c.in-Some.document.now c.replace_with_room.new.document c.requires.named c.requires.rise at same)
+    (λ same. unchanged document_in id_of_document c.args.documents.now.entries c.args.document c.args.documents.now.next c.requires.named c.requires.rise c.in-Some.document.now c.replace_with_room.new.document at same)
 
 pub returns-clause-documents : goal.returns-clause-documents
 returns-clause-documents c =
     let documents = c.args.documents.now in
     let old = c.in-Some.document.now in
     let at = sym c.get_mut.ensures.value ∙ ap option_copied_mut c.in-Some.is in
-    still_named document_in id_of_document documents.entries c.args.document c.replace_with_room.new.document
-    (c.replace_with_room.ensures.id ∙ id_of_document_at _ c.args.document old.document (found_some document_in id_of_document documents.entries c.args.document old c.requires.named at)) c.requires.named
+    named_with document_in id_of_document documents.entries c.args.document documents.next c.requires.named c.requires.rise old c.replace_with_room.new.document at c.replace_with_room.ensures.id
 
 pub returns-clause-free : goal.returns-clause-free
 returns-clause-free c =

@@ -1,7 +1,9 @@
 use Rattle.std.proofs.Common.{sym, ap, ◌∙◌, OnOk}
 use Rattle.std.specs.Option.{option_copied_mut}
 use Rattle.std.specs.Prelude.{Result, Ok, Err}
-use Rattle.editor_session.proofs.Needing.{roomier, still_named_there, has_room_there}
+use Rattle.ed_model.specs.Session.{Document}
+use Rattle.document.specs.Kept.{HasRoom}
+use Rattle.session_changes.specs.proved.Finding.{document_in, id_of_document, unchanged, named_with, for_replaced}
 use Rattle.editor_session.proofs.ready.reserve_in.Goals as goal
 
 when_ok : {A E : Type 0} (r : Result A E) (P Q : Type 0) → OnOk r P → (P → Q) → OnOk r Q
@@ -10,13 +12,13 @@ when_ok (Err e) P Q h f = tt
 
 pub returns-clause-same : goal.returns-clause-same
 returns-clause-same c =
-    roomier c.args.documents.now.entries c.args.document c.args.documents.now.next c.in-Some.document.now c.reserve.new.document c.requires.named c.requires.rise (sym c.get_mut.ensures.value ∙ ap option_copied_mut c.in-Some.is) c.reserve.ensures.same
+    unchanged document_in id_of_document c.args.documents.now.entries c.args.document c.args.documents.now.next c.requires.named c.requires.rise c.in-Some.document.now c.reserve.new.document (sym c.get_mut.ensures.value ∙ ap option_copied_mut c.in-Some.is) c.reserve.ensures.same
 
 pub returns-clause-named : goal.returns-clause-named
 returns-clause-named c =
-    still_named_there c.args.documents.now.entries c.args.document c.in-Some.document.now c.reserve.new.document c.requires.named (sym c.get_mut.ensures.value ∙ ap option_copied_mut c.in-Some.is) c.reserve.ensures.same
+    named_with document_in id_of_document c.args.documents.now.entries c.args.document c.args.documents.now.next c.requires.named c.requires.rise c.in-Some.document.now c.reserve.new.document (sym c.get_mut.ensures.value ∙ ap option_copied_mut c.in-Some.is) (ap (λ (d : Document). d.id) c.reserve.ensures.same)
 
 pub returns-clause-ok : goal.returns-clause-ok
 returns-clause-ok c =
     when_ok c.reserve.result _ _ c.reserve.ensures.ok
-    (λ room. has_room_there c.args.documents.now.entries c.args.document c.in-Some.document.now c.reserve.new.document c.args.need (sym c.get_mut.ensures.value ∙ ap option_copied_mut c.in-Some.is) room)
+    (λ room. for_replaced (λ k. HasRoom k c.args.need) c.args.documents.now.entries c.args.document c.in-Some.document.now c.reserve.new.document (sym c.get_mut.ensures.value ∙ ap option_copied_mut c.in-Some.is) room)
