@@ -27,7 +27,7 @@ use ed_model::{Edit, Follow, LineEnd, Plan};
 use ed_view::View;
 use id_table::IdTable;
 use message_requests::SessionState;
-use scene::{NoteRoom, conversion_need, history_need, leaving_need, note_need};
+use scene::{NoteRoom, SceneNeed, conversion_need, history_need, leaving_need, note_need};
 
 /// How much memory a message needs. An amount that is the greatest `usize` is never there.
 #[derive(Clone, Copy, Debug, PartialEq, Eq)]
@@ -72,6 +72,17 @@ impl Need {
     {
         Need {
             notes: NoteRoom { notes, bytes },
+            ..Need::none()
+        }
+    }
+
+    /// The notes and the room in the document that many steps need.
+    fn of_steps(need: SceneNeed) -> Self
+        ensures { result ≡ record no_need { notes = need.notes; document = need.document } }
+    {
+        Need {
+            notes: need.notes,
+            document: need.document,
             ..Need::none()
         }
     }
@@ -148,12 +159,7 @@ fn conversion(document: &Document, views: &IdTable<View>, to: LineEnd) -> Need
     requires named { AreNamed views.now.entries }
     ensures enough { NeedsSteps (conversion_steps to (text_of document.now.document)) (scene_in document.now.document views.now.entries []) result }
 {
-    let need = conversion_need(document, views, to);
-    Need {
-        notes: need.notes,
-        document: need.document,
-        ..Need::none()
-    }
+    Need::of_steps(conversion_need(document, views, to))
 }
 
 /// What undo or redo needs.
@@ -162,12 +168,7 @@ pub(crate) fn history(document: &Document, views: &IdTable<View>, direction: Dir
     ensures { let changes = changes_of direction document.now.document.history in let vs = watchers document.now.document views.now in
         result ≡ record no_need { notes = capped_notes (notes_of_history vs direction document.now.document.history) (bytes_of_changes vs (bits_of direction) changes); document = capped_room (room_of_changes document.now.document.line_end_types changes) } }
 {
-    let need = history_need(document, views, direction);
-    Need {
-        notes: need.notes,
-        document: need.document,
-        ..Need::none()
-    }
+    Need::of_steps(history_need(document, views, direction))
 }
 
 /// What the steps of an edit need; `pasted` is what the clipboard was turned into for it.
