@@ -26,6 +26,10 @@ pub both_if : (o : Option Kept) (P Q R : Kept → Type 0) → ((k : Kept) → P 
 both_if None P Q R f p q = tt
 both_if (Some k) P Q R f p q = f k p q
 
+pub if_also : (o : Option Kept) (P Q : Kept → Type 0) → ((k : Kept) → P k → Q k) → IfSome o P → IfSome o Q
+if_also None P Q f h = tt
+if_also (Some k) P Q f h = f k h
+
 pub and_if : (o : Option Kept) (P Q R : Kept → Type 0) → ((k : Kept) → P k → Q k → R k) → IsSomeAnd o P → IfSome o Q → IsSomeAnd o R
 and_if None P Q R f p q = absurd p
 and_if (Some k) P Q R f p q = f k p q

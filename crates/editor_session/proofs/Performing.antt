@@ -1,5 +1,5 @@
 -- What is done is what the plan says.
-use Rattle.std.proofs.Common.{◌≡◌, ℕ, ◌+◌, ◌-◌, ◌^◌, ◌≤◌, ℤ, pos, ◌==◌, Bool, true, false, cond, ◌&&◌, List, [], ◌∷◌, ◌++◌, length, map, refl, ap, sym, ◌∙◌, subst, arith, Some, Ok, IfSome, IsSome, IsSomeAnd, slice_range}
+use Rattle.std.proofs.Common.{◌≡◌, ℕ, ◌+◌, ◌-◌, ◌^◌, ◌≤◌, ℤ, pos, ◌==◌, Bool, true, false, cond, ◌&&◌, List, [], ◌∷◌, ◌++◌, length, map, refl, ap, sym, ◌∙◌, subst, arith, Some, Ok, IfSome, IsSome, IsSomeAnd, slice_range, append-nil, append_assoc}
 use Rattle.std.specs.Prelude.{nat_lt, reverse}
 use Rattle.std.specs.List.{AllByRecursion}
 use Rattle.ed_types.specs.declared.message.Message.{Message}
@@ -101,24 +101,16 @@ edit_told ns steps scene = go (nat_lt 1 (length steps))
     go true = ap sealed_scene (steps_told ns false steps (sealed_scene scene))
     go false = steps_told ns false steps scene
 
-append_nil : (ns : List Notice) → ns ++ [] ≡ ns
-append_nil [] = refl
-append_nil (n ∷ ns) = ap (λ xs. n ∷ xs) (append_nil ns)
-
 pub edit_told_from : (ns : List Notice) (steps : List Step) (d : Document) (views : List View)
     → edit_made steps (record { document = d; views = views; notes = ns }) ≡ telling ns (edit_made steps (record { document = d; views = views; notes = [] }))
 edit_told_from ns steps d views =
-    ap (λ xs. edit_made steps (record { document = d; views = views; notes = xs })) (sym (append_nil ns)) ∙ edit_told ns steps (record { document = d; views = views; notes = [] })
+    ap (λ xs. edit_made steps (record { document = d; views = views; notes = xs })) (sym (append-nil ns)) ∙ edit_told ns steps (record { document = d; views = views; notes = [] })
 
 -- Undo and redo too.
 
-append_all : (ns s a : List Notice) → (ns ++ s) ++ a ≡ ns ++ (s ++ a)
-append_all [] s a = refl
-append_all (n ∷ ns) s a = ap (λ xs. n ∷ xs) (append_all ns s a)
-
 change_told_behind : (ns : List Notice) (who several : ℕ) (last lines_changed : Bool) (c : Change) (scene : Scene) → change_performed who several last lines_changed c (telling ns scene) ≡ telling ns (change_performed who several last lines_changed c scene)
 change_told_behind ns who several last lines_changed (TextStep step) scene = ap (λ x. (let made = change_performed who several last lines_changed (TextStep step) scene in record made { notes = x })) (behind ns scene.notes _ _ _)
-change_told_behind ns who several last lines_changed (ContainerStep token coalesce) scene = ap (λ x. record scene { notes = x }) (append_all ns scene.notes _)
+change_told_behind ns who several last lines_changed (ContainerStep token coalesce) scene = ap (λ x. record scene { notes = x }) (append_assoc ns scene.notes _)
 
 changes_told : (ns : List Notice) (who several : ℕ) (lines_changed : Bool) (cs : List Change) (scene : Scene) → changes_performed who several lines_changed cs (telling ns scene) ≡ telling ns (changes_performed who several lines_changed cs scene)
 changes_told ns who several lines_changed [] scene = refl
@@ -128,7 +120,7 @@ changes_told ns who several lines_changed (c ∷ cs) scene =
 
 transaction_told : (ns : List Notice) (who : ℕ) (cs : List Change) (new : History) (scene : Scene) → transaction_performed who cs new (telling ns scene) ≡ telling ns (transaction_performed who cs new scene)
 transaction_told ns who cs new scene =
-    ap (λ (x : Scene). told_of x) (changes_told ns who _ false cs scene) ∙ ap (λ x. (let d = done.document in record done { document = record d { history = new }; notes = x })) (append_all ns done.notes _)
+    ap (λ (x : Scene). told_of x) (changes_told ns who _ false cs scene) ∙ ap (λ x. (let d = done.document in record done { document = record d { history = new }; notes = x })) (append_assoc ns done.notes _)
   where
     done : Scene
     done = changes_performed who (bit_if (nat_lt 1 (length cs)) multi_step) false cs scene
@@ -139,7 +131,7 @@ transaction_told ns who cs new scene =
 pub transaction_told_from : (ns : List Notice) (who : ℕ) (cs : List Change) (new : History) (d : Document) (views : List View)
     → transaction_performed who cs new (record { document = d; views = views; notes = ns }) ≡ telling ns (transaction_performed who cs new (record { document = d; views = views; notes = [] }))
 transaction_told_from ns who cs new d views =
-    ap (λ xs. transaction_performed who cs new (record { document = d; views = views; notes = xs })) (sym (append_nil ns)) ∙ transaction_told ns who cs new (record { document = d; views = views; notes = [] })
+    ap (λ xs. transaction_performed who cs new (record { document = d; views = views; notes = xs })) (sym (append-nil ns)) ∙ transaction_told ns who cs new (record { document = d; views = views; notes = [] })
 
 -- The bytes of a source.
 
@@ -320,7 +312,7 @@ module _ (s : SessionState) (task : Task) (bytes : List ℕ) (kept : IsKept s) (
 
   -- nothing is told, and the session stays
   pub answered : (what : Plan) (ns : List Notice) (value : ℤ) (out : List ℕ) → performed r what ≡ (r.session, response value out []) → IsDone r what s ns ns value out
-  answered what ns value out e = record { told = []; done = e ∙ ap (λ x. (x, response value out [])) session_is; heard = sym (append_nil ns) }
+  answered what ns value out e = record { told = []; done = e ∙ ap (λ x. (x, response value out [])) session_is; heard = sym (append-nil ns) }
 
   pub handed_out : (value : ℤ) (start count : ℕ) (ns : List Notice) (empty out : List ℕ) → empty ≡ [] → IfSome (value_at s.documents.entries task.document) (λ k. out ≡ empty ++ slice_range (text_of k.document) start (start + count))
       → IsDone r (plan.HandOut value start count) s ns ns value out
@@ -457,13 +449,13 @@ module _ (s : SessionState) (task : Task) (bytes : List ℕ) (kept : IsKept s) (
   can_change_view change value fit = record { request = r; asked = by.asked; fit = fit }
 
   pub view_changed : (change : ViewChange) (value : ℤ) (s' : SessionState) (ns : List Notice) → session_in s' ≡ view_change_performed r change → IsDone r (plan.ChangeView change value) s' ns ns value []
-  view_changed change value s' ns e = record { told = []; done = ap (λ x. (x, response value [] [])) (sym e); heard = sym (append_nil ns) }
+  view_changed change value s' ns e = record { told = []; done = ap (λ x. (x, response value [] [])) (sym e); heard = sym (append-nil ns) }
 
   pub can_change_session : (change : SessionChange) (value : ℤ) → IsFitPlan r (plan.ChangeSession change value) → CanChangeSession (session_in s) task.document task.view bytes change
   can_change_session change value fit = record { request = r; asked = by.asked; message = by.message; fit = fit }
 
   pub session_is_changed : (change : SessionChange) (value : ℤ) (s' : SessionState) (ns : List Notice) → session_in s' ≡ session_changed r change → IsDone r (plan.ChangeSession change value) s' ns ns value []
-  session_is_changed change value s' ns e = record { told = []; done = ap (λ x. (x, response value [] [])) (sym e); heard = sym (append_nil ns) }
+  session_is_changed change value s' ns e = record { told = []; done = ap (λ x. (x, response value [] [])) (sym e); heard = sym (append-nil ns) }
 
   pub change_fits : (change : DocumentChange) (value : ℤ) → IsFitPlan r (plan.ChangeDocument change value) → IsFitChange r.document change
   change_fits change value fit = fit_change r change (subst (λ (x : Session). is_allowed x.limits ≡ true) (sym session_is) kept.limits) fit

@@ -1,5 +1,5 @@
 -- Changes of a document at once.
-use Rattle.std.proofs.Common.{◌≡◌, ℕ, ◌≤◌, ◌==◌, ℤ, Bool, true, false, List, [], length, refl, ap, sym, subst, Option, Some, None, Ok, Err, OnOk, IfSome, IsSomeAnd}
+use Rattle.std.proofs.Common.{◌≡◌, ℕ, ◌≤◌, ◌==◌, ℤ, true, false, List, [], length, refl, ap, sym, subst, Ok, Err, OnOk, IfSome, IsSomeAnd}
 use Rattle.std.specs.Prelude.{not, Result}
 use Rattle.std.proofs.lemmas.Bool.{and_parts, eqb-true}
 use Rattle.ed_types.specs.declared.message.Message.{Message}
@@ -22,17 +22,14 @@ use Rattle.editor_session.specs.Unheard.{unrecorded, no_notes, IsSentWith}
 use Rattle.editor_session.specs.Plans.{is_free, planned_without_memory}
 use Rattle.editor_session.specs.Tasks.{IsTask, IsAskedBy}
 use Rattle.editor_session.proofs.Performing.{asked_by, answered_so, kept_at, of_kept, for_kept, session_is, changed, change_fits, read_change, watched_here}
-use Rattle.editor_session.proofs.TableWay.{free_found}
+use Rattle.editor_session.proofs.TableWay.{free_found, not_true}
+use Rattle.editor_session.proofs.Changing.{if_also}
 
 -- the session after a change in its tables
 pub changes_so : (what : DocumentChange) (view : ℕ) (text : List ℕ) (s s' : SessionState) (notes notes' : Gathered) (k : Kept) → IsChangedIn what view text k s.documents s.views notes s'.documents s'.views notes'
     → s'.clipboard ≡ s.clipboard → s'.documents.next ≡ s.documents.next → s'.views.next ≡ s.views.next → s'.limits ≡ s.limits → Changes what view text k s notes s' notes'
 changes_so what view text s s' notes notes' k done clipboard next_document next_view limits =
     record { session_after = rw (done.documents_after, done.views_after, clipboard, next_document, next_view, limits) refl; notes_after = done.notes_after }
-
-if_also : (o : Option Kept) (P Q : Kept → Type 0) → ((k : Kept) → P k → Q k) → IfSome o P → IfSome o Q
-if_also None P Q f h = tt
-if_also (Some k) P Q f h = f k h
 
 pub changes_in : (document : ℕ) (what : DocumentChange) (view : ℕ) (text : List ℕ) (s s' : SessionState) (notes notes' : Gathered) → IfSome (value_at s.documents.entries document) (λ k. IsChangedIn what view text k s.documents s.views notes s'.documents s'.views notes')
     → s'.clipboard ≡ s.clipboard → s'.documents.next ≡ s.documents.next → s'.views.next ≡ s.views.next → s'.limits ≡ s.limits → IfSome (value_at s.documents.entries document) (λ k. Changes what view text k s notes s' notes')
@@ -43,10 +40,6 @@ changes_in document what view text s s' notes notes' done clipboard next_documen
 pub all_ok : {A E : Type 0} (r : Result A E) (P Q R S : Type 0) → OnOk r P → OnOk r Q → OnOk r R → (P → Q → R → S) → OnOk r S
 all_ok (Ok a) P Q R S p q h f = f p q h
 all_ok (Err e) P Q R S p q h f = tt
-
-not_true : (b : Bool) → not b ≡ true → b ≡ false
-not_true true h = absurd (cc)
-not_true false h = refl
 
 module _ (s : SessionState) (kept : IsKept s) (document view : ℕ) (text : List ℕ) (what : DocumentChange) where
   pub can_change_once : IsSentWith (session_in s) document view text (plan.ChangeDocument what) → IsSomeAnd (value_at s.documents.entries document) (CanChangeOnceThereIsRoom what text s.views)

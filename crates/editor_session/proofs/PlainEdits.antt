@@ -1,5 +1,5 @@
 -- Plain replacements of bytes.
-use Rattle.std.proofs.Common.{◌≡◌, ℕ, ◌+◌, ◌≤◌, Bool, true, false, ℤ, List, [], length, refl, ap, ◌∙◌, subst, Option, Some, None, Ok, IfSome, IsSomeAnd}
+use Rattle.std.proofs.Common.{◌≡◌, ℕ, ◌+◌, ◌≤◌, true, false, ℤ, List, [], length, refl, ap, ◌∙◌, subst, Ok, IfSome, IsSomeAnd}
 use Rattle.std.specs.Prelude.{not}
 use Rattle.std.proofs.lemmas.Bool.{and_parts}
 use Rattle.ed_types.specs.declared.message.Message.{Message}
@@ -16,7 +16,6 @@ use Rattle.ed_model.specs.Session.{text_of}
 use Rattle.ed_model.specs.Table.{table}
 use Rattle.ed_model.specs.Performing.{Scene, edit_made, session_of, followed, with_caret, with_target, response}
 use Rattle.id_table.specs.Entries.{Entries, value_at}
-use Rattle.document.specs.Kept.{Kept}
 use Rattle.notify.specs.Gathered.{Gathered}
 use Rattle.ed_view.specs.Kept.{KeptView}
 use Rattle.scene.specs.Scenes.{views_of, scene_in, IsWatched}
@@ -31,7 +30,8 @@ use Rattle.editor_session.specs.Unheard.{unrecorded, no_notes, IsSentWith}
 use Rattle.editor_session.specs.PlainEdits.{turns_clipboard, takes_along, is_plain}
 use Rattle.editor_session.proofs.Needing.{no_steps}
 use Rattle.editor_session.proofs.Performing.{asked_by, answered_so, kept_at, of_kept, for_kept, within_here, watched_here, same_steps, edited}
-use Rattle.editor_session.proofs.TableWay.{free_found}
+use Rattle.editor_session.proofs.TableWay.{free_found, not_true}
+use Rattle.editor_session.proofs.Changing.{if_also}
 
 -- A plain replacement.
 
@@ -41,10 +41,6 @@ turned_none (source.Clipboard false) clipboard end h = tt
 turned_none source.Nothing clipboard end h = tt
 turned_none (source.MessageText count) clipboard end h = tt
 turned_none source.LineEnd clipboard end h = tt
-
-not_true : (b : Bool) → not b ≡ true → b ≡ false
-not_true true h = absurd (cc)
-not_true false h = refl
 
 followed_so : (after : Follow) (view : ℕ) (before : List ℕ) (s s' : SessionState) (between : Entries KeptView) (notes' : Gathered) (scene : Scene) → Becomes scene s.documents s'.documents between notes'
     → views_of s'.views.entries ≡ followed_views view after (views_of between.entries) → s'.clipboard ≡ s.clipboard → s'.documents.next ≡ s.documents.next → s'.views.next ≡ s.views.next → s'.limits ≡ s.limits
@@ -59,10 +55,6 @@ followed_so (follow.Target start past) view before s s' between notes' scene don
     let views : views_of s'.views.entries ≡ with_target view start past scene.views = moved ∙ ap (with_target view start past) done.views_after in
     rw (done.documents_after, views, clipboard, next_document, next_view, limits) refl
 followed_so (follow.Clipboard start count) view before s s' between notes' scene done moved clipboard next_document next_view limits along = absurd (cc)
-
-if_also : (o : Option Kept) (P Q : Kept → Type 0) → ((k : Kept) → P k → Q k) → IfSome o P → IfSome o Q
-if_also None P Q f h = tt
-if_also (Some k) P Q f h = f k h
 
 -- the edit that was made, with what followed it
 pub plain_edited : (s s' : SessionState) (document view : ℕ) (text : List ℕ) (start count : ℕ) (from : Source) (after : Follow) (between : Entries KeptView) (notes' : Gathered) → is_plain from after ≡ true

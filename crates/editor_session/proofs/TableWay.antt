@@ -31,6 +31,7 @@ use Rattle.ed_model.specs.declared.plan.SessionChange.TheVariants as session_cha
 use Rattle.ed_model.specs.History.{History}
 use Rattle.document_changes.specs.Needs.{needs_room, notes_of_change}
 use Rattle.session_changes.specs.Ready.{takes_memory}
+use Rattle.std.proofs.lemmas.Bool.{and_parts}
 
 pub no_view : (s : Session) (id : ℕ) (m : Message) → view_at s.views id ≡ None → table s id m ≡ Err NoSuchView
 no_view s id m none = ap (table_from_view s m) none
@@ -95,10 +96,6 @@ never_refused (Err e) h = absurd (cc)
 
 -- Messages that need no memory.
 
-both_true : (a b : Bool) → (a && b) ≡ true → (a ≡ true) × (b ≡ true)
-both_true true b h = (refl, h)
-both_true false b h = absurd (cc)
-
 pub not_true : (b : Bool) → not b ≡ true → b ≡ false
 not_true true h = absurd (cc)
 not_true false h = refl
@@ -111,7 +108,7 @@ free_found s view m kind r f free =
     let same : request s r.view r.document m ≡ r = ap (λ x. request x r.view r.document m) (sym f.session) ∙ ap (λ x. request r.session r.view r.document x) (sym f.message) in
     let is : is_free s view m ≡ is_free_request kind r =
     ap (is_free_from_view s m) seen ∙ ap (is_free_from_kind s r.view m) f.decoded ∙ ap (is_free_from_document s r.view kind m) there ∙ ap (is_free_request kind) same in
-    let parts = both_true (planned_without_memory r (plan_of kind r)) (not (r.view.records && (marks_of kind).r)) (sym is ∙ free) in
+    let parts = and_parts (planned_without_memory r (plan_of kind r)) (not (r.view.records && (marks_of kind).r)) (sym is ∙ free) in
     (parts.0, not_true (r.view.records && (marks_of kind).r) parts.1)
 
 pub free_task : (s : Session) (view : ℕ) (m : Message) (task : Task) (t : IsTask s view m task) → is_free s view m ≡ true → (needs_no_memory t.request task.plan ≡ true) × (task.is_recorded ≡ false)

@@ -1,14 +1,10 @@
-use Rattle.std.proofs.Common.{sym, ap, ◌∙◌, IfOk}
+use Rattle.std.proofs.Common.{sym, ap, ◌∙◌}
 use Rattle.std.specs.Option.{option_copied_mut}
-use Rattle.std.specs.Prelude.{Result, Ok, Err}
 use Rattle.ed_model.specs.Session.{Document}
 use Rattle.document_changes.specs.Needs.{IsReady}
 use Rattle.session_changes.specs.proved.Finding.{document_in, id_of_document, unchanged, named_with, for_replaced}
+use Rattle.editor_session.proofs.Going.{if_ok}
 use Rattle.editor_session.proofs.ready.reserve_change_in.Goals as goal
-
-when_ok : {A E : Type 0} (r : Result A E) (P Q : A → Type 0) → IfOk r P → ((a : A) → P a → Q a) → IfOk r Q
-when_ok (Ok a) P Q h f = f a h
-when_ok (Err e) P Q h f = tt
 
 pub returns-clause-same : goal.returns-clause-same
 returns-clause-same c =
@@ -20,5 +16,5 @@ returns-clause-named c =
 
 pub returns-clause-ok : goal.returns-clause-ok
 returns-clause-ok c =
-    when_ok c.reserve_change.result _ _ c.reserve_change.ensures.ready
+    if_ok c.reserve_change.result _ _ c.reserve_change.ensures.ready
     (λ made ready. for_replaced (λ k. IsReady k c.args.change made) c.args.documents.now.entries c.args.document c.in-Some.document.now c.reserve_change.new.document (sym c.get_mut.ensures.value ∙ ap option_copied_mut c.in-Some.is) ready)

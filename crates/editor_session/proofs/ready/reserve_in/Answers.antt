@@ -1,14 +1,10 @@
-use Rattle.std.proofs.Common.{sym, ap, ◌∙◌, OnOk}
+use Rattle.std.proofs.Common.{sym, ap, ◌∙◌}
 use Rattle.std.specs.Option.{option_copied_mut}
-use Rattle.std.specs.Prelude.{Result, Ok, Err}
 use Rattle.ed_model.specs.Session.{Document}
 use Rattle.document.specs.Kept.{HasRoom}
 use Rattle.session_changes.specs.proved.Finding.{document_in, id_of_document, unchanged, named_with, for_replaced}
+use Rattle.editor_session.proofs.Going.{on_ok}
 use Rattle.editor_session.proofs.ready.reserve_in.Goals as goal
-
-when_ok : {A E : Type 0} (r : Result A E) (P Q : Type 0) → OnOk r P → (P → Q) → OnOk r Q
-when_ok (Ok a) P Q h f = f h
-when_ok (Err e) P Q h f = tt
 
 pub returns-clause-same : goal.returns-clause-same
 returns-clause-same c =
@@ -20,5 +16,5 @@ returns-clause-named c =
 
 pub returns-clause-ok : goal.returns-clause-ok
 returns-clause-ok c =
-    when_ok c.reserve.result _ _ c.reserve.ensures.ok
+    on_ok c.reserve.result _ _ c.reserve.ensures.ok
     (λ room. for_replaced (λ k. HasRoom k c.args.need) c.args.documents.now.entries c.args.document c.in-Some.document.now c.reserve.new.document (sym c.get_mut.ensures.value ∙ ap option_copied_mut c.in-Some.is) room)
