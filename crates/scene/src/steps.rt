@@ -1,14 +1,15 @@
 //! Steps: a step of a document's text, told of and followed.
 
-ghost use Rattle.std.specs.Prelude.{◌≡◌, ◌≤◌, ◌<◌, ◌+◌, ◌++◌, ◌-◌, ◌^◌, ◌&&◌, true, false, map, length};
+ghost use Rattle.std.specs.Prelude.{◌≡◌, ◌≤◌, ◌<◌, ◌+◌, ◌++◌, ◌-◌, ◌^◌, ◌&&◌, true, false, map, length, None};
 ghost use Rattle.ed_model.specs.Steps.{step_bytes};
+ghost use Rattle.ed_model.specs.Changes.{marker_count};
 ghost use Rattle.ed_model.specs.History.{at_save_point};
 ghost use Rattle.ed_model.specs.Notes.{heard, before_note as note_before, performed_user};
 ghost use Rattle.ed_model.specs.Session.{text_of};
 ghost use Rattle.ed_model.specs.Performing.{step_heard as heard_step, step_made};
 ghost use Rattle.id_table.specs.Entries.{id_of};
-ghost use Rattle.document.specs.Kept.{HasRoom, HasTextRoom, TakesRoom, text_part};
-ghost use Rattle.document.specs.TextSteps.{step_in, IsStepOn, need_of};
+ghost use Rattle.document.specs.Kept.{HasRoom, HasTextRoom, TakesRoom, IsAtMost, no_room, with_freed, text_part};
+ghost use Rattle.document.specs.TextSteps.{bytes_out, step_in, IsStepOn, need_of};
 ghost use Rattle.scene.specs.Scenes.{scene_in, watchers, AreNamed, IsWatched};
 ghost use Rattle.scene.specs.Hearing.{hearers, step_kinds, made_kinds, bytes_shared, left_note, user_bits as bits_of_user};
 ghost use Rattle.scene.specs.StepNotes.{IsSmallStep};
@@ -146,6 +147,9 @@ pub fn step_heard(
     ensures scene { scene_in document.new.document views.new.entries notes.new.notes ≡ heard_step bits.before bits.after (left_note is_left (watchers document.old.document views.old)) (step_in step.entry (text_of document.old.document)) (scene_in document.old.document views.old.entries notes.old.notes) }
     ensures watched { IsWatched document.new.document views.new }
     ensures room_left { TakesRoom document.old.room document.new.room (text_part (need_of document.old.document.line_end_types step.entry)) }
+    ensures none_made { IsAtMost document.new.room (with_freed (bytes_out (step_in step.entry (text_of document.old.document))) document.old.room) no_room }
+    ensures spare { document.new.spare ≡ record document.old.spare { markers = document.new.spare.markers; fill = None } }
+    ensures markers_in_all { document.new.spare.markers + marker_count document.new.document.rows ≡ document.old.spare.markers + marker_count document.old.document.rows }
     ensures note_room_left { notes.new.note_room + length notes.new.notes ≡ notes.old.note_room + length notes.old.notes }
     ensures text_room_left { notes.new.text_room + bytes_shared (step_kinds bits.before bits.after (step_in step.entry (text_of document.old.document))) (watchers document.old.document views.old) (length (step_bytes (step_in step.entry (text_of document.old.document)))) ≡ notes.old.text_room }
     ensures ids { map id_of views.new.entries ≡ map id_of views.old.entries }
@@ -208,6 +212,9 @@ pub fn make_step(
     ensures scene { scene_in document.new.document views.new.entries notes.new.notes ≡ step_made later (step_in step.entry (text_of document.old.document)) (scene_in document.old.document views.old.entries notes.old.notes) }
     ensures watched { IsWatched document.new.document views.new }
     ensures room_left { TakesRoom document.old.room document.new.room (need_of document.old.document.line_end_types step.entry) }
+    ensures none_made { IsAtMost document.new.room (with_freed (bytes_out (step_in step.entry (text_of document.old.document))) document.old.room) no_room }
+    ensures spare { document.new.spare ≡ record document.old.spare { markers = document.new.spare.markers; fill = None } }
+    ensures markers_in_all { document.new.spare.markers + marker_count document.new.document.rows ≡ document.old.spare.markers + marker_count document.old.document.rows }
     ensures note_room_left { notes.new.note_room + length notes.new.notes ≡ notes.old.note_room + length notes.old.notes }
     ensures text_room_left { notes.new.text_room + bytes_shared (made_kinds later (step_in step.entry (text_of document.old.document)) document.old.document.history) (watchers document.old.document views.old) (length (step_bytes (step_in step.entry (text_of document.old.document)))) ≡ notes.old.text_room }
     ensures ids { map id_of views.new.entries ≡ map id_of views.old.entries }
