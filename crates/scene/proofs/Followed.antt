@@ -1,14 +1,15 @@
 -- What became of the views, and what is still to become of them, while one after the other follows a step.
-use Rattle.std.proofs.Common.{◌≡◌, ℕ, Bool, true, false, cond, List, [], ◌∷◌, map, refl, ap, sym, ◌∙◌, subst}
-use Rattle.std.specs.Prelude.{◌==◌, Some, None, find}
+use Rattle.std.proofs.Common.{◌≡◌, ℕ, ◌+◌, ◌<◌, ◌≤◌, arith, Bool, true, false, cond, List, [], ◌∷◌, map, refl, ap, sym, ◌∙◌, subst}
+use Rattle.std.specs.Prelude.{◌==◌, Some, None, find, option_map}
 use Rattle.std.proofs.lemmas.Bool.{eqb-true, eqb-false, eq-eqb, ne_eqb}
 use Rattle.line_index.specs.declared.edit.LineEdit.{LineEdit}
 use Rattle.selection.specs.declared.movements.Movement.{Movement}
 use Rattle.ed_model.specs.Session.{View, view_at, with_view}
-use Rattle.id_table.specs.Entries.{Entry, Entries, entry, id_of, value_at, with_value_at}
-use Rattle.ed_view.specs.Kept.{KeptView}
+use Rattle.ed_model.specs.SoundLaws.{Rise}
+use Rattle.id_table.specs.Entries.{Entry, Entries, entry, id_of, value_at, value_of, with_value_at}
+use Rattle.ed_view.specs.Kept.{KeptView, contracted_in_all}
 use Rattle.ed_view.specs.Moving.{view_moved}
-use Rattle.scene.specs.Scenes.{views_of, AreNamed}
+use Rattle.scene.specs.Scenes.{views_of, fold_room_in_all, AreNamed}
 use Rattle.scene.specs.Following.{with_followed, followed_at, CanFollow, CanFollowInTurn}
 use Rattle.scene.proofs.Pending.{named_some, named_none}
 
@@ -57,6 +58,38 @@ value_ids (x ∷ xs) id k = go (x.id == id) refl (value_ids xs id k)
     go true t rest = let same = eqb-true x.id id t in cc
     go false t rest = ap (λ ids. id_of x ∷ ids) rest
 
+-- where ids rise there is one value at an id; another one with the same room leaves the room of each
+
+value_above : (entries : List (Entry KeptView)) (low high id : ℕ) (k : KeptView) → Rise low high (map id_of entries) → id < low → with_value_at id k entries ≡ entries
+value_above [] low high id k rise below = refl
+value_above (x ∷ xs) low high id k rise below =
+    let le : low ≤ x.id = rise.0 in
+    let other : (x.id == id) ≡ false = ne_eqb x.id id (λ p. omega arith) in
+    let rest : with_value_at id k xs ≡ xs = value_above xs (x.id + 1) high id k rise.2 (omega arith) in
+    rw other (ap (λ es. x ∷ es) rest)
+
+pub value_rooms : (entries : List (Entry KeptView)) (low high id : ℕ) (k k' : KeptView) → Rise low high (map id_of entries) → value_at entries id ≡ Some k
+    → k'.room.hidden ≡ k.room.hidden → contracted_in_all k' ≡ contracted_in_all k
+    → map fold_room_in_all (with_value_at id k' entries) ≡ map fold_room_in_all entries
+value_rooms [] low high id k k' rise e hidden contracted = refl
+value_rooms (x ∷ xs) low high id k k' rise e hidden contracted = go (x.id == id) refl e (λ e. value_rooms xs (x.id + 1) high id k k' rise.2 e hidden contracted)
+  where
+    go : (b : Bool) → (x.id == id) ≡ b → option_map value_of (cond b (Some x) (find (λ (e : Entry KeptView). e.id == id) xs)) ≡ Some k
+        → (value_at xs id ≡ Some k → map fold_room_in_all (with_value_at id k' xs) ≡ map fold_room_in_all xs)
+        → fold_room_in_all (cond b (entry id k') x) ∷ map fold_room_in_all (with_value_at id k' xs) ≡ fold_room_in_all x ∷ map fold_room_in_all xs
+    go true t e rest =
+        let is : x.value ≡ k = cc in
+        let own : x.id ≡ id = eqb-true x.id id t in
+        let hide : k'.room.hidden ≡ x.value.room.hidden = hidden ∙ ap (λ (v : KeptView). v.room.hidden) (sym is) in
+        let contract : contracted_in_all k' ≡ contracted_in_all x.value = contracted ∙ ap contracted_in_all (sym is) in
+        let behind : with_value_at id k' xs ≡ xs = value_above xs (x.id + 1) high id k' rise.2 (omega arith) in
+        rw (behind, hide, contract) refl
+    go false t e rest = ap (λ rooms. fold_room_in_all x ∷ rooms) (rest e)
+
+pub named_ids : (entries : List (Entry KeptView)) → AreNamed entries → map id_of entries ≡ map (λ (v : View). v.id) (views_of entries)
+named_ids [] named = refl
+named_ids (x ∷ xs) named = let a = named.0 in let b = named_ids xs named.1 in cc
+
 -- The loop.
 
 pub record IsFollowedSoFar (movement : Movement) (edits : List LineEdit) (ids rest : List ℕ) (old now : Entries KeptView) : Type 0 where
@@ -66,10 +99,11 @@ pub record IsFollowedSoFar (movement : Movement) (edits : List LineEdit) (ids re
   pub same : map id_of now.entries ≡ map id_of old.entries
   pub next : now.next ≡ old.next
   pub room : now.room ≡ old.room
+  pub fold_rooms : Rise 0 old.next (map id_of old.entries) → map fold_room_in_all now.entries ≡ map fold_room_in_all old.entries
 
 pub follow_none : (movement : Movement) (edits : List LineEdit) (ids : List ℕ) (old : Entries KeptView) → AreNamed old.entries
     → CanFollowInTurn movement edits ids (views_of old.entries) → IsFollowedSoFar movement edits ids ids old old
-follow_none movement edits ids old named can = record { views = refl; named = named; can = can; same = refl; next = refl; room = refl }
+follow_none movement edits ids old named can = record { views = refl; named = named; can = can; same = refl; next = refl; room = refl; fold_rooms = λ rise. refl }
 
 -- the next view can follow
 pub next_can : (movement : Movement) (edits : List LineEdit) (ids rest after : List ℕ) (id : ℕ) (k : KeptView) (old now : Entries KeptView)
@@ -80,8 +114,9 @@ next_can movement edits ids rest after id k old now so e found =
 -- .. and does
 pub follow_one : (movement : Movement) (edits : List LineEdit) (ids rest after : List ℕ) (id : ℕ) (k moved : KeptView) (old now new : Entries KeptView)
     → IsFollowedSoFar movement edits ids rest old now → rest ≡ id ∷ after → value_at now.entries id ≡ Some k → moved.view ≡ view_moved movement edits k.view
+    → moved.room.hidden ≡ k.room.hidden → contracted_in_all moved ≡ contracted_in_all k
     → new ≡ record now { entries = with_value_at id moved now.entries } → IsFollowedSoFar movement edits ids after old new
-follow_one movement edits ids rest after id k moved old now new so e found follows put =
+follow_one movement edits ids rest after id k moved old now new so e found follows hidden contracted put =
     let at : view_at (views_of now.entries) id ≡ Some k.view = named_some now.entries id k so.named found in
     let is : moved.view.id ≡ id = ap (λ (v : View). v.id) follows ∙ view_id (views_of now.entries) id k.view at in
     let views : views_of (with_value_at id moved now.entries) ≡ with_followed movement edits (view_at (views_of now.entries) id) (views_of now.entries) =
@@ -94,6 +129,8 @@ follow_one movement edits ids rest after id k moved old now new so e found follo
       same = value_ids now.entries id moved ∙ so.same;
       next = so.next;
       room = so.room;
+      fold_rooms = λ rise.
+          value_rooms now.entries 0 old.next id k moved (subst (Rise 0 old.next) (sym so.same) rise) found hidden contracted ∙ so.fold_rooms rise;
     })
 
 -- no view has the next id
@@ -111,6 +148,7 @@ follow_missing movement edits ids rest after id old now new so e found put =
       same = so.same;
       next = so.next;
       room = so.room;
+      fold_rooms = so.fold_rooms;
     })
 
 pub follow_all : (movement : Movement) (edits : List LineEdit) (ids rest : List ℕ) (old now : Entries KeptView)

@@ -1,12 +1,12 @@
 -- A scene as it is kept: a document, the views of the session by their ids, and the notes.
-use Rattle.std.specs.Prelude.{◌≡◌, List, map}
+use Rattle.std.specs.Prelude.{◌≡◌, ℕ, List, map}
 use Rattle.std.specs.List.{AllByRecursion}
 use Rattle.ed_types.specs.Notices.{Notice}
 use Rattle.ed_model.specs.Session.{Document, View, watching}
 use Rattle.ed_model.specs.Performing.{Scene}
 use Rattle.ed_model.specs.SoundLaws.{Rise, StandsOn, ListsItsViews}
 use Rattle.id_table.specs.Entries.{Entry, Entries}
-use Rattle.ed_view.specs.Kept.{KeptView}
+use Rattle.ed_view.specs.Kept.{KeptView, contracted_in_all}
 
 abbrev pub views_of : List (Entry KeptView) → List View
 views_of entries = map (λ (e : Entry KeptView). e.value.view) entries
@@ -17,6 +17,10 @@ scene_in d entries notes = record { document = d; views = views_of entries; note
 -- the views that watch the document, in the order of attaching
 abbrev pub watchers : Document → Entries KeptView → List View
 watchers d table = watching (views_of table.entries) d
+
+-- for how many lines of a view there is room to be hidden, and for how many to be contracted, in all
+abbrev pub fold_room_in_all : Entry KeptView → ℕ × ℕ
+fold_room_in_all e = (e.value.room.hidden, contracted_in_all e.value)
 
 -- each view is kept under its own id
 abbrev pub AreNamed : List (Entry KeptView) → Type 0

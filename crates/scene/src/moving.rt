@@ -1,9 +1,10 @@
 //! Moving: the views that watch a document follow a step.
 
 ghost use Rattle.std.specs.Prelude.{◌≡◌, map};
+ghost use Rattle.ed_model.specs.SoundLaws.{Rise};
 ghost use Rattle.id_table.specs.Entries.{id_of};
 ghost use Rattle.line_index.specs.StepEdits.{SmallLines, edits_of};
-ghost use Rattle.scene.specs.Scenes.{views_of, AreNamed};
+ghost use Rattle.scene.specs.Scenes.{views_of, fold_room_in_all, AreNamed};
 ghost use Rattle.scene.specs.Following.{followed_at, CanFollowInTurn};
 
 use ed_view::View;
@@ -20,6 +21,7 @@ pub(crate) fn follow(ids: &[u32], views: &mut IdTable<View>, movement: Movement,
     ensures next { views.new.next ≡ views.old.next }
     ensures room { views.new.room ≡ views.old.room }
     ensures ids { map id_of views.new.entries ≡ map id_of views.old.entries }
+    ensures fold_rooms { Rise 0 views.old.next (map id_of views.old.entries) → map fold_room_in_all views.new.entries ≡ map fold_room_in_all views.old.entries }
 {
     for id in ids {
         if let Some(view) = views.get_mut(*id) {
@@ -40,6 +42,7 @@ fn follow_edits(ids: &[u32], views: &mut IdTable<View>, movement: Movement, chan
     ensures next { views.new.next ≡ views.old.next }
     ensures room { views.new.room ≡ views.old.room }
     ensures ids { map id_of views.new.entries ≡ map id_of views.old.entries }
+    ensures fold_rooms { Rise 0 views.old.next (map id_of views.old.entries) → map fold_room_in_all views.new.entries ≡ map fold_room_in_all views.old.entries }
 {
     let edits = change.edits();
     follow(ids, views, movement, edits.as_slice());
@@ -62,6 +65,7 @@ pub(crate) fn follow_change(
     ensures next { views.new.next ≡ views.old.next }
     ensures room { views.new.room ≡ views.old.room }
     ensures ids { map id_of views.new.entries ≡ map id_of views.old.entries }
+    ensures fold_rooms { Rise 0 views.old.next (map id_of views.old.entries) → map fold_room_in_all views.new.entries ≡ map fold_room_in_all views.old.entries }
 {
     if change.is_quiet() {
         follow(ids, views, movement, &[]);

@@ -7,7 +7,7 @@ ghost use Rattle.ed_model.specs.Session.{text_of};
 ghost use Rattle.ed_model.specs.Changes.{changed_lines};
 ghost use Rattle.line_index.specs.Settings.{edits_of_setting};
 ghost use Rattle.id_table.specs.Entries.{id_of};
-ghost use Rattle.scene.specs.Scenes.{views_of, IsWatched};
+ghost use Rattle.scene.specs.Scenes.{views_of, fold_room_in_all, IsWatched};
 
 use crate::moving::follow;
 use document::Document;
@@ -30,6 +30,7 @@ pub fn regroup(
     ensures views { views_of views.new.entries ≡ map (changed_lines (change.SetLineEndTypes types) document.now.document) (views_of views.old.entries) }
     ensures watched { (rows : List Row) → IsWatched (record document.now.document { line_end_types = types; rows = rows }) views.new }
     ensures ids { map id_of views.new.entries ≡ map id_of views.old.entries }
+    ensures fold_rooms { map fold_room_in_all views.new.entries ≡ map fold_room_in_all views.old.entries }
     ensures next { views.new.next ≡ views.old.next }
     ensures room { views.new.room ≡ views.old.room }
 {

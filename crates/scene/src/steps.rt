@@ -10,7 +10,7 @@ ghost use Rattle.ed_model.specs.Performing.{step_heard as heard_step, step_made}
 ghost use Rattle.id_table.specs.Entries.{id_of};
 ghost use Rattle.document.specs.Kept.{HasRoom, HasTextRoom, TakesRoom, IsAtMost, no_room, with_freed, text_part};
 ghost use Rattle.document.specs.TextSteps.{bytes_out, step_in, IsStepOn, need_of};
-ghost use Rattle.scene.specs.Scenes.{scene_in, watchers, AreNamed, IsWatched};
+ghost use Rattle.scene.specs.Scenes.{scene_in, watchers, fold_room_in_all, AreNamed, IsWatched};
 ghost use Rattle.scene.specs.Hearing.{hearers, step_kinds, made_kinds, bytes_shared, left_note, user_bits as bits_of_user};
 ghost use Rattle.scene.specs.StepNotes.{IsSmallStep};
 
@@ -153,6 +153,7 @@ pub fn step_heard(
     ensures note_room_left { notes.new.note_room + length notes.new.notes ≡ notes.old.note_room + length notes.old.notes }
     ensures text_room_left { notes.new.text_room + bytes_shared (step_kinds bits.before bits.after (step_in step.entry (text_of document.old.document))) (watchers document.old.document views.old) (length (step_bytes (step_in step.entry (text_of document.old.document)))) ≡ notes.old.text_room }
     ensures ids { map id_of views.new.entries ≡ map id_of views.old.entries }
+    ensures fold_rooms { map fold_room_in_all views.new.entries ≡ map fold_room_in_all views.old.entries }
     ensures next { views.new.next ≡ views.old.next }
     ensures view_room { views.new.room ≡ views.old.room }
 {
@@ -218,6 +219,7 @@ pub fn make_step(
     ensures note_room_left { notes.new.note_room + length notes.new.notes ≡ notes.old.note_room + length notes.old.notes }
     ensures text_room_left { notes.new.text_room + bytes_shared (made_kinds later (step_in step.entry (text_of document.old.document)) document.old.document.history) (watchers document.old.document views.old) (length (step_bytes (step_in step.entry (text_of document.old.document)))) ≡ notes.old.text_room }
     ensures ids { map id_of views.new.entries ≡ map id_of views.old.entries }
+    ensures fold_rooms { map fold_room_in_all views.new.entries ≡ map fold_room_in_all views.old.entries }
     ensures next { views.new.next ≡ views.old.next }
     ensures view_room { views.new.room ≡ views.old.room }
 {

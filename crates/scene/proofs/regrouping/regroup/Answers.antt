@@ -1,4 +1,6 @@
-use Rattle.std.proofs.Common.{◌∙◌, arith}
+use Rattle.std.proofs.Common.{◌∙◌, sym, subst, arith}
+use Rattle.ed_model.specs.SoundLaws.{Rise}
+use Rattle.scene.proofs.Followed.{named_ids}
 use Rattle.scene.proofs.Regrouped.{regrouped_can_all, regrouped_views, regrouped_watched}
 use Rattle.scene.proofs.regrouping.regroup.Goals as goal
 
@@ -20,3 +22,8 @@ returns-clause-watched c = λ rows.
     let laws = c.edits_of_settings.ensures in
     let views = rw (c.views.ensures, c.requires.edits) at c.follow.ensures.views ∙ regrouped_views d c.args.types c.args.views.now c.requires.watched c.rows_that_meet.ensures.flags laws.flags in
     regrouped_watched d c.args.types rows c.args.views.now c.follow.new.views c.rows_that_meet.ensures.flags laws.flags c.rows_match_lines.ensures.flags_regrouped c.requires.watched views c.follow.ensures.named c.follow.ensures.next
+
+pub returns-clause-fold_rooms : goal.returns-clause-fold_rooms
+returns-clause-fold_rooms c =
+    let w = c.requires.watched in
+    c.follow.ensures.fold_rooms (subst (Rise 0 c.args.views.now.next) (sym (named_ids c.args.views.now.entries w.named)) w.rise)

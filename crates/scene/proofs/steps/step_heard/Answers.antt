@@ -5,10 +5,12 @@ use Rattle.ed_model.specs.Numbers.{growth}
 use Rattle.ed_model.specs.Session.{Document, text_of, lines_in}
 use Rattle.ed_model.specs.Notes.{heard, before_note, after_note}
 use Rattle.ed_model.specs.Performing.{document_after}
+use Rattle.ed_model.specs.SoundLaws.{Rise}
 use Rattle.document.specs.TextSteps.{step_in}
 use Rattle.ed_view.specs.Moving.{step_edits}
 use Rattle.scene.specs.Scenes.{watchers, IsWatched}
 use Rattle.scene.specs.Hearing.{left_note}
+use Rattle.scene.proofs.Followed.{named_ids}
 use Rattle.scene.proofs.ToldSoFar.{heard_last, length_parts}
 use Rattle.scene.proofs.KindLemmas.{can_tell, none_by_notes}
 use Rattle.scene.proofs.StepScenes.{on_text, end_within, small_step, count_is, lines_of_need, same_scene, watched_can, stands_can, watched_after, watched_again}
@@ -158,3 +160,8 @@ returns-clause-text_room_left c =
     c.args.notes.now c.tell_before-hears.new.notes c.tell_made.new.notes c.tell_before-hears.ensures.notes c.tell_before-hears.ensures.note_room
     ((rw (after, old_lines, lines) at c.tell_made.ensures) (text_of d) can) c.requires.notes in
     rw told.text_room c.tell_before-hears.ensures.text_room
+
+pub returns-clause-fold_rooms : goal.returns-clause-fold_rooms
+returns-clause-fold_rooms c =
+    let w = c.requires.watched in
+    c.follow_change.ensures.fold_rooms (subst (Rise 0 c.args.views.now.next) (sym (named_ids c.args.views.now.entries w.named)) w.rise)
