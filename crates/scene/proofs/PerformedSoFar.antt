@@ -10,22 +10,50 @@ use Rattle.ed_model.specs.History.{Change, TextStep, ContainerStep}
 use Rattle.ed_model.specs.Session.{Document, View, text_of, watching}
 use Rattle.ed_model.specs.SoundLaws.{AreStepsOf}
 use Rattle.ed_model.specs.UndoPlans.{text_steps}
+use Rattle.ed_model.specs.Changes.{marker_count}
 use Rattle.ed_model.specs.Performing.{Scene, is_last, change_performed, changes_performed, save_point_change}
 use Rattle.id_table.specs.Entries.{Entries, id_of}
 use Rattle.notify.specs.Gathered.{Gathered}
 use Rattle.ed_view.specs.Kept.{KeptView}
 use Rattle.document.specs.declared.undoing.Direction.{Direction}
-use Rattle.document.specs.Kept.{Kept, HasTextRoom, TakesRoom}
+use Rattle.document.specs.declared.room.DocumentRoom.{DocumentRoom}
+use Rattle.document.specs.Kept.{Kept, ChangeRoom, HasTextRoom, TakesRoom, IsAtMost, no_room, with_freed}
 use Rattle.document.specs.Undoing.{changes_of, room_of_change, save_point_told}
 use Rattle.scene.specs.declared.performing.Turn.{Turn}
-use Rattle.scene.specs.Scenes.{scene_in, watchers, IsWatched}
+use Rattle.scene.specs.Scenes.{scene_in, watchers, fold_room_in_all, IsWatched}
 use Rattle.scene.specs.Hearing.{hearers, masks_of}
-use Rattle.scene.specs.Undoing.{bits_of, every_kind, notes_of_changes, notes_of_change, bytes_of_changes, free_behind, freed_by, room_of_changes, rooms_beside, save_point_notes}
+use Rattle.scene.specs.Undoing.{bits_of, every_kind, notes_of_changes, notes_of_change, bytes_of_changes, free_behind, freed_by, freed_by_all, fill_behind, fill_behind_all, room_of_changes, rooms_beside, save_point_notes}
 use Rattle.scene.specs.Turns.{several_bits, CanPerform, IsPerformed}
 use Rattle.scene.specs.Performed.{CanPerformAll, AreAllPerformed}
 use Rattle.scene.proofs.KindLemmas.{none_by_masks}
 use Rattle.scene.proofs.ChangeNotes.{HearAlike, hear_alike_still, notes_alike, bytes_alike, none_of_all, performed_few, still_none}
 use Rattle.scene.proofs.ChangeSteps.{LeavesRoom, leaves_all, leaves_next, leaves_none, next_fits, steps_left}
+
+-- No room is made but what goes out of the text leaves.
+
+made_none : (room : DocumentRoom) → IsAtMost room room no_room
+made_none room = record { text = omega arith; lines = omega arith; insertions = omega arith; steps = omega arith; bytes = omega arith }
+
+made_next : (c : Change) (after : List Change) (freed : ℕ) (old now new : DocumentRoom) → IsAtMost (with_freed (freed_by_all (c ∷ after)) now) (with_freed freed old) no_room
+    → IsAtMost new (with_freed (freed_by c) now) no_room → IsAtMost (with_freed (freed_by_all after) new) (with_freed freed old) no_room
+made_next c after freed old now new so p =
+    let a = so.text in let b = so.lines in let d = so.insertions in let f = so.steps in let g = so.bytes in
+    let a' = p.text in let b' = p.lines in let d' = p.insertions in let f' = p.steps in let g' = p.bytes in
+    record { text = omega arith; lines = omega arith; insertions = omega arith; steps = omega arith; bytes = omega arith }
+
+made_all : (old now : DocumentRoom) → IsAtMost (with_freed 0 now) old no_room → IsAtMost now old no_room
+made_all old now so =
+    let a = so.text in
+    record { text = omega arith; lines = so.lines; insertions = so.insertions; steps = so.steps; bytes = so.bytes }
+
+-- what else there is room for, while the fill's goes with the first step of the text
+abbrev pub SpareLeft : List Change → List Change → ChangeRoom → ChangeRoom → Type 0
+SpareLeft all rest old now = record now { fill = fill_behind_all now.fill rest } ≡ record old { markers = now.markers; fill = fill_behind_all old.fill all }
+
+spare_next : (all after : List Change) (c : Change) (old now new : ChangeRoom) → SpareLeft all (c ∷ after) old now
+    → new ≡ record now { markers = new.markers; fill = fill_behind now.fill c } → SpareLeft all after old new
+spare_next all after c old now new so p =
+    ap (λ (s : ChangeRoom). record s { fill = fill_behind_all s.fill after }) p ∙ ap (λ (s : ChangeRoom). record s { markers = new.markers }) so
 
 pub record IsPerformedSoFar (direction : Direction) (rest : List Change) (changed : Bool) (old : Kept) (views : Entries KeptView) (gathered : Gathered)
     (now : Kept) (views' : Entries KeptView) (gathered' : Gathered) : Type 0 where
@@ -49,6 +77,10 @@ pub record IsPerformedSoFar (direction : Direction) (rest : List Change) (change
   pub ids : map id_of views'.entries ≡ map id_of views.entries
   pub next : views'.next ≡ views.next
   pub view_room : views'.room ≡ views.room
+  pub none_made : IsAtMost (with_freed (freed_by_all rest) now.room) (with_freed (freed_by_all (changes_of direction old.document.history)) old.room) no_room
+  pub spare : SpareLeft (changes_of direction old.document.history) rest old.spare now.spare
+  pub markers_in_all : now.spare.markers + marker_count now.document.rows ≡ old.spare.markers + marker_count old.document.rows
+  pub fold_rooms : map fold_room_in_all views'.entries ≡ map fold_room_in_all views.entries
 
 pub performed_none : (direction : Direction) (old : Kept) (views : Entries KeptView) (gathered : Gathered) → CanPerformAll direction old views gathered
     → IsPerformedSoFar direction (changes_of direction old.document.history) false old views gathered old views gathered
@@ -67,6 +99,10 @@ performed_none direction old views gathered can = record {
   ids = refl;
   next = refl;
   view_room = refl;
+  none_made = made_none (with_freed (freed_by_all (changes_of direction old.document.history)) old.room);
+  spare = refl;
+  markers_in_all = refl;
+  fold_rooms = refl;
 }
 
 -- where it is known that no view hears of any change, they need no notes
@@ -200,6 +236,11 @@ module _ (turn : Turn) (c : Change) (rest after : List Change) (changed : Bool) 
           ids = p.ids ∙ so.ids;
           next = p.next ∙ so.next;
           view_room = p.view_room ∙ so.view_room;
+          none_made = made_next c after (freed_by_all all) old.room now.room new.room
+              (subst (λ cs. IsAtMost (with_freed (freed_by_all cs) now.room) (with_freed (freed_by_all all) old.room) no_room) e so.none_made) p.none_made;
+          spare = spare_next all after c old.spare now.spare new.spare (subst (λ cs. SpareLeft all cs old.spare now.spare) e so.spare) p.spare;
+          markers_in_all = p.markers_in_all ∙ so.markers_in_all;
+          fold_rooms = p.fold_rooms ∙ so.fold_rooms;
         }
 
 pub performed_all : (direction : Direction) (rest : List Change) (changed : Bool) (old now : Kept) (views views' : Entries KeptView) (gathered gathered' : Gathered)
@@ -222,6 +263,11 @@ performed_all direction rest changed old now views views' gathered gathered' so 
       ids = so.ids;
       next = so.next;
       view_room = so.view_room;
+      none_made = made_all (with_freed (freed_by_all all) old.room) now.room
+          (subst (λ cs. IsAtMost (with_freed (freed_by_all cs) now.room) (with_freed (freed_by_all all) old.room) no_room) e so.none_made);
+      spare = subst (λ cs. SpareLeft all cs old.spare now.spare) e so.spare;
+      markers_in_all = so.markers_in_all;
+      fold_rooms = so.fold_rooms;
     }
 
 -- The history behind them, and the save point.

@@ -5,16 +5,17 @@ use Rattle.ed_model.specs.History.{History, Change, TextStep, ContainerStep}
 use Rattle.ed_model.specs.InverseLaws.{Fits}
 use Rattle.ed_model.specs.Session.{View, text_of}
 use Rattle.ed_model.specs.Notes.{bit_if, multi_step, heard, before_note, after_note}
+use Rattle.ed_model.specs.Changes.{marker_count}
 use Rattle.ed_model.specs.Performing.{last_bits, changes_lines, change_performed}
 use Rattle.id_table.specs.Entries.{Entries, id_of}
 use Rattle.notify.specs.Gathered.{Gathered}
 use Rattle.ed_view.specs.Kept.{KeptView}
 use Rattle.document.specs.declared.undoing.Direction.{Direction}
-use Rattle.document.specs.Kept.{Kept, HasTextRoom, TakesRoom}
+use Rattle.document.specs.Kept.{Kept, HasTextRoom, TakesRoom, IsAtMost, no_room, with_freed}
 use Rattle.document.specs.Undoing.{changes_of, room_of_change}
 use Rattle.scene.specs.declared.performing.Turn.{Turn}
-use Rattle.scene.specs.Scenes.{scene_in, watchers, IsWatched}
-use Rattle.scene.specs.Undoing.{bits_of, freed_by, performed_kinds, notes_of_change, bytes_of_change}
+use Rattle.scene.specs.Scenes.{scene_in, watchers, fold_room_in_all, IsWatched}
+use Rattle.scene.specs.Undoing.{bits_of, freed_by, fill_behind, performed_kinds, notes_of_change, bytes_of_change}
 use Rattle.scene.specs.Hearing.{hearers}
 
 -- the change whose turn it is
@@ -61,6 +62,10 @@ pub record IsPerformed (turn : Turn) (lines_changed changed : Bool) (k : Kept) (
   pub ids : map id_of views'.entries ≡ map id_of views.entries
   pub next : views'.next ≡ views.next
   pub view_room : views'.room ≡ views.room
+  pub none_made : IsAtMost k'.room (with_freed (freed_by change) k.room) no_room
+  pub spare : k'.spare ≡ record k.spare { markers = k'.spare.markers; fill = fill_behind k.spare.fill change }
+  pub markers_in_all : k'.spare.markers + marker_count k'.document.rows ≡ k.spare.markers + marker_count k.document.rows
+  pub fold_rooms : map fold_room_in_all views'.entries ≡ map fold_room_in_all views.entries
 
 -- the views that hear it are told of the step before it is made, and its bytes are shared if any hears of it, as is answered
 pub record IsToldBefore (who : ℕ) (views : List View) (hears : Bool) (old new : Gathered) (step : Step) : Type 0 where

@@ -80,6 +80,20 @@ abbrev pub freed_by : Change → ℕ
 freed_by (TextStep step) = bytes_out step
 freed_by (ContainerStep token coalesce) = 0
 
+-- how many bytes changes take out, in all
+abbrev pub freed_by_all : List Change → ℕ
+freed_by_all [] = 0
+freed_by_all (c ∷ cs) = freed_by c + freed_by_all cs
+
+-- for which indicator's fill there is room behind a change: behind a step of the text for none
+abbrev pub fill_behind : Option ℕ → Change → Option ℕ
+fill_behind fill (TextStep step) = None
+fill_behind fill (ContainerStep token coalesce) = fill
+
+abbrev pub fill_behind_all : Option ℕ → List Change → Option ℕ
+fill_behind_all fill [] = fill
+fill_behind_all fill (c ∷ cs) = fill_behind_all (fill_behind fill c) cs
+
 -- how many bytes of room are free behind a change, of so many before it: what comes takes of them, and what goes leaves its own
 abbrev pub free_behind : ℕ → Change → ℕ
 free_behind free (TextStep (Insert place bytes)) = free - length bytes

@@ -5,16 +5,17 @@ ghost use Rattle.ed_model.specs.History.{Change, latest_text_step};
 ghost use Rattle.ed_model.specs.Session.{text_of};
 ghost use Rattle.ed_model.specs.SoundLaws.{AreStepsOf};
 ghost use Rattle.ed_model.specs.UndoPlans.{text_steps};
+ghost use Rattle.ed_model.specs.Changes.{marker_count};
 ghost use Rattle.ed_model.specs.Performing.{save_point_change, transaction_performed};
 ghost use Rattle.id_table.specs.Entries.{id_of};
-ghost use Rattle.document.specs.Kept.{HasTextRoom, TakesRoom};
+ghost use Rattle.document.specs.Kept.{HasTextRoom, TakesRoom, IsAtMost, no_room, with_freed};
 ghost use Rattle.document.specs.Undoing.{changes_of, history_behind, is_other, outline_of, room_of_change, save_point_told};
-ghost use Rattle.scene.specs.Scenes.{scene_in, watchers, AreNamed, IsWatched};
+ghost use Rattle.scene.specs.Scenes.{scene_in, watchers, fold_room_in_all, AreNamed, IsWatched};
 ghost use Rattle.scene.specs.Hearing.{masks_of};
 ghost use Rattle.scene.specs.Needs.{note_room};
 ghost use Rattle.scene.specs.Turns.{turn_of, ChangeFits};
 ghost use Rattle.scene.specs.Performed.{CanPerformAll, AreAllPerformed};
-ghost use Rattle.scene.specs.Undoing.{bits_of, every_kind, free_behind, notes_of_change, bytes_of_change, bytes_of_changes, notes_of_history, room_of_changes, save_point_notes, capped_room, capped_notes, place_behind_any, place_by};
+ghost use Rattle.scene.specs.Undoing.{bits_of, every_kind, free_behind, freed_by_all, fill_behind_all, notes_of_change, bytes_of_change, bytes_of_changes, notes_of_history, room_of_changes, save_point_notes, capped_room, capped_notes, place_behind_any, place_by};
 
 use crate::need::{NoteRoom, SceneNeed, told_need};
 use crate::performing::{Turn, kinds_of, kinds_of_all, perform_change};
@@ -162,11 +163,15 @@ pub fn perform_history(
     ensures caret { result ≡ place_behind_any (latest_text_step (reverse (changes_of direction document.old.document.history))) }
     ensures watched { IsWatched document.new.document views.new }
     ensures room_left { TakesRoom document.old.room document.new.room (room_of_changes document.old.document.line_end_types (changes_of direction document.old.document.history)) }
+    ensures none_made { IsAtMost document.new.room (with_freed (freed_by_all (changes_of direction document.old.document.history)) document.old.room) no_room }
+    ensures spare { document.new.spare ≡ record document.old.spare { markers = document.new.spare.markers; fill = fill_behind_all document.old.spare.fill (changes_of direction document.old.document.history) } }
+    ensures markers_in_all { document.new.spare.markers + marker_count document.new.document.rows ≡ document.old.spare.markers + marker_count document.old.document.rows }
     ensures note_room_left { notes.new.note_room + length notes.new.notes ≡ notes.old.note_room + length notes.old.notes }
     ensures text_room_left { notes.new.text_room + bytes_of_changes (watchers document.old.document views.old) (bits_of direction) (changes_of direction document.old.document.history) ≡ notes.old.text_room }
     ensures ids { map id_of views.new.entries ≡ map id_of views.old.entries }
     ensures next { views.new.next ≡ views.old.next }
     ensures view_room { views.new.room ≡ views.old.room }
+    ensures fold_rooms { map fold_room_in_all views.new.entries ≡ map fold_room_in_all views.old.entries }
 {
     let was_there = document.history().is_at_save_point();
     let caret = perform_changes(document, views, notes, direction);

@@ -7,10 +7,12 @@ use Rattle.ed_model.specs.History.{TextStep}
 use Rattle.ed_model.specs.Session.{Document, text_of, lines_in}
 use Rattle.ed_model.specs.Notes.{heard, before_note, after_note}
 use Rattle.ed_model.specs.Performing.{document_after}
+use Rattle.ed_model.specs.SoundLaws.{Rise}
 use Rattle.ed_view.specs.Moving.{step_edits}
 use Rattle.scene.specs.Scenes.{watchers, scene_in, IsWatched}
 use Rattle.scene.specs.Undoing.{bits_of, all_bits, outline_movement}
 use Rattle.scene.specs.Turns.{bits_behind, CanTellAfter, IsPerformed}
+use Rattle.scene.proofs.Followed.{named_ids}
 use Rattle.scene.proofs.ToldSoFar.{heard_last, length_parts}
 use Rattle.scene.proofs.KindLemmas.{unheard_after}
 use Rattle.scene.proofs.StepScenes.{length_text, same_scene, watched_can, stands_can, watched_after, watched_again}
@@ -128,4 +130,8 @@ returns c =
       ids = c.follow_change.ensures.ids;
       next = c.follow_change.ensures.next;
       view_room = c.follow_change.ensures.room;
+      none_made = c.make_change-change.ensures.none_made s can.at;
+      spare = c.make_change-change.ensures.spare;
+      markers_in_all = c.make_change-change.ensures.markers_in_all;
+      fold_rooms = c.follow_change.ensures.fold_rooms (subst (Rise 0 c.args.views.now.next) (sym (named_ids c.args.views.now.entries can.watched.named)) can.watched.rise);
     })
