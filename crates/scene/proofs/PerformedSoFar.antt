@@ -22,7 +22,7 @@ use Rattle.document.specs.Undoing.{changes_of, room_of_change, save_point_told}
 use Rattle.scene.specs.declared.performing.Turn.{Turn}
 use Rattle.scene.specs.Scenes.{scene_in, watchers, fold_room_in_all, IsWatched}
 use Rattle.scene.specs.Hearing.{hearers, masks_of}
-use Rattle.scene.specs.Undoing.{bits_of, every_kind, notes_of_changes, notes_of_change, bytes_of_changes, free_behind, freed_by, freed_by_all, fill_behind, fill_behind_all, room_of_changes, rooms_beside, save_point_notes}
+use Rattle.scene.specs.Undoing.{bits_of, every_kind, notes_of_changes, notes_of_change, bytes_of_changes, free_behind, freed_by, freed_by_all, fill_behind, fill_behind_all, SpareLeft, room_of_changes, rooms_beside, save_point_notes}
 use Rattle.scene.specs.Turns.{several_bits, CanPerform, IsPerformed}
 use Rattle.scene.specs.Performed.{CanPerformAll, AreAllPerformed}
 use Rattle.scene.proofs.KindLemmas.{none_by_masks}
@@ -31,26 +31,22 @@ use Rattle.scene.proofs.ChangeSteps.{LeavesRoom, leaves_all, leaves_next, leaves
 
 -- No room is made but what goes out of the text leaves.
 
-made_none : (room : DocumentRoom) → IsAtMost room room no_room
+pub made_none : (room : DocumentRoom) → IsAtMost room room no_room
 made_none room = record { text = omega arith; lines = omega arith; insertions = omega arith; steps = omega arith; bytes = omega arith }
 
-made_next : (c : Change) (after : List Change) (freed : ℕ) (old now new : DocumentRoom) → IsAtMost (with_freed (freed_by_all (c ∷ after)) now) (with_freed freed old) no_room
+pub made_next : (c : Change) (after : List Change) (freed : ℕ) (old now new : DocumentRoom) → IsAtMost (with_freed (freed_by_all (c ∷ after)) now) (with_freed freed old) no_room
     → IsAtMost new (with_freed (freed_by c) now) no_room → IsAtMost (with_freed (freed_by_all after) new) (with_freed freed old) no_room
 made_next c after freed old now new so p =
     let a = so.text in let b = so.lines in let d = so.insertions in let f = so.steps in let g = so.bytes in
     let a' = p.text in let b' = p.lines in let d' = p.insertions in let f' = p.steps in let g' = p.bytes in
     record { text = omega arith; lines = omega arith; insertions = omega arith; steps = omega arith; bytes = omega arith }
 
-made_all : (old now : DocumentRoom) → IsAtMost (with_freed 0 now) old no_room → IsAtMost now old no_room
+pub made_all : (old now : DocumentRoom) → IsAtMost (with_freed 0 now) old no_room → IsAtMost now old no_room
 made_all old now so =
     let a = so.text in
     record { text = omega arith; lines = so.lines; insertions = so.insertions; steps = so.steps; bytes = so.bytes }
 
--- what else there is room for, while the fill's goes with the first step of the text
-abbrev pub SpareLeft : List Change → List Change → ChangeRoom → ChangeRoom → Type 0
-SpareLeft all rest old now = record now { fill = fill_behind_all now.fill rest } ≡ record old { markers = now.markers; fill = fill_behind_all old.fill all }
-
-spare_next : (all after : List Change) (c : Change) (old now new : ChangeRoom) → SpareLeft all (c ∷ after) old now
+pub spare_next : (all after : List Change) (c : Change) (old now new : ChangeRoom) → SpareLeft all (c ∷ after) old now
     → new ≡ record now { markers = new.markers; fill = fill_behind now.fill c } → SpareLeft all after old new
 spare_next all after c old now new so p =
     ap (λ (s : ChangeRoom). record s { fill = fill_behind_all s.fill after }) p ∙ ap (λ (s : ChangeRoom). record s { markers = new.markers }) so

@@ -1,5 +1,6 @@
 -- Steps in turn, out of the room that was made for all of them.
-use Rattle.std.proofs.Common.{zero, suc, ◌≡◌, ℕ, ◌+◌, ◌<◌, ◌≤◌, Bool, true, false, List, [], ◌∷◌, ◌++◌, length, take, drop, refl, ap, sym, ◌∙◌, subst, arith, slice_range}
+use Rattle.std.proofs.Common.{zero, suc, ◌≡◌, ℕ, ◌+◌, ◌<◌, ◌≤◌, Bool, true, false, List, [], ◌∷◌, ◌++◌, length, map, take, drop, refl, ap, sym, ◌∙◌, subst, arith, slice_range}
+use Rattle.std.specs.Prelude.{None}
 use Rattle.std.proofs.lemmas.List.{length-append, length-map, length-take, length-drop, map-append, take-map, drop-map}
 use Rattle.ed_model.specs.declared.plan.LineEnd.{LineEnd}
 use Rattle.ed_model.specs.declared.plan.LineEndTypes.{LineEndTypes}
@@ -7,21 +8,23 @@ use Rattle.ed_model.specs.Text.{Cell, bytes_of, plain_cells}
 use Rattle.ed_model.specs.Steps.{Step, Insert, Delete, step_bytes, edited, edited_cells}
 use Rattle.ed_model.specs.LineEnds.{after_steps, conversion_steps, unwanted_from}
 use Rattle.ed_model.specs.History.{History, Change, TextStep, appended}
+use Rattle.ed_model.specs.Changes.{marker_count}
 use Rattle.ed_model.specs.Session.{Document, text_of, watching}
 use Rattle.ed_model.specs.Performing.{Scene, step_made, steps_made}
 use Rattle.document.specs.declared.room.DocumentRoom.{DocumentRoom}
 use Rattle.document.specs.declared.text_step.TextStep.TheVariants as lent
-use Rattle.document.specs.Kept.{Kept, HasRoom, TakesRoom}
-use Rattle.document.specs.TextSteps.{need_of}
+use Rattle.document.specs.Kept.{Kept, ChangeRoom, HasRoom, TakesRoom, IsAtMost, no_room, with_freed}
+use Rattle.document.specs.TextSteps.{bytes_out, need_of}
 use Rattle.id_table.specs.Entries.{Entries}
 use Rattle.ed_view.specs.Kept.{KeptView}
 use Rattle.notify.specs.Gathered.{Gathered}
 use Rattle.line_ends.specs.Conversion.{IsNextMissing, IsNextUnwanted, completed, missing_in, unwanted_in}
-use Rattle.scene.specs.Scenes.{views_of, scene_in, IsWatched}
+use Rattle.scene.specs.Scenes.{views_of, scene_in, fold_room_in_all, IsWatched}
 use Rattle.scene.specs.Hearing.{bytes_shared, made_kinds}
 use Rattle.scene.specs.Needs.{notes_needed, bytes_needed, NotesAreEnough, BytesAreEnough}
 use Rattle.scene.specs.proved.Enough.{next_notes, next_bytes}
-use Rattle.scene.specs.Conversion.{AreLeft, bytes_for, deletions_of, notes_for, room_of_step, room_of_steps}
+use Rattle.scene.proofs.PerformedSoFar.{made_none, made_next, spare_next}
+use Rattle.scene.specs.Conversion.{AreLeft, RoomsStay, changes_for, freed_by_all, bytes_for, deletions_of, notes_for, room_of_step, room_of_steps}
 
 -- Notes and their bytes.
 
@@ -79,6 +82,40 @@ bytes_after (Delete p bytes) cells = simp (map-append, take-map, drop-map)
 pub text_after : (later : Bool) (s : Step) (scene after : Scene) → after ≡ step_made later s scene → text_of after.document ≡ edited s (text_of scene.document)
 text_after later s scene after e = ap (λ (x : Scene). text_of x.document) e ∙ bytes_after s scene.document.cells
 
+-- Rooms.
+
+-- a step leaves all room, and makes none but that of what it takes out
+pub record StepLeaves (s : Step) (k k' : Kept) (v v' : Entries KeptView) : Type 0 where
+  pub none_made : IsAtMost k'.room (with_freed (bytes_out s) k.room) no_room
+  pub spare : k'.spare ≡ record k.spare { markers = k'.spare.markers; fill = None }
+  pub markers_in_all : k'.spare.markers + marker_count k'.document.rows ≡ k.spare.markers + marker_count k.document.rows
+  pub fold_rooms : map fold_room_in_all v'.entries ≡ map fold_room_in_all v.entries
+
+pub rooms_none : (steps : List Step) (k : Kept) (v : Entries KeptView) → RoomsStay steps steps k k v v
+rooms_none steps k v = record { none_made = made_none (with_freed (freed_by_all (changes_for steps)) k.room); spare = refl; markers_in_all = refl; fold_rooms = refl }
+
+rooms_next : (s : Step) (rest steps : List Step) (k0 k k' : Kept) (v0 v v' : Entries KeptView) → RoomsStay (s ∷ rest) steps k0 k v0 v → StepLeaves s k k' v v'
+    → RoomsStay rest steps k0 k' v0 v'
+rooms_next s rest steps k0 k k' v0 v v' so p = record {
+  none_made = made_next (TextStep s) (changes_for rest) (freed_by_all (changes_for steps)) k0.room k.room k'.room so.none_made p.none_made;
+  spare = spare_next (changes_for steps) (changes_for rest) (TextStep s) k0.spare k.spare k'.spare so.spare p.spare;
+  markers_in_all = p.markers_in_all ∙ so.markers_in_all;
+  fold_rooms = p.fold_rooms ∙ so.fold_rooms;
+}
+
+-- some steps, and then the rest of them
+pub rooms_both : (rest steps : List Step) (k0 k k' : Kept) (v0 v v' : Entries KeptView) → RoomsStay rest steps k0 k v0 v → RoomsStay [] rest k k' v v'
+    → RoomsStay [] steps k0 k' v0 v'
+rooms_both rest steps k0 k k' v0 v v' so then =
+    let a = so.none_made.text in let b = so.none_made.lines in let d = so.none_made.insertions in let f = so.none_made.steps in let g = so.none_made.bytes in
+    let a' = then.none_made.text in let b' = then.none_made.lines in let d' = then.none_made.insertions in let f' = then.none_made.steps in let g' = then.none_made.bytes in
+    record {
+      none_made = record { text = omega arith; lines = omega arith; insertions = omega arith; steps = omega arith; bytes = omega arith };
+      spare = then.spare ∙ ap (λ (s : ChangeRoom). record s { markers = k'.spare.markers }) so.spare;
+      markers_in_all = then.markers_in_all ∙ so.markers_in_all;
+      fold_rooms = then.fold_rooms ∙ so.fold_rooms;
+    }
+
 -- One of the steps is made.
 pub made_left :
     NotesAreEnough → BytesAreEnough → (s : Step) (rest steps : List Step) (later was : Bool) (k0 k k' : Kept) (v0 v v' : Entries KeptView) (n0 n n' : Gathered)
@@ -87,8 +124,8 @@ pub made_left :
     → IsWatched k'.document v' → TakesRoom k.room k'.room (room_of_step k.document.line_end_types s)
     → n'.note_room + length n'.notes ≡ n.note_room + length n.notes
     → n'.text_room + bytes_shared (made_kinds later s k.document.history) (watching (views_of v.entries) k.document) (length (step_bytes s)) ≡ n.text_room
-    → v'.next ≡ v.next → AreLeft rest true steps was k0 k' v0 v' n0 n'
-made_left notes_law bytes_law s rest steps later was k0 k k' v0 v v' n0 n n' left made watched takes notes texts next =
+    → StepLeaves s k k' v v' → v'.next ≡ v.next → AreLeft rest true steps was k0 k' v0 v' n0 n'
+made_left notes_law bytes_law s rest steps later was k0 k k' v0 v v' n0 n n' left made watched takes notes texts leaves next =
     let scene = scene_in k.document v.entries n.notes in
     let after = scene_in k'.document v'.entries n'.notes in
     let types : k'.document.line_end_types ≡ k.document.line_end_types = ap (λ (x : Scene). x.document.line_end_types) made in
@@ -107,6 +144,7 @@ made_left notes_law bytes_law s rest steps later was k0 k k' v0 v v' n0 n n' lef
         texts_there = few_bytes rest after n'.text_room (subst (λ x. bytes_needed x rest ≤ n'.text_room) (sym made) short);
       };
       next = next ∙ left.next;
+      rooms = rooms_next s rest steps k0 k k' v0 v v' left.rooms leaves;
     }
 
 -- The insertions of a conversion.
@@ -141,12 +179,12 @@ pub put_made :
     → IsWatched k'.document v' → TakesRoom k.room k'.room (room_of_step k.document.line_end_types (put_of place byte))
     → n'.note_room + length n'.notes ≡ n.note_room + length n.notes
     → n'.text_room + bytes_shared (made_kinds later (put_of place byte) k.document.history) (watching (views_of v.entries) k.document) 1 ≡ n.text_room
-    → v'.next ≡ v.next → PutsLeft to (place + 1) true k0 k' v0 v' n0 n'
-put_made notes_law bytes_law to start place byte later k0 k k' v0 v v' n0 n n' so next made watched takes notes texts same =
+    → StepLeaves (put_of place byte) k k' v v' → v'.next ≡ v.next → PutsLeft to (place + 1) true k0 k' v0 v' n0 n'
+put_made notes_law bytes_law to start place byte later k0 k k' v0 v v' n0 n n' so next made watched takes notes texts leaves same =
     let s = put_of place byte in
     let text : text_of k'.document ≡ edited s (text_of k.document) = text_after later s (scene_in k.document v.entries n.notes) (scene_in k'.document v'.entries n'.notes) made in
     let left = made_left notes_law bytes_law s (puts_behind to place byte k0 k) (conversion_steps to (text_of k0.document)) later false k0 k k' v0 v v' n0 n n'
-    (put_next to start place byte later k0 k v0 v n0 n so next) made watched takes notes texts same in
+    (put_next to start place byte later k0 k v0 v n0 n so next) made watched takes notes texts leaves same in
     let done : after_steps (missing_in to (edited s (text_of k.document)) (place + 1)) (edited s (text_of k.document)) ≡ completed to (text_of k0.document) =
     sym (ap (λ l. after_steps l (text_of k.document)) next.steps) ∙ so.text in
     let size : length (text_of k'.document) ≡ length (text_of k.document) + 1 = ap length text ∙ one_longer place byte (text_of k.document) in
@@ -197,13 +235,13 @@ pub take_made :
     → IsWatched k'.document v' → TakesRoom k.room k'.room (need_of k.document.line_end_types (lent.Delete place 1))
     → n'.note_room + length n'.notes ≡ n.note_room + length n.notes
     → n'.text_room + bytes_shared (made_kinds later (take_of place k) k.document.history) (watching (views_of v.entries) k.document) (length (step_bytes (take_of place k))) ≡ n.text_room
-    → v'.next ≡ v.next → TakesLeft to place true was k0 k' v0 v' n0 n'
-take_made notes_law bytes_law to start place later was k0 k k' v0 v v' n0 n n' so next made watched takes notes texts same =
+    → StepLeaves (take_of place k) k k' v v' → v'.next ≡ v.next → TakesLeft to place true was k0 k' v0 v' n0 n'
+take_made notes_law bytes_law to start place later was k0 k k' v0 v v' n0 n n' so next made watched takes notes texts leaves same =
     let s = take_of place k in
     let text : text_of k'.document ≡ edited s (text_of k.document) = text_after later s (scene_in k.document v.entries n.notes) (scene_in k'.document v'.entries n'.notes) made in
     let left = made_left notes_law bytes_law s (unwanted_in to (edited s (text_of k.document)) place) (unwanted_from 0 false to (text_of k0.document)) later was k0 k k' v0 v v' n0 n n'
     (take_next to start place later was k0 k v0 v n0 n so next) made watched
-    (take_room to start place k (λ need. TakesRoom k.room k'.room need) next takes) notes texts same in
+    (take_room to start place k (λ need. TakesRoom k.room k'.room need) next takes) notes texts leaves same in
     let w = next.within in
     let one : length (slice_range (text_of k.document) place (place + 1)) ≡ 1 = length_range k.document.cells place 1 (take_within to start place k next) in
     let size : length (text_of k'.document) + 1 ≡ length (text_of k.document) =

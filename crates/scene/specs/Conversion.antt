@@ -1,9 +1,11 @@
 -- Turning the line ends of a document's text into one kind: what the steps need, and how far they are made.
-use Rattle.std.specs.Prelude.{◌≡◌, ℕ, ◌*◌, ◌≤◌, Bool, false, List, [], ◌∷◌, length}
+use Rattle.std.specs.Prelude.{◌≡◌, ℕ, ◌+◌, ◌*◌, ◌≤◌, Bool, false, List, [], ◌∷◌, length, map}
 use Rattle.ed_model.specs.declared.plan.LineEnd.{LineEnd}
 use Rattle.ed_model.specs.declared.plan.LineEndTypes.{LineEndTypes}
 use Rattle.ed_model.specs.Steps.{Step, Insert, Delete}
 use Rattle.ed_model.specs.LineEnds.{unwanted_from}
+use Rattle.ed_model.specs.History.{Change, TextStep}
+use Rattle.ed_model.specs.Changes.{marker_count}
 use Rattle.ed_model.specs.Performing.{Scene, steps_made}
 use Rattle.line_index.specs.RoomLaws.{lines_for_insertion, lines_for_deletion}
 use Rattle.line_ends.specs.Conversion.{completed}
@@ -11,10 +13,10 @@ use Rattle.id_table.specs.Entries.{Entries}
 use Rattle.ed_view.specs.Kept.{KeptView}
 use Rattle.notify.specs.Gathered.{Gathered}
 use Rattle.document.specs.declared.room.DocumentRoom.{DocumentRoom}
-use Rattle.document.specs.Kept.{Kept, document_room, no_room, HasRoom}
-use Rattle.scene.specs.Scenes.{scene_in, IsWatched}
+use Rattle.document.specs.Kept.{Kept, document_room, no_room, with_freed, HasRoom, IsAtMost}
+use Rattle.scene.specs.Scenes.{scene_in, fold_room_in_all, IsWatched}
 use Rattle.scene.specs.Needs.{notes_needed, bytes_needed}
-pub use Rattle.scene.specs.Undoing.{both_rooms, capped, capped_room, capped_notes}
+pub use Rattle.scene.specs.Undoing.{freed_by_all, fill_behind_all, SpareLeft, both_rooms, capped, capped_room, capped_notes}
 
 -- what a step needs of its document
 abbrev pub room_of_step : LineEndTypes → Step → DocumentRoom
@@ -42,12 +44,23 @@ pub record CanMakeSteps (steps : List Step) (k : Kept) (views : Entries KeptView
   pub notes_there : notes_for steps (scene_in k.document views.entries notes.notes) ≤ notes.note_room
   pub texts_there : bytes_for steps (scene_in k.document views.entries notes.notes) ≤ notes.text_room
 
+abbrev pub changes_for : List Step → List Change
+changes_for steps = map (λ (step : Step). TextStep step) steps
+
+-- where of the steps the rest is still to be made, no room was made but what goes out of the text leaves, and each view keeps its rooms
+pub record RoomsStay (rest steps : List Step) (before after : Kept) (views views' : Entries KeptView) : Type 0 where
+  pub none_made : IsAtMost (with_freed (freed_by_all (changes_for rest)) after.room) (with_freed (freed_by_all (changes_for steps)) before.room) no_room
+  pub spare : SpareLeft (changes_for steps) (changes_for rest) before.spare after.spare
+  pub markers_in_all : after.spare.markers + marker_count after.document.rows ≡ before.spare.markers + marker_count before.document.rows
+  pub fold_rooms : map fold_room_in_all views'.entries ≡ map fold_room_in_all views.entries
+
 -- of the steps on the old scene, those of `rest` are left to be made on the new one, and there is room for them; of both is told
 -- whether the first of them is a later one of its message
 pub record AreLeft (rest : List Step) (later : Bool) (steps : List Step) (was_later : Bool) (before after : Kept) (views views' : Entries KeptView) (notes notes' : Gathered) : Type 0 where
   pub scene : steps_made later rest (scene_in after.document views'.entries notes'.notes) ≡ steps_made was_later steps (scene_in before.document views.entries notes.notes)
   pub can : CanMakeSteps rest after views' notes'
   pub next : views'.next ≡ views.next
+  pub rooms : RoomsStay rest steps before after views views'
 
 -- the deletions of a conversion
 abbrev pub deletions_of : LineEnd → List ℕ → List Step

@@ -1,5 +1,5 @@
 -- Undo and redo: the bits of their notes, and what they need.
-use Rattle.std.specs.Prelude.{ℕ, ◌+◌, ◌-◌, ◌*◌, ◌^◌, if◌then◌else◌, min, Bool, true, List, [], ◌∷◌, length, bit_or, Option, Some, None}
+use Rattle.std.specs.Prelude.{◌≡◌, ℕ, ◌+◌, ◌-◌, ◌*◌, ◌^◌, if◌then◌else◌, min, Bool, true, List, [], ◌∷◌, length, bit_or, Option, Some, None}
 use Rattle.ed_model.specs.declared.plan.LineEndTypes.{LineEndTypes}
 use Rattle.ed_model.specs.Steps.{Step, Insert, Delete, step_bytes}
 use Rattle.ed_model.specs.History.{History, Change, TextStep, ContainerStep}
@@ -13,7 +13,7 @@ use Rattle.document.specs.declared.undoing.ChangeOutline.TheVariants as outline
 use Rattle.document.specs.declared.room.DocumentRoom.{DocumentRoom}
 use Rattle.selection.specs.declared.movements.Movement.{Movement}
 use Rattle.selection.specs.declared.movements.Movement.TheVariants.{Inserted, Deleted}
-use Rattle.document.specs.Kept.{document_room, no_room, amount_sum}
+use Rattle.document.specs.Kept.{ChangeRoom, document_room, no_room, amount_sum}
 use Rattle.document.specs.TextSteps.{bytes_out}
 use Rattle.document.specs.Undoing.{changes_of, room_of_change, save_point_told}
 use Rattle.scene.specs.declared.need.NoteRoom.{NoteRoom}
@@ -93,6 +93,10 @@ fill_behind fill (ContainerStep token coalesce) = fill
 abbrev pub fill_behind_all : Option ℕ → List Change → Option ℕ
 fill_behind_all fill [] = fill
 fill_behind_all fill (c ∷ cs) = fill_behind_all (fill_behind fill c) cs
+
+-- What else there is room for, where of all changes the rest is still to be made: markers that go leave their room.
+abbrev pub SpareLeft : List Change → List Change → ChangeRoom → ChangeRoom → Type 0
+SpareLeft all rest old now = record now { fill = fill_behind_all now.fill rest } ≡ record old { markers = now.markers; fill = fill_behind_all old.fill all }
 
 -- how many bytes of room are free behind a change, of so many before it: what comes takes of them, and what goes leaves its own
 abbrev pub free_behind : ℕ → Change → ℕ

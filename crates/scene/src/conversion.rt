@@ -1,14 +1,16 @@
 //! The line ends of a document's text turned into one kind: a step for each byte that comes or goes.
 
-ghost use Rattle.std.specs.Prelude.{◌≡◌, ◌≤◌, ◌<◌, ◌+◌, ◌*◌, ◌^◌, [], false, if◌then◌else◌, nat_lt, length, MatchOption};
+ghost use Rattle.std.specs.Prelude.{◌≡◌, ◌≤◌, ◌<◌, ◌+◌, ◌*◌, ◌^◌, [], false, map, if◌then◌else◌, nat_lt, length, MatchOption};
 ghost use Rattle.ed_model.specs.LineEnds.{conversion_steps, missing_from, unwanted_from};
 ghost use Rattle.ed_model.specs.Session.{text_of};
+ghost use Rattle.ed_model.specs.Changes.{marker_count};
 ghost use Rattle.ed_model.specs.Performing.{edit_made, steps_made};
+ghost use Rattle.document.specs.Kept.{IsAtMost, no_room, with_freed};
 ghost use Rattle.document.specs.TextSteps.{step_in, need_of, IsStepOn};
 ghost use Rattle.line_ends.specs.Conversion.{IsNextMissing, IsNextUnwanted, completed, missing_in, unwanted_in};
-ghost use Rattle.scene.specs.Scenes.{scene_in, watchers, AreNamed, IsWatched};
+ghost use Rattle.scene.specs.Scenes.{scene_in, watchers, fold_room_in_all, AreNamed, IsWatched};
 ghost use Rattle.scene.specs.Needs.{leaving_count, notes_of_step, bytes_of_step, notes_of_steps, bytes_of_steps};
-ghost use Rattle.scene.specs.Conversion.{AreLeft, CanMakeSteps, bytes_for, capped_notes, capped_room, deletions_of, notes_for, room_of_many, room_of_steps};
+ghost use Rattle.scene.specs.Conversion.{AreLeft, CanMakeSteps, RoomsStay, changes_for, freed_by_all, fill_behind_all, bytes_for, capped_notes, capped_room, deletions_of, notes_for, room_of_many, room_of_steps};
 
 use crate::laws::needs_are_enough;
 use crate::need::{NoteRoom, SceneNeed, leaving_need, note_need};
@@ -80,6 +82,7 @@ fn take_unwanted(
     ensures scene { scene_in document.new.document views.new.entries notes.new.notes ≡ steps_made later (unwanted_from 0 false to (text_of document.old.document)) (scene_in document.old.document views.old.entries notes.old.notes) }
     ensures watched { IsWatched document.new.document views.new }
     ensures next { views.new.next ≡ views.old.next }
+    ensures rooms { RoomsStay [] (unwanted_from 0 false to (text_of document.old.document)) document.old document.new views.old views.new }
 {
     // The law that what was reserved is enough for each step in its turn.
     needs_are_enough();
@@ -101,6 +104,10 @@ fn make_all(document: &mut Document, views: &mut IdTable<View>, notes: &mut Note
     ensures scene { scene_in document.new.document views.new.entries notes.new.notes ≡ steps_made false (conversion_steps to (text_of document.old.document)) (scene_in document.old.document views.old.entries notes.old.notes) }
     ensures watched { IsWatched document.new.document views.new }
     ensures next { views.new.next ≡ views.old.next }
+    ensures none_made { IsAtMost document.new.room (with_freed (freed_by_all (changes_for (conversion_steps to (text_of document.old.document)))) document.old.room) no_room }
+    ensures spare { document.new.spare ≡ record document.old.spare { markers = document.new.spare.markers; fill = fill_behind_all document.old.spare.fill (changes_for (conversion_steps to (text_of document.old.document))) } }
+    ensures markers_in_all { document.new.spare.markers + marker_count document.new.document.rows ≡ document.old.spare.markers + marker_count document.old.document.rows }
+    ensures fold_rooms { map fold_room_in_all views.new.entries ≡ map fold_room_in_all views.old.entries }
 {
     let later = put_missing(document, views, notes, to);
     take_unwanted(document, views, notes, to, later);
@@ -141,6 +148,10 @@ pub fn convert(
     ensures scene { scene_in document.new.document views.new.entries notes.new.notes ≡ edit_made (conversion_steps to (text_of document.old.document)) (scene_in document.old.document views.old.entries notes.old.notes) }
     ensures watched { IsWatched document.new.document views.new }
     ensures next { views.new.next ≡ views.old.next }
+    ensures none_made { IsAtMost document.new.room (with_freed (freed_by_all (changes_for (conversion_steps to (text_of document.old.document)))) document.old.room) no_room }
+    ensures spare { document.new.spare ≡ record document.old.spare { markers = document.new.spare.markers; fill = fill_behind_all document.old.spare.fill (changes_for (conversion_steps to (text_of document.old.document))) } }
+    ensures markers_in_all { document.new.spare.markers + marker_count document.new.document.rows ≡ document.old.spare.markers + marker_count document.old.document.rows }
+    ensures fold_rooms { map fold_room_in_all views.new.entries ≡ map fold_room_in_all views.old.entries }
 {
     if !is_several(document, to) {
         return make_all(document, views, notes, to);
