@@ -1,7 +1,7 @@
 //! `Cells` and its calls. A clause sees them as their `cells`, whether they keep styles (`keeps_styles`), of how many cells the styles
 //! are stored (`styled`), their `room`, and the `spare`, `gaps` and `moved` of both gap buffers.
 
-ghost use Rattle.std.specs.Prelude.{◌≡◌, ◌<◌, ◌≤◌, ◌+◌, ◌-◌, ◌^◌, true, false, ◌++◌, [], ◌∷◌, length, take, drop, replicate, max, slice_get, slice_range, vec_len, vec_capacity, IfOk, OnOk, OnErr, IsOk};
+ghost use Rattle.std.specs.Prelude.{◌≡◌, ◌<◌, ◌≤◌, ◌+◌, ◌-◌, ◌^◌, true, false, ◌++◌, [], ◌∷◌, length, take, drop, replicate, min, max, slice_get, slice_range, vec_len, vec_capacity, IfOk, OnOk, OnErr, IsOk};
 ghost use Rattle.ed_model.specs.Text.{bytes_of, styles_of, plain_cells};
 ghost use Rattle.ed_model.specs.Steps.{Insert, edited_cells};
 ghost use Rattle.ed_model.specs.Changes.{restyled};
@@ -124,7 +124,8 @@ impl Cells {
     }
 
     /// Makes room for `count` more bytes, and for their styles where styles are kept, and gives none back. A block that is too
-    /// small grows to twice its size, or to what was asked where that is more.
+    /// small grows to twice its size, or to what was asked where that is more, and one that is large enough stays as it is: where
+    /// both are, no memory is asked for.
     ///
     /// # Errors
     ///
@@ -134,6 +135,9 @@ impl Cells {
     pub fn reserve(&mut self, count: usize) -> Result<(), AllocError>
         ensures ok { OnOk result (self.new ≡ record self.old { room = max self.old.room count; spare = self.new.spare }) }
         ensures room_is_there { count ≤ self.old.room → IsOk result × (self.new ≡ self.old) }
+        ensures memory_is_there { count ≤ self.old.spare.0 → stored self.old.keeps_styles count ≤ self.old.spare.1 → IsOk result × (self.new ≡ record self.old { room = max self.old.room count }) }
+        ensures bytes_stay { count ≤ self.old.spare.0 → self.new.spare.0 ≡ self.old.spare.0 }
+        ensures styles_stay { stored self.old.keeps_styles count ≤ self.old.spare.1 → self.new.spare.1 ≡ self.old.spare.1 }
         ensures at_most { self.new.spare.0 ≤ most_room (length self.old.cells) self.old.spare.0 count }
         ensures styles_at_most { self.new.spare.1 ≤ most_room (stored self.old.keeps_styles (length self.old.cells)) self.old.spare.1 (stored self.old.keeps_styles count) }
         ensures err { OnErr result (self.new ≡ record self.old { spare = self.new.spare }) }
@@ -151,6 +155,7 @@ impl Cells {
     #[tactic(auto, using(crate::proofs::Pairs::pairs_length))]
     fn fits(&self, count: usize) -> bool
         ensures yes { result ≡ true → (count ≤ self.now.spare.0) × (stored self.now.keeps_styles count ≤ self.now.spare.1) }
+        ensures there { count ≤ self.now.spare.0 → stored self.now.keeps_styles count ≤ self.now.spare.1 → result ≡ true }
         ensures no { result ≡ false → self.now.room < count }
         ensures within { length self.now.cells + self.now.spare.0 < 2 ^ 63 }
     {
@@ -170,6 +175,8 @@ impl Cells {
     fn grow(&mut self, count: usize) -> Result<(), AllocError>
         requires { self.old.room < count }
         ensures ok { OnOk result (self.new ≡ record self.old { room = max self.old.room count; spare = self.new.spare }) }
+        ensures bytes_stay { count ≤ self.old.spare.0 → self.new.spare.0 ≡ self.old.spare.0 }
+        ensures styles_stay { stored self.old.keeps_styles count ≤ self.old.spare.1 → self.new.spare.1 ≡ self.old.spare.1 }
         ensures at_most { self.new.spare.0 ≤ most_room (length self.old.cells) self.old.spare.0 count }
         ensures styles_at_most { self.new.spare.1 ≤ most_room (stored self.old.keeps_styles (length self.old.cells)) self.old.spare.1 (stored self.old.keeps_styles count) }
         ensures err { OnErr result (self.new ≡ record self.old { spare = self.new.spare }) }
@@ -338,6 +345,7 @@ impl Cells {
     fn parts_of(&self, start: usize, count: usize) -> (&[u8], &[u8])
         requires { start + count ≤ length self.now.cells }
         ensures joined { result.0.now ++ result.1.now ≡ slice_range (bytes_of self.now.cells) start (start + count) }
+        ensures begun { 0 < count → 0 < length result.0.now }
     {
         let _ = self.bytes.len(); // it says that the sum is small
         let end = start + count;
@@ -376,11 +384,11 @@ impl Cells {
         append_both(first, second, target)
     }
 
-    /// The `count` bytes from `start` on, in memory of their own, which has room for `spare` bytes more.
+    /// The `count` bytes from `start` on, in memory of their own, which has room for `spare` bytes more. Of no bytes none is taken.
     ///
     /// # Errors
     ///
-    /// `AllocError` where memory is refused. Of no bytes none is taken.
+    /// `AllocError` where memory is refused, as it is where both are more than a `usize` holds.
     #[tactic(auto, using(crate::proofs::Pairs::pairs_length, crate::proofs::Pairs::pairs_bytes))]
     pub fn text_to_vec(
         &self,
@@ -391,6 +399,7 @@ impl Cells {
     ) -> Result<Vec<u8>, AllocError>
         requires { start + count ≤ length self.now.cells }
         ensures bytes { IfOk result (λ text. text.items ≡ slice_range (bytes_of self.now.cells) start (start + count)) }
+        ensures room { 0 < count → IfOk result (λ text. min (count + spare) (2 ^ 64 - 1) ≤ vec_capacity text) }
         ensures free { count ≡ 0 → IsOk result }
     {
         let (first, second) = self.parts_of(start, count);
@@ -440,6 +449,7 @@ impl Cells {
 // asked for: where the text lies far away, it is on its way while the allocator works.
 fn copied(alloc: Global, bytes: &[u8], spare: usize) -> Result<Vec<u8>, AllocError>
     ensures bytes { IfOk result (λ copy. copy.items ≡ bytes.now) }
+    ensures room { 0 < length bytes.now → IfOk result (λ copy. min (length bytes.now + spare) (2 ^ 64 - 1) ≤ vec_capacity copy) }
     ensures free { length bytes.now ≡ 0 → IsOk result }
 {
     let Some((last, before)) = bytes.split_last() else {
@@ -459,7 +469,8 @@ fn copied(alloc: Global, bytes: &[u8], spare: usize) -> Result<Vec<u8>, AllocErr
 
 // The same of one byte.
 fn one_byte(alloc: Global, byte: u8, spare: usize) -> Result<Vec<u8>, AllocError>
-    ensures { IfOk result (λ copy. copy.items ≡ byte ∷ []) }
+    ensures byte { IfOk result (λ copy. copy.items ≡ byte ∷ []) }
+    ensures room { IfOk result (λ copy. min (1 + spare) (2 ^ 64 - 1) ≤ vec_capacity copy) }
 {
     let mut copy = Vec::with_capacity(alloc, spare.saturating_add(1))?;
     copy.push_reserved(byte);

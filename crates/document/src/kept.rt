@@ -1,6 +1,6 @@
 //! `Document`: how it is made and read.
 
-ghost use Rattle.std.specs.Prelude.{◌≡◌, ◌≤◌, ◌<◌, ◌+◌, ◌++◌, ◌^◌, length, slice_get, slice_range, vec_len, vec_capacity, OnOk, OnErr, IsOk, IfOk, Some, nat_lt};
+ghost use Rattle.std.specs.Prelude.{◌≡◌, ◌≤◌, ◌<◌, ◌+◌, ◌-◌, ◌++◌, ◌^◌, length, min, slice_get, slice_range, vec_len, vec_capacity, OnOk, OnErr, IsOk, IfOk, Some, nat_lt};
 ghost use Rattle.ed_model.specs.Text.{bytes_of, styles_of};
 ghost use Rattle.ed_model.specs.Lines.{line_starts, line_count, line_of, start_of_line, start_after_line, end_of_line};
 ghost use Rattle.ed_model.specs.Session.{new_document, text_of, lines_in, references, is_large};
@@ -159,11 +159,11 @@ impl Document {
         self.cells.append_text_to(start, count, target)
     }
 
-    /// The `count` bytes from `start` on, in memory of their own, which has room for `spare` bytes more.
+    /// The `count` bytes from `start` on, in memory of their own, which has room for `spare` bytes more. Of no bytes none is taken.
     ///
     /// # Errors
     ///
-    /// `AllocError` where memory is refused. Of no bytes none is taken.
+    /// `AllocError` where memory is refused, as it is where both are more than a `usize` holds.
     pub fn text_to_vec(
         &self,
         alloc: Global,
@@ -173,6 +173,7 @@ impl Document {
     ) -> Result<Vec<u8>, AllocError>
         requires { start + count ≤ length self.now.document.cells }
         ensures bytes { IfOk result (λ text. text.items ≡ slice_range (text_of self.now.document) start (start + count)) }
+        ensures room { 0 < count → IfOk result (λ text. min (count + spare) (2 ^ 64 - 1) ≤ vec_capacity text) }
         ensures free { count ≡ 0 → IsOk result }
     {
         self.cells.text_to_vec(alloc, start, count, spare)

@@ -2,18 +2,20 @@
 use Rattle.std.specs.Prelude.{◌≡◌, ◌≤◌, ℕ, true}
 use Rattle.ed_model.specs.History.{History, fresh_history}
 
--- the history; how many more steps and bytes are sure to fit; and how many steps and bytes the blocks hold that were taken for them
+-- the history; how many more steps and bytes are sure to fit; how many steps and bytes the blocks hold that were taken for them; and
+-- for how many more of each there is memory
 pub record Kept : Type 0 where
   pub history : History
   pub step_room : ℕ
   pub byte_room : ℕ
   pub taken : ℕ × ℕ
+  pub spare : ℕ × ℕ
 
-abbrev pub kept : History → ℕ → ℕ → ℕ × ℕ → Kept
-kept history steps bytes taken = record { history = history; step_room = steps; byte_room = bytes; taken = taken }
+abbrev pub kept : History → ℕ → ℕ → ℕ × ℕ → ℕ × ℕ → Kept
+kept history steps bytes taken spare = record { history = history; step_room = steps; byte_room = bytes; taken = taken; spare = spare }
 
 abbrev pub fresh : Kept
-fresh = kept fresh_history 0 0 (0, 0)
+fresh = kept fresh_history 0 0 (0, 0) (0, 0)
 
 -- room for so many more steps, with so many bytes in all; a history that does not collect needs none
 abbrev pub HasRoom : Kept → ℕ → ℕ → Type 0

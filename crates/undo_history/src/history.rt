@@ -49,6 +49,7 @@ impl Model for UndoHistory {
       step_room = h.step_room;
       byte_room = h.byte_room;
       taken = (length h.steps.items + h.steps.spare, length h.bytes.items + h.bytes.spare);
+      spare = (h.steps.spare, h.bytes.spare);
     } };
 
     ghost invariant = { λ h. record {
@@ -135,20 +136,25 @@ impl UndoHistory {
     }
 
     /// Makes room for so many more steps, with so many bytes in all, and gives none back. A block that is too small grows to
-    /// twice its size, or by what was asked where that is more. A history that does not collect takes none.
+    /// twice its size, or by what was asked where that is more, and one that is large enough stays as it is: where both are, no
+    /// memory is asked for. A history that does not collect takes none.
     ///
     /// # Errors
     ///
-    /// `AllocError` where memory is refused. All but `taken` is then as it was.
+    /// `AllocError` where memory is refused. All but `taken` and `spare` is then as it was.
     #[inline(always)]
     pub fn reserve(&mut self, steps: usize, bytes: usize) -> Result<(), AllocError>
         ensures same { self.new.history ≡ self.old.history }
         ensures ok { OnOk result (HasRoom self.new steps bytes) }
         ensures room_is_there { HasRoom self.old steps bytes → IsOk result × (self.new ≡ self.old) }
+        ensures memory_is_there { steps ≤ self.old.spare.0 → bytes ≤ self.old.spare.1 → IsOk result × (self.new ≡ record self.old { step_room = self.new.step_room; byte_room = self.new.byte_room }) }
         ensures room_stays { (self.old.step_room ≤ self.new.step_room) × (self.old.byte_room ≤ self.new.byte_room) }
         ensures rooms { (self.new.step_room ≤ max self.old.step_room steps) × (self.new.byte_room ≤ max self.old.byte_room bytes) }
         ensures at_most { (self.new.taken.0 ≤ max (2 * self.old.taken.0) (self.old.taken.0 + steps)) × (self.new.taken.1 ≤ max (2 * self.old.taken.1) (self.old.taken.1 + bytes)) }
-        ensures err { OnErr result (self.new ≡ record self.old { taken = self.new.taken }) }
+        ensures steps_stay { steps ≤ self.old.spare.0 → self.new.spare.0 ≡ self.old.spare.0 }
+        ensures bytes_stay { bytes ≤ self.old.spare.1 → self.new.spare.1 ≡ self.old.spare.1 }
+        ensures grown { (self.new.taken.0 + self.old.spare.0 ≡ self.old.taken.0 + self.new.spare.0) × (self.new.taken.1 + self.old.spare.1 ≡ self.old.taken.1 + self.new.spare.1) }
+        ensures err { OnErr result (self.new ≡ record self.old { taken = self.new.taken; spare = self.new.spare }) }
     {
         if !self.is_collecting {
             return Ok(());
@@ -169,7 +175,10 @@ impl UndoHistory {
         ensures room_stays { (self.old.step_room ≤ self.new.step_room) × (self.old.byte_room ≤ self.new.byte_room) }
         ensures rooms { (self.new.step_room ≤ max self.old.step_room steps) × (self.new.byte_room ≤ max self.old.byte_room bytes) }
         ensures at_most { (self.new.taken.0 ≤ max (2 * self.old.taken.0) (self.old.taken.0 + steps)) × (self.new.taken.1 ≤ max (2 * self.old.taken.1) (self.old.taken.1 + bytes)) }
-        ensures err { OnErr result (self.new ≡ record self.old { taken = self.new.taken }) }
+        ensures steps_stay { steps ≤ self.old.spare.0 → self.new.spare.0 ≡ self.old.spare.0 }
+        ensures bytes_stay { bytes ≤ self.old.spare.1 → self.new.spare.1 ≡ self.old.spare.1 }
+        ensures grown { (self.new.taken.0 + self.old.spare.0 ≡ self.old.taken.0 + self.new.spare.0) × (self.new.taken.1 + self.old.spare.1 ≡ self.old.taken.1 + self.new.spare.1) }
+        ensures err { OnErr result (self.new ≡ record self.old { taken = self.new.taken; spare = self.new.spare }) }
     {
         let Ok(()) = self.steps.reserve(steps) else {
             return Err(AllocError);
@@ -201,6 +210,8 @@ impl UndoHistory {
         ensures not_collecting { self.old.history.collecting ≡ false → self.new ≡ self.old }
         ensures steps_left { self.old.step_room ≤ self.new.step_room + 1 }
         ensures bytes_left { self.old.byte_room ≤ self.new.byte_room }
+        ensures spare { self.old.history.collecting ≡ true → self.old.history.future ≡ [] → (self.new.spare.0 + 1 ≡ self.old.spare.0) × (self.new.spare.1 ≡ self.old.spare.1) }
+        ensures spare_left { (self.old.spare.0 ≤ self.new.spare.0 + 1) × (self.old.spare.1 ≤ self.new.spare.1) }
     {
         self.append(false, ChangeKind::Container { token, coalesce }, &[]);
         if !coalesce && self.is_collecting {
@@ -235,9 +246,9 @@ impl UndoHistory {
         self.seal_outside_groups();
     }
 
-    /// Forgets everything. This is the save point, and no group is open.
+    /// Forgets everything, and keeps the memory for what comes. This is the save point, and no group is open.
     pub fn empty(&mut self)
-        ensures { self.new ≡ record self.old { history = emptied self.old.history } }
+        ensures { self.new ≡ record self.old { history = emptied self.old.history; spare = self.old.taken } }
     {
         self.steps.delete(0, self.steps.len());
         self.bytes.delete(0, self.bytes.len());
@@ -249,7 +260,7 @@ impl UndoHistory {
 
     /// Turns collecting on or off. Off, everything is forgotten but whether the document counts as modified.
     pub fn set_collecting(&mut self, on: bool)
-        ensures { self.new ≡ record self.old { history = collecting_set on self.old.history } }
+        ensures { self.new ≡ record self.old { history = collecting_set on self.old.history; spare = if on then self.old.spare else self.old.taken } }
     {
         if on {
             self.is_collecting = true;
@@ -352,6 +363,8 @@ impl UndoHistory {
         ensures not_collecting { self.old.history.collecting ≡ false → self.new ≡ self.old }
         ensures steps_left { self.old.step_room ≤ self.new.step_room + 1 }
         ensures bytes_left { self.old.byte_room ≤ self.new.byte_room + length bytes.now }
+        ensures spare { self.old.history.collecting ≡ true → self.old.history.future ≡ [] → (self.new.spare.0 + 1 ≡ self.old.spare.0) × (self.new.spare.1 + length bytes.now ≡ self.old.spare.1) }
+        ensures spare_left { (self.old.spare.0 ≤ self.new.spare.0 + 1) × (self.old.spare.1 ≤ self.new.spare.1 + length bytes.now) }
     {
         if !self.is_collecting {
             return false;
@@ -379,6 +392,8 @@ impl UndoHistory {
         ensures not_collecting { self.old.history.collecting ≡ false → self.new ≡ self.old }
         ensures steps_left { self.old.step_room ≤ self.new.step_room + 1 }
         ensures bytes_left { self.old.byte_room ≤ self.new.byte_room + length bytes.now }
+        ensures spare { self.old.history.collecting ≡ true → self.old.history.future ≡ [] → (self.new.spare.0 + 1 ≡ self.old.spare.0) × (self.new.spare.1 + length bytes.now ≡ self.old.spare.1) }
+        ensures spare_left { (self.old.spare.0 ≤ self.new.spare.0 + 1) × (self.old.spare.1 ≤ self.new.spare.1 + length bytes.now) }
     {
         if self.steps.len() > self.past {
             return self.append_instead(later, kind, place, bytes);
@@ -398,6 +413,8 @@ impl UndoHistory {
         ensures not_collecting { self.old.history.collecting ≡ false → self.new ≡ self.old }
         ensures steps_left { self.old.step_room ≤ self.new.step_room + 1 }
         ensures bytes_left { self.old.byte_room ≤ self.new.byte_room + length bytes.now }
+        ensures spare { self.old.history.collecting ≡ true → self.old.history.future ≡ [] → (self.new.spare.0 + 1 ≡ self.old.spare.0) × (self.new.spare.1 + length bytes.now ≡ self.old.spare.1) }
+        ensures spare_left { (self.old.spare.0 ≤ self.new.spare.0 + 1) × (self.old.spare.1 ≤ self.new.spare.1 + length bytes.now) }
     {
         let change = ChangeKind::Text { kind, place };
         self.append(later, change, bytes)
@@ -437,7 +454,9 @@ impl UndoHistory {
     // Drops what was undone, and a save point that could be reached only by redoing it.
     #[inline(always)]
     fn drop_future(&mut self)
-        ensures { self.new ≡ record self.old { history = without_future self.old.history } }
+        ensures dropped { self.new ≡ record self.old { history = without_future self.old.history; spare = self.new.spare } }
+        ensures nothing { self.old.history.future ≡ [] → self.new.spare ≡ self.old.spare }
+        ensures spare_left { (self.old.spare.0 ≤ self.new.spare.0) × (self.old.spare.1 ≤ self.new.spare.1) }
     {
         self.drop_undone();
         if is_lost(self.transactions, self.save_point) {
@@ -448,7 +467,9 @@ impl UndoHistory {
     // Drops what was undone. Mostly there is nothing.
     #[inline(always)]
     fn drop_undone(&mut self)
-        ensures { self.new ≡ record self.old { history = without_undone self.old.history } }
+        ensures dropped { self.new ≡ record self.old { history = without_undone self.old.history; spare = self.new.spare } }
+        ensures nothing { self.old.history.future ≡ [] → self.new.spare ≡ self.old.spare }
+        ensures spare_left { (self.old.spare.0 ≤ self.new.spare.0) × (self.old.spare.1 ≤ self.new.spare.1) }
     {
         if self.past < self.steps.len() {
             self.delete_undone();
@@ -458,7 +479,8 @@ impl UndoHistory {
     // Deletes what was undone.
     #[inline(never)]
     fn delete_undone(&mut self)
-        ensures { self.new ≡ record self.old { history = without_undone self.old.history } }
+        ensures dropped { self.new ≡ record self.old { history = without_undone self.old.history; spare = self.new.spare } }
+        ensures spare_left { (self.old.spare.0 ≤ self.new.spare.0) × (self.old.spare.1 ≤ self.new.spare.1) }
     {
         let kept = bytes_before(all_steps(&self.steps), self.past);
         let steps = self.steps.len();
@@ -477,6 +499,7 @@ impl UndoHistory {
         ensures taken { self.new.taken ≡ self.old.taken }
         ensures steps_left { self.new.step_room + 1 ≡ self.old.step_room }
         ensures bytes_left { self.new.byte_room + length bytes.now ≡ self.old.byte_room }
+        ensures spare { (self.new.spare.0 + 1 ≡ self.old.spare.0) × (self.new.spare.1 + length bytes.now ≡ self.old.spare.1) }
     {
         let stored = end_of(&self.bytes);
         self.bytes.insert_slice_reserved(stored, bytes);

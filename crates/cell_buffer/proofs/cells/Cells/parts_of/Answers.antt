@@ -23,45 +23,36 @@ slice_bounds-result-length-3 c =
     ap (λ t. length t.cells) (sym c.self.view_is) ∙ pairs_length b.bytes.items b.styles.items in
     sym (length-take-le n c.halves.result.1.now (omega (arith, both, all, c.requires)))
 
-pub returns-then-end-gap : goal.returns-then-end-gap
-returns-then-end-gap c =
+pub returns-then-end-gap-clause-joined : goal.returns-then-end-gap-clause-joined
+returns-then-end-gap-clause-joined c =
     let b = c.self.inside in
     let before = c.halves.result.0.now in
     let past = c.args.start + c.args.count in
     let bytes_are : bytes_of c.args.self.now.cells ≡ b.bytes.items =
     ap (λ t. bytes_of t.cells) (sym c.self.view_is) ∙ pairs_bytes b.bytes.items b.styles.items in
-    record {
-      joined =
-          append-nil (slice_range before c.args.start past)
-          ∙ range_before before c.halves.result.1.now c.args.start past (omega arith) (omega (arith, c.if-end-gap.true))
-          ∙ ap (λ t. slice_range t c.args.start past) (c.halves.ensures.joined ∙ sym bytes_are);
-    }
+    append-nil (slice_range before c.args.start past)
+    ∙ range_before before c.halves.result.1.now c.args.start past (omega arith) (omega (arith, c.if-end-gap.true))
+    ∙ ap (λ t. slice_range t c.args.start past) (c.halves.ensures.joined ∙ sym bytes_are)
 
-pub returns-then-gap-start : goal.returns-then-gap-start
-returns-then-gap-start c =
+pub returns-then-gap-start-clause-joined : goal.returns-then-gap-start-clause-joined
+returns-then-gap-start-clause-joined c =
     let b = c.self.inside in
     let before = c.halves.result.0.now in
     let behind = c.halves.result.1.now in
     let past = c.args.start + c.args.count in
     let bytes_are : bytes_of c.args.self.now.cells ≡ b.bytes.items =
     ap (λ t. bytes_of t.cells) (sym c.self.view_is) ∙ pairs_bytes b.bytes.items b.styles.items in
-    record {
-      joined =
-          append-nil (slice_range behind (c.args.start - length before) (past - length before))
-          ∙ range_behind before behind c.args.start past c.if-gap-start.true (omega arith)
-          ∙ ap (λ t. slice_range t c.args.start past) (c.halves.ensures.joined ∙ sym bytes_are);
-    }
+    append-nil (slice_range behind (c.args.start - length before) (past - length before))
+    ∙ range_behind before behind c.args.start past c.if-gap-start.true (omega arith)
+    ∙ ap (λ t. slice_range t c.args.start past) (c.halves.ensures.joined ∙ sym bytes_are)
 
-pub returns : goal.returns
-returns c =
+pub returns-clause-joined : goal.returns-clause-joined
+returns-clause-joined c =
     let b = c.self.inside in
     let before = c.halves.result.0.now in
     let behind = c.halves.result.1.now in
     let past = c.args.start + c.args.count in
     let bytes_are : bytes_of c.args.self.now.cells ≡ b.bytes.items =
     ap (λ t. bytes_of t.cells) (sym c.self.view_is) ∙ pairs_bytes b.bytes.items b.styles.items in
-    record {
-      joined =
-          range_across before behind c.args.start past (omega (arith, c.if-gap-start.false)) (omega (arith, c.if-end-gap.false))
-          ∙ ap (λ t. slice_range t c.args.start past) (c.halves.ensures.joined ∙ sym bytes_are);
-    }
+    range_across before behind c.args.start past (omega (arith, c.if-gap-start.false)) (omega (arith, c.if-end-gap.false))
+    ∙ ap (λ t. slice_range t c.args.start past) (c.halves.ensures.joined ∙ sym bytes_are)

@@ -1,4 +1,4 @@
-use Rattle.std.proofs.Common.{◌≡◌, ◌≤◌, ◌+◌, ◌-◌, ◌∙◌, ap, ap₂, arith, length, take}
+use Rattle.std.proofs.Common.{ℕ, ◌≡◌, ◌≤◌, ◌+◌, ◌-◌, ◌∙◌, ap, ap₂, arith, length, take}
 use Rattle.std.proofs.lemmas.List.{length-take-le}
 use Rattle.undo_history.specs.Kept.{Kept, kept}
 use Rattle.undo_history.specs.Dropping.{without_undone}
@@ -39,8 +39,8 @@ invariant_of-self c =
       byte_gap = grind (arith, c.delete-2.ensures.gap, c.len-bytes.ensures.len, c.self.invariant.byte_gap, ap length bytes_are, length-take-le k bytes within);
     }
 
-pub returns : goal.returns
-returns c =
+pub returns-clause-dropped : goal.returns-clause-dropped
+returns-clause-dropped c =
     let i = c.self.inside in
     let rs = i.steps.items in
     let bytes = i.bytes.items in
@@ -58,5 +58,6 @@ returns c =
     omega (arith, ap length steps_are, length-take-le i.past rs c.self.invariant.in_order.there, c.delete.ensures.spare, c.len-steps.ensures.len) in
     let bytes_taken : length c.delete-2.new.self.items + c.delete-2.new.self.spare ≡ length bytes + i.bytes.spare =
     omega (arith, ap length bytes_are, length-take-le k bytes within, c.delete-2.ensures.spare, c.len-bytes.ensures.len) in
-    ap₂ (λ h t. kept h i.step_room i.byte_room t) view (ap₂ (λ a b. (a, b)) steps_taken bytes_taken)
-    ∙ ap (λ (k : Kept). kept (without_undone k.history) k.step_room k.byte_room k.taken) c.self.view_is
+    let spare : ℕ × ℕ = (c.delete.new.self.spare, c.delete-2.new.self.spare) in
+    ap₂ (λ h t. kept h i.step_room i.byte_room t spare) view (ap₂ (λ a b. (a, b)) steps_taken bytes_taken)
+    ∙ ap (λ (k : Kept). kept (without_undone k.history) k.step_room k.byte_room k.taken spare) c.self.view_is

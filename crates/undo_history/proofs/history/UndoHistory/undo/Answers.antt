@@ -54,5 +54,7 @@ returns c =
     ap (λ a. history_of (entries_in a bytes) start i.save_point i.depth i.is_collecting) c.seal.ensures.items
     ∙ undone_view rs bytes i.past i.transactions start i.depth i.save_point i.is_collecting c.self.invariant.in_order (omega arith) (ap (λ n. i.past - n) count) in
     let taken : length c.seal.new.steps.items + c.seal.new.steps.spare ≡ length rs + i.steps.spare = omega (arith, ap length c.seal.ensures.items, with_sealed_length start rs, c.seal.ensures.spare) in
-    ap₂ (λ h n. kept h i.step_room i.byte_room (n, length bytes + i.bytes.spare)) view taken
-    ∙ ap (λ (k : Kept). kept (undone k.history) k.step_room k.byte_room k.taken) c.self.view_is
+    let spare : c.seal.new.steps.spare ≡ i.steps.spare = c.seal.ensures.spare in
+    ap₂ (λ h n. kept h i.step_room i.byte_room (n, length bytes + i.bytes.spare) (c.seal.new.steps.spare, i.bytes.spare)) view taken
+    ∙ ap (λ n. kept (undone (history_of (entries_in rs bytes) i.past i.save_point i.depth i.is_collecting)) i.step_room i.byte_room (length rs + i.steps.spare, length bytes + i.bytes.spare) (n, i.bytes.spare)) spare
+    ∙ ap (λ (k : Kept). kept (undone k.history) k.step_room k.byte_room k.taken k.spare) c.self.view_is
