@@ -109,3 +109,13 @@ returns-clause-memory_is_there g c =
       ap (λ values. decorated d.size values d.room (Some indicator) (held_by after.slots.items (vec_capacity after.slots) after.spare)) (grown_shown c.in-Some.runs d.size d.slots.items after.slots.items made.same)
           ∙ ap (λ (now : Held). decorated d.size (all_shown d.size d.slots.items) d.room (Some indicator) now) same,
     ))
+
+pub returns-in_default-reserve_one-clause-slots_at_most : goal.returns-in_default-reserve_one-clause-slots_at_most
+returns-in_default-reserve_one-clause-slots_at_most g c =
+    let was = c.in_default-reserve_one.ensures in
+    rw (← c.self.view_is) record { slots = was.slots.0; capacity = was.slots.1; there = was.capacity_stays }
+
+pub returns-clause-slots_at_most : goal.returns-clause-slots_at_most
+returns-clause-slots_at_most g c =
+    let made = c.in-Ok.ensures in
+    rw (← c.self.view_is) record { slots = made.slots.0; capacity = made.slots.1; there = made.capacity_stays }
