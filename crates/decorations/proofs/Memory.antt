@@ -1,16 +1,19 @@
 -- How much memory there is for runs.
 use Rattle.std.proofs.Common.{◌≡◌, ◌≢◌, ℕ, zero, suc, ◌<◌, ◌≤◌, List, [], ◌∷◌, length, replicate, set, Option, Some, None, IfSome, MatchOption, refl, sym, ap, ◌∙◌, subst, arith, nat_eq, inl, inr}
-use Rattle.std.proofs.lemmas.Bool.{cases_lt}
-use Rattle.std.proofs.lemmas.List.{get_or-set_same, get_or-set_other}
+use Rattle.std.proofs.lemmas.Bool.{cases_lt, cases_eq}
+use Rattle.std.proofs.lemmas.List.{get_or-set_same, get_or-set_other, get_or_past}
 use Rattle.run_styles.specs.Runs.{Runs, Spare, spare, IsSpareFor, IsSameMemory, run_count}
-use Rattle.decorations.specs.Decorated.{Decorated, decorated, values_of, spare_of, AreRunsFor, IsClear, HasRunsOf, HaveRunsOf, WereFilledFrom}
+use Rattle.decorations.specs.Decorated.{Decorated, decorated, Held, values_of, spare_of, AreRunsFor, AreEnough, IsEnough, IsEnoughFor, IsClear, HasRunsOf, HaveRunsOf, WereFilledFrom}
 use Rattle.decorations.specs.Slots.{slot_at, slot_spare, source_spare, held_by, shown, all_shown, IsKept, InBoth, InEach, HaveRoomOf, TookIn, GaveAway, WasFilled}
-use Rattle.decorations.proofs.Numbered.{numbered_at}
+use Rattle.decorations.proofs.Numbered.{numbered_at, numbered_same}
 use Rattle.decorations.proofs.Values.{zeros_clear}
 
 -- memory that stays is no more than may be asked for
 pub spare_stays : (runs count : ℕ) (s : Spare) → IsSpareFor runs count s s
-spare_stays runs count s = record { starts = omega arith; values = omega arith }
+spare_stays runs count s = record { starts = omega arith; values = omega arith; starts_there = λ _. refl; values_there = λ _. refl }
+
+pub runs_stay : (count : ℕ) (values : List (List ℕ)) (held : Held) → AreRunsFor count values held held
+runs_stay count values held = record { each = λ k h. spare_stays (run_count nat_eq (values_of values k)) count (spare_of held k); unused = spare_stays 1 count held.unused }
 
 -- a list of no place is one run
 pub one_run : (values : List ℕ) → length values ≡ 0 → run_count nat_eq values ≡ 1
@@ -55,6 +58,108 @@ pub same_elsewhere : (capacity capacity' indicator : ℕ) (old new : List (Optio
     (k : ℕ) → k < 32 → k ≢ indicator → spare_of (held_by new capacity' unused') k ≡ spare_of (held_by old capacity unused) k
 same_elsewhere capacity capacity' indicator old new unused unused' others k h apart =
     held_at new capacity' unused' k h ∙ ap slot_spare (others k apart) ∙ sym (held_at old capacity unused k h)
+
+-- The memory is there.
+
+spare_same : (runs count : ℕ) (old new : Spare) → IsEnough count old → IsSpareFor runs count old new → new ≡ old
+spare_same runs count old new enough grown = ap (λ n. spare n new.values) (grown.starts_there enough.starts) ∙ ap (λ n. spare old.starts n) (grown.values_there enough.values)
+
+-- that of the runs of a slot stays
+pub slot_same : (count : ℕ) (old new : Option (Runs ℕ)) → InBoth (HaveRoomOf count) old new → IfSome old (λ (runs : Runs ℕ). IsEnough count runs.spare) → slot_spare new ≡ slot_spare old
+slot_same count None None grown enough = refl
+slot_same count None (Some new) grown enough = cc
+slot_same count (Some old) None grown enough = absurd grown
+slot_same count (Some old) (Some new) grown enough = spare_same (run_count nat_eq old.values) count old.spare new.spare enough grown.spare
+
+-- and that of the spare runs
+pub unused_same : (count : ℕ) (unused unused' : Option (Runs ℕ)) → IsEnough count (slot_spare unused) → IsSpareFor 1 count (slot_spare unused) (slot_spare unused') → slot_spare unused' ≡ slot_spare unused
+unused_same count unused unused' enough grown = spare_same 1 count (slot_spare unused) (slot_spare unused') enough grown
+
+pub unused_there : (count : ℕ) (unused : Option (Runs ℕ)) → 0 < count → IsEnough count (slot_spare unused) → MatchOption unused ⊥ (λ (runs : Runs ℕ). IsEnough count runs.spare)
+unused_there count None some enough = absurd (omega (arith, some, enough.starts))
+unused_there count (Some runs) some enough = enough
+
+pub unused_enough : (count : ℕ) (unused : Option (Runs ℕ)) → IsEnough count (slot_spare unused) → IfSome unused (λ (runs : Runs ℕ). IsEnough count runs.spare)
+unused_enough count None enough = tt
+unused_enough count (Some runs) enough = enough
+
+enough_in : (size count room : ℕ) (slot : Option (Runs ℕ)) → IsKept size room slot → ((IsClear (shown size slot) → ⊥) → IsEnough count (slot_spare slot)) → IfSome slot (λ (runs : Runs ℕ). IsEnough count runs.spare)
+enough_in size count room None kept enough = tt
+enough_in size count room (Some runs) kept enough = enough kept.used
+
+-- that of each slot, as a contract sees it
+pub enough_each : (size count capacity : ℕ) (rooms : ℕ → ℕ) (slots : List (Option (Runs ℕ))) (unused : Option (Runs ℕ)) → length slots ≤ 32 → ((k : ℕ) → IsKept size (rooms k) (slot_at slots k)) →
+    AreEnough count (all_shown size slots) (held_by slots capacity unused) → (k : ℕ) → IfSome (slot_at slots k) (λ (runs : Runs ℕ). IsEnough count runs.spare)
+enough_each size count capacity rooms slots unused few kept enough k =
+    elim (cases_lt k 32) [
+      | inl inside ↦
+          let values : values_of (all_shown size slots) k ≡ shown size (slot_at slots k) = numbered_at (λ j. shown size (slot_at slots j)) k _ inside in
+          let Q : List ℕ → Type 0 = IsClear in
+          let R : Spare → Type 0 = IsEnough count in
+          enough_in size count (rooms k) (slot_at slots k) (kept k) (λ unclear. subst R (held_at slots capacity unused k inside) (enough.each k inside (λ clear. unclear (subst Q values clear))))
+      | inr past ↦
+          let Q : Option (Runs ℕ) → Type 0 = λ s. IfSome s (λ (runs : Runs ℕ). IsEnough count runs.spare) in
+          let past' : length slots ≤ k = omega (arith, few, past) in
+          subst Q (sym (get_or_past slots k None past')) tt
+    ]
+
+-- and that of one slot
+enough_one : (size count room : ℕ) (slot unused : Option (Runs ℕ)) → 0 < count → IsKept size room slot → ((IsClear (shown size slot) → ⊥) → IsEnough count (slot_spare slot)) → (IsClear (shown size slot) → IsEnough count (slot_spare unused)) →
+    MatchOption slot (MatchOption unused ⊥ (λ (runs : Runs ℕ). IsEnough count runs.spare)) (λ (runs : Runs ℕ). IsEnough count runs.spare)
+enough_one size count room None unused some kept used clear = unused_there count unused some (clear (zeros_clear size))
+enough_one size count room (Some runs) unused some kept used clear = used kept.used
+
+pub enough_for : (size count capacity room indicator : ℕ) (slots : List (Option (Runs ℕ))) (unused : Option (Runs ℕ)) → 0 < count → indicator < 32 → IsKept size room (slot_at slots indicator) →
+    IsEnoughFor count indicator (all_shown size slots) (held_by slots capacity unused) →
+    MatchOption (slot_at slots indicator) (MatchOption unused ⊥ (λ (runs : Runs ℕ). IsEnough count runs.spare)) (λ (runs : Runs ℕ). IsEnough count runs.spare)
+enough_for size count capacity room indicator slots unused some inside kept enough =
+    let values : values_of (all_shown size slots) indicator ≡ shown size (slot_at slots indicator) = numbered_at (λ j. shown size (slot_at slots j)) indicator _ inside in
+    let Q : List ℕ → Type 0 = IsClear in
+    let R : Spare → Type 0 = IsEnough count in
+    enough_one size count room (slot_at slots indicator) unused some kept
+    (λ unclear. subst R (held_at slots capacity unused indicator inside) (enough.used (λ clear. unclear (subst Q values clear))))
+    (λ clear. enough.clear (subst Q (sym values) clear))
+
+-- where one slot was to have memory that was there, that of all stays
+pub one_same : (count indicator : ℕ) (old new : List (Option (Runs ℕ))) (unused : Option (Runs ℕ)) → InEach (InBoth (HaveRoomOf count)) old new → ((k : ℕ) → k ≢ indicator → slot_at new k ≡ slot_at old k) →
+    MatchOption (slot_at old indicator) (MatchOption unused ⊥ (λ (runs : Runs ℕ). IsEnough count runs.spare)) (λ (runs : Runs ℕ). IsEnough count runs.spare) → (k : ℕ) → slot_spare (slot_at new k) ≡ slot_spare (slot_at old k)
+one_same count indicator old new unused grown others enough k =
+    elim (cases_eq k indicator) [
+      | inl same ↦ rw same (slot_same count (slot_at old indicator) (slot_at new indicator) (grown indicator) (match_if (slot_at old indicator) _ (λ (runs : Runs ℕ). IsEnough count runs.spare) enough))
+      | inr apart ↦ ap slot_spare (others k apart)
+    ]
+  where
+    match_if : (slot : Option (Runs ℕ)) (A : Type 0) (P : Runs ℕ → Type 0) → MatchOption slot A P → IfSome slot P
+    match_if None A P h = tt
+    match_if (Some runs) A P h = h
+
+-- and that of the spare runs, whether the slot has runs or not
+pub one_unused : (count : ℕ) (slot unused unused' : Option (Runs ℕ)) → MatchOption slot (MatchOption unused ⊥ (λ (runs : Runs ℕ). IsEnough count runs.spare)) (λ (runs : Runs ℕ). IsEnough count runs.spare) →
+    IsSpareFor 1 count (slot_spare unused) (slot_spare unused') → IfSome slot (λ _. unused' ≡ unused) → slot_spare unused' ≡ slot_spare unused
+one_unused count None None unused' enough grown stays = absurd enough
+one_unused count None (Some runs) unused' enough grown stays = spare_same 1 count runs.spare (slot_spare unused') enough grown
+one_unused count (Some runs) unused unused' enough grown stays = ap slot_spare stays
+
+-- runs of an indicator that is not 0 everywhere leave the spare ones as they are
+unclear_unused : (size : ℕ) (slot unused unused' : Option (Runs ℕ)) → IfSome slot (λ _. unused' ≡ unused) → (IsClear (shown size slot) → ⊥) → slot_spare unused' ≡ slot_spare unused
+unclear_unused size None unused unused' stays unclear = absurd (unclear (zeros_clear size))
+unclear_unused size (Some runs) unused unused' stays unclear = ap slot_spare stays
+
+pub unused_stays : (size indicator : ℕ) (slots : List (Option (Runs ℕ))) (unused unused' : Option (Runs ℕ)) → indicator < 32 → IfSome (slot_at slots indicator) (λ _. unused' ≡ unused) → (IsClear (values_of (all_shown size slots) indicator) → ⊥) →
+    slot_spare unused' ≡ slot_spare unused
+unused_stays size indicator slots unused unused' inside stays unclear =
+    let values : values_of (all_shown size slots) indicator ≡ shown size (slot_at slots indicator) = numbered_at (λ j. shown size (slot_at slots j)) indicator _ inside in
+    let Q : List ℕ → Type 0 = IsClear in
+    unclear_unused size (slot_at slots indicator) unused unused' stays (λ clear. unclear (subst Q (sym values) clear))
+
+-- what a contract sees of it
+pub held_same : (n capacity capacity' : ℕ) (old new : List (Option (Runs ℕ))) (unused unused' : Option (Runs ℕ)) → ((k : ℕ) → slot_spare (slot_at new k) ≡ slot_spare (slot_at old k)) → slot_spare unused' ≡ slot_spare unused →
+    length new ≡ n → capacity' ≡ capacity → held_by new capacity' unused' ≡ record (held_by old capacity unused) { slots = n }
+held_same n capacity capacity' old new unused unused' each spares slots capacities =
+    let held : List Spare → Spare → ℕ → ℕ → Held = λ runs unused slots capacity. record { runs = runs; unused = unused; slots = slots; capacity = capacity } in
+    let old_runs = (held_by old capacity unused).runs in
+    ap (λ runs. held runs (slot_spare unused') (length new) capacity') (numbered_same (λ k. slot_spare (slot_at new k)) (λ k. slot_spare (slot_at old k)) each)
+    ∙ ap (λ s. held old_runs s (length new) capacity') spares ∙ ap (λ m. held old_runs (slot_spare unused) m capacity') slots ∙ ap (held old_runs (slot_spare unused) n) capacities
 
 -- No runs took memory.
 

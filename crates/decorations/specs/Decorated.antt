@@ -40,15 +40,18 @@ values_of values indicator = slice_index_or values indicator []
 abbrev pub spare_of : Held → ℕ → Spare
 spare_of held indicator = slice_index_or held.runs indicator (spare 0 0)
 
--- of each indicator there is memory for no more runs than were asked for, `count` more, or than in blocks of twice the size
+-- Of each indicator there is memory for no more runs than were asked for, `count` more, or than in blocks of twice the size, and for no more
+-- than before where it was there for so many already.
 pub record AreRunsFor (count : ℕ) (values : List (List ℕ)) (old new : Held) : Type 0 where
   pub each : (k : ℕ) → k < 32 → IsSpareFor (run_count nat_eq (values_of values k)) count (spare_of old k) (spare_of new k)
   pub unused : IsSpareFor 1 count old.unused new.unused
 
--- so many indicators have a slot, or as many as before if these are more, and no more than that, or than twice as many as before, may have one
+-- So many indicators have a slot, or as many as before if these are more, and no more than that, or than twice as many as before, may have one;
+-- no more than before where so many might already.
 pub record AreSlotsFor (count : ℕ) (old new : Held) : Type 0 where
   pub slots : new.slots ≤ max old.slots count
   pub capacity : new.capacity ≤ max old.capacity (max count (2 * old.slots))
+  pub there : count ≤ old.capacity → new.capacity ≡ old.capacity
 
 -- they are as many
 pub record HaveSlotsOf (old new : Held) : Type 0 where
@@ -58,6 +61,21 @@ pub record HaveSlotsOf (old new : Held) : Type 0 where
 -- 0 everywhere
 abbrev pub IsClear : List ℕ → Type 0
 IsClear values = All (λ v. v ≡ 0) values
+
+-- there is memory for so many more runs
+pub record IsEnough (count : ℕ) (memory : Spare) : Type 0 where
+  pub starts : count ≤ memory.starts
+  pub values : count ≤ memory.values
+
+-- the same of each indicator that is not 0 everywhere, and of the next one that gets runs
+pub record AreEnough (count : ℕ) (values : List (List ℕ)) (held : Held) : Type 0 where
+  pub each : (k : ℕ) → k < 32 → (IsClear (values_of values k) → ⊥) → IsEnough count (spare_of held k)
+  pub unused : IsEnough count held.unused
+
+-- the same of one indicator, or, where it is 0 everywhere, of the next one that gets runs
+pub record IsEnoughFor (count indicator : ℕ) (values : List (List ℕ)) (held : Held) : Type 0 where
+  pub used : (IsClear (values_of values indicator) → ⊥) → IsEnough count (spare_of held indicator)
+  pub clear : IsClear (values_of values indicator) → IsEnough count held.unused
 
 -- how many runs of one value an indicator has
 abbrev pub runs_of : Decorated → ℕ → ℕ

@@ -1,10 +1,10 @@
 //! `Decorations` and its calls.
-ghost use Rattle.std.specs.Prelude.{◌≡◌, ◌≤◌, ◌<◌, ◌+◌, ◌≢◌, ◌↔◌, ℕ, List, [], length, max, replicate, pos, slice_set, Option, Some, None, IsTrue, OnOk, OnErr, IsOk};
+ghost use Rattle.std.specs.Prelude.{◌≡◌, ◌≤◌, ◌<◌, ◌+◌, ◌^◌, ◌≢◌, ◌↔◌, ℕ, List, [], length, max, replicate, pos, slice_set, Option, Some, None, IsTrue, OnOk, OnErr, IsOk};
 ghost use Rattle.std.specs.List.{AllByRecursion};
 ghost use Rattle.ed_model.specs.Indicators.{indicators_after, filled, changed_range};
 ghost use Rattle.ed_model.specs.Steps.{Insert, Delete};
 ghost use Rattle.ed_model.specs.TextPlans.{at_place};
-ghost use Rattle.decorations.specs.Decorated.{decorated, nothing_held, values_of, spare_of, AreRunsFor, AreSlotsFor, HaveSlotsOf, HaveRunsOf, WereFilledFrom, IsClear, run_about, mask_of};
+ghost use Rattle.decorations.specs.Decorated.{decorated, nothing_held, values_of, spare_of, AreRunsFor, AreSlotsFor, HaveSlotsOf, HaveRunsOf, WereFilledFrom, IsClear, AreEnough, IsEnoughFor, run_about, mask_of};
 
 use crate::slots::{
     Slot, delete_from_all, fill_slot, insert_into_all, reserve_all, reserve_one, runs_in,
@@ -114,7 +114,8 @@ impl<P: Place> Decorations<P> {
         mask
     }
 
-    /// Makes room for `insertions` insertions.
+    /// Makes room for `insertions` insertions. Where no indicator was ever filled no memory is taken, and where the memory is there
+    /// for so many and a fill, none is taken either: it cannot fail then.
     ///
     /// # Errors
     ///
@@ -125,6 +126,8 @@ impl<P: Place> Decorations<P> {
         ensures room_is_there { insertions ≤ self.old.room → IsOk result × (self.new ≡ self.old) }
         ensures runs_at_most { AreRunsFor (insertions + 3) self.old.values self.old.held self.new.held }
         ensures slots { HaveSlotsOf self.old.held self.new.held }
+        ensures none { self.old.held.slots ≡ 0 → IsOk result × (self.new ≡ record self.old { room = max self.old.room insertions }) }
+        ensures memory_is_there { insertions + 3 < 2 ^ 64 → AreEnough (insertions + 3) self.old.values self.old.held → IsOk result × (self.new ≡ record self.old { room = max self.old.room insertions }) }
         ensures err { OnErr result (self.new ≡ record self.old { held = self.new.held }) }
     {
         if insertions <= self.room {
@@ -144,6 +147,7 @@ impl<P: Place> Decorations<P> {
         ensures ok { OnOk result (self.new ≡ record self.old { room = max self.old.room insertions; held = self.new.held }) }
         ensures runs_at_most { AreRunsFor (insertions + 3) self.old.values self.old.held self.new.held }
         ensures slots { HaveSlotsOf self.old.held self.new.held }
+        ensures memory_is_there { insertions + 3 < 2 ^ 64 → AreEnough (insertions + 3) self.old.values self.old.held → IsOk result × (self.new ≡ record self.old { room = max self.old.room insertions }) }
         ensures err { OnErr result (self.new ≡ record self.old { held = self.new.held }) }
     {
         // Room for a fill too, should one be reserved.
@@ -158,7 +162,8 @@ impl<P: Place> Decorations<P> {
     }
 
     /// Makes room for one fill of an indicator, in place of the one that was reserved before. The room lasts up to the
-    /// next fill, insertion or deletion.
+    /// next fill, insertion or deletion. Where the memory is there for the indicator's slot and its runs, none is taken, and it
+    /// cannot fail; the memory for the next indicator that gets runs stays as it is where this one has runs.
     ///
     /// # Errors
     ///
@@ -170,6 +175,8 @@ impl<P: Place> Decorations<P> {
         ensures runs_at_most { AreRunsFor (self.old.room + 3) self.old.values self.old.held self.new.held }
         ensures others { (k : ℕ) → k < 32 → k ≢ indicator → spare_of self.new.held k ≡ spare_of self.old.held k }
         ensures slots_at_most { AreSlotsFor (indicator + 1) self.old.held self.new.held }
+        ensures unused { (IsClear (values_of self.old.values indicator) → ⊥) → self.new.held.unused ≡ self.old.held.unused }
+        ensures memory_is_there { self.old.room + 3 < 2 ^ 64 → indicator < self.old.held.capacity → IsEnoughFor (self.old.room + 3) indicator self.old.values self.old.held → IsOk result × (self.new ≡ record self.old { ready = Some indicator; held = record self.old.held { slots = max self.old.held.slots (indicator + 1) } }) }
         ensures err { OnErr result (self.new ≡ record self.old { held = self.new.held }) }
     {
         if self.ready == Some(indicator) {

@@ -1,9 +1,10 @@
 //! What a step does to the runs of all indicators in use. A slot without runs stands for an indicator that is 0
 //! everywhere.
-ghost use Rattle.std.specs.Prelude.{◌≡◌, ◌≤◌, ◌<◌, ◌+◌, ◌≢◌, ◌*◌, ℕ, length, max, Some, None, IfSome, IfNone, MatchOption, OnOk, nat_eq, vec_len, vec_capacity};
+ghost use Rattle.std.specs.Prelude.{◌≡◌, ◌≤◌, ◌<◌, ◌+◌, ◌≢◌, ◌*◌, ℕ, length, max, Some, None, IfSome, IfNone, MatchOption, OnOk, IsOk, nat_eq, vec_len, vec_capacity};
 ghost use Rattle.ed_model.specs.Indicators.{filled, changed_range};
 ghost use Rattle.std.specs.Option.{is_some, option_copied};
 ghost use Rattle.run_styles.specs.Runs.{IsSpareFor, IsSameMemory, run_count};
+ghost use Rattle.decorations.specs.Decorated.{IsEnough};
 ghost use Rattle.decorations.specs.Slots.{slot_at, slot_spare, AreSpare, HasSpare, InBoth, InEach, HaveRoomOf, AreKept, CanTakeIn, TookIn, GaveAway, WasFilled, shown, source_spare};
 
 use partitioning::Place;
@@ -31,6 +32,8 @@ fn reserve_slots<P: Place>(slots: &mut Vec<Slot<P>>, count: usize) -> Result<(),
     ensures ok { OnOk result (count ≤ length slots.new.items) }
     ensures few { (most : ℕ) → length slots.old.items ≤ most → count ≤ most → length slots.new.items ≤ most }
     ensures capacity { vec_capacity slots.new ≤ max (vec_capacity slots.old) (max count (2 * length slots.old.items)) }
+    ensures capacity_stays { count ≤ vec_capacity slots.old → vec_capacity slots.new ≡ vec_capacity slots.old }
+    ensures memory_is_there { count ≤ vec_capacity slots.old → IsOk result }
 {
     vec_room::reserve(slots, count.saturating_sub(slots.len()))?;
     while slots.len() < count {
@@ -43,6 +46,7 @@ fn reserve_slots<P: Place>(slots: &mut Vec<Slot<P>>, count: usize) -> Result<(),
 fn reserve_in<P: Place>(slot: &mut Slot<P>, room: usize) -> Result<(), AllocError>
     ensures same { InBoth (HaveRoomOf room) slot.old slot.new }
     ensures ok { OnOk result (IfSome slot.new (λ runs. room ≤ runs.room)) }
+    ensures memory_is_there { IfSome slot.old (λ runs. IsEnough room runs.spare) → IsOk result }
 {
     if let Some(runs) = slot {
         return runs.reserve(room);
@@ -56,6 +60,7 @@ fn reserve_runs<P: Place>(slots: &mut Vec<Slot<P>>, room: usize) -> Result<(), A
     ensures length { length slots.new.items ≡ length slots.old.items }
     ensures capacity { vec_capacity slots.new ≡ vec_capacity slots.old }
     ensures ok { OnOk result ((k : ℕ) → IfSome (slot_at slots.new.items k) (λ runs. room ≤ runs.room)) }
+    ensures memory_is_there { ((k : ℕ) → IfSome (slot_at slots.old.items k) (λ runs. IsEnough room runs.spare)) → IsOk result }
 {
     for slot in slots.iter_mut() {
         reserve_in(slot, room)?;
@@ -74,6 +79,7 @@ fn reserve_spare<P: Place>(
     ensures unused { IfSome spare.new (AreSpare 0) }
     ensures stays { (less : ℕ) → HasSpare less spare.old → HasSpare less spare.new }
     ensures spare_at_most { IsSpareFor 1 room (slot_spare spare.old) (slot_spare spare.new) }
+    ensures memory_is_there { MatchOption spare.old ⊥ (λ runs. IsEnough room runs.spare) → IsOk result }
 {
     if let Some(runs) = spare {
         return runs.reserve(room);
@@ -173,6 +179,8 @@ fn reserve_slot<P: Place>(
     ensures unused { IfSome spare.new (AreSpare 0) }
     ensures stays { (less : ℕ) → HasSpare less spare.old → HasSpare less spare.new }
     ensures spare_at_most { IsSpareFor 1 room (slot_spare spare.old) (slot_spare spare.new) }
+    ensures spare_stays { IfSome slot.old (λ _. spare.new ≡ spare.old) }
+    ensures memory_is_there { MatchOption slot.old (MatchOption spare.old ⊥ (λ runs. IsEnough room runs.spare)) (λ runs. IsEnough room runs.spare) → IsOk result }
 {
     if let Some(runs) = slot {
         return runs.reserve(room);
@@ -215,6 +223,7 @@ pub(crate) fn reserve_all<P: Place>(
     ensures unused { IfSome spare.new (AreSpare 0) }
     ensures stays { (less : ℕ) → HasSpare less spare.old → HasSpare less spare.new }
     ensures spare_at_most { IsSpareFor 1 room (slot_spare spare.old) (slot_spare spare.new) }
+    ensures memory_is_there { ((k : ℕ) → IfSome (slot_at slots.old.items k) (λ runs. IsEnough room runs.spare)) → IfSome spare.old (λ runs. IsEnough room runs.spare) → IsOk result }
 {
     reserve_runs(slots, room)?;
     if let Some(runs) = spare {
@@ -242,6 +251,9 @@ pub(crate) fn reserve_one<P: Place>(
     ensures unused { IfSome spare.new (AreSpare 0) }
     ensures stays { (less : ℕ) → HasSpare less spare.old → HasSpare less spare.new }
     ensures spare_at_most { IsSpareFor 1 room (slot_spare spare.old) (slot_spare spare.new) }
+    ensures spare_stays { IfSome (slot_at slots.old.items indicator) (λ _. spare.new ≡ spare.old) }
+    ensures capacity_stays { indicator + 1 ≤ vec_capacity slots.old → vec_capacity slots.new ≡ vec_capacity slots.old }
+    ensures memory_is_there { indicator + 1 ≤ vec_capacity slots.old → MatchOption (slot_at slots.old.items indicator) (MatchOption spare.old ⊥ (λ runs. IsEnough room runs.spare)) (λ runs. IsEnough room runs.spare) → IsOk result }
 {
     reserve_slots(slots, indicator + 1)?;
     reserve_slot(&mut slots[indicator], spare, alloc, room)

@@ -69,11 +69,12 @@ impl<A: Allocator> PlacedMarkers<A> {
         self.stored.len()
     }
 
-    /// Makes room for `count` more markers.
+    /// Makes room for `count` more markers. No memory is taken where it is there for them.
     pub(crate) fn reserve(&mut self, count: usize) -> Result<(), AllocError>
         ensures ok { OnOk result (self.new ≡ record self.old { room = max self.old.room count; block = self.new.block }) }
         ensures room_is_there { count ≤ self.old.room → IsOk result × (self.new ≡ self.old) }
         ensures block_at_most { self.new.block ≤ most_room 0 self.old.block (length self.old.entries + count) }
+        ensures memory_is_there { length self.old.entries + count ≤ self.old.block → IsOk result × (self.new ≡ record self.old { room = max self.old.room count }) }
         ensures err { OnErr result (self.new ≡ self.old) }
     {
         if count <= self.room {

@@ -76,8 +76,8 @@ impl<A: Allocator> MarkerStore<A> {
         self.next_handle
     }
 
-    /// Makes room for `count` more markers, on whichever lines. Memory is taken for all markers that are then to fit in, or
-    /// for twice as many as there was for.
+    /// Makes room for `count` more markers, on whichever lines. Where the memory is there for all markers that are then to fit in,
+    /// none is taken, and it cannot fail. Else memory is taken for so many, or for twice as many as there was for.
     ///
     /// # Errors
     ///
@@ -88,6 +88,7 @@ impl<A: Allocator> MarkerStore<A> {
         ensures room_stays { self.old.room ≤ self.new.room }
         ensures at_most { self.new.room ≤ max self.old.room count }
         ensures block_at_most { self.new.block ≤ most_room 0 self.old.block (marker_total self.old.lines + count) }
+        ensures memory_is_there { marker_total self.old.lines + count ≤ self.old.block → IsOk result × (self.new ≡ record self.old { room = max self.old.room count }) }
         ensures err { OnErr result (self.new ≡ self.old) }
     {
         self.placed.reserve(count)

@@ -11,10 +11,13 @@ pub record Spare : Type 0 where
 abbrev pub spare : ℕ → ℕ → Spare
 spare starts values = record { starts = starts; values = values }
 
--- of so many runs there is room for no more than what was asked for, `count`, or than what blocks of twice the size have
+-- Of so many runs there is room for no more than what was asked for, `count`, or than what blocks of twice the size have. Where the memory
+-- for `count` was there already, none came.
 pub record IsSpareFor (runs count : ℕ) (old new : Spare) : Type 0 where
   pub starts : new.starts ≤ most_room runs old.starts count
   pub values : new.values ≤ most_room runs old.values count
+  pub starts_there : count ≤ old.starts → new.starts ≡ old.starts
+  pub values_there : count ≤ old.values → new.values ≡ old.values
 
 -- No memory came or went: with `was` runs before and `now` runs then, those that there are and those that fit in beside them are as many.
 pub record IsSameMemory (was : ℕ) (old : Spare) (now : ℕ) (new : Spare) : Type 0 where

@@ -118,7 +118,8 @@ impl<P: Place, V: Copy + Eq, A: Allocator> RunStyles<P, V, A> {
         self.starts.length() == 0 || self.starts.count() == 1 && self.values.get(0) == value
     }
 
-    /// Makes room for `count` more runs.
+    /// Makes room for `count` more runs. Where there is memory for so many starts, none is taken for starts, and likewise for
+    /// values: where there is for both, it cannot fail.
     ///
     /// # Errors
     ///
@@ -129,7 +130,9 @@ impl<P: Place, V: Copy + Eq, A: Allocator> RunStyles<P, V, A> {
         ensures room_stays { self.old.room ≤ self.new.room }
         ensures at_most { OnOk result (self.new.room ≤ max self.old.room count) }
         ensures spare_at_most { IsSpareFor (run_count V.eq self.old.values) count self.old.spare self.new.spare }
+        ensures memory_is_there { count ≤ self.old.spare.starts → count ≤ self.old.spare.values → IsOk result × (self.new ≡ record self.old { room = max self.old.room count }) }
         ensures err { OnErr result (self.new ≡ record self.old { spare = self.new.spare }) }
+        ensures err_memory { OnErr result ((self.new.spare.values ≡ self.old.spare.values) × (self.old.spare.starts ≤ self.new.spare.starts)) }
     {
         if count <= self.room {
             return Ok(());

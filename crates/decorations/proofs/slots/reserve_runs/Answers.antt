@@ -1,6 +1,7 @@
 use Rattle.std.proofs.Common.{◌≡◌, ℕ, ◌+◌, ◌<◌, ◌≤◌, List, Option, None, IfSome, length, get_or, set, take, drop, ◌++◌, subst, sym, ap, ◌∙◌, refl, arith}
 use Rattle.std.proofs.lemmas.List.{get_or_default, length-set}
 use Rattle.run_styles.specs.Runs.{Runs}
+use Rattle.decorations.specs.Decorated.{IsEnough}
 use Rattle.decorations.specs.Slots.{slot_at, InBoth, HaveRoomOf}
 use Rattle.decorations.proofs.SlotLists.{in_each, looped, done_more, same_more}
 use Rattle.decorations.proofs.Memory.{grown_so_far}
@@ -69,3 +70,16 @@ returns-clause-ok g c =
     let done : (k : ℕ) → k < length old → P (slot_at old k) (slot_at items k) =
     λ k h. let before : k < c.loop-slot.slot-index = omega arith in c.loop-slot.invariant.room k before in
     rw all (in_each P old items same_length tt done)
+
+pub returns-in_err-reserve_in-clause-memory_is_there : goal.returns-in_err-reserve_in-clause-memory_is_there
+returns-in_err-reserve_in-clause-memory_is_there g c =
+    let items = c.loop-slot.slot-items in
+    let i = c.loop-slot.slot-index in
+    let inside : i < length items = omega arith in
+    let first : i ≤ i = omega arith in
+    let P : Option (Runs ℕ) → Type 0 = λ s. IfSome s (λ runs. IsEnough c.args.room runs.spare) in
+    let read : slot_at items i ≡ get_or items i c.slot-item.result = get_or_default items i None c.slot-item.result inside in
+    let was : slot_at items i ≡ slot_at c.args.slots.now.items i = c.loop-slot.invariant.same i first ∙ ap (λ s. slot_at s i) c.deref_mut-slot-items.ensures.value in
+    λ enough.
+    let refused = c.in_err-reserve_in.ensures.memory_is_there (subst P (sym was ∙ read) (enough i)) in
+    cc

@@ -1,8 +1,8 @@
-use Rattle.std.proofs.Common.{ℕ, Some, ap, ◌∙◌, subst, vec_capacity}
-use Rattle.decorations.specs.Decorated.{Decorated, decorated, AreRunsFor}
-use Rattle.decorations.specs.Slots.{all_shown, held_by}
+use Rattle.std.proofs.Common.{◌≡◌, ℕ, ◌+◌, ◌<◌, ◌≤◌, length, max, Some, refl, ap, ◌∙◌, subst, sym, vec_capacity, arith}
+use Rattle.decorations.specs.Decorated.{Decorated, Held, decorated, AreRunsFor, IsEnoughFor}
+use Rattle.decorations.specs.Slots.{all_shown, held_by, slot_at, for_fill}
 use Rattle.decorations.proofs.Kept.{grown_slots, ready_slots, grown_shown}
-use Rattle.decorations.proofs.Memory.{grown_runs, same_elsewhere}
+use Rattle.decorations.proofs.Memory.{grown_runs, same_elsewhere, enough_for, one_same, one_unused, unused_stays, held_same}
 use Rattle.decorations.proofs.decorations.Decorations.reserve_fill.Goals as goal
 
 pub invariant_of-self-2 : goal.invariant_of-self-2
@@ -65,3 +65,57 @@ returns-clause-others g c =
     let d = c.self.inside in
     let after = c.reserve_one.new in
     rw (← c.self.view_is) (same_elsewhere (vec_capacity d.slots) (vec_capacity after.slots) c.args.indicator d.slots.items after.slots.items d.spare after.spare c.in-Ok.ensures.others)
+
+pub returns-in_default-reserve_one-clause-unused : goal.returns-in_default-reserve_one-clause-unused
+returns-in_default-reserve_one-clause-unused g c =
+    let d = c.self.inside in
+    rw (← c.self.view_is) (unused_stays d.size c.args.indicator d.slots.items d.spare c.reserve_one.new.spare c.requires c.in_default-reserve_one.ensures.spare_stays)
+
+pub returns-clause-unused : goal.returns-clause-unused
+returns-clause-unused g c =
+    let d = c.self.inside in
+    rw (← c.self.view_is) (unused_stays d.size c.args.indicator d.slots.items d.spare c.reserve_one.new.spare c.requires c.in-Ok.ensures.spare_stays)
+
+pub returns-in_default-reserve_one-clause-memory_is_there : goal.returns-in_default-reserve_one-clause-memory_is_there
+returns-in_default-reserve_one-clause-memory_is_there g c =
+    let d = c.self.inside in
+    let indicator = c.args.indicator in
+    let R : ℕ → Type 0 = λ n. IsEnoughFor n indicator (all_shown d.size d.slots.items) (held_by d.slots.items (vec_capacity d.slots) d.spare) in
+    let some : 0 < c.in-Some.runs = omega (arith, c.in-Some.ensures.1) in
+    rw (← c.self.view_is)
+    (λ fits slot enough.
+    let fits_in : indicator + 1 ≤ vec_capacity d.slots = omega (arith, slot) in
+    let there = enough_for d.size c.in-Some.runs (vec_capacity d.slots) (d.room + for_fill d.ready indicator) indicator d.slots.items d.spare some c.requires (c.self.invariant.kept indicator) (subst R (sym c.in-Some.ensures.1) enough) in
+    let refused = c.in_default-reserve_one.ensures.memory_is_there fits_in there in
+    cc)
+
+pub returns-clause-memory_is_there : goal.returns-clause-memory_is_there
+returns-clause-memory_is_there g c =
+    let d = c.self.inside in
+    let indicator = c.args.indicator in
+    let after = c.reserve_one.new in
+    let made = c.in-Ok.ensures in
+    let R : ℕ → Type 0 = λ n. IsEnoughFor n indicator (all_shown d.size d.slots.items) (held_by d.slots.items (vec_capacity d.slots) d.spare) in
+    let some : 0 < c.in-Some.runs = omega (arith, c.in-Some.ensures.1) in
+    let most : length after.slots.items ≡ max (length d.slots.items) (indicator + 1) = omega (arith, made.length.0, made.slots.0, made.ok.0) in
+    rw (← c.self.view_is)
+    (λ fits slot enough.
+    let fits_in : indicator + 1 ≤ vec_capacity d.slots = omega (arith, slot) in
+    let there = enough_for d.size c.in-Some.runs (vec_capacity d.slots) (d.room + for_fill d.ready indicator) indicator d.slots.items d.spare some c.requires (c.self.invariant.kept indicator) (subst R (sym c.in-Some.ensures.1) enough) in
+    let same = held_same (max (length d.slots.items) (indicator + 1)) (vec_capacity d.slots) (vec_capacity after.slots) d.slots.items after.slots.items d.spare after.spare
+    (one_same c.in-Some.runs indicator d.slots.items after.slots.items d.spare made.same made.others there)
+    (one_unused c.in-Some.runs (slot_at d.slots.items indicator) d.spare after.spare there made.spare_at_most made.spare_stays) most (made.capacity_stays fits_in) in (
+      refl,
+      ap (λ values. decorated d.size values d.room (Some indicator) (held_by after.slots.items (vec_capacity after.slots) after.spare)) (grown_shown c.in-Some.runs d.size d.slots.items after.slots.items made.same)
+          ∙ ap (λ (now : Held). decorated d.size (all_shown d.size d.slots.items) d.room (Some indicator) now) same,
+    ))
+
+pub returns-in_default-reserve_one-clause-slots_at_most : goal.returns-in_default-reserve_one-clause-slots_at_most
+returns-in_default-reserve_one-clause-slots_at_most g c =
+    let was = c.in_default-reserve_one.ensures in
+    rw (← c.self.view_is) record { slots = was.slots.0; capacity = was.slots.1; there = was.capacity_stays }
+
+pub returns-clause-slots_at_most : goal.returns-clause-slots_at_most
+returns-clause-slots_at_most g c =
+    let made = c.in-Ok.ensures in
+    rw (← c.self.view_is) record { slots = made.slots.0; capacity = made.slots.1; there = made.capacity_stays }

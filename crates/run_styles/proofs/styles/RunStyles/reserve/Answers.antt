@@ -9,6 +9,8 @@ returns-in_err-reserve-2-clause-spare_at_most g c =
     rw (← c.self.view_is) record {
       starts = omega (arith, there, c.in_ok-reserve.ensures.at_most);
       values = omega (arith, ap (λ v. v.spare) c.in_err-reserve-2.ensures.err);
+      starts_there = λ enough. ap (λ v. v.room) (c.in_ok-reserve.ensures.room_is_there enough).1;
+      values_there = λ _. ap (λ v. v.spare) c.in_err-reserve-2.ensures.err;
     }
 
 pub returns-clause-spare_at_most : goal.returns-clause-spare_at_most
@@ -18,4 +20,6 @@ returns-clause-spare_at_most g c =
     rw (← c.self.view_is) record {
       starts = omega (arith, there, c.in_ok-reserve.ensures.at_most);
       values = omega (arith, there, paired, c.in_ok-reserve-2.ensures.at_most);
+      starts_there = λ enough. ap (λ v. v.room) (c.in_ok-reserve.ensures.room_is_there enough).1;
+      values_there = λ enough. ap (λ v. v.spare) (c.in_ok-reserve-2.ensures.room_is_there enough).1;
     }
