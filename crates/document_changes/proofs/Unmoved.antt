@@ -109,4 +109,5 @@ is_changed text what sender old new views notes notes' h w made told = record {
   ids = refl;
   next = refl;
   room = refl;
+  fold_rooms = refl;
 }

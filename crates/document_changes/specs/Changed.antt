@@ -7,7 +7,7 @@ use Rattle.ed_model.specs.Changes.{changed_document, changed_lines, change_told}
 use Rattle.id_table.specs.Entries.{Entries, id_of}
 use Rattle.notify.specs.Gathered.{Gathered}
 use Rattle.ed_view.specs.Kept.{KeptView}
-use Rattle.scene.specs.Scenes.{views_of, watchers, IsWatched}
+use Rattle.scene.specs.Scenes.{views_of, watchers, fold_room_in_all, IsWatched}
 
 -- these notes were put, and no text was shared for them
 pub record AreTold (told : List Notice) (old new : Gathered) : Type 0 where
@@ -24,3 +24,4 @@ pub record IsChanged (text : List ℕ) (what : DocumentChange) (sender : ℕ) (o
   pub ids : map id_of views'.entries ≡ map id_of views.entries
   pub next : views'.next ≡ views.next
   pub room : views'.room ≡ views.room
+  pub fold_rooms : map fold_room_in_all views'.entries ≡ map fold_room_in_all views.entries

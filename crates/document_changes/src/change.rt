@@ -4,7 +4,7 @@ ghost use Rattle.std.specs.Prelude.{◌≡◌, ◌≤◌, ◌+◌, ◌++◌, map
 ghost use Rattle.ed_model.specs.Session.{View as ModelView};
 ghost use Rattle.ed_model.specs.Changes.{changed_document, changed_lines, change_told};
 ghost use Rattle.id_table.specs.Entries.{id_of};
-ghost use Rattle.scene.specs.Scenes.{views_of, watchers, IsWatched};
+ghost use Rattle.scene.specs.Scenes.{views_of, watchers, fold_room_in_all, IsWatched};
 ghost use Rattle.document_changes.specs.Changed.{IsChanged};
 ghost use Rattle.document_changes.specs.Fit.{IsFitChange, bytes_read};
 ghost use Rattle.document_changes.specs.Needs.{IsReady, notes_of_change};
@@ -88,7 +88,8 @@ fn perform(
 
 /// Makes a change of the document, and tells of it: the views that watch and hear it, or for a style that is needed the one
 /// whose id is `sender`. Their flags go with the lines where other line ends count. There must be room for the change and
-/// for its notes; it takes that room, and makes none but what markers leave that go.
+/// for its notes; it takes that room, and makes none but what markers leave that go. For hidden and contracted lines each view
+/// has in all the room that it had.
 pub fn change_document(
     document: &mut Document,
     views: &mut IdTable<View>,
@@ -112,6 +113,7 @@ pub fn change_document(
     ensures ids { map id_of views.new.entries ≡ map id_of views.old.entries }
     ensures next { views.new.next ≡ views.old.next }
     ensures view_room { views.new.room ≡ views.old.room }
+    ensures fold_rooms { map fold_room_in_all views.new.entries ≡ map fold_room_in_all views.old.entries }
     ensures room_left { LeavesRoom change document.old document.new }
 {
     perform(

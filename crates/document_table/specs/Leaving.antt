@@ -1,5 +1,5 @@
 -- What is left of documents where one loses a reference.
-use Rattle.std.specs.Prelude.{◌≡◌, ◌≢◌, ◌<◌, ℕ, ◌-◌, nat_lt, if◌then◌else◌, List, map, Option, Some, None, option_map, IfSome, IsSomeAnd}
+use Rattle.std.specs.Prelude.{◌≡◌, ◌≢◌, ◌<◌, ℕ, ◌+◌, ◌-◌, nat_lt, if◌then◌else◌, List, length, map, Option, Some, None, option_map, IfSome, IsSomeAnd}
 use Rattle.std.specs.List.{AllByRecursion}
 use Rattle.ed_model.specs.Session.{Document, references, living}
 use Rattle.document.specs.Kept.{Kept}
@@ -28,9 +28,11 @@ left_over_of id entries (Some d) = left_over id d entries
 abbrev pub let_go : ℕ → (Document → Document) → List (Entry Document) → List (Entry Document)
 let_go id change entries = left_over_of id entries (option_map change (value_at entries id))
 
--- a document has the room that another had, but perhaps for another count of views
+-- a document has the room that another had: a view that is let go leaves its place, and no other place is made
 abbrev pub SameRoom : Kept → Kept → Type 0
-SameRoom was left = (left.room ≡ was.room) × (left.spare ≡ record was.spare { views = left.spare.views })
+SameRoom was left =
+    (left.room ≡ was.room) × (left.spare ≡ record was.spare { views = left.spare.views })
+    × (left.spare.views + length left.document.views ≡ was.spare.views + length was.document.views)
 
 -- the document at an id has the room that it had, if it is still there
 abbrev pub KeepsRoom : ℕ → List (Entry Kept) → List (Entry Kept) → Type 0

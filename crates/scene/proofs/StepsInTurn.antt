@@ -90,31 +90,58 @@ pub record StepLeaves (s : Step) (k k' : Kept) (v v' : Entries KeptView) : Type 
   pub spare : k'.spare ≡ record k.spare { markers = k'.spare.markers; fill = None }
   pub markers_in_all : k'.spare.markers + marker_count k'.document.rows ≡ k.spare.markers + marker_count k.document.rows
   pub fold_rooms : map fold_room_in_all v'.entries ≡ map fold_room_in_all v.entries
+  pub view_room : v'.room ≡ v.room
 
-pub rooms_none : (steps : List Step) (k : Kept) (v : Entries KeptView) → RoomsStay steps steps k k v v
-rooms_none steps k v = record { none_made = made_none (with_freed (freed_by_all (changes_for steps)) k.room); spare = refl; markers_in_all = refl; fold_rooms = refl }
+pub rooms_none : (steps : List Step) (k : Kept) (v : Entries KeptView) (n : Gathered) → RoomsStay steps steps k k v v n n
+rooms_none steps k v n = record {
+  none_made = made_none (with_freed (freed_by_all (changes_for steps)) k.room);
+  spare = refl;
+  markers_in_all = refl;
+  fold_rooms = refl;
+  view_room = refl;
+  note_room = refl;
+  text_room = omega arith;
+}
 
-rooms_next : (s : Step) (rest steps : List Step) (k0 k k' : Kept) (v0 v v' : Entries KeptView) → RoomsStay (s ∷ rest) steps k0 k v0 v → StepLeaves s k k' v v'
-    → RoomsStay rest steps k0 k' v0 v'
-rooms_next s rest steps k0 k k' v0 v v' so p = record {
+rooms_next : (s : Step) (rest steps : List Step) (k0 k k' : Kept) (v0 v v' : Entries KeptView) (n0 n n' : Gathered) (texts : ℕ) → RoomsStay (s ∷ rest) steps k0 k v0 v n0 n → StepLeaves s k k' v v'
+    → n'.note_room + length n'.notes ≡ n.note_room + length n.notes → n'.text_room + texts ≡ n.text_room → RoomsStay rest steps k0 k' v0 v' n0 n'
+rooms_next s rest steps k0 k k' v0 v v' n0 n n' texts so p put shared = record {
   none_made = made_next (TextStep s) (changes_for rest) (freed_by_all (changes_for steps)) k0.room k.room k'.room so.none_made p.none_made;
   spare = spare_next (changes_for steps) (changes_for rest) (TextStep s) k0.spare k.spare k'.spare so.spare p.spare;
   markers_in_all = p.markers_in_all ∙ so.markers_in_all;
   fold_rooms = p.fold_rooms ∙ so.fold_rooms;
+  view_room = p.view_room ∙ so.view_room;
+  note_room = put ∙ so.note_room;
+  text_room = less n'.text_room texts n.text_room n0.text_room shared so.text_room;
 }
+  where
+    less : (a b c d : ℕ) → a + b ≡ c → c ≤ d → a ≤ d
+    less a b c d e l = omega arith
 
 -- some steps, and then the rest of them
-pub rooms_both : (rest steps : List Step) (k0 k k' : Kept) (v0 v v' : Entries KeptView) → RoomsStay rest steps k0 k v0 v → RoomsStay [] rest k k' v v'
-    → RoomsStay [] steps k0 k' v0 v'
-rooms_both rest steps k0 k k' v0 v v' so then =
+rooms_both : (rest steps : List Step) (k0 k k' : Kept) (v0 v v' : Entries KeptView) (n0 n n' : Gathered) → RoomsStay rest steps k0 k v0 v n0 n → RoomsStay [] rest k k' v v' n n'
+    → RoomsStay [] steps k0 k' v0 v' n0 n'
+rooms_both rest steps k0 k k' v0 v v' n0 n n' so then =
     let a = so.none_made.text in let b = so.none_made.lines in let d = so.none_made.insertions in let f = so.none_made.steps in let g = so.none_made.bytes in
     let a' = then.none_made.text in let b' = then.none_made.lines in let d' = then.none_made.insertions in let f' = then.none_made.steps in let g' = then.none_made.bytes in
+    let h = so.text_room in let h' = then.text_room in
     record {
       none_made = record { text = omega arith; lines = omega arith; insertions = omega arith; steps = omega arith; bytes = omega arith };
       spare = then.spare ∙ ap (λ (s : ChangeRoom). record s { markers = k'.spare.markers }) so.spare;
       markers_in_all = then.markers_in_all ∙ so.markers_in_all;
       fold_rooms = then.fold_rooms ∙ so.fold_rooms;
+      view_room = then.view_room ∙ so.view_room;
+      note_room = then.note_room ∙ so.note_room;
+      text_room = omega arith;
     }
+
+-- the insertions of a conversion, and then the deletions
+pub rooms_of_all : (to : LineEnd) (k0 k k' : Kept) (v0 v v' : Entries KeptView) (n0 n n' : Gathered)
+    → RoomsStay (deletions_of to (text_of k0.document)) (conversion_steps to (text_of k0.document)) k0 k v0 v n0 n → text_of k.document ≡ completed to (text_of k0.document)
+    → RoomsStay [] (unwanted_from 0 false to (text_of k.document)) k k' v v' n n' → RoomsStay [] (conversion_steps to (text_of k0.document)) k0 k' v0 v' n0 n'
+rooms_of_all to k0 k k' v0 v v' n0 n n' put text took =
+    rooms_both (deletions_of to (text_of k0.document)) (conversion_steps to (text_of k0.document)) k0 k k' v0 v v' n0 n n' put
+    (subst (λ t. RoomsStay [] (unwanted_from 0 false to t) k k' v v' n n') text took)
 
 -- One of the steps is made.
 pub made_left :
@@ -144,7 +171,7 @@ made_left notes_law bytes_law s rest steps later was k0 k k' v0 v v' n0 n n' lef
         texts_there = few_bytes rest after n'.text_room (subst (λ x. bytes_needed x rest ≤ n'.text_room) (sym made) short);
       };
       next = next ∙ left.next;
-      rooms = rooms_next s rest steps k0 k k' v0 v v' left.rooms leaves;
+      rooms = rooms_next s rest steps k0 k k' v0 v v' n0 n n' (bytes_shared (made_kinds later s k.document.history) (watching (views_of v.entries) k.document) (length (step_bytes s))) left.rooms leaves notes texts;
     }
 
 -- The insertions of a conversion.

@@ -47,12 +47,16 @@ pub record CanMakeSteps (steps : List Step) (k : Kept) (views : Entries KeptView
 abbrev pub changes_for : List Step → List Change
 changes_for steps = map (λ (step : Step). TextStep step) steps
 
--- where of the steps the rest is still to be made, no room was made but what goes out of the text leaves, and each view keeps its rooms
-pub record RoomsStay (rest steps : List Step) (before after : Kept) (views views' : Entries KeptView) : Type 0 where
+-- where of the steps the rest is still to be made, no room was made but what goes out of the text leaves, each view keeps its rooms, there
+-- is as much for more views, and none was made for notes and their texts
+pub record RoomsStay (rest steps : List Step) (before after : Kept) (views views' : Entries KeptView) (notes notes' : Gathered) : Type 0 where
   pub none_made : IsAtMost (with_freed (freed_by_all (changes_for rest)) after.room) (with_freed (freed_by_all (changes_for steps)) before.room) no_room
   pub spare : SpareLeft (changes_for steps) (changes_for rest) before.spare after.spare
   pub markers_in_all : after.spare.markers + marker_count after.document.rows ≡ before.spare.markers + marker_count before.document.rows
   pub fold_rooms : map fold_room_in_all views'.entries ≡ map fold_room_in_all views.entries
+  pub view_room : views'.room ≡ views.room
+  pub note_room : notes'.note_room + length notes'.notes ≡ notes.note_room + length notes.notes
+  pub text_room : notes'.text_room ≤ notes.text_room
 
 -- of the steps on the old scene, those of `rest` are left to be made on the new one, and there is room for them; of both is told
 -- whether the first of them is a later one of its message
@@ -60,7 +64,7 @@ pub record AreLeft (rest : List Step) (later : Bool) (steps : List Step) (was_la
   pub scene : steps_made later rest (scene_in after.document views'.entries notes'.notes) ≡ steps_made was_later steps (scene_in before.document views.entries notes.notes)
   pub can : CanMakeSteps rest after views' notes'
   pub next : views'.next ≡ views.next
-  pub rooms : RoomsStay rest steps before after views views'
+  pub rooms : RoomsStay rest steps before after views views' notes notes'
 
 -- the deletions of a conversion
 abbrev pub deletions_of : LineEnd → List ℕ → List Step

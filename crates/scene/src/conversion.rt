@@ -82,7 +82,7 @@ fn take_unwanted(
     ensures scene { scene_in document.new.document views.new.entries notes.new.notes ≡ steps_made later (unwanted_from 0 false to (text_of document.old.document)) (scene_in document.old.document views.old.entries notes.old.notes) }
     ensures watched { IsWatched document.new.document views.new }
     ensures next { views.new.next ≡ views.old.next }
-    ensures rooms { RoomsStay [] (unwanted_from 0 false to (text_of document.old.document)) document.old document.new views.old views.new }
+    ensures rooms { RoomsStay [] (unwanted_from 0 false to (text_of document.old.document)) document.old document.new views.old views.new notes.old notes.new }
 {
     // The law that what was reserved is enough for each step in its turn.
     needs_are_enough();
@@ -108,6 +108,9 @@ fn make_all(document: &mut Document, views: &mut IdTable<View>, notes: &mut Note
     ensures spare { document.new.spare ≡ record document.old.spare { markers = document.new.spare.markers; fill = fill_behind_all document.old.spare.fill (changes_for (conversion_steps to (text_of document.old.document))) } }
     ensures markers_in_all { document.new.spare.markers + marker_count document.new.document.rows ≡ document.old.spare.markers + marker_count document.old.document.rows }
     ensures fold_rooms { map fold_room_in_all views.new.entries ≡ map fold_room_in_all views.old.entries }
+    ensures view_room { views.new.room ≡ views.old.room }
+    ensures note_room_left { notes.new.note_room + length notes.new.notes ≡ notes.old.note_room + length notes.old.notes }
+    ensures text_room { notes.new.text_room ≤ notes.old.text_room }
 {
     let later = put_missing(document, views, notes, to);
     take_unwanted(document, views, notes, to, later);
@@ -137,7 +140,7 @@ fn is_several(document: &Document, to: LineEnd) -> bool
 /// Turns each line end of the document's text into this kind, as `SCI_CONVERTEOLS` does: what is missing is put in, then what is
 /// unwanted is deleted, each left to right, a byte a step. Each step is told of to the views that watch and hear it, and
 /// followed by all that watch; if there is more than one, they are a transaction of their own. There must be room for all
-/// of them.
+/// of them. Of that room it takes, and makes none but what bytes and markers leave that go.
 pub fn convert(
     document: &mut Document,
     views: &mut IdTable<View>,
@@ -152,6 +155,9 @@ pub fn convert(
     ensures spare { document.new.spare ≡ record document.old.spare { markers = document.new.spare.markers; fill = fill_behind_all document.old.spare.fill (changes_for (conversion_steps to (text_of document.old.document))) } }
     ensures markers_in_all { document.new.spare.markers + marker_count document.new.document.rows ≡ document.old.spare.markers + marker_count document.old.document.rows }
     ensures fold_rooms { map fold_room_in_all views.new.entries ≡ map fold_room_in_all views.old.entries }
+    ensures view_room { views.new.room ≡ views.old.room }
+    ensures note_room_left { notes.new.note_room + length notes.new.notes ≡ notes.old.note_room + length notes.old.notes }
+    ensures text_room { notes.new.text_room ≤ notes.old.text_room }
 {
     if !is_several(document, to) {
         return make_all(document, views, notes, to);

@@ -1,5 +1,5 @@
 -- The view and the document of a request, as they are kept.
-use Rattle.std.proofs.Common.{◌≡◌, ℕ, ◌==◌, List, map, length, refl, ap, sym, ◌∙◌, subst, Some, None, IsSomeAnd}
+use Rattle.std.proofs.Common.{◌≡◌, ℕ, ◌==◌, List, map, length, refl, ap, sym, ◌∙◌, subst, true, Some, None, IsSomeAnd}
 use Rattle.std.specs.Prelude.{if◌then◌else◌}
 use Rattle.ed_model.specs.declared.plan.ViewChange.{ViewChange}
 use Rattle.ed_model.specs.declared.plan.ViewChange.TheVariants as view_change
@@ -7,7 +7,7 @@ use Rattle.ed_model.specs.Session.{Document, View, Session, view_at, document_at
 use Rattle.ed_model.specs.SoundLaws.{IsSoundView, StandsOn}
 use Rattle.ed_model.specs.Requests.{Request}
 use Rattle.ed_model.specs.Changes.{changed_view, view_change_performed}
-use Rattle.ed_view.specs.Folding.{fold_need, FitChangesAreWithin, IsWithin, HasFoldRoom}
+use Rattle.ed_view.specs.Folding.{fold_need, is_setting, FitChangesAreWithin, IsWithin, HasFoldRoom}
 use Rattle.ed_view.specs.Kept.{KeptView}
 use Rattle.document.specs.Kept.{Kept}
 use Rattle.id_table.specs.Entries.{Entries, value_at}
@@ -17,7 +17,7 @@ use Rattle.message_requests.specs.declared.state.SessionState.{SessionState}
 use Rattle.session_changes.specs.Kept.{IsKept}
 use Rattle.session_changes.specs.Asked.{IsAsked, CanChangeView}
 use Rattle.session_changes.specs.Folding.{HasFoldRoomAt, levels_of, changed_at, CanChange}
-use Rattle.session_changes.specs.proved.Finding.{view_in, id_of_view, document_in, id_of_document, IsKeptAs, kept_as, own_at, holds_at, found_once, one_changes}
+use Rattle.session_changes.specs.proved.Finding.{view_in, id_of_view, fold_rooms_in, document_in, id_of_document, IsKeptAs, kept_as, own_at, holds_at, found_once, one_changes}
 
 module _ (s : SessionState) (document view : ℕ) (r : Request) (kept : IsKept s) (asked : IsAsked (session_in s) document view r) where
   pub view_found : view_at (session_in s).views view ≡ Some r.view
@@ -72,6 +72,22 @@ id_stays levels (view_change.SetExpanded line on) v = refl
 id_stays levels (view_change.Contract line) v = refl
 id_stays levels (view_change.Expand line) v = refl
 id_stays levels (view_change.EnsureVisible line) v = refl
+
+-- a setting leaves the lines as they are, and so the room for more that are hidden or contracted
+flags_stay : (levels : List ℕ) (change : ViewChange) (v : View) → is_setting change ≡ true → (changed_view levels change v).flags ≡ v.flags
+flags_stay levels (view_change.Select anchor caret) v h = refl
+flags_stay levels (view_change.SetTarget start past) v h = refl
+flags_stay levels (view_change.SetSearchFlags flags) v h = refl
+flags_stay levels (view_change.SetMask mask) v h = refl
+flags_stay levels (view_change.SetIndicator indicator) v h = refl
+flags_stay levels (view_change.SetIndicatorValue value) v h = refl
+flags_stay levels (view_change.SetPasteConversion on) v h = refl
+flags_stay levels (view_change.SetRecording on) v h = refl
+flags_stay levels _ v h = absurd (cc)
+
+pub setting_rooms : (levels : List ℕ) (change : ViewChange) (k k' : KeptView) → is_setting change ≡ true → k' ≡ record k { view = changed_view levels change k.view } → fold_rooms_in k' ≡ fold_rooms_in k
+setting_rooms levels change k k' setting e =
+    ap fold_rooms_in e ∙ ap (λ flags. fold_rooms_in (record k { view = record k.view { flags = flags } })) (flags_stay levels change k.view setting)
 
 -- the view of an id in place of itself, once it has changed
 pub in_its_place : (s : SessionState) (document view : ℕ) (r : Request) → IsKept s → IsAsked (session_in s) document view r → (g : View → View) → (g r.view).id ≡ r.view.id

@@ -1,7 +1,7 @@
 -- Sessions, and results.
 use Rattle.std.proofs.Common.{◌≡◌, ◌≢◌, ℕ, ◌+◌, ◌-◌, ◌<◌, ◌≤◌, ◌==◌, ◌^◌, Bool, true, false, cond, List, [], ◌∷◌, ◌++◌, map, length, refl, ap, sym, ◌∙◌, subst, arith, Option, Some, None, Ok, Err, OnOk, IfSome, IsSomeAnd}
 use Rattle.std.specs.Global.{Vec, Box}
-use Rattle.std.specs.Prelude.{Result, max, vec_capacity, filter}
+use Rattle.std.specs.Prelude.{Result, vec_capacity, filter}
 use Rattle.std.specs.List.{AllByRecursion, range_with_len}
 use Rattle.std.proofs.lemmas.Bool.{eq-eqb, ne_eqb}
 use Rattle.std.proofs.lemmas.Bool.Decides.{nat_tests}
@@ -34,9 +34,9 @@ use Rattle.session_changes.specs.Asked.{IsAsked, CanChangeSession}
 use Rattle.session_changes.specs.Clipboard.{copied, CanCopy}
 use Rattle.session_changes.specs.Folding.{HasFoldRoomAt, IsFoldRoomAtMost, IsRoomAtMostAt, changed_at}
 use Rattle.session_changes.specs.Moving.{DocumentsRise, CanMove}
-use Rattle.session_changes.specs.Ready.{IsReady, AwaitsView, IsHeld, ArePlacesAtMost}
+use Rattle.session_changes.specs.Ready.{IsReady, AwaitsView, IsHeld, HasPlacesAtMost, ArePlacesAtMost}
 use Rattle.session_changes.specs.declared.ready.SessionReady.TheVariants as made
-use Rattle.session_changes.specs.proved.Finding.{document_in, id_of_document, own_at, holds_at, found_some, kept_as, for_replaced, value_replaced}
+use Rattle.session_changes.specs.proved.Finding.{document_in, id_of_document, own_at, holds_at, found_some, kept_as, for_replaced, value_replaced, other_replaced}
 use Rattle.session_changes.specs.proved.Names.{without_itself, none_listed}
 use Rattle.session_changes.proofs.AskedLemmas.{of_document, view_found, on_document, document_found, kept_view, kept_document, stands, in_its_place}
 use Rattle.session_changes.proofs.MovingLemmas.{ChangesAlike, living_left}
@@ -56,9 +56,9 @@ there_of_some P o v e h = subst (λ x. IsSomeAnd x P) e h
 
 -- Room that is made, and room that is there.
 
-pub places_most : (entries : List (Entry Kept)) (id : ℕ) (old new : Kept) → value_at entries id ≡ Some old → new.spare.views ≤ max old.spare.views (max 1 (length old.document.views))
-    → ArePlacesAtMost entries (with_value_at id new entries) id
-places_most entries id old new at most = for_some _ _ old at (for_some _ _ new (value_replaced entries id old new at) most)
+pub places_most : (entries : List (Entry Kept)) (id : ℕ) (old new : Kept) → value_at entries id ≡ Some old → HasPlacesAtMost old new → ArePlacesAtMost entries (with_value_at id new entries) id
+places_most entries id old new at most =
+    (for_some _ _ old at (for_some _ _ new (value_replaced entries id old new at) most), λ other differs. other_replaced entries id other new differs)
 
 pub fold_room_is_there : (entries : List (Entry KeptView)) (view : ℕ) (old : KeptView) (change : ViewChange) (need : FoldNeed) → value_at entries view ≡ Some old → need ≡ fold_need old.view.flags change
     → HasFoldRoomAt entries view change → HasFoldRoom old.room need
@@ -304,7 +304,7 @@ module _ (s : SessionState) (document view : ℕ) (r : Request) (kept : IsKept s
 
   pub created_so : (options : ℕ) → IsHeld s.documents.next options k → session_in with_more ≡ session_changed r (change.Create options)
   created_so options held =
-      session_more (let d = new_document s.documents.next options in record d { held_by_callers = 1 }) held
+      session_more (let d = new_document s.documents.next options in record d { held_by_callers = 1 }) held.0
       ∙ ap (λ (x : Session). with_new_document (let d = new_document x.next_document options in record d { held_by_callers = 1 }) x) (sym asked.session)
 
   pub attached_new_so : (new : SessionState) → AwaitsView s.documents.next k

@@ -1,10 +1,10 @@
 -- What is made before a session changes, so that the change cannot fail.
-use Rattle.std.specs.Prelude.{◌≡◌, ℕ, ◌<◌, ◌≤◌, nat_lt, max, Bool, true, false, List, [], length, IfSome, vec_capacity}
+use Rattle.std.specs.Prelude.{◌≡◌, ◌≢◌, ℕ, ◌<◌, ◌≤◌, nat_lt, max, Bool, true, false, List, [], length, IfSome, vec_capacity}
 use Rattle.ed_model.specs.declared.plan.SessionChange.{SessionChange}
 use Rattle.ed_model.specs.declared.plan.SessionChange.TheVariants as change
 use Rattle.ed_model.specs.Session.{new_document}
 use Rattle.id_table.specs.Entries.{Entries, Entry, value_at}
-use Rattle.document.specs.Kept.{Kept}
+use Rattle.document.specs.Kept.{Kept, no_room}
 use Rattle.session_changes.specs.declared.ready.SessionReady.{SessionReady}
 use Rattle.session_changes.specs.declared.ready.SessionReady.TheVariants as ready
 
@@ -27,13 +27,13 @@ abbrev pub IsNothing : SessionReady → Type 0
 IsNothing ready.Nothing = Unit {0}
 IsNothing other = ⊥
 
--- a document of that id without text, with a place for a view
+-- a document of that id without text and room for any, with a place for a view
 abbrev pub AwaitsView : ℕ → Kept → Type 0
-AwaitsView id k = (k.document ≡ new_document id 0) × (0 < k.spare.views)
+AwaitsView id k = (k.document ≡ new_document id 0) × (0 < k.spare.views) × (k.room ≡ no_room)
 
--- a document of that id without text, with these options, which a caller holds
+-- a document of that id without text and room for any, with these options, which a caller holds
 abbrev pub IsHeld : ℕ → ℕ → Kept → Type 0
-IsHeld id options k = k.document ≡ (let d = new_document id options in record d { held_by_callers = 1 })
+IsHeld id options k = (k.document ≡ (let d = new_document id options in record d { held_by_callers = 1 })) × (k.room ≡ no_room)
 
 -- the document of that id, if it is there, has a place for a view
 abbrev pub HasPlace : List (Entry Kept) → ℕ → Type 0
@@ -59,10 +59,16 @@ IsThere entries (change.Create options) = ⊥
 IsThere entries (change.AddReference id) = Unit {0}
 IsThere entries (change.Release id) = Unit {0}
 
--- the document of that id has at most as many places as it had, or as views are on it, or one
+-- a document is as it was, but for at most as many places for views as it had, or as views are on it, or one
+abbrev pub HasPlacesAtMost : Kept → Kept → Type 0
+HasPlacesAtMost was now =
+    (now ≡ record was { spare = record was.spare { views = now.spare.views } }) × (now.spare.views ≤ max was.spare.views (max 1 (length was.document.views)))
+
+-- .. and so is that of that id; each other one is as it was
 abbrev pub ArePlacesAtMost : List (Entry Kept) → List (Entry Kept) → ℕ → Type 0
 ArePlacesAtMost old new id =
-    IfSome (value_at old id) (λ was. IfSome (value_at new id) (λ now. now.spare.views ≤ max was.spare.views (max 1 (length was.document.views))))
+    IfSome (value_at old id) (λ was. IfSome (value_at new id) (λ now. HasPlacesAtMost was now))
+    × ((other : ℕ) → other ≢ id → value_at new other ≡ value_at old other)
 
 -- no document but that of the change has another room, and the table has at most as much as it had, or room for one document
 abbrev pub IsRoomAtMost : SessionChange → Entries Kept → Entries Kept → Type 0

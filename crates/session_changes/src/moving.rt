@@ -4,7 +4,7 @@ ghost use Rattle.std.specs.Prelude.{◌≡◌, ◌≢◌, ◌<◌, ◌^◌, map,
 ghost use Rattle.ed_model.specs.Session.{living, attached_to};
 ghost use Rattle.ed_model.specs.Changes.{attached_last};
 ghost use Rattle.id_table.specs.Entries.{value_at};
-ghost use Rattle.scene.specs.Scenes.{views_of, AreNamed};
+ghost use Rattle.scene.specs.Scenes.{views_of, fold_room_in_all, AreNamed};
 ghost use Rattle.message_requests.specs.Requested.{documents_in};
 ghost use Rattle.session_changes.specs.Kept.{DocumentsAreNamed, ViewsRise};
 ghost use Rattle.session_changes.specs.Folding.{changed_at};
@@ -81,6 +81,8 @@ fn stand_on(views: &mut IdTable<View>, view: u32, document: &Document)
     ensures views { views_of views.new.entries ≡ changed_at view (attached_to document.now.document) (views_of views.old.entries) }
     ensures named { AreNamed views.new.entries }
     ensures next { views.new.next ≡ views.old.next }
+    ensures fold_rooms { map fold_room_in_all views.new.entries ≡ map fold_room_in_all views.old.entries }
+    ensures view_room { views.new.room ≡ views.old.room }
 {
     let Some(view) = views.get_mut(view) else {
         unreachable!()
@@ -102,6 +104,8 @@ pub(crate) fn attach(state: &mut SessionState, from: u32, view: u32, to: u32)
     ensures limits { state.new.limits ≡ state.old.limits }
     ensures named_documents { DocumentsAreNamed state.new.documents.entries }
     ensures named_views { AreNamed state.new.views.entries }
+    ensures fold_rooms { map fold_room_in_all state.new.views.entries ≡ map fold_room_in_all state.old.views.entries }
+    ensures view_room { state.new.views.room ≡ state.old.views.room }
 {
     let SessionState {
         documents,

@@ -123,7 +123,8 @@ fn document_for_caller(
     new_document(alloc, document)
 }
 
-/// Makes all that a change of the session needs.
+/// Makes all that a change of the session needs. Neither views nor the clipboard get any, nor another document than the one that a
+/// view is to be attached to.
 ///
 /// # Errors
 ///
@@ -142,6 +143,8 @@ pub fn prepare_session_change(
     ensures room_is_there { IsThere state.old.documents.entries change → IsOk result }
     ensures at_most { IsRoomAtMost change state.old.documents state.new.documents }
     ensures free { takes_memory change ≡ false → IsOk result }
+    ensures views_stay { state.new.views ≡ state.old.views }
+    ensures clipboard_stays { state.new.clipboard ≡ state.old.clipboard }
 {
     match change {
         SessionChange::Copy { count, .. } | SessionChange::CopyText { count } => {

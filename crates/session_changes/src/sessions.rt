@@ -5,7 +5,7 @@ ghost use Rattle.ed_model.specs.Session.{living, text_of};
 ghost use Rattle.ed_model.specs.Requests.{Request};
 ghost use Rattle.ed_model.specs.Changes.{session_changed, held_more, held_less};
 ghost use Rattle.id_table.specs.Entries.{value_at};
-ghost use Rattle.scene.specs.Scenes.{AreNamed};
+ghost use Rattle.scene.specs.Scenes.{fold_room_in_all, AreNamed};
 ghost use Rattle.message_requests.specs.Requested.{session_in, documents_in};
 ghost use Rattle.session_changes.specs.Kept.{IsKept, DocumentsAreNamed};
 ghost use Rattle.session_changes.specs.Asked.{IsAsked, CanChangeSession, CanChangeDocuments};
@@ -60,6 +60,8 @@ fn change_clipboard(
     ensures limits { state.new.limits ≡ state.old.limits }
     ensures documents { DocumentsAreNamed state.new.documents.entries }
     ensures views { AreNamed state.new.views.entries }
+    ensures fold_rooms { map fold_room_in_all state.new.views.entries ≡ map fold_room_in_all state.old.views.entries }
+    ensures view_room { state.new.views.room ≡ state.old.views.room }
 {
     copy(&state.documents, document, text, change, &mut bytes);
     state.clipboard = bytes;
@@ -102,6 +104,8 @@ fn change_references(state: &mut SessionState, document: u32, view: u32, change:
     ensures limits { state.new.limits ≡ state.old.limits }
     ensures documents { DocumentsAreNamed state.new.documents.entries }
     ensures views { AreNamed state.new.views.entries }
+    ensures fold_rooms { map fold_room_in_all state.new.views.entries ≡ map fold_room_in_all state.old.views.entries }
+    ensures view_room { state.new.views.room ≡ state.old.views.room }
 {
     match change {
         SessionChange::Attach { document: to } => attach(state, document, view, to),
@@ -126,6 +130,8 @@ fn add_document(
     ensures limits { state.new.limits ≡ state.old.limits }
     ensures documents { DocumentsAreNamed state.new.documents.entries }
     ensures views { AreNamed state.new.views.entries }
+    ensures fold_rooms { map fold_room_in_all state.new.views.entries ≡ map fold_room_in_all state.old.views.entries }
+    ensures view_room { state.new.views.room ≡ state.old.views.room }
 {
     let id = state.documents.insert_reserved(Box::into_inner(new));
     if let SessionChange::AttachNew = change {
@@ -134,7 +140,8 @@ fn add_document(
 }
 
 /// Makes a change of the session for the view of an id, which is on the document of that id, with what was made for it before.
-/// `text` is the message's.
+/// `text` is the message's. Each view has in all the room for hidden and contracted lines that it had, and there is as much for more
+/// views.
 pub fn change_session(
     state: &mut SessionState,
     document: u32,
@@ -150,6 +157,8 @@ pub fn change_session(
     ensures limits { state.new.limits ≡ state.old.limits }
     ensures documents { DocumentsAreNamed state.new.documents.entries }
     ensures views { AreNamed state.new.views.entries }
+    ensures fold_rooms { map fold_room_in_all state.new.views.entries ≡ map fold_room_in_all state.old.views.entries }
+    ensures view_room { state.new.views.room ≡ state.old.views.room }
 {
     match ready {
         SessionReady::Nothing => change_references(state, document, view, change),

@@ -1,11 +1,11 @@
 //! Changes of a view: its settings, its selection, and which lines it shows.
 
-ghost use Rattle.std.specs.Prelude.{◌≡◌, ℕ, List, true, false, map, length, IsOk, OnOk, IsSome, IsSomeAnd};
+ghost use Rattle.std.specs.Prelude.{◌≡◌, ◌≢◌, ℕ, List, true, false, map, length, IsOk, OnOk, IsSome, IsSomeAnd};
 ghost use Rattle.ed_model.specs.Session.{lines_in};
 ghost use Rattle.ed_model.specs.Requests.{Request};
 ghost use Rattle.ed_model.specs.Changes.{changed_view, view_change_performed};
 ghost use Rattle.id_table.specs.Entries.{value_at};
-ghost use Rattle.scene.specs.Scenes.{views_of, AreNamed};
+ghost use Rattle.scene.specs.Scenes.{views_of, fold_room_in_all, AreNamed};
 ghost use Rattle.message_requests.specs.Requested.{session_in};
 ghost use Rattle.session_changes.specs.Kept.{IsKept, ViewsRise};
 ghost use Rattle.ed_view.specs.Folding.{is_setting};
@@ -33,8 +33,10 @@ fn reserve_in(views: &mut IdTable<View>, view: u32, change: ViewChange) -> Resul
     ensures named { AreNamed views.new.entries }
     ensures next { views.new.next ≡ views.old.next }
     ensures ok { OnOk result (HasFoldRoomAt views.new.entries view change) }
-    ensures room_is_there { HasFoldRoomAt views.old.entries view change → IsOk result }
+    ensures room_is_there { HasFoldRoomAt views.old.entries view change → IsOk result × (views.new ≡ views.old) }
+    ensures view_room { views.new.room ≡ views.old.room }
     ensures at_most { IsRoomAtMostAt views.old.entries views.new.entries view change }
+    ensures others { (other : ℕ) → other ≢ view → value_at views.new.entries other ≡ value_at views.old.entries other }
     ensures free { takes_fold_room change ≡ false → IsOk result }
 {
     let Some(view) = views.get_mut(view) else {
@@ -48,7 +50,7 @@ fn reserve_in(views: &mut IdTable<View>, view: u32, change: ViewChange) -> Resul
 ///
 /// # Errors
 ///
-/// `AllocError` where memory is refused. The session is as it was, here too.
+/// `AllocError` where memory is refused. The session is as it was, here too. Where the room is there, none is made.
 pub fn reserve_view_change(
     state: &mut SessionState,
     view: u32,
@@ -61,8 +63,11 @@ pub fn reserve_view_change(
     ensures documents { state.new.documents ≡ state.old.documents }
     ensures views { AreNamed state.new.views.entries }
     ensures ok { OnOk result (HasFoldRoomAt state.new.views.entries view change) }
-    ensures room_is_there { HasFoldRoomAt state.old.views.entries view change → IsOk result }
+    ensures room_is_there { HasFoldRoomAt state.old.views.entries view change → IsOk result × (state.new ≡ state.old) }
+    ensures view_room { state.new.views.room ≡ state.old.views.room }
+    ensures clipboard { state.new.clipboard ≡ state.old.clipboard }
     ensures at_most { IsRoomAtMostAt state.old.views.entries state.new.views.entries view change }
+    ensures others { (other : ℕ) → other ≢ view → value_at state.new.views.entries other ≡ value_at state.old.views.entries other }
     ensures free { takes_fold_room change ≡ false → IsOk result }
 {
     reserve_in(&mut state.views, view, change)
@@ -85,6 +90,8 @@ fn change_in(views: &mut IdTable<View>, view: u32, levels: &Levels, change: View
     ensures views { views_of views.new.entries ≡ changed_at view (changed_view levels.now change) (views_of views.old.entries) }
     ensures named { AreNamed views.new.entries }
     ensures next { views.new.next ≡ views.old.next }
+    ensures fold_rooms { map fold_room_in_all views.new.entries ≡ map fold_room_in_all views.old.entries }
+    ensures view_room { views.new.room ≡ views.old.room }
 {
     let Some(view) = views.get_mut(view) else {
         unreachable!()
@@ -102,6 +109,8 @@ fn set_in(views: &mut IdTable<View>, view: u32, change: ViewChange)
     ensures views { (levels : List ℕ) → views_of views.new.entries ≡ changed_at view (changed_view levels change) (views_of views.old.entries) }
     ensures named { AreNamed views.new.entries }
     ensures next { views.new.next ≡ views.old.next }
+    ensures fold_rooms { map fold_room_in_all views.new.entries ≡ map fold_room_in_all views.old.entries }
+    ensures view_room { views.new.room ≡ views.old.room }
 {
     let Some(view) = views.get_mut(view) else {
         unreachable!()
@@ -120,6 +129,9 @@ fn change_by_levels(state: &mut SessionState, document: u32, view: u32, change: 
     ensures limits { state.new.limits ≡ state.old.limits }
     ensures documents { state.new.documents ≡ state.old.documents }
     ensures views { AreNamed state.new.views.entries }
+    ensures fold_rooms { map fold_room_in_all state.new.views.entries ≡ map fold_room_in_all state.old.views.entries }
+    ensures view_room { state.new.views.room ≡ state.old.views.room }
+    ensures clipboard { state.new.clipboard ≡ state.old.clipboard }
 {
     // The law that the lines of a fit change are there.
     fit_changes_are_within();
@@ -134,7 +146,8 @@ fn change_by_levels(state: &mut SessionState, document: u32, view: u32, change: 
     change_in(views, view, &levels_of(document), change);
 }
 
-/// Changes the view of an id, for which there is room; its document is that of the other id. All else stays as it is.
+/// Changes the view of an id, for which there is room; its document is that of the other id. All else stays as it is. Each view has
+/// in all the room for hidden and contracted lines that it had.
 #[inline]
 pub fn change_view(state: &mut SessionState, document: u32, view: u32, change: ViewChange)
     requires kept { IsKept state.old }
@@ -144,6 +157,9 @@ pub fn change_view(state: &mut SessionState, document: u32, view: u32, change: V
     ensures limits { state.new.limits ≡ state.old.limits }
     ensures documents { state.new.documents ≡ state.old.documents }
     ensures views { AreNamed state.new.views.entries }
+    ensures fold_rooms { map fold_room_in_all state.new.views.entries ≡ map fold_room_in_all state.old.views.entries }
+    ensures view_room { state.new.views.room ≡ state.old.views.room }
+    ensures clipboard { state.new.clipboard ≡ state.old.clipboard }
 {
     if is_setting(change) {
         set_in(&mut state.views, view, change)

@@ -1,12 +1,12 @@
 -- What is kept by id, and what the model finds by id.
-use Rattle.std.proofs.Common.{◌≡◌, ℕ, ◌+◌, ◌<◌, ◌≤◌, ◌==◌, Bool, true, false, cond, List, [], ◌∷◌, map, refl, ap, sym, ◌∙◌, subst, arith, Option, Some, None, option_map, IsSomeAnd}
+use Rattle.std.proofs.Common.{◌≡◌, ◌≢◌, ℕ, ◌+◌, ◌<◌, ◌≤◌, ◌==◌, Bool, true, false, cond, List, [], ◌∷◌, map, refl, ap, sym, ◌∙◌, subst, arith, Option, Some, None, option_map, IsSomeAnd}
 use Rattle.std.specs.Prelude.{find, if◌then◌else◌}
 use Rattle.std.specs.List.{AllByRecursion}
-use Rattle.std.proofs.lemmas.Bool.{eqb-true, eqb-false, eq-eqb}
+use Rattle.std.proofs.lemmas.Bool.{eqb-true, eqb-false, eq-eqb, ne_eqb}
 use Rattle.ed_model.specs.SoundLaws.{Rise}
 use Rattle.ed_model.specs.Session.{Document, View}
 use Rattle.document.specs.Kept.{Kept}
-use Rattle.ed_view.specs.Kept.{KeptView}
+use Rattle.ed_view.specs.Kept.{KeptView, contracted_in_all}
 use Rattle.id_table.specs.Entries.{Entry, entry, value_of, value_at, with_value_at}
 
 -- Values that know their ids.
@@ -58,6 +58,46 @@ module _ {X : Type 0} (own : X → ℕ) where
           → cond b (g w) x ∷ map (λ x. if own x == id then g w else x) xs ≡ cond b (g x) x ∷ map (λ x. if own x == id then g x else x) xs
       go true t rest = let is : x ≡ w = all.0 (eqb-true (own x) id t) in cc
       go false t rest = ap (λ ys. x ∷ ys) rest
+
+-- The value of an id is another.
+module _ {V : Type 0} where
+  pub replaced_alike : {Y : Type 0} (g : V → Y) (entries : List (Entry V)) (id : ℕ) (old new : V) → AllByRecursion (λ (e : Entry V). e.id ≡ id → e.value ≡ old) entries → g new ≡ g old
+      → map (λ (e : Entry V). g e.value) (with_value_at id new entries) ≡ map (λ (e : Entry V). g e.value) entries
+  replaced_alike g [] id old new all same = refl
+  replaced_alike {Y} g (x ∷ xs) id old new all same = go (x.id == id) refl (replaced_alike g xs id old new all.1 same)
+    where
+      go : (b : Bool) → (x.id == id) ≡ b → map (λ (e : Entry V). g e.value) (with_value_at id new xs) ≡ map (λ (e : Entry V). g e.value) xs
+          → g (cond b (entry id new) x).value ∷ map (λ (e : Entry V). g e.value) (with_value_at id new xs) ≡ g x.value ∷ map (λ (e : Entry V). g e.value) xs
+      go true t rest =
+          let here : g new ≡ g x.value = same ∙ ap g (sym (all.0 (eqb-true x.id id t))) in
+          rw here (ap (λ ys. g x.value ∷ ys) rest)
+      go false t rest = ap (λ ys. g x.value ∷ ys) rest
+
+  pub replaced_by_itself : (entries : List (Entry V)) (id : ℕ) (v : V) → AllByRecursion (λ (e : Entry V). e.id ≡ id → e.value ≡ v) entries → with_value_at id v entries ≡ entries
+  replaced_by_itself [] id v all = refl
+  replaced_by_itself (x ∷ xs) id v all = go (x.id == id) refl (replaced_by_itself xs id v all.1)
+    where
+      go : (b : Bool) → (x.id == id) ≡ b → with_value_at id v xs ≡ xs → cond b (entry id v) x ∷ with_value_at id v xs ≡ x ∷ xs
+      go true t rest =
+          let own : x.id ≡ id = eqb-true x.id id t in
+          ap (λ i. entry i v ∷ with_value_at id v xs) (sym own) ∙ ap (λ w. entry x.id w ∷ with_value_at id v xs) (sym (all.0 own)) ∙ ap (λ es. x ∷ es) rest
+      go false t rest = ap (λ es. x ∷ es) rest
+
+  pub other_replaced : (entries : List (Entry V)) (id other : ℕ) (v : V) → other ≢ id → value_at (with_value_at id v entries) other ≡ value_at entries other
+  other_replaced [] id other v differs = refl
+  other_replaced (x ∷ xs) id other v differs = go (x.id == id) refl (other_replaced xs id other v differs)
+    where
+      go : (b : Bool) → (x.id == id) ≡ b → value_at (with_value_at id v xs) other ≡ value_at xs other
+          → value_at (cond b (entry id v) x ∷ with_value_at id v xs) other ≡ value_at (x ∷ xs) other
+      go true t rest =
+          let here : x.id ≡ id = eqb-true x.id id t in
+          rw (ne_eqb id other (λ k. differs (sym k)), ne_eqb x.id other (λ k. differs (sym k ∙ here))) rest
+      go false t rest = by_other (x.id == other) rest
+        where
+          by_other : (b : Bool) → value_at (with_value_at id v xs) other ≡ value_at xs other
+              → option_map value_of (cond b (Some x) (find (λ (e : Entry V). e.id == other) (with_value_at id v xs))) ≡ option_map value_of (cond b (Some x) (find (λ (e : Entry V). e.id == other) xs))
+          by_other true rest = refl
+          by_other false rest = rest
 
 -- A value's id is its entry's.
 module _ {V X : Type 0} (f : V → X) (own : X → ℕ) where
@@ -113,6 +153,30 @@ module _ {V X : Type 0} (f : V → X) (own : X → ℕ) where
       go true = sym is
       go false = all.0
 
+  none_behind : (P : V → Type 0) (id low high : ℕ) (entries : List (Entry V)) → AllByRecursion IsNamed entries → Rise low high (map own (seen entries)) → id < low
+      → AllByRecursion (λ (e : Entry V). e.id ≡ id → P e.value) entries
+  none_behind P id low high [] all r l = tt
+  none_behind P id low high (e ∷ es) all r l =
+      let ge : low ≤ own (f e.value) = r.0 in
+      let is : e.id ≡ own (f e.value) = all.0 in
+      ((λ same. absurd (omega (arith, same, is, ge, l))), none_behind P id (own (f e.value) + 1) high es all.1 r.2 (omega (arith, ge, l)))
+
+  -- an id has one value
+  pub kept_once : (low high : ℕ) (entries : List (Entry V)) (id : ℕ) (w : V) → AllByRecursion IsNamed entries → Rise low high (map own (seen entries)) → value_at entries id ≡ Some w
+      → AllByRecursion (λ (e : Entry V). e.id ≡ id → e.value ≡ w) entries
+  kept_once low high [] id w all r e = tt
+  kept_once low high (x ∷ xs) id w all r e = go (x.id == id) refl e (λ e. kept_once (own (f x.value) + 1) high xs id w all.1 r.2 e)
+    where
+      go : (b : Bool) → (x.id == id) ≡ b → option_map value_of (cond b (Some x) (find (λ (e : Entry V). e.id == id) xs)) ≡ Some w
+          → (value_at xs id ≡ Some w → AllByRecursion (λ (e : Entry V). e.id ≡ id → e.value ≡ w) xs)
+          → (x.id ≡ id → x.value ≡ w) × AllByRecursion (λ (e : Entry V). e.id ≡ id → e.value ≡ w) xs
+      go true t e rest =
+          let same = eqb-true x.id id t in
+          let own_is : x.id ≡ own (f x.value) = all.0 in
+          let is : x.value ≡ w = cc in
+          ((λ _. is), none_behind (λ v. v ≡ w) id (own (f x.value) + 1) high xs all.1 r.2 (omega (arith, same, own_is)))
+      go false t e rest = ((λ same. absurd (eqb-false x.id id t same)), rest e)
+
   -- one value changes, which is kept with its id
   module _ (entries : List (Entry V)) (id high : ℕ) (named : AllByRecursion IsNamed entries) (rise : Rise 0 high (map own (seen entries))) (old new : V) (at : value_at entries id ≡ Some old) where
     pub id_of_old : own (f old) ≡ id
@@ -138,6 +202,14 @@ module _ {V X : Type 0} (f : V → X) (own : X → ℕ) where
     pub named_with : own (f new) ≡ own (f old) → AllByRecursion IsNamed (with_value_at id new entries)
     named_with same = still_named entries id new (same ∙ id_of_old) named
 
+    -- .. what all have that the new one has as the old one had
+    pub keeping : {Y : Type 0} (g : V → Y) → g new ≡ g old → map (λ (e : Entry V). g e.value) (with_value_at id new entries) ≡ map (λ (e : Entry V). g e.value) entries
+    keeping g same = replaced_alike g entries id old new (kept_once 0 high entries id old named rise at) same
+
+    -- .. and all, where it is the old one
+    pub staying : new ≡ old → with_value_at id new entries ≡ entries
+    staying same = ap (λ v. with_value_at id v entries) same ∙ replaced_by_itself entries id old (kept_once 0 high entries id old named rise at)
+
 module _ {V : Type 0} where
   pub value_replaced : (entries : List (Entry V)) (id : ℕ) (old new : V) → value_at entries id ≡ Some old → value_at (with_value_at id new entries) id ≡ Some new
   value_replaced [] id old new e = absurd (cc)
@@ -154,6 +226,13 @@ module _ {V : Type 0} where
 
 abbrev pub view_in : KeptView → View
 view_in k = k.view
+
+-- for how many lines of it there is room to be hidden, and for how many to be contracted, in all
+abbrev pub fold_rooms_in : KeptView → ℕ × ℕ
+fold_rooms_in k = (k.room.hidden, contracted_in_all k)
+
+pub same_fold_rooms : (k k' : KeptView) → k'.room.hidden ≡ k.room.hidden → contracted_in_all k' ≡ contracted_in_all k → fold_rooms_in k' ≡ fold_rooms_in k
+same_fold_rooms k k' hidden contracted = rw (hidden, contracted) refl
 
 abbrev pub id_of_view : View → ℕ
 id_of_view v = v.id

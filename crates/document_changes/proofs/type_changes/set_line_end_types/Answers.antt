@@ -16,4 +16,5 @@ returns-clause-changed c = λ text sender notes.
       ids = c.regroup.ensures.ids;
       next = c.regroup.ensures.next;
       room = c.regroup.ensures.room;
+      fold_rooms = c.regroup.ensures.fold_rooms;
     }

@@ -28,4 +28,4 @@ returns-clause-room_is_there c = λ has.
 pub returns-clause-at_most : goal.returns-clause-at_most
 returns-clause-at_most c =
     places_most c.args.documents.now.entries c.args.document c.in-Some.document.now c.reserve_view.new.self
-    (sym c.get_mut.ensures.value ∙ ap option_copied_mut c.in-Some.is) c.reserve_view.ensures.at_most
+    (sym c.get_mut.ensures.value ∙ ap option_copied_mut c.in-Some.is) (c.reserve_view.ensures.same, c.reserve_view.ensures.at_most)

@@ -50,6 +50,8 @@ returns-in_default c =
           created_so s c.args.document c.args.view r c.requires.kept asked put.new.self c.into_inner.result put.ensures.entries put.ensures.next made_for.options held
           ∙ ap (session_changed r) (sym made_for.is);
       limits = refl;
-      documents = all_named s c.args.document c.args.view can.request c.requires.kept can.asked put.new.self c.into_inner.result put.ensures.entries put.ensures.next (ap (λ (d : Document). d.id) held);
+      documents = all_named s c.args.document c.args.view can.request c.requires.kept can.asked put.new.self c.into_inner.result put.ensures.entries put.ensures.next (ap (λ (d : Document). d.id) held.0);
       views = c.requires.kept.views;
+      fold_rooms = refl;
+      view_room = refl;
     }

@@ -1,6 +1,6 @@
 use Rattle.std.proofs.Common.{sym, ap, ◌∙◌}
 use Rattle.std.specs.Option.{option_copied_mut}
-use Rattle.session_changes.specs.proved.Finding.{view_in, id_of_view, unchanged, named_with}
+use Rattle.session_changes.specs.proved.Finding.{view_in, id_of_view, staying, unchanged, named_with, other_replaced}
 use Rattle.session_changes.proofs.SessionLemmas.{when_ok, fold_room_is_there, fold_room_there, fold_room_most}
 use Rattle.session_changes.proofs.views.reserve_in.Goals as goal
 
@@ -27,5 +27,13 @@ returns-clause-at_most c =
 
 pub returns-clause-room_is_there : goal.returns-clause-room_is_there
 returns-clause-room_is_there c = λ has.
-    (c.reserve_folding.ensures.room_is_there (fold_room_is_there c.args.views.now.entries c.args.view c.in-Some.view.now c.args.change c.fold_need-need.result
-    (sym c.get_mut.ensures.value ∙ ap option_copied_mut c.in-Some.is) c.fold_need-need.ensures has)).0
+    let done = c.reserve_folding.ensures.room_is_there (fold_room_is_there c.args.views.now.entries c.args.view c.in-Some.view.now c.args.change c.fold_need-need.result
+    (sym c.get_mut.ensures.value ∙ ap option_copied_mut c.in-Some.is) c.fold_need-need.ensures has) in (
+      done.0,
+      ap (λ es. record c.args.views.now { entries = es })
+          (staying view_in id_of_view c.args.views.now.entries c.args.view c.args.views.now.next c.requires.named c.requires.rise c.in-Some.view.now c.reserve_folding.new.self
+          (sym c.get_mut.ensures.value ∙ ap option_copied_mut c.in-Some.is) done.1),
+    )
+
+pub returns-clause-others : goal.returns-clause-others
+returns-clause-others c = λ other differs. other_replaced c.args.views.now.entries c.args.view other c.reserve_folding.new.self differs

@@ -29,4 +29,4 @@ returns-else-not-has_references-clause-others c other differs =
 
 pub returns-else-not-has_references-clause-room_stays : goal.returns-else-not-has_references-clause-room_stays
 returns-else-not-has_references-clause-room_stays c =
-    room_with c.args.id c.in-Some.document.now c.detach.new.self c.args.self.now.entries (sym c.in-Some.ensures.value) (c.detach.ensures.room, c.detach.ensures.spare)
+    room_with c.args.id c.in-Some.document.now c.detach.new.self c.args.self.now.entries (sym c.in-Some.ensures.value) (c.detach.ensures.room, c.detach.ensures.spare, c.detach.ensures.view_room)
