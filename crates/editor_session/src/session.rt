@@ -4,6 +4,7 @@ ghost use Rattle.std.specs.Prelude.{◌≡◌, ◌≢◌, ◌⊎◌, ℕ, List, 
 ghost use Rattle.ed_types.specs.declared.refusal.Refusal.TheVariants.{BadArgument, NoSuchView, OutOfMemory};
 ghost use Rattle.ed_model.specs.Session.{new_session, greatest_limits, is_between_one_and, is_allowed, view_at};
 ghost use Rattle.ed_model.specs.Performing.{quiet, response};
+ghost use Rattle.ed_model.specs.SoundLaws.{IsSound};
 ghost use Rattle.ed_model.specs.Table.{table, limited, opened, closed};
 ghost use Rattle.editor_session.specs.Answers.{AnswersBy, message_with};
 ghost use Rattle.editor_session.specs.Asked.{reply_to, value_to};
@@ -150,6 +151,13 @@ impl Session {
         ensures { result ≡ is_some (view_at self.now.views view) }
     {
         self.state.views.contains(view)
+    }
+
+    /// The law that a session is sound. Does nothing.
+    pub(crate) fn soundness(&self)
+        ensures { IsSound self.now }
+    {
+        let _state = &self.state;
     }
 
     /// Sends a message to a view. The messages are those of the documentation of Scintilla that `docs/MESSAGES.md` lists.
