@@ -360,7 +360,7 @@ impl Cells {
         (&before[start..], &behind[..end - gap])
     }
 
-    /// Appends the `count` bytes from `start` on to `target`.
+    /// Appends the `count` bytes from `start` on to `target`, which gives no room back.
     ///
     /// # Errors
     ///
@@ -375,6 +375,7 @@ impl Cells {
         requires { start + count ≤ length self.now.cells }
         ensures ok { OnOk result (target.new.items ≡ target.old.items ++ slice_range (bytes_of self.now.cells) start (start + count)) }
         ensures room_is_there { vec_len target.old + count ≤ vec_capacity target.old → IsOk result }
+        ensures kept { vec_capacity target.old ≤ vec_capacity target.new }
         ensures err { OnErr result (target.new.items ≡ target.old.items) }
     {
         let (first, second) = self.parts_of(start, count);
@@ -482,6 +483,7 @@ fn one_byte(alloc: Global, byte: u8, spare: usize) -> Result<Vec<u8>, AllocError
 fn append_both(first: &[u8], second: &[u8], target: &mut Vec<u8>) -> Result<(), AllocError>
     ensures ok { OnOk result (target.new.items ≡ target.old.items ++ (first.now ++ second.now)) }
     ensures room_is_there { vec_len target.old + (length first.now + length second.now) ≤ vec_capacity target.old → IsOk result }
+    ensures kept { vec_capacity target.old ≤ vec_capacity target.new }
     ensures err { OnErr result (target.new.items ≡ target.old.items) }
 {
     let Ok(()) = target.reserve(first.len() + second.len()) else {

@@ -140,7 +140,7 @@ impl Document {
         self.cells.halves()
     }
 
-    /// Appends the `count` bytes from `start` on to `target`.
+    /// Appends the `count` bytes from `start` on to `target`, which gives no room back.
     ///
     /// # Errors
     ///
@@ -154,6 +154,7 @@ impl Document {
         requires { start + count ≤ length self.now.document.cells }
         ensures ok { OnOk result (target.new.items ≡ target.old.items ++ slice_range (text_of self.now.document) start (start + count)) }
         ensures room_is_there { vec_len target.old + count ≤ vec_capacity target.old → IsOk result }
+        ensures kept { vec_capacity target.old ≤ vec_capacity target.new }
         ensures err { OnErr result (target.new.items ≡ target.old.items) }
     {
         self.cells.append_text_to(start, count, target)

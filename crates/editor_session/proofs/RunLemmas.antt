@@ -1,6 +1,7 @@
 -- What a run makes of a command that is refused.
-use Rattle.std.proofs.Common.{◌≡◌, ◌⊎◌, ◌↔◌, ℕ, pos, refl, ap, sym, ◌∙◌, inl, inr, Some, None, Ok, Err, List, [], ◌∷◌, ◌++◌, take, drop, zero, suc, ◌+◌, slice_get, arith, IfOk, OnOk, IsErr, true, false}
-use Rattle.std.specs.Prelude.{◌≢◌, Result, Option, IsOk}
+use Rattle.std.proofs.Common.{◌≡◌, ◌⊎◌, ◌↔◌, ℕ, pos, refl, ap, sym, ◌∙◌, inl, inr, Some, None, Ok, Err, List, [], ◌∷◌, ◌++◌, take, drop, zero, suc, ◌+◌, slice_get, arith, IfOk, OnOk, IsErr, true, false, ◌||◌, ◌<◌, ◌-◌, length, subst}
+use Rattle.std.specs.Prelude.{◌≢◌, Result, Option, IsOk, IfErr, is_some, nat_le, nat_lt}
+use Rattle.std.proofs.lemmas.Bool.{cond_both}
 use Rattle.std.specs.declared.alloc.AllocError.{AllocError}
 use Rattle.ed_types.specs.declared.refusal.Refusal.{Refusal}
 use Rattle.ed_types.specs.declared.refusal.Refusal.TheVariants.{OutOfMemory}
@@ -8,11 +9,18 @@ use Rattle.ed_types.specs.declared.script.Command.{Command}
 use Rattle.ed_types.specs.declared.script.Command.TheVariants.{OpenView}
 use Rattle.ed_types.specs.declared.script.Outcome.{Outcome}
 use Rattle.ed_types.specs.declared.script.Outcome.TheVariants.{Refused}
+use Rattle.ed_types.specs.declared.kind.Kind.{Kind}
+use Rattle.ed_types.specs.declared.message.Message.{Message}
+use Rattle.ed_types.specs.Messages.{kind_of}
 use Rattle.ed_types.specs.Notices.{Response}
-use Rattle.ed_model.specs.Session.{Session, View, view_at}
-use Rattle.ed_model.specs.Table.{opened, closed, closed_view}
-use Rattle.ed_model.specs.Run.{Running, outcomes, run_to, after_command, after_message, after_opening}
+use Rattle.ed_model.specs.Session.{Session, View, Document, view_at, document_at}
+use Rattle.ed_model.specs.SoundLaws.{IsSound}
+use Rattle.ed_model.specs.PlansFit.{PlansFit, IsFitPlanned}
+use Rattle.ed_model.specs.Requests.{Request, Planned}
+use Rattle.ed_model.specs.Table.{opened, closed, closed_view, table, table_from_view, table_from_kind, table_from_document, answered, request, plan_of}
+use Rattle.ed_model.specs.Run.{Running, outcomes, run_to, after_command, after_message, after_opening, loaded, file_at, set_text_message}
 use Rattle.editor_session.specs.Answers.{AnswersBy}
+use Rattle.editor_session.proofs.Questions.{sound_request}
 
 pub opened_state : (files : List (List ℕ)) (run : Running) (new : Session) (id : ℕ) → opened run.session ≡ Ok (new, id) →
     record { session = new; value = Some (pos id) } ≡ (after_command files OpenView run).0
@@ -61,6 +69,69 @@ closing_refused s view refusal = go (view_at s.views view)
     go : (o : Option View) → closed_view s o ≡ Err refusal → refusal ≢ OutOfMemory
     go None e = λ is. absurd (cc)
     go (Some v) e = absurd (cc)
+
+-- Commands that are refused.
+
+-- what is answered where it is said that a call is refused
+abbrev pub IsSaid : {A B : Type 0} → Result A Refusal → Result B Refusal → Type 0
+IsSaid says answer = IfErr says (λ refusal. answer ≡ Err refusal)
+
+-- want of memory is no refusal that is said
+abbrev pub IsOther : {A : Type 0} → Result A Refusal → Type 0
+IsOther says = IfErr says (λ refusal. refusal ≢ OutOfMemory)
+
+-- a run goes on behind a refusal that is said
+pub message_goes_on : (s : Session) (says : Result (Session × Response) Refusal) (refusal came : Refusal) (result : Result Outcome AllocError) →
+    IsOther says → IsSaid {B = Response} says (Err refusal) → (IsErr result ↔ (refusal ≡ OutOfMemory)) → (after_message s says).1 ≡ Refused came → IsOk result
+message_goes_on s (Ok done) refusal came result other said memory e = absurd (cc)
+message_goes_on s (Err x) refusal came result other said memory e =
+    let same : x ≡ refusal = cc in goes_on result refusal memory (subst (λ r. r ≢ OutOfMemory) same other)
+
+pub opening_goes_on : (s : Session) (says : Result (Session × ℕ) Refusal) (refusal came : Refusal) (result : Result Outcome AllocError) →
+    IsOther says → IsSaid {B = ℕ} says (Err refusal) → (IsErr result ↔ (refusal ≡ OutOfMemory)) → (after_opening s says).1 ≡ Refused came → IsOk result
+opening_goes_on s (Ok done) refusal came result other said memory e = absurd (cc)
+opening_goes_on s (Err x) refusal came result other said memory e =
+    let same : x ≡ refusal = cc in goes_on result refusal memory (subst (λ r. r ≢ OutOfMemory) same other)
+
+-- a view that is not opened: there are too many
+pub opening_is_other : (s : Session) → IsOther (opened s)
+opening_is_other s =
+    cond_both (nat_le s.limits.views (length s.views) || nat_lt s.limits.ids s.next_view || nat_lt s.limits.ids s.next_document) _ _ IsOther (λ _ e. absurd (cc)) (λ _. tt)
+
+-- a message that is refused, and a file that is not loaded
+pub message_is_other : PlansFit → (s : Session) → IsSound s → (view : ℕ) (m : Message) → IsOther (table s view m)
+message_is_other fit s sound view m = from_view (view_at s.views view) refl
+  where
+    from_plan : (kind : Kind) (r : Request) (p : Planned) → IsFitPlanned r p → IsOther (answered kind r p)
+    from_plan kind r (Ok what) fits = tt
+    from_plan kind r (Err refusal) fits = fits
+
+    from_document : (v : View) (kind : Kind) (o : Option Document) → view_at s.views view ≡ Some v → document_at s.documents v.document ≡ o → IsOther (table_from_document s v kind m o)
+    from_document v kind None seen there = λ e. absurd (cc)
+    from_document v kind (Some d) seen there = let r = request s v d m in from_plan kind r (plan_of kind r) (fit kind r (sound_request s view m v d sound seen there))
+
+    from_kind : (v : View) (kind : Option Kind) → view_at s.views view ≡ Some v → IsOther (table_from_kind s v m kind)
+    from_kind v None seen = λ e. absurd (cc)
+    from_kind v (Some kind) seen = from_document v kind (document_at s.documents v.document) seen refl
+
+    from_view : (o : Option View) → view_at s.views view ≡ o → IsOther (table_from_view s m o)
+    from_view None seen = λ e. absurd (cc)
+    from_view (Some v) seen = from_kind v (kind_of m.number) seen
+
+pub loading_is_other : PlansFit → (s : Session) → IsSound s → (view : ℕ) (v : Option View) (file : Option (List ℕ)) → IsOther (loaded s view v file)
+loading_is_other fit s sound view None file = λ e. absurd (cc)
+loading_is_other fit s sound view (Some v) None = λ e. absurd (cc)
+loading_is_other fit s sound view (Some v) (Some bytes) = message_is_other fit s sound view (set_text_message bytes)
+
+-- where the view and the file are there, it is said of the load what is said of the message
+pub loading_says : (s : Session) (view : ℕ) (v : Option View) (file : Option (List ℕ)) (bytes : List ℕ) (answer : Result Response Refusal) → is_some v ≡ true → file ≡ Some bytes →
+    IsSaid (table s view (set_text_message bytes)) answer → IsSaid (loaded s view v file) answer
+loading_says s view None file bytes answer there is said = absurd (cc)
+loading_says s view (Some v) file bytes answer there is said = subst (λ f. IsSaid (loaded s view (Some v) f) answer) (sym is) said
+
+pub file_there : (files : List (List ℕ)) (file : ℕ) (bytes : List ℕ) → 0 < file → slice_get files (file - 1) ≡ Some bytes → file_at files file ≡ Some bytes
+file_there files zero bytes some there = absurd (omega arith)
+file_there files (suc k) bytes some there = let before : suc k - 1 ≡ k = omega arith in subst (λ i. slice_get files i ≡ Some bytes) before there
 
 -- One command more.
 

@@ -34,6 +34,7 @@ fn read_bytes(
     requires range { start + count ≤ length document.now.document.cells }
     ensures bytes { OnOk result (into.new.items ≡ slice_range (text_of document.now.document) start (start + count)) }
     ensures room_is_there { count ≤ vec_capacity into.old → IsOk result }
+    ensures room_stays { vec_capacity into.old ≤ vec_capacity into.new }
     ensures err { OnErr result (into.new ≡ into.old) }
 {
     let capacity = into.capacity();
@@ -66,6 +67,7 @@ fn read_as(
     ensures reply { IfSome result (λ value. reply_to (session_in state.now) view (message_with number w l []) ≡ Some (response value into.new.items [])) }
     ensures answer { IfSome result (λ value. (text : List ℕ) → table (session_in state.now) view (message_with number w l text) ≡ Ok (session_in state.now, response value into.new.items [])) }
     ensures room { IfSome (reply_to (session_in state.now) view (message_with number w l [])) (λ reply. length reply.text ≤ vec_capacity into.old → IsSome result) }
+    ensures room_stays { vec_capacity into.old ≤ vec_capacity into.new }
     ensures same { IfNone result (into.new ≡ into.old) }
 {
     // The laws that each kind is found by its number, and that what is handed out lies in the text.
@@ -112,6 +114,7 @@ pub(crate) fn read(
     ensures reply { IfSome result (λ value. reply_to (session_in state.now) view (message_with number w l []) ≡ Some (response value into.new.items [])) }
     ensures answer { IfSome result (λ value. (text : List ℕ) → table (session_in state.now) view (message_with number w l text) ≡ Ok (session_in state.now, response value into.new.items [])) }
     ensures room { IfSome (reply_to (session_in state.now) view (message_with number w l [])) (λ reply. length reply.text ≤ vec_capacity into.old → IsSome result) }
+    ensures room_stays { vec_capacity into.old ≤ vec_capacity into.new }
     ensures same { IfNone result (into.new ≡ into.old) }
 {
     match text_question_of(number) {

@@ -1,6 +1,7 @@
 //! Runs of commands.
 
-ghost use Rattle.std.specs.Prelude.{◌≡◌, ◌↔◌, true, IfOk, IsOk, IsErr, OnOk, OnErr, Some, None, Err};
+ghost use Rattle.std.specs.Prelude.{◌≡◌, ◌↔◌, true, IfOk, IfErr, IsOk, IsErr, OnOk, OnErr, Some, None, Err};
+ghost use Rattle.ed_types.specs.declared.refusal.Refusal.{Refusal};
 ghost use Rattle.ed_types.specs.declared.refusal.Refusal.TheVariants.{OutOfMemory};
 ghost use Rattle.ed_types.specs.declared.script.Outcome.TheVariants.{Refused};
 ghost use Rattle.ed_model.specs.Session.{view_at};
@@ -9,6 +10,7 @@ ghost use Rattle.editor_session.specs.Answers.{AnswersBy, StopsWithin};
 ghost use Rattle.editor_session.specs.Commands.{takes_no_memory};
 
 use crate::session::Session;
+use ed_model::plans_are_fit;
 use ed_types::{Bytes, Command, Kind, Outcome, Refusal, Reply};
 use std::alloc::{AllocError, Global};
 use std::marker::Model;
@@ -46,18 +48,23 @@ impl Run {
         &self.session
     }
 
-    /// Does one command, and answers what came of it. `load` takes its file from `files`, where the first is 1.
+    /// Does one command, and answers what came of it. `load` takes its file from `files`, where the first is 1. A command that is refused
+    /// for another reason than want of memory is an outcome, behind which the run goes on.
     ///
     /// # Errors
     ///
-    /// `AllocError` where the command was refused for want of memory, which never comes of one that takes none; the run is then as it
-    /// was.
+    /// `AllocError` where the command was refused for want of memory, which never comes of one that takes none, nor of one that is
+    /// refused by the definitions; the run is then as it was.
     pub fn step(&mut self, files: &[Bytes], command: &Command) -> Result<Outcome, AllocError>
         ensures state { OnOk result (self.new ≡ (after_command files.now command.now self.old).0) }
         ensures outcome { IfOk result (λ outcome. outcome ≡ (after_command files.now command.now self.old).1) }
         ensures err { OnErr result (self.new ≡ self.old) }
+        ensures refused { (refusal : Refusal) → (after_command files.now command.now self.old).1 ≡ Refused refusal → IsOk result }
         ensures free { takes_no_memory self.old.session command.now ≡ true → IsOk result }
     {
+        // The laws that want of memory is no refusal of a plan to a sound session.
+        plans_are_fit();
+        self.session.soundness();
         match command {
             Command::OpenView => match self.session.new_view() {
                 Ok(view) => Ok(self.done(i64::from(view), Outcome::Opened(view))),
@@ -135,6 +142,7 @@ impl Run {
     /// `NoSuchView`, then `BadArgument` where there is no such file; else those of the message that sets the text.
     fn load(&mut self, files: &[Bytes], view: u32, file: u32) -> Result<Reply, Refusal>
         ensures answer { AnswersBy (loaded self.old.session view (view_at self.old.session.views view) (file_at files.now file)) self.old.session self.new.session result }
+        ensures refused { IfErr (loaded self.old.session view (view_at self.old.session.views view) (file_at files.now file)) (λ refusal. result ≡ Err refusal) }
         ensures value { self.new.value ≡ self.old.value }
     {
         if !self.session.has_view(view) {

@@ -4,6 +4,7 @@ ghost use Rattle.std.specs.Prelude.{◌≡◌, ◌≢◌, ◌⊎◌, ℕ, List, 
 ghost use Rattle.ed_types.specs.declared.refusal.Refusal.TheVariants.{BadArgument, NoSuchView, OutOfMemory};
 ghost use Rattle.ed_model.specs.Session.{new_session, greatest_limits, is_between_one_and, is_allowed, view_at};
 ghost use Rattle.ed_model.specs.Performing.{quiet, response};
+ghost use Rattle.ed_model.specs.SoundLaws.{IsSound};
 ghost use Rattle.ed_model.specs.Table.{table, limited, opened, closed};
 ghost use Rattle.editor_session.specs.Answers.{AnswersBy, message_with};
 ghost use Rattle.editor_session.specs.Asked.{reply_to, value_to};
@@ -152,6 +153,13 @@ impl Session {
         self.state.views.contains(view)
     }
 
+    /// The law that a session is sound. Does nothing.
+    pub(crate) fn soundness(&self)
+        ensures { IsSound self.now }
+    {
+        let _state = &self.state;
+    }
+
     /// Sends a message to a view. The messages are those of the documentation of Scintilla that `docs/MESSAGES.md` lists.
     ///
     /// # Errors
@@ -223,7 +231,7 @@ impl Session {
     }
 
     /// Asks a view a text question, as GETTEXTRANGE or GETLINE: a message that hands out bytes of the document (`text_questions` of the
-    /// definitions). Its bytes take the place of what `into` holds, whose memory is used again, and its value is answered. Sent with
+    /// definitions). Its bytes take the place of what `into` holds, which keeps its room or gets more, and its value is answered. Sent with
     /// whatever text, the message is answered by a reply of this value and these bytes, and leaves the session as it is. `None` for all
     /// other messages, for what is refused or hands out no bytes, and where `into` has not the room and memory is refused; `into` is
     /// then as it was, and `send` says why.
@@ -232,6 +240,7 @@ impl Session {
         ensures reply { IfSome result (λ value. reply_to self.now view (message_with number w l []) ≡ Some (response value into.new.items [])) }
         ensures answer { IfSome result (λ value. (text : List ℕ) → table self.now view (message_with number w l text) ≡ Ok (self.now, response value into.new.items [])) }
         ensures room { IfSome (reply_to self.now view (message_with number w l [])) (λ reply. length reply.text ≤ vec_capacity into.old → IsSome result) }
+        ensures room_stays { vec_capacity into.old ≤ vec_capacity into.new }
         ensures same { IfNone result (into.new ≡ into.old) }
     {
         read(self.alloc, &self.state, view, number, w, l, into)

@@ -1,6 +1,8 @@
 //! `Stepper` and its calls.
 
-ghost use Rattle.std.specs.Prelude.{◌≡◌, ◌≤◌, ◌<◌, ◌-◌, ◌↔◌, length, take, slice_get, OnOk, OnErr, IfOk, IfErr, IfSome, IsOk, Ok, Err, None, false, true};
+ghost use Rattle.std.specs.Prelude.{◌≡◌, ◌≤◌, ◌<◌, ◌-◌, ◌↔◌, length, take, slice_get, OnOk, OnErr, IfOk, IfErr, IfSome, IsOk, Ok, Err, Some, None, false, true};
+ghost use Rattle.ed_types.specs.declared.refusal.Refusal.{Refusal};
+ghost use Rattle.ed_types.specs.declared.script.Outcome.TheVariants.{Refused};
 ghost use Rattle.script_stepper.specs.declared.fault.StepFault.TheVariants.{OutOfRange, OutOfMemory};
 ghost use Rattle.script_stepper.specs.Stepping.{Stepping, session_of, next_outcome, moved_on};
 ghost use Rattle.ed_model.specs.Run.{run_to};
@@ -89,14 +91,15 @@ impl Stepper {
     ///
     /// # Errors
     ///
-    /// `OutOfMemory` where the command was refused for want of memory, which never comes of one that takes none. The stepper is then as
-    /// it was.
+    /// `OutOfMemory` where the command was refused for want of memory, which never comes of one that takes none, nor of one that the
+    /// definitions refuse, whose refusal is its outcome. The stepper is then as it was.
     pub fn step(&mut self) -> Result<Option<Outcome>, StepFault>
         ensures outcome { IfOk result (λ outcome. outcome ≡ next_outcome self.old) }
         ensures end { (result ≡ Ok None) ↔ (self.old.state ≡ length self.old.commands) }
         ensures moved { IfOk result (λ outcome. self.new ≡ moved_on outcome self.old) }
         ensures refused { IfErr result (λ fault. fault ≡ OutOfMemory) }
         ensures kept { OnErr result (self.new ≡ self.old) }
+        ensures goes_on { (refusal : Refusal) → next_outcome self.old ≡ Some (Refused refusal) → IsOk result }
         ensures free { IfSome (slice_get self.old.commands self.old.state) (λ command. takes_no_memory (session_of self.old) command ≡ true) → IsOk result }
     {
         let Some(command) = self.script.commands().get(self.state) else {
