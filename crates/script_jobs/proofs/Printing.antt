@@ -1,5 +1,5 @@
 -- Text that goes through a buffer to a writer.
-use Rattle.std.proofs.Common.{◌≡◌, ℕ, ◌+◌, ◌<◌, ◌≤◌, Bool, true, false, cond, List, [], ◌∷◌, ◌++◌, length, drop, refl, sym, ◌∙◌, ap, subst, arith, append_assoc, append-nil, add-zero, Option, Result, Ok, Err, get_or}
+use Rattle.std.proofs.Common.{◌≡◌, ℕ, ◌+◌, ◌<◌, ◌≤◌, Bool, true, false, cond, List, [], ◌∷◌, ◌++◌, length, drop, map, refl, sym, ◌∙◌, ap, subst, arith, append_assoc, append-nil, add-zero, Option, Result, Ok, Err, get_or}
 use Rattle.std.proofs.lemmas.List.{drop_more, drop_all}
 use Rattle.std.proofs.lemmas.List.Sums.{sum_by-cons}
 use Rattle.std.specs.List.{count_by}
@@ -16,7 +16,9 @@ use Rattle.script_ends.specs.declared.ends.WriteFailed.{WriteFailed}
 use Rattle.script_ends.specs.Ends.{AppendsFront, WritesAll}
 use Rattle.script_ends.specs.Answers.{Moves, MovesPart, Puts}
 use Rattle.script_ends.specs.proved.Written.{appends_none, appends_more}
-use Rattle.script_jobs.specs.Runs.{Writes}
+use Rattle.script_jobs.specs.declared.notes.Notes.{Notes}
+use Rattle.script_jobs.specs.declared.notes.Notes.TheVariants.{Shown, LeftOut}
+use Rattle.script_jobs.specs.Runs.{Writes, without_notes, shown_outcome, shown_outcomes}
 
 -- How far a text has gone in: a part of it is written or in the buffer, and the rest is left.
 pub record Progress (old now : Option (List ℕ)) (before after all rest : List ℕ) : Type 0 where
@@ -106,8 +108,9 @@ unrolled files commands i d s new outcome h is state came =
     ∙ ap (λ t. outcome ∷ left files commands (i + 1) t) (sym state)
 
 -- the progress before a command, with its outcome in front
-pub before_outcome : (old now : Option (List ℕ)) (before after all : List ℕ) (rest more : List Outcome) (outcome : Outcome) → rest ≡ outcome ∷ more → Progress old now before after all (printed rest) → Progress old now before after all (printed_outcome outcome ++ printed more)
-before_outcome old now before after all rest more outcome is so_far = subst (λ (os : List Outcome). Progress old now before after all (printed os)) is so_far
+pub before_outcome : (notes : Notes) (old now : Option (List ℕ)) (before after all : List ℕ) (rest more : List Outcome) (outcome : Outcome) → rest ≡ outcome ∷ more → Progress old now before after all (printed (shown_outcomes notes rest)) → Progress old now before after all (printed_outcome (shown_outcome notes outcome) ++ printed (shown_outcomes notes more))
+before_outcome Shown old now before after all rest more outcome is so_far = subst (λ (os : List Outcome). Progress old now before after all (printed os)) is so_far
+before_outcome LeftOut old now before after all rest more outcome is so_far = subst (λ (os : List Outcome). Progress old now before after all (printed (map without_notes os))) is so_far
 
 pub count_cons : {X : Type 0} (p : X → Bool) (x : X) (xs : List X) → count_by p (x ∷ xs) ≡ cond (p x) 1 0 + count_by p xs
 count_cons p x xs = sum_by-cons (λ y. cond (p y) 1 0) x xs
@@ -128,8 +131,9 @@ few_counted u v i false grown h = omega (arith, grown)
 pub none_left : (files : List (List ℕ)) (commands : List Command) (i : ℕ) (s : Running) → length commands ≤ i → left files commands i s ≡ []
 none_left files commands i s h = ap (λ cs. outcomes files cs s) (drop_all i commands h)
 
-pub all_in : (old now : Option (List ℕ)) (before after all : List ℕ) (rest : List Outcome) → rest ≡ [] → Progress old now before after all (printed rest) → Moves old now before after all
-all_in old now before after all rest is so_far = gone_in old now before after all (subst (λ (os : List Outcome). Progress old now before after all (printed os)) is so_far)
+pub all_in : (notes : Notes) (old now : Option (List ℕ)) (before after all : List ℕ) (rest : List Outcome) → rest ≡ [] → Progress old now before after all (printed (shown_outcomes notes rest)) → Moves old now before after all
+all_in Shown old now before after all rest is so_far = gone_in old now before after all (subst (λ (os : List Outcome). Progress old now before after all (printed os)) is so_far)
+all_in LeftOut old now before after all rest is so_far = gone_in old now before after all (subst (λ (os : List Outcome). Progress old now before after all (printed (map without_notes os))) is so_far)
 
 -- The end of a run.
 
