@@ -12,7 +12,7 @@ use ed_types::{Note, Outcome, Refusal, Reply};
 use std::alloc::AllocError;
 
 /// Appends the line of an answer.
-fn append_answer(out: &mut Vec<u8>, value: i64, text: &[u8]) -> Result<(), AllocError>
+pub fn append_answer(out: &mut Vec<u8>, value: i64, text: &[u8]) -> Result<(), AllocError>
     ensures { Appends (printed_answer value text.now) out.old.items out.new.items result }
 {
     append_line(out, b"=", &[value], Some(text))

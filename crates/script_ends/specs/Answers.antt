@@ -1,5 +1,5 @@
 -- What is answered and written of a script, of its listing and of a check, and of the parts of that.
-use Rattle.std.specs.Prelude.{◌≡◌, ◌⊎◌, ⊤, ℕ, Bool, true, false, List, ◌++◌, length, codes, Option, Result, Ok, Err}
+use Rattle.std.specs.Prelude.{◌≡◌, ◌⊎◌, ⊤, ℕ, Bool, true, false, List, [], ◌++◌, length, codes, Option, Result, Ok, Err}
 use Rattle.std.specs.Io.KnownBytes.{Keeps, Appends}
 use Rattle.ed_types.specs.declared.script.Command.{Command}
 use Rattle.ed_types.specs.declared.script.ScriptFault.{ScriptFault}
@@ -8,6 +8,7 @@ use Rattle.ed_model.specs.Spelling.{spelled}
 use Rattle.ed_model.specs.Listing.{ended_line}
 use Rattle.script_ends.specs.declared.fault.RunFault.{RunFault}
 use Rattle.script_ends.specs.declared.fault.RunFault.TheVariants.{Script, Read, Write}
+use Rattle.script_ends.specs.declared.ends.WriteFailed.{WriteFailed}
 use Rattle.script_ends.specs.Ends.{AppendsFront}
 
 -- the line of a check
@@ -92,3 +93,8 @@ PutCause (Ok value) writer = writer ≡ false
 PutCause (Err (Script fault)) writer = writer ≡ false
 PutCause (Err Read) writer = ⊥
 PutCause (Err Write) writer = writer ≡ true
+
+-- what a buffer has is written from its front, or left there; where a write failed, a part of it was written
+abbrev pub Pours : Result (Unit {0}) WriteFailed → Option (List ℕ) → Option (List ℕ) → List ℕ → List ℕ → Type 0
+Pours (Ok done) old new before after = Moves old new before after []
+Pours (Err failed) old new before after = AppendsFront old new before

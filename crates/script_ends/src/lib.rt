@@ -13,6 +13,6 @@ mod streams;
 pub use ends::{ReadFailed, Sink, Source, WriteFailed};
 pub use fault::{RunFault, status_of};
 pub use listing::{check_script, list_script};
-pub use output::{FULL, put, write_all};
+pub use output::{FULL, pour, put, write_all};
 pub use reading::{read_file, read_script, read_text};
 pub use streams::{ReaderSource, TextSource, WriterSink};

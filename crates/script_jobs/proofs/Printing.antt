@@ -1,6 +1,6 @@
 -- Text that goes through a buffer to a writer.
-use Rattle.std.proofs.Common.{◌≡◌, ℕ, ◌+◌, ◌<◌, ◌≤◌, Bool, true, false, cond, List, [], ◌∷◌, ◌++◌, length, drop, refl, sym, ◌∙◌, ap, subst, arith, append_assoc, append-nil, add-zero, Option, Result, Ok, Err, get_or}
-use Rattle.std.proofs.lemmas.List.{drop_more, drop_all}
+use Rattle.std.proofs.Common.{◌≡◌, ℕ, ◌+◌, ◌<◌, ◌≤◌, Bool, true, false, cond, List, [], ◌∷◌, ◌++◌, length, drop, map, refl, sym, ◌∙◌, ap, subst, arith, append_assoc, append-nil, add-zero, Option, Result, Ok, Err, get_or}
+use Rattle.std.proofs.lemmas.List.{drop_more}
 use Rattle.std.proofs.lemmas.List.Sums.{sum_by-cons}
 use Rattle.std.specs.List.{count_by}
 use Rattle.std.specs.Io.KnownBytes.{Appends}
@@ -15,20 +15,16 @@ use Rattle.script_ends.specs.declared.fault.RunFault.TheVariants.{Script, Read, 
 use Rattle.script_ends.specs.declared.ends.WriteFailed.{WriteFailed}
 use Rattle.script_ends.specs.Ends.{AppendsFront, WritesAll}
 use Rattle.script_ends.specs.Answers.{Moves, MovesPart, Puts}
-use Rattle.script_ends.specs.proved.Written.{appends_none, appends_more}
-use Rattle.script_jobs.specs.Runs.{Writes}
+use Rattle.script_ends.specs.proved.Written.{appends_more}
+use Rattle.script_jobs.specs.declared.notes.Notes.{Notes}
+use Rattle.script_jobs.specs.declared.notes.Notes.TheVariants.{Shown, LeftOut}
+use Rattle.script_jobs.specs.Runs.{Writes, without_notes, shown_outcome, shown_outcomes}
 
 -- How far a text has gone in: a part of it is written or in the buffer, and the rest is left.
 pub record Progress (old now : Option (List ℕ)) (before after all rest : List ℕ) : Type 0 where
   pub done : List ℕ
   pub moved : Moves old now before after done
   pub split : all ≡ done ++ rest
-
-pub no_move : (old : Option (List ℕ)) (before : List ℕ) → Moves old old before before []
-no_move old before = record { written = []; appended = appends_none old; split = append-nil before }
-
-pub no_progress : (old : Option (List ℕ)) (before all : List ℕ) → Progress old old before before all all
-no_progress old before all = record { done = []; moved = no_move old before; split = refl }
 
 pub moves_more : (old mid new : Option (List ℕ)) (before between after first more : List ℕ) → Moves old mid before between first → Moves mid new between after more → Moves old new before after (first ++ more)
 moves_more old mid new before between after first more a b = record {
@@ -45,10 +41,6 @@ go_on old mid new before between after all piece rest so_far more = record {
   moved = moves_more old mid new before between after so_far.done piece so_far.moved more;
   split = so_far.split ∙ sym (append_assoc so_far.done piece rest);
 }
-
--- nothing is left
-pub gone_in : (old now : Option (List ℕ)) (before after all : List ℕ) → Progress old now before after all [] → Moves old now before after all
-gone_in old now before after all so_far = subst (Moves old now before after) (sym (so_far.split ∙ append-nil so_far.done)) so_far.moved
 
 -- it ends here
 pub stopped : (old now : Option (List ℕ)) (before after all rest : List ℕ) → Progress old now before after all rest → MovesPart old now before after all
@@ -106,8 +98,9 @@ unrolled files commands i d s new outcome h is state came =
     ∙ ap (λ t. outcome ∷ left files commands (i + 1) t) (sym state)
 
 -- the progress before a command, with its outcome in front
-pub before_outcome : (old now : Option (List ℕ)) (before after all : List ℕ) (rest more : List Outcome) (outcome : Outcome) → rest ≡ outcome ∷ more → Progress old now before after all (printed rest) → Progress old now before after all (printed_outcome outcome ++ printed more)
-before_outcome old now before after all rest more outcome is so_far = subst (λ (os : List Outcome). Progress old now before after all (printed os)) is so_far
+pub before_outcome : (notes : Notes) (old now : Option (List ℕ)) (before after all : List ℕ) (rest more : List Outcome) (outcome : Outcome) → rest ≡ outcome ∷ more → Progress old now before after all (printed (shown_outcomes notes rest)) → Progress old now before after all (printed_outcome (shown_outcome notes outcome) ++ printed (shown_outcomes notes more))
+before_outcome Shown old now before after all rest more outcome is so_far = subst (λ (os : List Outcome). Progress old now before after all (printed os)) is so_far
+before_outcome LeftOut old now before after all rest more outcome is so_far = subst (λ (os : List Outcome). Progress old now before after all (printed (map without_notes os))) is so_far
 
 pub count_cons : {X : Type 0} (p : X → Bool) (x : X) (xs : List X) → count_by p (x ∷ xs) ≡ cond (p x) 1 0 + count_by p xs
 count_cons p x xs = sum_by-cons (λ y. cond (p y) 1 0) x xs
@@ -123,13 +116,6 @@ counts_none u v flag off same = same ∙ sym (ap (λ (b : Bool). u + cond b 1 0)
 pub few_counted : (u v i : ℕ) (flag : Bool) → v ≡ u + cond flag 1 0 → u ≤ i → v ≤ i + 1
 few_counted u v i true grown h = omega (arith, grown)
 few_counted u v i false grown h = omega (arith, grown)
-
--- nothing is left behind the last command
-pub none_left : (files : List (List ℕ)) (commands : List Command) (i : ℕ) (s : Running) → length commands ≤ i → left files commands i s ≡ []
-none_left files commands i s h = ap (λ cs. outcomes files cs s) (drop_all i commands h)
-
-pub all_in : (old now : Option (List ℕ)) (before after all : List ℕ) (rest : List Outcome) → rest ≡ [] → Progress old now before after all (printed rest) → Moves old now before after all
-all_in old now before after all rest is so_far = gone_in old now before after all (subst (λ (os : List Outcome). Progress old now before after all (printed os)) is so_far)
 
 -- The end of a run.
 

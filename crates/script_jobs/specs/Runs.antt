@@ -1,8 +1,9 @@
 -- What a run and a job answer and write.
-use Rattle.std.specs.Prelude.{◌≡◌, ⊤, ℕ, Bool, true, false, List, count_by, Option, Result, Ok, Err}
+use Rattle.std.specs.Prelude.{◌≡◌, ⊤, ℕ, Bool, true, false, List, [], map, count_by, Option, Result, Ok, Err}
 use Rattle.std.specs.Io.KnownBytes.{Appends}
 use Rattle.ed_types.specs.declared.script.Command.{Command}
 use Rattle.ed_types.specs.declared.script.Outcome.{Outcome}
+use Rattle.ed_types.specs.declared.script.Outcome.TheVariants.{Replied}
 use Rattle.ed_types.specs.declared.script.ScriptFault.TheVariants.{OutOfMemory}
 use Rattle.ed_model.specs.Listing.{listing}
 use Rattle.ed_model.specs.Printed.{printed}
@@ -14,6 +15,8 @@ use Rattle.script_ends.specs.declared.fault.RunFault.{RunFault}
 use Rattle.script_ends.specs.declared.fault.RunFault.TheVariants.{Script, Read, Write}
 use Rattle.script_ends.specs.Ends.{AppendsFront}
 use Rattle.script_ends.specs.Answers.{checked, none}
+use Rattle.script_jobs.specs.declared.notes.Notes.{Notes}
+use Rattle.script_jobs.specs.declared.notes.Notes.TheVariants.{Shown, LeftOut}
 
 -- what comes of a script's commands with these files, from a new session
 abbrev pub answers : List (List ℕ) → List Command → List Outcome
@@ -25,6 +28,15 @@ printed_run files commands = printed (answers files commands)
 
 abbrev pub unmet : List (List ℕ) → List Command → ℕ
 unmet files commands = count_by is_unmet (answers files commands)
+
+-- an outcome without its notes: a reply has none, and any other outcome is as it was
+abbrev pub without_notes : Outcome → Outcome
+without_notes (Replied reply) = Replied (record reply { notes = [] })
+without_notes outcome = outcome
+
+-- the text that is printed of them without notes
+abbrev pub printed_quietly : List (List ℕ) → List Command → List ℕ
+printed_quietly files commands = printed (map without_notes (answers files commands))
 
 -- what a job writes of a script's commands, with these files, and what it answers
 abbrev pub text_of_job : Job → List (List ℕ) → List Command → List ℕ
@@ -38,6 +50,15 @@ value_of_job (ListJob script) files = none
 value_of_job (Check script) files = none
 
 -- The parts of a run.
+
+-- outcomes, with their notes or without them
+abbrev pub shown_outcome : Notes → Outcome → Outcome
+shown_outcome Shown outcome = outcome
+shown_outcome LeftOut outcome = without_notes outcome
+
+abbrev pub shown_outcomes : Notes → List Outcome → List Outcome
+shown_outcomes Shown outcomes = outcomes
+shown_outcomes LeftOut outcomes = map without_notes outcomes
 
 -- a text was put into a buffer and written, so that nothing is left there; or a part of it, from its front
 abbrev pub Writes : List ℕ → Result ℕ RunFault → Option (List ℕ) → Option (List ℕ) → Type 0

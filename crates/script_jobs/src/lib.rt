@@ -2,8 +2,7 @@
 //! to a program is to open files and to end with a status.
 #![tactic(auto)]
 
-mod quiet;
+mod notes;
 mod running;
 
-pub use quiet::run_quietly;
-pub use running::{do_job, run_script};
+pub use running::{do_job, run_quietly, run_script};

@@ -6,19 +6,20 @@ ghost use Rattle.ed_model.specs.Reading.{reading};
 ghost use Rattle.ed_model.specs.Run.{outcomes, is_unmet as is_unmet_outcome};
 ghost use Rattle.script_ends.specs.Ends.{TakesAtMost};
 ghost use Rattle.script_ends.specs.Answers.{Answers, HasCause, WritesNoneAtRead, Puts, PutCause};
-ghost use Rattle.script_jobs.specs.Runs.{Writes, WriteCause, printed_run, unmet, text_of_job, value_of_job};
+ghost use Rattle.script_jobs.specs.Runs.{Writes, WriteCause, shown_outcomes, answers, printed_run, printed_quietly, unmet, text_of_job, value_of_job};
 
+use crate::notes::{Notes, put_shown};
 use ed_types::{Bytes, Command, Outcome};
 use editor_session::{Run, Session};
 use job_words::Job;
-use script_ends::{RunFault, Sink, Source, check_script, list_script, put, read_script, write_all};
+use script_ends::{RunFault, Sink, Source, check_script, list_script, read_script, write_all};
 use std::alloc::Global;
 
 /// The room that a buffer starts with, in bytes.
-pub const ROOM: usize = 65_536;
+const ROOM: usize = 65_536;
 
 /// Whether an expect was not met.
-pub fn is_unmet(outcome: &Outcome) -> bool
+fn is_unmet(outcome: &Outcome) -> bool
     ensures { result ≡ is_unmet_outcome outcome.now }
 {
     match outcome {
@@ -27,23 +28,25 @@ pub fn is_unmet(outcome: &Outcome) -> bool
     }
 }
 
-/// Does the commands, puts what they print into the buffer, and counts the expects that are not met. A want of memory ends the run.
+/// Does the commands, puts what they print, with their notes or without, into the buffer, and counts the expects that are not met. A want
+/// of memory ends the run.
 fn run_commands<W: Sink>(
     sink: &mut W,
+    notes: Notes,
     buffer: &mut Vec<u8>,
     run: &mut Run,
     files: &[Bytes],
     commands: &[Command],
 ) -> Result<u64, RunFault>
     requires { W.has_failed sink.old ≡ false }
-    ensures put { Puts (printed (outcomes files.now commands.now run.old)) result (W.contents sink.old) (W.contents sink.new) buffer.old.items buffer.new.items }
+    ensures put { Puts (printed (shown_outcomes notes (outcomes files.now commands.now run.old))) result (W.contents sink.old) (W.contents sink.new) buffer.old.items buffer.new.items }
     ensures unmet { IfOk result (λ k. k ≡ count_by is_unmet_outcome (outcomes files.now commands.now run.old)) }
     ensures cause { PutCause result (W.has_failed sink.new) }
 {
     let mut unmet = 0;
     for command in commands {
         let outcome = run.step(files, command)?;
-        put(sink, buffer, &outcome)?;
+        put_shown(sink, notes, buffer, &outcome)?;
         if is_unmet(&outcome) {
             unmet += 1;
         }
@@ -55,17 +58,18 @@ fn run_commands<W: Sink>(
 fn print_outcomes<W: Sink>(
     alloc: Global,
     sink: &mut W,
+    notes: Notes,
     run: &mut Run,
     files: &[Bytes],
     commands: &[Command],
 ) -> Result<u64, RunFault>
     requires { W.has_failed sink.old ≡ false }
-    ensures written { Writes (printed (outcomes files.now commands.now run.old)) result (W.contents sink.old) (W.contents sink.new) }
+    ensures written { Writes (printed (shown_outcomes notes (outcomes files.now commands.now run.old))) result (W.contents sink.old) (W.contents sink.new) }
     ensures unmet { IfOk result (λ k. k ≡ count_by is_unmet_outcome (outcomes files.now commands.now run.old)) }
     ensures cause { WriteCause result (W.has_failed sink.new) }
 {
     let mut buffer = Vec::with_capacity(alloc, ROOM)?;
-    match run_commands(sink, &mut buffer, run, files, commands) {
+    match run_commands(sink, notes, &mut buffer, run, files, commands) {
         Ok(unmet) => {
             write_all(sink, &buffer)?;
             Ok(unmet)
@@ -83,16 +87,17 @@ fn print_outcomes<W: Sink>(
 fn print_run<W: Sink>(
     alloc: Global,
     sink: &mut W,
+    notes: Notes,
     files: &[Bytes],
     commands: &[Command],
 ) -> Result<u64, RunFault>
     requires { W.has_failed sink.old ≡ false }
-    ensures written { Writes (printed_run files.now commands.now) result (W.contents sink.old) (W.contents sink.new) }
+    ensures written { Writes (printed (shown_outcomes notes (answers files.now commands.now))) result (W.contents sink.old) (W.contents sink.new) }
     ensures unmet { IfOk result (λ k. k ≡ unmet files.now commands.now) }
     ensures cause { WriteCause result (W.has_failed sink.new) }
 {
     let mut run = Run::new(Session::new(alloc));
-    print_outcomes(alloc, sink, &mut run, files, commands)
+    print_outcomes(alloc, sink, notes, &mut run, files, commands)
 }
 
 /// Reads a script, assembles it, runs it with these files in a new session, and writes what it prints. Answers how many expects
@@ -118,7 +123,31 @@ pub fn run_script<R: Source, W: Sink>(
     ensures unread { WritesNoneAtRead result (W.contents writer.old) (W.contents writer.new) }
 {
     let script = read_script(alloc, reader)?;
-    print_run(alloc, writer, &files, script.commands())
+    print_run(alloc, writer, Notes::Shown, &files, script.commands())
+}
+
+/// Reads a script, runs it as `run_script` does, and writes what that prints without the lines of notes. Answers how many expects were
+/// not met.
+///
+/// # Errors
+///
+/// As of `run_script`.
+pub fn run_quietly<R: Source, W: Sink>(
+    alloc: Global,
+    reader: &mut R,
+    files: &[Bytes],
+    writer: &mut W,
+) -> Result<u64, RunFault>
+    requires reader { R.has_failed reader.old ≡ false }
+    requires writer { W.has_failed writer.old ≡ false }
+    ensures ran { IfSome (R.remaining reader.old) (λ bytes.
+        Answers (printed_quietly files.now) (unmet files.now) (reading bytes) result (W.contents writer.old) (W.contents writer.new)) }
+    ensures taken { TakesAtMost 16777217 (R.remaining reader.old) (R.remaining reader.new) }
+    ensures cause { HasCause result (R.has_failed reader.new) (W.has_failed writer.new) }
+    ensures unread { WritesNoneAtRead result (W.contents writer.old) (W.contents writer.new) }
+{
+    let script = read_script(alloc, reader)?;
+    print_run(alloc, writer, Notes::LeftOut, files, script.commands())
 }
 
 /// Does a job: runs, lists or checks the script that comes from the reader. Answers how many expects were not met, for a listing and a check 0.

@@ -9,11 +9,11 @@ returns-in_err-outcome-clause-put g c =
     let p = err_from_is_err_and c.from_residual.result c.from_residual.ensures.1 in
     step_failed c.from_residual.result _ _ _ _ _ _ _ p.1 p.2 c.loop-command.invariant.printed_so_far
 
-pub returns-in_err-put-clause-put : goal.returns-in_err-put-clause-put
-returns-in_err-put-clause-put g c =
+pub returns-in_err-put_shown-clause-put : goal.returns-in_err-put_shown-clause-put
+returns-in_err-put_shown-clause-put g c =
     let next = unrolled c.args.files.now c.args.commands.now c.loop-command.command-index c.command-item.result c.loop-command.run c.step.new.self c.in_ok-outcome.outcome c.loop-command-test.true c.command-item.is c.in_ok-outcome.ensures.state c.in_ok-outcome.ensures.outcome in
-    let p = err_from_is_err_and c.from_residual-in_err-put.result c.from_residual-in_err-put.ensures.1 in
-    put_failed c.from_residual-in_err-put.result _ _ _ _ _ _ _ _ _ c.in_err-put.field-0.0 (p.1 ∙ ap Err p.2) (before_outcome _ _ _ _ _ _ _ _ next c.loop-command.invariant.printed_so_far) c.in_err-put.ensures.put
+    let p = err_from_is_err_and c.from_residual-in_err-put_shown.result c.from_residual-in_err-put_shown.ensures.1 in
+    put_failed c.from_residual-in_err-put_shown.result _ _ _ _ _ _ _ _ _ c.in_err-put_shown.field-0.0 (p.1 ∙ ap Err p.2) (before_outcome c.args.notes _ _ _ _ _ _ _ _ next c.loop-command.invariant.printed_so_far) c.in_err-put_shown.ensures.put
 
 pub loop-command-preserved : goal.loop-command-preserved
 loop-command-preserved g c =
@@ -23,8 +23,8 @@ loop-command-preserved g c =
       | else-is_unmet w ↦ counts_none _ _ _ w.if-is_unmet.false w.unmet-is
     ] in
     record {
-      printed_so_far = go_on _ _ _ _ _ _ _ _ _ (before_outcome _ _ _ _ _ _ _ _ next c.loop-command.invariant.printed_so_far) c.in_ok-put.ensures.put;
+      printed_so_far = go_on _ _ _ _ _ _ _ _ _ (before_outcome c.args.notes _ _ _ _ _ _ _ _ next c.loop-command.invariant.printed_so_far) c.in_ok-put_shown.ensures.put;
       counted = counted_more _ _ _ c.is_unmet.result _ _ _ next c.is_unmet.ensures grown c.loop-command.invariant.counted;
       few = few_counted _ _ _ c.is_unmet.result grown c.loop-command.invariant.few;
-      fresh = c.in_ok-put.ensures.cause;
+      fresh = c.in_ok-put_shown.ensures.cause;
     }
