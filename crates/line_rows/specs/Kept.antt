@@ -1,9 +1,10 @@
 -- What a contract sees of `LineRows`.
-use Rattle.std.specs.Prelude.{◌≡◌, ℕ, ℤ, pos, ◌≤◌, ◌-◌, ◌+◌, ◌==◌, Bool, List, length, map, min, slice_index_or, Option, find, reverse}
+use Rattle.std.specs.Prelude.{◌≡◌, ℕ, ℤ, pos, ◌≤◌, ◌-◌, ◌+◌, ◌==◌, Bool, List, length, map, min, max, slice_index_or, Option, find, reverse}
 use Rattle.std.specs.List.{range_with_len, list_any}
 use Rattle.ed_model.specs.Numbers.{meets}
 use Rattle.ed_model.specs.Rows.{Marker, Row, fresh_row, base_level}
 use Rattle.ed_model.specs.LinePlans.{mask_of}
+use Rattle.line_rows.specs.Values.{wanted_block}
 
 -- For how many fresh lines there is room; of how many lines, from the first on, a level can be set, and of how many a state; and for
 -- how many markers.
@@ -39,6 +40,12 @@ row_blocks stored_levels level_block stored_states state_block state_lines marke
 
 abbrev pub kept_rows : List Row → ℕ → RowRoom → RowBlocks → KeptRows
 kept_rows rows handle room blocks = record { rows = rows; next_handle = handle; room = room; blocks = blocks }
+
+-- There is memory already for the levels and the states that so many fresh lines may get: where none can be set, none is wanted.
+abbrev pub HasLineMemory : KeptRows → ℕ → Type 0
+HasLineMemory r lines =
+    (wanted_block r.blocks.stored_levels (max r.room.lines lines) r.room.levels ≤ r.blocks.level_block)
+    × (wanted_block r.blocks.stored_states (max r.blocks.state_lines lines) r.room.states ≤ r.blocks.state_block)
 
 abbrev pub row_at : List Row → ℕ → Row
 row_at rows line = slice_index_or rows line fresh_row

@@ -1,5 +1,5 @@
 -- What a contract sees of `LineValues`.
-use Rattle.std.specs.Prelude.{ℕ, ◌+◌, ◌-◌, nat_le, if◌then◌else◌, min, max, List, [], ◌∷◌, ◌++◌, length, replicate, fold, refl}
+use Rattle.std.specs.Prelude.{ℕ, ◌+◌, ◌-◌, ◌==◌, nat_le, if◌then◌else◌, min, max, List, [], ◌∷◌, ◌++◌, length, replicate, fold, refl}
 use Rattle.std.specs.Coded.{Coded, code_by, coded×, coded_list, coded_ℕ}
 use Rattle.split_vector.specs.Split.{most_room}
 use Rattle.line_index.specs.declared.edit.LineEdit.{LineEdit}
@@ -37,10 +37,15 @@ module _ {V : Type 0} where
   abbrev pub padded_halves : V → ℕ → List V → List V → List V
   padded_halves value lines first second = first ++ second ++ replicate (lines - (length first + length second)) value
 
--- For how many values there is memory at most, where so many are stored and there was memory for a block of them, once there is
--- room for so many fresh lines and for the values of the first `reach` lines: for those that are then to fit in, or for twice the block.
+-- For how many values there has to be memory, where so many are stored, once there is room for so many fresh lines and for the values
+-- of the first `reach` lines: for none while no value can be set.
+abbrev pub wanted_block : (stored room reach : ℕ) → ℕ
+wanted_block stored room reach = if reach == 0 then 0 else max stored reach + room
+
+-- For how many there is memory then at most, where there was memory for a block of them: for those that it has to be there for, or for
+-- twice the block.
 abbrev pub most_block : (stored block room reach : ℕ) → ℕ
-most_block stored block room reach = most_room 0 block (max stored reach + room)
+most_block stored block room reach = most_room 0 block (wanted_block stored room reach)
 
 -- How many values are stored after an edit. Fresh lines behind the stored ones are not stored, and lines that go take theirs away.
 abbrev pub stored_after_edit : ℕ → LineEdit → ℕ

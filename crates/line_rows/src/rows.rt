@@ -6,8 +6,8 @@ ghost use Rattle.ed_model.specs.Rows.{Marker, base_level, fresh_row, rows_togeth
 ghost use Rattle.line_index.specs.Edits.{after_edit, after_edits, FitsLines, FitLines, fresh_by, fresh_lines};
 ghost use Rattle.marker_store.specs.Lines.{marker_total};
 ghost use Rattle.split_vector.specs.Split.{most_room};
-ghost use Rattle.line_rows.specs.Values.{most_block, stored_after};
-ghost use Rattle.line_rows.specs.Kept.{kept_rows, row_room, row_blocks, row_at, levels_of, is_marked, has_handle, first_from, last_up_to};
+ghost use Rattle.line_rows.specs.Values.{wanted_block, most_block, stored_after};
+ghost use Rattle.line_rows.specs.Kept.{kept_rows, row_room, row_blocks, HasLineMemory, row_at, levels_of, is_marked, has_handle, first_from, last_up_to};
 ghost use Rattle.line_rows.specs.Rows.{markers_together};
 
 use crate::values::LineValues;
@@ -90,7 +90,8 @@ impl LineRows {
         self.markers.lines()
     }
 
-    /// Makes room for `lines` fresh lines.
+    /// Makes room for `lines` fresh lines. It takes no memory where it is there already, and none for levels or states while none
+    /// can be set.
     ///
     /// # Errors
     ///
@@ -99,6 +100,7 @@ impl LineRows {
     pub fn reserve(&mut self, lines: usize) -> Result<(), AllocError>
         ensures ok { OnOk result (self.new ≡ record self.old { room = record self.old.room { lines = max self.old.room.lines lines }; blocks = record self.old.blocks { level_block = self.new.blocks.level_block; state_block = self.new.blocks.state_block; state_lines = max self.old.blocks.state_lines lines } }) }
         ensures room_is_there { lines ≤ self.old.room.lines → IsOk result × (self.new ≡ self.old) }
+        ensures memory_is_there { HasLineMemory self.old lines → IsOk result × (self.new ≡ record self.old { room = record self.old.room { lines = max self.old.room.lines lines }; blocks = record self.old.blocks { state_lines = max self.old.blocks.state_lines lines } }) }
         ensures levels_at_most { self.new.blocks.level_block ≤ most_block self.old.blocks.stored_levels self.old.blocks.level_block (max self.old.room.lines lines) self.old.room.levels }
         ensures states_at_most { self.new.blocks.state_block ≤ most_block self.old.blocks.stored_states self.old.blocks.state_block (max self.old.blocks.state_lines lines) self.old.room.states }
         ensures state_lines { (self.old.blocks.state_lines ≤ self.new.blocks.state_lines) × (self.new.blocks.state_lines ≤ max self.old.blocks.state_lines lines) }
@@ -114,6 +116,7 @@ impl LineRows {
     // Makes room for so many fresh lines, where there is too little.
     #[inline(never)]
     fn make_room(&mut self, lines: usize) -> Result<(), AllocError>
+        ensures memory_is_there { HasLineMemory self.old lines → IsOk result × (self.new ≡ record self.old { room = record self.old.room { lines = max self.old.room.lines lines }; blocks = record self.old.blocks { state_lines = max self.old.blocks.state_lines lines } }) }
         ensures ok { OnOk result (self.new ≡ record self.old { room = record self.old.room { lines = max self.old.room.lines lines }; blocks = record self.old.blocks { level_block = self.new.blocks.level_block; state_block = self.new.blocks.state_block; state_lines = max self.old.blocks.state_lines lines } }) }
         ensures levels_at_most { self.new.blocks.level_block ≤ most_block self.old.blocks.stored_levels self.old.blocks.level_block (max self.old.room.lines lines) self.old.room.levels }
         ensures states_at_most { self.new.blocks.state_block ≤ most_block self.old.blocks.stored_states self.old.blocks.state_block (max self.old.blocks.state_lines lines) self.old.room.states }
@@ -137,6 +140,7 @@ impl LineRows {
     pub fn reserve_levels(&mut self, count: usize) -> Result<(), AllocError>
         ensures ok { OnOk result (self.new ≡ record self.old { room = record self.old.room { levels = max self.old.room.levels count }; blocks = record self.old.blocks { level_block = self.new.blocks.level_block } }) }
         ensures room_is_there { count ≤ self.old.room.levels → IsOk result × (self.new ≡ self.old) }
+        ensures memory_is_there { wanted_block self.old.blocks.stored_levels self.old.room.lines (max self.old.room.levels count) ≤ self.old.blocks.level_block → IsOk result × (self.new ≡ record self.old { room = record self.old.room { levels = max self.old.room.levels count } }) }
         ensures at_most { self.new.blocks.level_block ≤ most_block self.old.blocks.stored_levels self.old.blocks.level_block self.old.room.lines (max self.old.room.levels count) }
         ensures err { OnErr result (self.new ≡ self.old) }
     {
@@ -154,6 +158,7 @@ impl LineRows {
     pub fn reserve_states(&mut self, count: usize) -> Result<(), AllocError>
         ensures ok { OnOk result (self.new ≡ record self.old { room = record self.old.room { states = max self.old.room.states count }; blocks = record self.old.blocks { state_block = self.new.blocks.state_block } }) }
         ensures room_is_there { count ≤ self.old.room.states → IsOk result × (self.new ≡ self.old) }
+        ensures memory_is_there { wanted_block self.old.blocks.stored_states self.old.blocks.state_lines (max self.old.room.states count) ≤ self.old.blocks.state_block → IsOk result × (self.new ≡ record self.old { room = record self.old.room { states = max self.old.room.states count } }) }
         ensures at_most { self.new.blocks.state_block ≤ most_block self.old.blocks.stored_states self.old.blocks.state_block self.old.blocks.state_lines (max self.old.room.states count) }
         ensures err { OnErr result (self.new ≡ self.old) }
     {

@@ -2,7 +2,7 @@
 ghost use Rattle.std.specs.Prelude.{◌≡◌, ◌≤◌, ◌<◌, ◌+◌, ◌-◌, ◌^◌, ℕ, ◌∷◌, [], length, max, slice_set, slice_index_or, OnOk, OnErr, IsOk};
 ghost use Rattle.line_index.specs.Edits.{with_fresh, with_joined, after_edit, after_edits, FitsLines, FitLines, fresh_by, fresh_lines};
 ghost use Rattle.line_index.specs.declared.edit.LineEdit.TheVariants.{Come, Join};
-ghost use Rattle.line_rows.specs.Values.{valued, first_or, padded, padded_halves, most_block, stored_after_edit, stored_after};
+ghost use Rattle.line_rows.specs.Values.{valued, first_or, padded, padded_halves, wanted_block, most_block, stored_after_edit, stored_after};
 
 use line_index::LineEdit;
 use split_vector::SplitVector;
@@ -24,7 +24,7 @@ pub struct LineValues<T: Copy> {
 }
 
 impl<T: Copy> Model for LineValues<T> {
-    ghost use Rattle.std.specs.Prelude.{◌≤◌, ◌+◌, length};
+    ghost use Rattle.std.specs.Prelude.{◌≡◌, ◌≤◌, ◌<◌, ◌+◌, length};
     ghost use Rattle.line_rows.specs.Values.{Valued, valued, valued_code, padded};
 
     ghost Value = { Valued T };
@@ -33,7 +33,7 @@ impl<T: Copy> Model for LineValues<T> {
 
     ghost view = { λ v. valued v.default (padded v.default v.lines v.stored.items) v.room v.reach (length v.stored.items) (length v.stored.items + v.stored.spare) };
 
-    ghost invariant = { λ v. record { fewer : length v.stored.items ≤ v.lines; for_lines : v.room ≤ v.stored.spare; for_values : v.reach + v.room ≤ length v.stored.items + v.stored.spare } };
+    ghost invariant = { λ v. record { fewer : length v.stored.items ≤ v.lines; unused : v.reach ≡ 0 → length v.stored.items ≡ 0; for_lines : 0 < v.reach → v.room ≤ v.stored.spare; for_values : 0 < v.reach → v.reach + v.room ≤ length v.stored.items + v.stored.spare } };
 }
 
 // Appends defaults up to `len` values, where there are fewer. It stands apart, since lines mostly get values one behind the other.
@@ -62,7 +62,7 @@ fn put_behind<T: Copy>(stored: &mut SplitVector<T>, default: T, line: usize, val
 
 // Puts `count` fresh lines in before a line.
 fn put_in<T: Copy>(stored: &mut SplitVector<T>, default: T, line: usize, count: usize)
-    requires { count ≤ stored.old.spare }
+    requires { line < length stored.old.items → count ≤ stored.old.spare }
     ensures values { (lines : ℕ) → length stored.old.items ≤ lines → line ≤ lines → padded default (lines + count) stored.new.items ≡ with_fresh (first_or default) line count (padded default lines stored.old.items) }
     ensures few { length stored.new.items ≤ length stored.old.items + count }
     ensures stored { length stored.new.items ≡ stored_after_edit (length stored.old.items) (Come line count) }
@@ -73,6 +73,28 @@ fn put_in<T: Copy>(stored: &mut SplitVector<T>, default: T, line: usize, count: 
         return;
     }
     stored.insert_fill_reserved(line, count, default);
+}
+
+// Makes sure of memory for the values of the first `reach` lines, and of so many fresh ones. While no value can be set there are none to
+// be stored, so that it takes none.
+fn reserve_values<T: Copy>(
+    stored: &mut SplitVector<T>,
+    room: usize,
+    reach: usize,
+) -> Result<(), AllocError>
+    ensures items { stored.new.items ≡ stored.old.items }
+    ensures ok { OnOk result (wanted_block (length stored.old.items) room reach ≤ length stored.new.items + stored.new.spare) }
+    ensures memory_is_there { wanted_block (length stored.old.items) room reach ≤ length stored.old.items + stored.old.spare → IsOk result × (stored.new ≡ stored.old) }
+    ensures at_most { length stored.new.items + stored.new.spare ≤ most_block (length stored.old.items) (length stored.old.items + stored.old.spare) room reach }
+    ensures err { OnErr result (stored.new ≡ stored.old) }
+{
+    if reach == 0 {
+        return Ok(());
+    }
+    let Some(wanted) = reach.saturating_sub(stored.len()).checked_add(room) else {
+        return Err(AllocError);
+    };
+    stored.reserve(wanted)
 }
 
 // Takes the `count` lines behind a line away.
@@ -141,7 +163,7 @@ impl<T: Copy> LineValues<T> {
     }
 
     /// Makes room for `lines` fresh lines, and for the values of the first `reach` lines. Memory is taken for the values that are
-    /// then to fit in, or for twice as many as there was for.
+    /// then to fit in, or for twice as many as there was for; none while no value can be set, and none where it is there.
     ///
     /// # Errors
     ///
@@ -150,6 +172,7 @@ impl<T: Copy> LineValues<T> {
     pub fn reserve(&mut self, lines: usize, reach: usize) -> Result<(), AllocError>
         ensures ok { OnOk result (self.new ≡ record self.old { room = max self.old.room lines; reach = max self.old.reach reach; block = self.new.block }) }
         ensures room_is_there { lines ≤ self.old.room → reach ≤ self.old.reach → IsOk result × (self.new ≡ self.old) }
+        ensures memory_is_there { wanted_block self.old.stored (max self.old.room lines) (max self.old.reach reach) ≤ self.old.block → IsOk result × (self.new ≡ record self.old { room = max self.old.room lines; reach = max self.old.reach reach }) }
         ensures at_most { self.new.block ≤ most_block self.old.stored self.old.block (max self.old.room lines) (max self.old.reach reach) }
         ensures err { OnErr result (self.new ≡ self.old) }
     {
@@ -163,15 +186,13 @@ impl<T: Copy> LineValues<T> {
     #[inline]
     fn make_room(&mut self, lines: usize, reach: usize) -> Result<(), AllocError>
         ensures ok { OnOk result (self.new ≡ record self.old { room = max self.old.room lines; reach = max self.old.reach reach; block = self.new.block }) }
+        ensures memory_is_there { wanted_block self.old.stored (max self.old.room lines) (max self.old.reach reach) ≤ self.old.block → IsOk result × (self.new ≡ record self.old { room = max self.old.room lines; reach = max self.old.reach reach }) }
         ensures at_most { self.new.block ≤ most_block self.old.stored self.old.block (max self.old.room lines) (max self.old.reach reach) }
         ensures err { OnErr result (self.new ≡ self.old) }
     {
         let room = self.room.max(lines);
         let reach = self.reach.max(reach);
-        let Some(wanted) = reach.saturating_sub(self.stored.len()).checked_add(room) else {
-            return Err(AllocError);
-        };
-        let Ok(()) = self.stored.reserve(wanted) else {
+        let Ok(()) = reserve_values(&mut self.stored, room, reach) else {
             return Err(AllocError);
         };
         self.room = room;
