@@ -6,7 +6,8 @@ use Rattle.document.specs.TextSteps.{need_of}
 use Rattle.document.specs.declared.text_step.TextStep.TheVariants as lent
 use Rattle.scene.specs.Scenes.{scene_in}
 use Rattle.editor_session.specs.Needs.{NeedsSteps}
-use Rattle.editor_session.proofs.Stepping.{deletes_some, inserts_none, deletion_needs, positive}
+use Rattle.scene.specs.proved.Rooms.{deletion_needs}
+use Rattle.editor_session.proofs.Stepping.{deletes_some, inserts_none, positive}
 use Rattle.editor_session.proofs.Needing.{one_step_summed}
 use Rattle.editor_session.proofs.need.replacement_need.Goals as goal
 
