@@ -5,7 +5,7 @@ use Rattle.std.specs.List.{cons_option}
 use Rattle.std.proofs.lemmas.Bool.{and_parts, eqb-true}
 use Rattle.ed_model.specs.declared.plan.Plan.{Plan}
 use Rattle.ed_model.specs.declared.plan.Plan.TheVariants as plan
-use Rattle.ed_model.specs.Steps.{Step, Insert}
+use Rattle.ed_model.specs.Steps.{Step, Insert, Delete}
 use Rattle.ed_model.specs.Session.{Session, Document, View, view_at, watching}
 use Rattle.ed_model.specs.Requests.{Request}
 use Rattle.ed_model.specs.History.{TextStep}
@@ -69,6 +69,13 @@ pub one_step_summed : (scene : Scene) (step : Step) (room : DocumentRoom) (leavi
 one_step_summed scene step room leaving need first extra is left e f sum =
     let base : Need = record { text = 0; clipboard = 0; notes = note_room (notes_of_step (watching scene.views scene.document) step) (bytes_of_step (watching scene.views scene.document) step); document = room } in
     one_step scene step room leaving need is left (sum ∙ ap (λ n. need_sum n extra) e ∙ ap (λ n. need_sum base n) f)
+
+-- A deletion leaves room for all bytes that it takes out.
+pub frees_all : (start count : ℕ) (bytes : List ℕ) → length bytes ≡ count → count ≤ 2 ^ 64 - 1 → count ≤ free_behind 0 (TextStep (Delete start bytes))
+frees_all start count bytes long small = go (length bytes) (2 ^ 64 - 1) long small
+  where
+    go : (n m : ℕ) → n ≡ count → count ≤ m → count ≤ min (0 + n) m
+    go n m e h = omega arith
 
 -- A deletion, and an insertion beside what it leaves: the need is the sum of theirs.
 pub two_steps : (scene : Scene) (gone : Step) (start count : ℕ) (bytes : List ℕ) (leaving : ℕ) (need first extra both second beside : Need)
