@@ -5,9 +5,10 @@ use Rattle.std.specs.List.{cons_option}
 use Rattle.std.proofs.lemmas.Bool.{and_parts, eqb-true}
 use Rattle.ed_model.specs.declared.plan.Plan.{Plan}
 use Rattle.ed_model.specs.declared.plan.Plan.TheVariants as plan
-use Rattle.ed_model.specs.Steps.{Step}
+use Rattle.ed_model.specs.Steps.{Step, Insert, Delete}
 use Rattle.ed_model.specs.Session.{Session, Document, View, view_at, watching}
 use Rattle.ed_model.specs.Requests.{Request}
+use Rattle.ed_model.specs.History.{TextStep}
 use Rattle.ed_model.specs.Performing.{Scene, scene_of}
 use Rattle.ed_model.specs.declared.plan.Edit.{Edit}
 use Rattle.ed_model.specs.declared.plan.Follow.{Follow}
@@ -28,12 +29,15 @@ use Rattle.document.specs.Kept.{amount_sum, room_sum, no_room}
 use Rattle.scene.specs.Needs.{note_room, notes_of_step, bytes_of_step, leaving_count}
 use Rattle.editor_session.specs.declared.need.Need.{Need}
 use Rattle.editor_session.specs.Needs.{no_need, need_sum, clipboard_need, IsAtLeast, IsCounted, IsEnoughFor, IsAbout, text_of_plan, clipboard_of_plan, notes_of_plan, bytes_of_plan, room_of_plan, notes_of_history_of, bytes_of_history_of, room_of_history_of, NeedsSteps, NeedsEdit, NeedsTask}
-use Rattle.scene.specs.Conversion.{room_of_step, room_of_steps, notes_for, bytes_for}
+use Rattle.scene.specs.Conversion.{room_of_step, room_of_steps, free_behind, notes_for, bytes_for}
 
 -- One step.
 
 sum_counted : (a b : ℕ) → amount_sum a b < 2 ^ 64 - 1 → a + b ≤ amount_sum a b
 sum_counted a b h = omega arith
+
+none_beside : (a : ℕ) → amount_sum a 0 < 2 ^ 64 - 1 → a - 0 + 0 ≤ amount_sum a 0
+none_beside a h = omega arith
 
 pub one_step : (scene : Scene) (step : Step) (room : DocumentRoom) (leaving : ℕ) (need : Need) → room_of_step scene.document.line_end_types step ≡ room
     → leaving ≡ leaving_count (watching scene.views scene.document) scene.document.history
@@ -43,9 +47,9 @@ one_step scene step room leaving need is left e = rw e (record {
   enough = λ c. record {
     notes_there = (let n = sum_counted (notes_of_step (watching scene.views scene.document) step) leaving c.notes in omega (arith, n, left));
     bytes_there = (let n = sum_counted (bytes_of_step (watching scene.views scene.document) step) 0 c.note_bytes in omega (arith, n));
-    document_there = subst (λ (x : DocumentRoom). IsAtLeast (room_sum room no_room) (record { text = x.text + 0; lines = x.lines + 0; insertions = x.insertions + 0; steps = x.steps + 0; bytes = x.bytes + 0 })) (sym is)
+    document_there = subst (λ (x : DocumentRoom). IsAtLeast (room_sum room no_room) (record { text = x.text - 0 + 0; lines = x.lines + 0; insertions = x.insertions + 0; steps = x.steps + 0; bytes = x.bytes + 0 })) (sym is)
         (record {
-          text = sum_counted room.text 0 c.text;
+          text = none_beside room.text c.text;
           lines = sum_counted room.lines 0 c.lines;
           insertions = sum_counted room.insertions 0 c.insertions;
           steps = sum_counted room.steps 0 c.steps;
@@ -65,6 +69,59 @@ pub one_step_summed : (scene : Scene) (step : Step) (room : DocumentRoom) (leavi
 one_step_summed scene step room leaving need first extra is left e f sum =
     let base : Need = record { text = 0; clipboard = 0; notes = note_room (notes_of_step (watching scene.views scene.document) step) (bytes_of_step (watching scene.views scene.document) step); document = room } in
     one_step scene step room leaving need is left (sum ∙ ap (λ n. need_sum n extra) e ∙ ap (λ n. need_sum base n) f)
+
+-- A deletion leaves room for all bytes that it takes out.
+pub frees_all : (start count : ℕ) (bytes : List ℕ) → length bytes ≡ count → count ≤ 2 ^ 64 - 1 → count ≤ free_behind 0 (TextStep (Delete start bytes))
+frees_all start count bytes long small = go (length bytes) (2 ^ 64 - 1) long small
+  where
+    go : (n m : ℕ) → n ≡ count → count ≤ m → count ≤ min (0 + n) m
+    go n m e h = omega arith
+
+-- A deletion, and an insertion beside what it leaves: the need is the sum of theirs.
+pub two_steps : (scene : Scene) (gone : Step) (start count : ℕ) (bytes : List ℕ) (leaving : ℕ) (need first extra both second beside : Need)
+    → let views = watching scene.views scene.document in let come = Insert start bytes in let types = scene.document.line_end_types in
+    count ≤ free_behind 0 (TextStep gone) → leaving ≡ leaving_count views scene.document.history
+    → first ≡ record { text = 0; clipboard = 0; notes = note_room (notes_of_step views gone) (bytes_of_step views gone); document = room_of_step types gone }
+    → extra ≡ record no_need { notes = note_room leaving 0 } → both ≡ need_sum first extra
+    → second ≡ record { text = 0; clipboard = 0; notes = note_room (notes_of_step views come) (bytes_of_step views come); document = room_of_step types come }
+    → beside ≡ record second { document = record second.document { text = second.document.text - count } } → need ≡ need_sum both beside → NeedsSteps (gone ∷ come ∷ []) scene need
+two_steps scene gone start count bytes leaving need first extra both second beside frees left f e b s n sum =
+    let views = watching scene.views scene.document in
+    let come = Insert start bytes in
+    let types = scene.document.line_end_types in
+    let x = room_of_step types gone in
+    let y = room_of_step types come in
+    let one : Need = record { text = 0; clipboard = 0; notes = note_room (notes_of_step views gone) (bytes_of_step views gone); document = x } in
+    let two : Need = record { text = 0; clipboard = 0; notes = note_room (notes_of_step views come) (bytes_of_step views come); document = y } in
+    let sealed : Need = record no_need { notes = note_room leaving 0 } in
+    let is : need ≡ need_sum (need_sum one sealed) (record two { document = record y { text = y.text - count } }) =
+    sum ∙ ap (λ v. need_sum both v) (n ∙ ap (λ (v : Need). record v { document = record v.document { text = v.document.text - count } }) s)
+    ∙ ap (λ v. need_sum v (record two { document = record y { text = y.text - count } })) (b ∙ ap (λ v. need_sum first v) e ∙ ap (λ v. need_sum v sealed) f) in
+    rw is (record {
+      enough = λ c. record {
+        notes_there = (let h = three (notes_of_step views gone) leaving (notes_of_step views come) c.notes in omega (arith, h, left));
+        bytes_there = three (bytes_of_step views gone) 0 (bytes_of_step views come) c.note_bytes;
+        document_there = record {
+          text = freed x.text y.text count (free_behind 0 (TextStep gone)) frees c.text;
+          lines = both_there x.lines y.lines c.lines;
+          insertions = both_there x.insertions y.insertions c.insertions;
+          steps = both_there x.steps y.steps c.steps;
+          bytes = both_there x.bytes y.bytes c.bytes;
+        };
+      };
+      none = λ empty. absurd (cc);
+      no_text = refl;
+      no_clipboard = refl;
+    })
+  where
+    three : (a b c : ℕ) → amount_sum (amount_sum a b) c < 2 ^ 64 - 1 → b + (a + (c + 0)) ≤ amount_sum (amount_sum a b) c
+    three a b c h = omega arith
+
+    both_there : (a b : ℕ) → amount_sum (amount_sum a 0) b < 2 ^ 64 - 1 → a + (b + 0) ≤ amount_sum (amount_sum a 0) b
+    both_there a b h = omega arith
+
+    freed : (a b count free : ℕ) → count ≤ free → amount_sum (amount_sum a 0) (b - count) < 2 ^ 64 - 1 → a - 0 + (b - free + 0) ≤ amount_sum (amount_sum a 0) (b - count)
+    freed a b count free l h = omega arith
 
 -- An attempt.
 

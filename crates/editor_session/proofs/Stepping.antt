@@ -20,20 +20,9 @@ use Rattle.scene.specs.Hearing.{bytes_shared, made_kinds}
 use Rattle.scene.specs.Needs.{notes_needed, bytes_needed, NotesAreEnough, BytesAreEnough, SealingNeedsTheSame}
 use Rattle.scene.specs.Conversion.{room_of_step, room_of_steps, notes_for, bytes_for}
 use Rattle.scene.specs.proved.Enough.{first_notes, next_notes, first_bytes, next_bytes}
+use Rattle.scene.specs.proved.Rooms.{appended_collects, deletion_needs, first_room, length_range, next_room}
 
--- Room in the document.
-
-length_range : (cells : List Cell) (start count : ℕ) → start + count ≤ length cells → length (slice_range (bytes_of cells) start (start + count)) ≡ count
-length_range cells start count h =
-    let long : length (bytes_of cells) ≡ length cells = length-map cells (λ (c : Cell). c.byte) in
-    simp (length-take, length-drop) (omega (arith, long))
-
-pub deletion_needs : (types : LineEndTypes) (d : Document) (start count : ℕ) → start + count ≤ length d.cells
-    → room_of_step types (Delete start (slice_range (text_of d) start (start + count))) ≡ need_of types (lent.Delete start count)
-deletion_needs types d start count h = ap (λ n. room_of_count n) (length_range d.cells start count h)
-  where
-    room_of_count : ℕ → DocumentRoom
-    room_of_count n = record { text = 0; lines = 3; insertions = 0; steps = 1; bytes = n }
+-- The steps of a replacement.
 
 pub deletes_some : (d : Document) (start count : ℕ) → start + count ≤ length d.cells → 0 < count → (bytes : List ℕ)
     → replacement start count bytes (text_of d) ≡ Delete start (slice_range (text_of d) start (start + count)) ∷ insertion start bytes
@@ -61,36 +50,6 @@ inserts_some start (b ∷ bs) h = refl
 pub inserts_none : (start : ℕ) (bytes : List ℕ) → length bytes ≡ 0 → insertion start bytes ≡ []
 inserts_none start [] h = refl
 inserts_none start (b ∷ bs) h = absurd (omega (arith, h))
-
-pub first_room : (k : Kept) (types : LineEndTypes) (step : Step) (steps : List Step) → HasRoom k (room_of_steps types (step ∷ steps)) → HasRoom k (room_of_step types step)
-first_room k types step steps h =
-    let a = room_of_step types step in
-    let b = room_of_steps types steps in (
-      (less a.text b.text k.room.text h.0.0, less a.lines b.lines k.room.lines h.0.1, less a.insertions b.insertions k.room.insertions h.0.2),
-      λ on. (less a.steps b.steps k.room.steps (h.1 on).0, less a.bytes b.bytes k.room.bytes (h.1 on).1),
-    )
-  where
-    less : (x y z : ℕ) → x + y ≤ z → x ≤ z
-    less x y z h = omega arith
-
-pub next_room : (k k' : Kept) (types : LineEndTypes) (step : Step) (steps : List Step) → HasRoom k (room_of_steps types (step ∷ steps)) → TakesRoom k.room k'.room (room_of_step types step)
-    → k'.document.history.collecting ≡ k.document.history.collecting → HasRoom k' (room_of_steps types steps)
-next_room k k' types step steps h left same =
-    let a = room_of_step types step in
-    let b = room_of_steps types steps in (
-      (rest a.text b.text k.room.text k'.room.text h.0.0 left.text_left, rest a.lines b.lines k.room.lines k'.room.lines h.0.1 left.lines_left, rest a.insertions b.insertions k.room.insertions k'.room.insertions h.0.2 left.insertions_left),
-      λ on. (let was = h.1 (sym same ∙ on) in (rest a.steps b.steps k.room.steps k'.room.steps was.0 left.steps_left, rest a.bytes b.bytes k.room.bytes k'.room.bytes was.1 left.bytes_left)),
-    )
-  where
-    rest : (x y z z' : ℕ) → x + y ≤ z → z ≤ z' + x → y ≤ z'
-    rest x y z z' h l = omega arith
-
-pub appended_collects : (later : Bool) (c : Change) (h : History) → (appended later c h).collecting ≡ h.collecting
-appended_collects later c h = go h.collecting refl
-  where
-    go : (b : Bool) → h.collecting ≡ b → (appended later c h).collecting ≡ b
-    go true e = rw e refl
-    go false e = rw e refl
 
 pub sealed_collects : (h : History) → (sealed_outside_groups h).collecting ≡ h.collecting
 sealed_collects h = go (h.depth == 0) h.past
@@ -181,17 +140,20 @@ module _ (start count : ℕ) (bytes : List ℕ) (k k1 : Kept) (views : Entries K
         (next_bytes law false gone (come ∷ []) (sealed_scene at_first) notes.text_room notes2.text_room (bytes_sealed same h) (subst (λ x. notes2.text_room + shared_first x ≡ notes.text_room) sealed e)))
 
     pub second_room : HasRoom k (room_of_steps k.document.line_end_types (replacement start count bytes (text_of k.document))) → TakesRoom k1.room k2.room (need_of k1.document.line_end_types (lent.Delete start count))
+        → k1.room.text + bytes_out (step_in (lent.Delete start count) (text_of k1.document)) ≤ k2.room.text + (need_of k1.document.line_end_types (lent.Delete start count)).text
         → HasRoom k2 (room_of_step k2.document.line_end_types come)
-    second_room room left =
+    second_room room left freed =
         let types = k.document.line_end_types in
         let is = scene_between between made in
         let room' : HasRoom k (room_of_steps types (gone ∷ come ∷ [])) = subst (λ ss. HasRoom k (room_of_steps types ss)) are_two room in
         let at_k : TakesRoom (sealed_kept k).room k2.room (need_of types (lent.Delete start count)) = subst (λ x. TakesRoom x.room k2.room (need_of x.document.line_end_types (lent.Delete start count))) sealed left in
         let left' : TakesRoom k.room k2.room (room_of_step types gone) = subst (λ n. TakesRoom k.room k2.room n) (sym (deletion_needs types k.document start count range)) at_k in
+        let freed' : k.room.text + bytes_out gone ≤ k2.room.text + (room_of_step types gone).text =
+        subst (λ x. x.room.text + bytes_out (step_in (lent.Delete start count) (text_of x.document)) ≤ k2.room.text + (need_of x.document.line_end_types (lent.Delete start count)).text) sealed freed in
         let collects : k2.document.history.collecting ≡ k.document.history.collecting =
         ap (λ (x : Scene). x.document.history.collecting) is ∙ appended_collects false (TextStep gone) (sealed_outside_groups k.document.history) ∙ sealed_collects k.document.history in
         let same_types : k2.document.line_end_types ≡ types = ap (λ (x : Scene). x.document.line_end_types) is in
-        subst (λ t. HasRoom k2 (room_of_step t come)) (sym same_types) (first_room k2 types come [] (next_room k k2 types gone (come ∷ []) room' left' collects))
+        subst (λ t. HasRoom k2 (room_of_step t come)) (sym same_types) (first_room k2 types come [] (next_room k k2 types gone (come ∷ []) room' left' freed' collects))
 
     pub two_made : (k3 k4 : Kept) (views3 : Entries KeptView) (notes3 : Gathered) → scene_in k3.document views3.entries notes3.notes ≡ step_made true come between → k4 ≡ sealed_kept k3
         → scene_in k4.document views3.entries notes3.notes ≡ edit_made (replacement start count bytes (text_of k.document)) at_first

@@ -1,6 +1,6 @@
 //! What a message needs of memory, told before any is taken.
 
-ghost use Rattle.std.specs.Prelude.{◌≡◌, ◌≤◌, ◌+◌, [], length, true, false};
+ghost use Rattle.std.specs.Prelude.{◌≡◌, ◌≤◌, ◌+◌, ◌-◌, [], length, true, false};
 ghost use Rattle.ed_model.specs.Steps.{replacement};
 ghost use Rattle.ed_model.specs.Requests.{Request as ModelRequest};
 ghost use Rattle.ed_model.specs.Session.{text_of, watching};
@@ -66,6 +66,19 @@ impl Need {
         }
     }
 
+    /// The same, where what goes before leaves so many bytes of room in the text.
+    fn beside(self, freed: usize) -> Self
+        ensures { result ≡ record self { document = record self.document { text = self.document.text - freed } } }
+    {
+        Need {
+            document: DocumentRoom {
+                text: self.document.text.saturating_sub(freed),
+                ..self.document
+            },
+            ..self
+        }
+    }
+
     /// So many notes, and bytes of their texts.
     fn of_notes(notes: usize, bytes: usize) -> Self
         ensures { result ≡ record no_need { notes = note_room notes bytes } }
@@ -118,7 +131,7 @@ fn step_need(document: &Document, views: &IdTable<View>, step: TextStep) -> Need
     }
 }
 
-/// What the steps of an edit need that replaces the `count` bytes from `start` on by these.
+/// What the steps of an edit need that replaces the `count` bytes from `start` on by these: what goes makes room for what comes.
 pub(crate) fn replacement_need(
     document: &Document,
     views: &IdTable<View>,
@@ -151,7 +164,7 @@ pub(crate) fn replacement_need(
     if bytes.is_empty() {
         return need;
     }
-    need.plus(step_need(document, views, insertion))
+    need.plus(step_need(document, views, insertion).beside(count))
 }
 
 /// What the conversion of all line ends needs.

@@ -8,14 +8,16 @@ use Rattle.ed_model.specs.declared.plan.LineEndTypes.{LineEndTypes}
 use Rattle.ed_model.specs.declared.plan.LineEndTypes.TheVariants.{Default, Unicode}
 use Rattle.ed_model.specs.Steps.{Step, Insert, Delete}
 use Rattle.ed_model.specs.LineEnds.{lacks_return, lacks_feed, missing_at, missing_from, is_unwanted, unwanted_at, place_after, unwanted_from}
+use Rattle.ed_model.specs.History.{TextStep}
 use Rattle.ed_model.specs.Session.{View, watching}
 use Rattle.ed_model.specs.Performing.{Scene}
 use Rattle.line_ends.specs.Conversion.{completed}
 use Rattle.line_index.specs.RoomLaws.{lines_for_insertion}
+use Rattle.document.specs.declared.room.DocumentRoom.{DocumentRoom}
 use Rattle.document.specs.Kept.{document_room, amount_sum, room_sum}
 use Rattle.scene.specs.declared.need.NoteRoom.{NoteRoom}
 use Rattle.scene.specs.Needs.{note_room, leaving_count, notes_of_step, bytes_of_step, notes_of_steps, bytes_of_steps}
-use Rattle.scene.specs.Conversion.{both_rooms, bytes_for, capped, capped_notes, capped_room, deletions_of, notes_for, room_of_many, room_of_step, room_of_steps}
+use Rattle.scene.specs.Conversion.{both_rooms, free_behind, bytes_for, capped, capped_notes, capped_room, deletions_of, notes_for, room_of_many, room_of_step, room_of_steps, rooms_added, room_of_steps_beside}
 
 -- What holds of a step of a conversion: it needs what this one does.
 pub record NeedsAs (types : LineEndTypes) (views : List View) (one step : Step) : Type 0 where
@@ -51,7 +53,7 @@ many_bytes types views one (s ∷ steps) all =
     ap (λ n. n + bytes_of_steps views steps) all.0.bytes ∙ ap (λ n. bytes_of_step views one + n) (many_bytes types views one steps all.1)
     ∙ one_more (bytes_of_step views one) (length steps)
 
-many_rooms : (types : LineEndTypes) (views : List View) (one : Step) (steps : List Step) → AllNeedAs types views one steps → room_of_steps types steps ≡ room_of_many (length steps) (room_of_step types one)
+many_rooms : (types : LineEndTypes) (views : List View) (one : Step) (steps : List Step) → AllNeedAs types views one steps → rooms_added types steps ≡ room_of_many (length steps) (room_of_step types one)
 many_rooms types views one [] all =
     let need = room_of_step types one in
     same_room _ _ _ _ _ _ _ _ _ _ (none need.text) (none need.lines) (none need.insertions) (none need.steps) (none need.bytes)
@@ -61,7 +63,7 @@ many_rooms types views one [] all =
 many_rooms types views one (s ∷ steps) all =
     let need = room_of_step types one in
     let n = length steps in
-    ap (λ r. both_rooms r (room_of_steps types steps)) all.0.room ∙ ap (both_rooms need) (many_rooms types views one steps all.1)
+    ap (λ r. both_rooms r (rooms_added types steps)) all.0.room ∙ ap (both_rooms need) (many_rooms types views one steps all.1)
     ∙ same_room _ _ _ _ _ _ _ _ _ _ (one_more need.text n) (one_more need.lines n) (one_more need.insertions n) (one_more need.steps n) (one_more need.bytes n)
 
 -- Those that put a byte in, and those that delete one.
@@ -115,7 +117,7 @@ puts_notes types views to text count e =
     ap (λ k. capped_notes k (bytes_of_step views a_put * count)) n ∙ ap (λ k. capped_notes (notes_of_steps views (missing_from 0 false to text)) k) b
 
 pub puts_room : (types : LineEndTypes) (views : List View) (to : LineEnd) (text : List ℕ) (count : ℕ) → count ≡ length (missing_from 0 false to text)
-    → capped_room (room_of_many count (room_of_step types a_put)) ≡ capped_room (room_of_steps types (missing_from 0 false to text))
+    → capped_room (room_of_many count (room_of_step types a_put)) ≡ capped_room (rooms_added types (missing_from 0 false to text))
 puts_room types views to text count e =
     ap (λ k. capped_room (room_of_many k (room_of_step types a_put))) e
     ∙ ap capped_room (sym (many_rooms types views a_put (missing_from 0 false to text) (puts_as types views to text false 0)))
@@ -132,7 +134,7 @@ takes_notes types views to text bytes count one e =
     ap (λ k. capped_notes k (bytes_of_step views (Delete 0 bytes) * count)) n ∙ ap (λ k. capped_notes (notes_of_steps views (deletions_of to text)) k) b
 
 pub takes_room : (types : LineEndTypes) (views : List View) (to : LineEnd) (text bytes : List ℕ) (count : ℕ) → length bytes ≡ 1 → count ≡ length (deletions_of to text)
-    → capped_room (room_of_many count (room_of_step types (Delete 0 bytes))) ≡ capped_room (room_of_steps types (deletions_of to text))
+    → capped_room (room_of_many count (room_of_step types (Delete 0 bytes))) ≡ capped_room (rooms_added types (deletions_of to text))
 takes_room types views to text bytes count one e =
     ap (λ k. capped_room (room_of_many k (room_of_step types (Delete 0 bytes)))) e
     ∙ ap capped_room (sym (many_rooms types views (Delete 0 bytes) (deletions_of to text) (takes_as types views (Delete 0 bytes) (take_as types views bytes one) to (completed to text) false 0)))
@@ -147,17 +149,17 @@ bytes_of_both : (views : List View) (a b : List Step) → bytes_of_steps views (
 bytes_of_both views [] b = let e : 0 + bytes_of_steps views b ≡ bytes_of_steps views b = omega arith in sym e
 bytes_of_both views (s ∷ a) b = let rest = bytes_of_both views a b in omega arith
 
-room_of_both : (types : LineEndTypes) (a b : List Step) → room_of_steps types (a ++ b) ≡ both_rooms (room_of_steps types a) (room_of_steps types b)
+room_of_both : (types : LineEndTypes) (a b : List Step) → rooms_added types (a ++ b) ≡ both_rooms (rooms_added types a) (rooms_added types b)
 room_of_both types [] b =
-    let r = room_of_steps types b in
+    let r = rooms_added types b in
     same_room _ _ _ _ _ _ _ _ _ _ (none r.text) (none r.lines) (none r.insertions) (none r.steps) (none r.bytes)
   where
     none : (x : ℕ) → x ≡ 0 + x
     none x = omega arith
 room_of_both types (s ∷ a) b =
     let n = room_of_step types s in
-    let x = room_of_steps types a in
-    let y = room_of_steps types b in
+    let x = rooms_added types a in
+    let y = rooms_added types b in
     ap (both_rooms n) (room_of_both types a b)
     ∙ same_room _ _ _ _ _ _ _ _ _ _ (group n.text x.text y.text) (group n.lines x.lines y.lines) (group n.insertions x.insertions y.insertions) (group n.steps x.steps y.steps) (group n.bytes x.bytes y.bytes)
   where
@@ -176,12 +178,42 @@ capped_three a b c = at_most a b c (2 ^ 64 - 1)
     at_most : (a b c m : ℕ) → min (min (min a m + min b m) m + c) m ≡ min (c + (a + b)) m
     at_most a b c m = omega arith
 
-pub both_needs : (types : LineEndTypes) (a b : List Step) → room_sum (capped_room (room_of_steps types a)) (capped_room (room_of_steps types b)) ≡ capped_room (room_of_steps types (a ++ b))
+pub both_needs : (types : LineEndTypes) (a b : List Step) → room_sum (capped_room (rooms_added types a)) (capped_room (rooms_added types b)) ≡ capped_room (rooms_added types (a ++ b))
 both_needs types a b =
-    let x = room_of_steps types a in
-    let y = room_of_steps types b in
+    let x = rooms_added types a in
+    let y = rooms_added types b in
     same_room _ _ _ _ _ _ _ _ _ _ (capped_both x.text y.text) (capped_both x.lines y.lines) (capped_both x.insertions y.insertions) (capped_both x.steps y.steps) (capped_both x.bytes y.bytes)
     ∙ ap capped_room (sym (room_of_both types a b))
+
+-- A conversion puts bytes in before it takes any out, so no step makes room for one behind it.
+takes_beside : (types : LineEndTypes) (views : List View) (one : Step) (steps : List Step) (free : ℕ) → AllNeedAs types views one steps → (room_of_step types one).text ≡ 0
+    → room_of_steps_beside types free steps ≡ rooms_added types steps
+takes_beside types views one [] free all e = refl
+takes_beside types views one (s ∷ steps) free all e =
+    let need = room_of_step types s in
+    let none : need.text ≡ 0 = ap (λ (r : DocumentRoom). r.text) all.0.room ∙ e in
+    let same : need.text - free ≡ need.text = omega arith in
+    ap (λ t. both_rooms (record need { text = t }) (room_of_steps_beside types (free_behind free (TextStep s)) steps)) same
+    ∙ ap (both_rooms need) (takes_beside types views one steps (free_behind free (TextStep s)) all.1 e)
+
+puts_beside : (types : LineEndTypes) (views : List View) (a b : List Step) → AllNeedAs types views a_put a → room_of_steps_beside types 0 b ≡ rooms_added types b
+    → room_of_steps_beside types 0 (a ++ b) ≡ rooms_added types (a ++ b)
+puts_beside types views [] b all rest = rest
+puts_beside types views (Insert p bytes ∷ a) b all rest =
+    let need = room_of_step types (Insert p bytes) in
+    let same : need.text - 0 ≡ need.text = omega arith in
+    let none : 0 - length bytes ≡ 0 = omega arith in
+    ap (λ t. both_rooms (record need { text = t }) (room_of_steps_beside types (0 - length bytes) (a ++ b))) same
+    ∙ ap (λ f. both_rooms need (room_of_steps_beside types f (a ++ b))) none ∙ ap (both_rooms need) (puts_beside types views a b all.1 rest)
+puts_beside types views (Delete p bytes ∷ a) b all rest =
+    let e : 0 ≡ 1 = ap (λ (r : DocumentRoom). r.text) all.0.room in absurd (omega (arith, e))
+
+pub conversion_beside : (types : LineEndTypes) (to : LineEnd) (text : List ℕ)
+    → room_of_steps types (missing_from 0 false to text ++ deletions_of to text) ≡ rooms_added types (missing_from 0 false to text ++ deletions_of to text)
+conversion_beside types to text =
+    let one = Delete 0 (10 ∷ []) in
+    let takes = takes_as types [] one (take_as types [] (10 ∷ []) refl) to (completed to text) false 0 in
+    puts_beside types [] (missing_from 0 false to text) (deletions_of to text) (puts_as types [] to text false 0) (takes_beside types [] one (deletions_of to text) 0 takes refl)
 
 -- with the notes that the save point is left
 leaving_first : (scene : Scene) (steps : List Step)

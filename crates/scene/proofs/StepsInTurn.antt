@@ -3,11 +3,10 @@ use Rattle.std.proofs.Common.{zero, suc, ◌≡◌, ℕ, ◌+◌, ◌<◌, ◌�
 use Rattle.std.specs.Prelude.{None}
 use Rattle.std.proofs.lemmas.List.{length-append, length-map, length-take, length-drop, map-append, take-map, drop-map}
 use Rattle.ed_model.specs.declared.plan.LineEnd.{LineEnd}
-use Rattle.ed_model.specs.declared.plan.LineEndTypes.{LineEndTypes}
 use Rattle.ed_model.specs.Text.{Cell, bytes_of, plain_cells}
 use Rattle.ed_model.specs.Steps.{Step, Insert, Delete, step_bytes, edited, edited_cells}
 use Rattle.ed_model.specs.LineEnds.{after_steps, conversion_steps, unwanted_from}
-use Rattle.ed_model.specs.History.{History, Change, TextStep, appended}
+use Rattle.ed_model.specs.History.{TextStep}
 use Rattle.ed_model.specs.Changes.{marker_count}
 use Rattle.ed_model.specs.Session.{Document, text_of, watching}
 use Rattle.ed_model.specs.Performing.{Scene, step_made, steps_made}
@@ -23,6 +22,7 @@ use Rattle.scene.specs.Scenes.{views_of, scene_in, fold_room_in_all, IsWatched}
 use Rattle.scene.specs.Hearing.{bytes_shared, made_kinds}
 use Rattle.scene.specs.Needs.{notes_needed, bytes_needed, NotesAreEnough, BytesAreEnough}
 use Rattle.scene.specs.proved.Enough.{next_notes, next_bytes}
+use Rattle.scene.specs.proved.Rooms.{appended_collects, deletion_needs, length_range, next_room}
 use Rattle.scene.proofs.PerformedSoFar.{made_none, made_next, spare_next}
 use Rattle.scene.specs.Conversion.{AreLeft, RoomsStay, changes_for, freed_by_all, bytes_for, deletions_of, notes_for, room_of_step, room_of_steps}
 
@@ -35,39 +35,6 @@ few_notes (s ∷ steps) scene room h = h
 few_bytes : (steps : List Step) (scene : Scene) (room : ℕ) → bytes_needed scene steps ≤ room → bytes_for steps scene ≤ room
 few_bytes [] scene room h = omega arith
 few_bytes (s ∷ steps) scene room h = h
-
--- Room in the document.
-
-pub length_range : (cells : List Cell) (start count : ℕ) → start + count ≤ length cells → length (slice_range (bytes_of cells) start (start + count)) ≡ count
-length_range cells start count h =
-    let long : length (bytes_of cells) ≡ length cells = length-map cells (λ (c : Cell). c.byte) in
-    simp (length-take, length-drop) (omega (arith, long))
-
-pub deletion_needs : (types : LineEndTypes) (d : Document) (start count : ℕ) → start + count ≤ length d.cells
-    → room_of_step types (Delete start (slice_range (text_of d) start (start + count))) ≡ need_of types (lent.Delete start count)
-deletion_needs types d start count h = ap (λ n. room_of_count n) (length_range d.cells start count h)
-  where
-    room_of_count : ℕ → DocumentRoom
-    room_of_count n = record { text = 0; lines = 3; insertions = 0; steps = 1; bytes = n }
-
-next_room : (k k' : Kept) (types : LineEndTypes) (step : Step) (steps : List Step) → HasRoom k (room_of_steps types (step ∷ steps)) → TakesRoom k.room k'.room (room_of_step types step)
-    → k'.document.history.collecting ≡ k.document.history.collecting → HasRoom k' (room_of_steps types steps)
-next_room k k' types step steps h left same =
-    let a = room_of_step types step in
-    let b = room_of_steps types steps in (
-      (rest a.text b.text k.room.text k'.room.text h.0.0 left.text_left, rest a.lines b.lines k.room.lines k'.room.lines h.0.1 left.lines_left, rest a.insertions b.insertions k.room.insertions k'.room.insertions h.0.2 left.insertions_left),
-      λ on. (let was = h.1 (sym same ∙ on) in (rest a.steps b.steps k.room.steps k'.room.steps was.0 left.steps_left, rest a.bytes b.bytes k.room.bytes k'.room.bytes was.1 left.bytes_left)),
-    )
-  where
-    rest : (x y z z' : ℕ) → x + y ≤ z → z ≤ z' + x → y ≤ z'
-    rest x y z z' h l = omega arith
-
-appended_collects : (later : Bool) (c : Change) (h : History) → (appended later c h).collecting ≡ h.collecting
-appended_collects later c h = go h.collecting refl
-  where
-    go : (b : Bool) → h.collecting ≡ b → (appended later c h).collecting ≡ b
-    go true e = rw e refl
-    go false e = rw e refl
 
 -- The text after a step.
 
@@ -86,6 +53,7 @@ text_after later s scene after e = ap (λ (x : Scene). text_of x.document) e ∙
 
 -- a step leaves all room, and makes none but that of what it takes out
 pub record StepLeaves (s : Step) (k k' : Kept) (v v' : Entries KeptView) : Type 0 where
+  pub text_freed : k.room.text + bytes_out s ≤ k'.room.text + (room_of_step k.document.line_end_types s).text
   pub none_made : IsAtMost k'.room (with_freed (bytes_out s) k.room) no_room
   pub spare : k'.spare ≡ record k.spare { markers = k'.spare.markers; fill = None }
   pub markers_in_all : k'.spare.markers + marker_count k'.document.rows ≡ k.spare.markers + marker_count k.document.rows
@@ -158,7 +126,7 @@ made_left notes_law bytes_law s rest steps later was k0 k k' v0 v v' n0 n n' lef
     let types : k'.document.line_end_types ≡ k.document.line_end_types = ap (λ (x : Scene). x.document.line_end_types) made in
     let collects : k'.document.history.collecting ≡ k.document.history.collecting =
     ap (λ (x : Scene). x.document.history.collecting) made ∙ appended_collects later (TextStep s) k.document.history in
-    let room : HasRoom k' (room_of_steps k.document.line_end_types rest) = next_room k k' k.document.line_end_types s rest left.can.room takes collects in
+    let room : HasRoom k' (room_of_steps k.document.line_end_types rest) = next_room k k' k.document.line_end_types s rest left.can.room takes leaves.text_freed collects in
     let few : notes_needed (step_made later s scene) rest ≤ n'.note_room =
     next_notes notes_law later s rest scene n.note_room n'.note_room (length n'.notes) left.can.notes_there (ap (λ (x : Scene). length x.notes) made) notes in
     let short : bytes_needed (step_made later s scene) rest ≤ n'.text_room = next_bytes bytes_law later s rest scene n.text_room n'.text_room left.can.texts_there texts in

@@ -1,5 +1,5 @@
 -- Turning the line ends of a document's text into one kind: what the steps need, and how far they are made.
-use Rattle.std.specs.Prelude.{◌≡◌, ℕ, ◌+◌, ◌*◌, ◌≤◌, Bool, false, List, [], ◌∷◌, length, map}
+use Rattle.std.specs.Prelude.{◌≡◌, ℕ, ◌+◌, ◌-◌, ◌*◌, ◌≤◌, Bool, false, List, [], ◌∷◌, length, map}
 use Rattle.ed_model.specs.declared.plan.LineEnd.{LineEnd}
 use Rattle.ed_model.specs.declared.plan.LineEndTypes.{LineEndTypes}
 use Rattle.ed_model.specs.Steps.{Step, Insert, Delete}
@@ -16,17 +16,27 @@ use Rattle.document.specs.declared.room.DocumentRoom.{DocumentRoom}
 use Rattle.document.specs.Kept.{Kept, document_room, no_room, with_freed, HasRoom, IsAtMost}
 use Rattle.scene.specs.Scenes.{scene_in, fold_room_in_all, IsWatched}
 use Rattle.scene.specs.Needs.{notes_needed, bytes_needed}
-pub use Rattle.scene.specs.Undoing.{freed_by_all, fill_behind_all, SpareLeft, both_rooms, capped, capped_room, capped_notes}
+pub use Rattle.scene.specs.Undoing.{freed_by_all, fill_behind_all, SpareLeft, both_rooms, free_behind, capped, capped_room, capped_notes}
 
 -- what a step needs of its document
 abbrev pub room_of_step : LineEndTypes → Step → DocumentRoom
 room_of_step types (Insert place bytes) = document_room (length bytes) (lines_for_insertion types bytes) 1 1 (length bytes)
 room_of_step types (Delete place bytes) = document_room 0 lines_for_deletion 0 1 (length bytes)
 
--- and steps in turn
+-- and steps in turn, where steps before them have left so many bytes of room
+abbrev pub room_of_steps_beside : LineEndTypes → ℕ → List Step → DocumentRoom
+room_of_steps_beside types free [] = no_room
+room_of_steps_beside types free (step ∷ steps) =
+    let need = room_of_step types step in both_rooms (record need { text = need.text - free }) (room_of_steps_beside types (free_behind free (TextStep step)) steps)
+
+-- Steps in turn: of the text, for what stands there at once beyond what stands there now, since what goes out makes room for what comes.
 abbrev pub room_of_steps : LineEndTypes → List Step → DocumentRoom
-room_of_steps types [] = no_room
-room_of_steps types (step ∷ steps) = both_rooms (room_of_step types step) (room_of_steps types steps)
+room_of_steps types steps = room_of_steps_beside types 0 steps
+
+-- the rooms of single steps, added up
+abbrev pub rooms_added : LineEndTypes → List Step → DocumentRoom
+rooms_added types [] = no_room
+rooms_added types (step ∷ steps) = both_rooms (room_of_step types step) (rooms_added types steps)
 
 -- the notes and the bytes that steps of a message need; none, where there is no step
 abbrev pub notes_for : List Step → Scene → ℕ

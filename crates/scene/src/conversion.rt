@@ -10,7 +10,7 @@ ghost use Rattle.document.specs.TextSteps.{step_in, need_of, IsStepOn};
 ghost use Rattle.line_ends.specs.Conversion.{IsNextMissing, IsNextUnwanted, completed, missing_in, unwanted_in};
 ghost use Rattle.scene.specs.Scenes.{scene_in, watchers, fold_room_in_all, AreNamed, IsWatched};
 ghost use Rattle.scene.specs.Needs.{leaving_count, notes_of_step, bytes_of_step, notes_of_steps, bytes_of_steps};
-ghost use Rattle.scene.specs.Conversion.{AreLeft, CanMakeSteps, RoomsStay, changes_for, freed_by_all, fill_behind_all, bytes_for, capped_notes, capped_room, deletions_of, notes_for, room_of_many, room_of_steps};
+ghost use Rattle.scene.specs.Conversion.{AreLeft, CanMakeSteps, RoomsStay, changes_for, freed_by_all, fill_behind_all, bytes_for, capped_notes, capped_room, deletions_of, notes_for, room_of_many, room_of_steps, rooms_added};
 
 use crate::laws::needs_are_enough;
 use crate::need::{NoteRoom, SceneNeed, leaving_need, note_need};
@@ -202,7 +202,7 @@ fn need_of_many(
 fn need_of_insertions(document: &Document, views: &IdTable<View>, to: LineEnd) -> SceneNeed
     requires named { AreNamed views.now.entries }
     ensures notes { result.notes ≡ capped_notes (notes_of_steps (watchers document.now.document views.now) (missing_from 0 false to (text_of document.now.document))) (bytes_of_steps (watchers document.now.document views.now) (missing_from 0 false to (text_of document.now.document))) }
-    ensures document { result.document ≡ capped_room (room_of_steps document.now.document.line_end_types (missing_from 0 false to (text_of document.now.document))) }
+    ensures document { result.document ≡ capped_room (rooms_added document.now.document.line_end_types (missing_from 0 false to (text_of document.now.document))) }
 {
     let (first, second) = document.halves();
     let insertion = TextStep::Insert {
@@ -216,7 +216,7 @@ fn need_of_insertions(document: &Document, views: &IdTable<View>, to: LineEnd) -
 fn need_of_deletions(document: &Document, views: &IdTable<View>, to: LineEnd) -> SceneNeed
     requires named { AreNamed views.now.entries }
     ensures notes { result.notes ≡ capped_notes (notes_of_steps (watchers document.now.document views.now) (deletions_of to (text_of document.now.document))) (bytes_of_steps (watchers document.now.document views.now) (deletions_of to (text_of document.now.document))) }
-    ensures document { result.document ≡ capped_room (room_of_steps document.now.document.line_end_types (deletions_of to (text_of document.now.document))) }
+    ensures document { result.document ≡ capped_room (rooms_added document.now.document.line_end_types (deletions_of to (text_of document.now.document))) }
 {
     let (first, second) = document.halves();
     let count = count_unwanted(first, second, to);

@@ -147,6 +147,7 @@ pub fn step_heard(
     ensures scene { scene_in document.new.document views.new.entries notes.new.notes ≡ heard_step bits.before bits.after (left_note is_left (watchers document.old.document views.old)) (step_in step.entry (text_of document.old.document)) (scene_in document.old.document views.old.entries notes.old.notes) }
     ensures watched { IsWatched document.new.document views.new }
     ensures room_left { TakesRoom document.old.room document.new.room (text_part (need_of document.old.document.line_end_types step.entry)) }
+    ensures text_freed { document.old.room.text + bytes_out (step_in step.entry (text_of document.old.document)) ≤ document.new.room.text + (need_of document.old.document.line_end_types step.entry).text }
     ensures none_made { IsAtMost document.new.room (with_freed (bytes_out (step_in step.entry (text_of document.old.document))) document.old.room) no_room }
     ensures spare { document.new.spare ≡ record document.old.spare { markers = document.new.spare.markers; fill = None } }
     ensures markers_in_all { document.new.spare.markers + marker_count document.new.document.rows ≡ document.old.spare.markers + marker_count document.old.document.rows }
@@ -213,6 +214,7 @@ pub fn make_step(
     ensures scene { scene_in document.new.document views.new.entries notes.new.notes ≡ step_made later (step_in step.entry (text_of document.old.document)) (scene_in document.old.document views.old.entries notes.old.notes) }
     ensures watched { IsWatched document.new.document views.new }
     ensures room_left { TakesRoom document.old.room document.new.room (need_of document.old.document.line_end_types step.entry) }
+    ensures text_freed { document.old.room.text + bytes_out (step_in step.entry (text_of document.old.document)) ≤ document.new.room.text + (need_of document.old.document.line_end_types step.entry).text }
     ensures none_made { IsAtMost document.new.room (with_freed (bytes_out (step_in step.entry (text_of document.old.document))) document.old.room) no_room }
     ensures spare { document.new.spare ≡ record document.old.spare { markers = document.new.spare.markers; fill = None } }
     ensures markers_in_all { document.new.spare.markers + marker_count document.new.document.rows ≡ document.old.spare.markers + marker_count document.old.document.rows }

@@ -18,7 +18,7 @@ make_step-requires-2-clause-room c =
     let a = c.args in
     let n = c.make_step.new in
     second_room a.start a.count a.bytes.now a.document.now c.seal_outside_groups.new.self a.views.now a.notes.now c.requires.range c.requires.some c.seal_outside_groups.ensures n.document n.views n.notes c.make_step.ensures.scene
-    c.requires.room c.make_step.ensures.room_left
+    c.requires.room c.make_step.ensures.room_left c.make_step.ensures.text_freed
 
 pub make_step-requires-2-clause-notes : goal.make_step-requires-2-clause-notes
 make_step-requires-2-clause-notes c =

@@ -1,4 +1,4 @@
-use Rattle.std.proofs.Common.{[], ap, ◌∙◌, false}
+use Rattle.std.proofs.Common.{[], ap, sym, ◌∙◌, false}
 use Rattle.ed_model.specs.LineEnds.{missing_from}
 use Rattle.ed_model.specs.Session.{text_of}
 use Rattle.document.specs.declared.room.DocumentRoom.{DocumentRoom}
@@ -6,8 +6,8 @@ use Rattle.document.specs.Kept.{amount_sum, room_sum}
 use Rattle.scene.specs.declared.need.NoteRoom.{NoteRoom}
 use Rattle.scene.specs.Scenes.{scene_in}
 use Rattle.scene.specs.Needs.{note_room}
-use Rattle.scene.specs.Conversion.{capped_room, deletions_of, room_of_steps}
-use Rattle.scene.proofs.ConversionNeeds.{both_needs, both_notes}
+use Rattle.scene.specs.Conversion.{capped_room, deletions_of, rooms_added}
+use Rattle.scene.proofs.ConversionNeeds.{both_needs, both_notes, conversion_beside}
 use Rattle.scene.proofs.conversion.conversion_need.Goals as goal
 
 pub returns-clause-notes : goal.returns-clause-notes
@@ -27,5 +27,5 @@ returns-clause-document c =
     let puts = missing_from 0 false c.args.to (text_of d) in
     let takes = deletions_of c.args.to (text_of d) in
     c.plus-3.ensures ∙ ap (λ (r : DocumentRoom). room_sum r deletions.result.document) insertions.ensures.document
-    ∙ ap (λ (r : DocumentRoom). room_sum (capped_room (room_of_steps d.line_end_types puts)) r) deletions.ensures.document
-    ∙ both_needs d.line_end_types puts takes
+    ∙ ap (λ (r : DocumentRoom). room_sum (capped_room (rooms_added d.line_end_types puts)) r) deletions.ensures.document
+    ∙ both_needs d.line_end_types puts takes ∙ ap capped_room (sym (conversion_beside d.line_end_types c.args.to (text_of d)))
