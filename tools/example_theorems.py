@@ -1,9 +1,11 @@
 #!/usr/bin/env python3
 """Writes each example of examples/ as a theorem of the crate ed_model: its script, read and run by the definitions, prints its output.
 
-Run it at the top of the repository after an example was added or changed; the gate proves what it writes.
+Run it anywhere in the repository after an example was added or changed; the gate proves what it writes. With --check it writes nothing, and
+ends with status 1 where a file of the crate has other words than it would write: so no script or output is changed without its theorem.
 """
 import os
+import re
 import sys
 
 TOP = os.path.dirname(os.path.dirname(os.path.abspath(__file__)))
@@ -64,25 +66,51 @@ def theorem(name):
         type_name(name), type_name(name), given, lines_of(read(base + ".sci")), lines_of(read(base + ".out")))
 
 
-def main():
-    known = {f[:-4] for f in os.listdir(os.path.join(TOP, "examples")) if f.endswith(".sci")}
-    listed = {name for names in GROUPS.values() for name in names}
-    if known != listed:
-        sys.exit("examples and groups differ: %s" % sorted(known ^ listed))
+def pages():
+    """The files that it writes, by their places in the crate."""
+    found = {}
     rust = ["//! Each example of `examples/`, as a theorem: what its script prints is computed from the definitions.", ""]
     for group, names in GROUPS.items():
         module = type_name(group) + "Examples"
-        with open(os.path.join(MODEL, "specs", module + ".antt"), "w") as f:
-            f.write("-- Worked examples, written by tools/example_theorems.py from examples/.\n")
-            f.write("use Rattle.std.specs.Prelude.{[], ◌∷◌, codes}\nuse Rattle.ed_model.specs.Prints.{Prints, joined_lines}\n\n")
-            f.write("\n".join(theorem(name) for name in names))
+        found["specs/%s.antt" % module] = (
+            "-- Worked examples, written by tools/example_theorems.py from examples/.\n"
+            "use Rattle.std.specs.Prelude.{[], ◌∷◌, codes}\nuse Rattle.ed_model.specs.Prints.{Prints, joined_lines}\n\n"
+            + "\n".join(theorem(name) for name in names))
         rust.append("ghost use Rattle.ed_model.specs.%s.{%s};" % (module, ", ".join(type_name(n) for n in names)))
     for group, names in GROUPS.items():
         rust += ["", "pub fn examples_of_%s()" % group]
         rust += ["    ensures %s { %s }" % (name, type_name(name)) for name in names]
-        rust += ["{", "}"]
-    with open(os.path.join(MODEL, "src", "examples.rt"), "w") as f:
-        f.write("\n".join(rust) + "\n")
+        rust += ["{}"]
+    found["src/examples.rt"] = "\n".join(rust) + "\n"
+    return found
 
 
-main()
+def words(text):
+    """The words of a file, a quoted text as one: `rt fmt` lays files out otherwise, and leaves these."""
+    return re.findall(r'"(?:[^"\\]|\\.)*"|[^\s"]+|"', text)
+
+
+def is_written(place, text):
+    """Whether a file of the crate is there, with these words."""
+    path = os.path.join(MODEL, place)
+    return os.path.exists(path) and words(read(path).decode(errors="replace")) == words(text)
+
+
+def main(arguments):
+    if arguments not in ([], ["--check"]):
+        sys.exit(__doc__)
+    known = {f[:-4] for f in os.listdir(os.path.join(TOP, "examples")) if f.endswith(".sci")}
+    listed = {name for names in GROUPS.values() for name in names}
+    if known != listed:
+        sys.exit("examples and groups differ: %s" % sorted(known ^ listed))
+    if arguments:
+        differing = [place for place, text in pages().items() if not is_written(place, text)]
+        for place in differing:
+            print("crates/ed_model/%s is not what tools/example_theorems.py writes" % place)
+        sys.exit(1 if differing else 0)
+    for place, text in pages().items():
+        with open(os.path.join(MODEL, place), "w", encoding="utf-8") as f:
+            f.write(text)
+
+
+main(sys.argv[1:])

@@ -121,7 +121,7 @@ done
 
 for views in 1 16 1024; do
     repeat hearing $one 2000 $views
-    nanos "a byte typed, heard by $views views" "a byte typed, heard by all views" "linear"
+    nanos "a byte typed, views that hear: $views" "a byte typed, heard by all views" "linear"
 done
 for lines in 100000 1000000; do
     repeat fold_headers $lines

@@ -1,8 +1,9 @@
 #!/usr/bin/env python3
 """Runs the worked examples by the built program, as each compiler made it, and compares what they print and how they end.
 
-Each script is run with the files that it loads. The one that the program's own run in `rt ci` takes lies in crates/sci_console/data/ as well, and is looked at to be
-the same. Run it anywhere in the repository after `rt ci`, or after `rt run` in crates/sci_console.
+Each script is run with the files that it loads, and once more with --quiet, which leaves out the notes' lines and nothing else. The script that
+the program's own run in `rt ci` takes lies in crates/sci_console/data/ as well, and is looked at to be the same. Run it anywhere in the
+repository after `rt ci`, or after `rt run` in crates/sci_console.
 """
 import os
 import re
@@ -42,14 +43,16 @@ def look_at_data():
             sys.exit("crates/sci_console/data/%s is not the one of examples/" % file)
 
 
-def is_as_written(program, script, loaded):
+def is_as_written(program, flags, script, loaded):
     """Whether a program prints of a script what its example says, and ends as that wants. A failure is told."""
     printed = read(EXAMPLES, script[:-4] + ".out")
+    if "--quiet" in flags:
+        printed = b"".join(line for line in printed.splitlines(True) if not line.startswith(b"@"))
     status = 4 if re.search(rb"(?m)^- ", printed) else 0
-    ran = subprocess.run([program, "run", script, *loaded], capture_output=True, cwd=EXAMPLES)
+    ran = subprocess.run([program, "run", *flags, script, *loaded], capture_output=True, cwd=EXAMPLES)
     same = (ran.stdout, ran.returncode) == (printed, status)
     if not same:
-        print("FAILED  %s by %s" % (script, os.path.basename(program)))
+        print("FAILED  %s by %s" % (" ".join([*flags, script]), os.path.basename(program)))
     return same
 
 
@@ -58,7 +61,8 @@ def main():
     if not built:
         sys.exit("sci_console was not built")
     look_at_data()
-    runs = [is_as_written(program, script, loaded) for script, loaded in scripts() for program in built]
+    runs = [is_as_written(program, flags, script, loaded)
+            for script, loaded in scripts() for program in built for flags in ([], ["--quiet"])]
     print("examples: %d passed, %d failed" % (runs.count(True), runs.count(False)))
     sys.exit(0 if runs and all(runs) else 1)
 

@@ -55,7 +55,9 @@ printf 'sci 1\nopen\nsend 1 2003 0 0 "a\n' >cut.sci
 printf 'sci 3\n' >three.sci
 : >empty.sci
 head -c 16777217 /dev/zero | tr '\0' '\n' >long.sci
+printf 'sci 1\nopen\nload 1 1\nsend 1 2182 0 0 ""\nload 1 2\nsend 1 2182 0 0 ""\n' >two.sci
 printf 'abc' >file
+printf 'de' >second
 : >in
 
 # Each form of words, status and line.
@@ -63,6 +65,7 @@ check_statuses() {
     : >in
     expect 'run' 0 "$answered" '' run good.sci
     expect 'run with a file that no load names' 0 "$answered" '' run good.sci file
+    expect 'each of two files' 0 '= 1 ""\n= 0 ""\n= 3 "abc"\n= 0 ""\n= 2 "de"\n' '' run --quiet two.sci file second
     expect 'list' 0 'sci 2\nopen\nsend 1 2003 0 0 "hello"\nsend 1 2006 0 0 ""\n' '' list good.sci
     expect 'check' 0 'ok 3\n' '' check good.sci
     expect 'an expect that is not met' 4 '= 1 ""\n- 2\n' '' run unmet.sci

@@ -21,6 +21,9 @@ import time
 import kit
 
 BLOCK = re.compile(r"^## (\w+)\n\n```\n(.*?)\n```$", re.M | re.S)
+# What there is of each block, however it is written: a heading, and two fences.
+HEADING = re.compile(r"^ *##", re.M)
+FENCE = re.compile(r"^ *(?:```|~~~)", re.M)
 HEAD = re.compile(r"^( *)(?:pub(?:\(\w+\))? )?(?:const |unsafe |extern \"C\" )*fn (\w+)", re.M)
 IMPL = re.compile(r"^impl\b.*", re.M)
 # What the prover says of a function that it refuses; and of one whose own proof it did not look at, since what it calls is refused.
@@ -99,12 +102,17 @@ def function_around(file, text, part):
 
 
 def bodies_of(crate, pages):
-    """The wrong bodies that a crate's pages hold."""
+    """The wrong bodies that a crate's pages hold. Ends with an error where a page has more than the blocks that are read of it."""
     for page in pages:
-        path = f"{kit.TOP}/crates/{crate}/must-fail/{page}"
-        if os.path.exists(path):
-            with open(path, encoding="utf-8") as it:
-                yield from (Body(crate, name, text) for name, text in BLOCK.findall(it.read()))
+        path = f"crates/{crate}/must-fail/{page}"
+        if os.path.exists(f"{kit.TOP}/{path}"):
+            with open(f"{kit.TOP}/{path}", encoding="utf-8") as it:
+                said = it.read()
+            blocks = BLOCK.findall(said)
+            headings, fences = len(HEADING.findall(said)), len(FENCE.findall(said))
+            if headings != len(blocks) or fences != 2 * len(blocks):
+                sys.exit(f"{path}: {headings} headings and {fences} fences, of which {len(blocks)} blocks can be read")
+            yield from (Body(crate, name, text) for name, text in blocks)
 
 
 def copy_crate(crate, folder):
