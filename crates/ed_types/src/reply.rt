@@ -31,9 +31,11 @@ pub struct Note {
     pub prev: i64,
     /// The token of a container's own undo step.
     pub token: i64,
-    /// The number of a recorded message, and its arguments.
+    /// The number of a recorded message.
     pub message: u32,
+    /// Its first argument, as it was sent.
     pub w: i64,
+    /// Its second argument, as it was sent.
     pub l: i64,
     /// Where the note's text stands in the pool of its reply.
     pub text: Range<usize>,

@@ -195,9 +195,9 @@ impl Session {
         answer_message(self.alloc, &mut self.state, view, number, w, l, text)
     }
 
-    /// Sends a message that is no plain question, or was asked in vain: it goes the longer way at once, which serves for all messages.
-    /// The value of its reply is returned, and its reply takes the place of `reply`; where neither has a text or notes, nothing is
-    /// written, and `reply.value()` is not this message's value: the result alone is.
+    /// Sends any message as `send_lent` does, but leaves its reply in the place of `reply`, and returns its value. Where neither reply
+    /// has a text or notes, nothing is written, and `reply.value()` is not this message's value: the result alone is. It does not try
+    /// first whether the message is a plain question, as `ask` does.
     ///
     /// # Errors
     ///
@@ -219,8 +219,8 @@ impl Session {
         answer_into(self.alloc, &mut self.state, view, number, w, l, text, reply)
     }
 
-    /// Asks a view a plain question, as GETLENGTH or GETCHARAT: a message that is answered by a number of the document or of the view
-    /// (`questions` of the definitions). Sent with whatever text, the message is answered by a reply of this value alone, and leaves
+    /// Asks a view a plain question, as GETLENGTH or GETCHARAT: one of 36 messages that are answered by a number of the document or of
+    /// the view (`questions` of the definitions; `docs/MESSAGES.md` names them). Sent with whatever text, the message is answered by a reply of this value alone, and leaves
     /// the session as it is. `None` for all other messages, and for what is refused: `send` says why. Takes no memory.
     #[inline(always)]
     pub fn ask(&self, view: u32, number: u32, w: i64, l: i64) -> Option<i64>

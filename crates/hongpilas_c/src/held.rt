@@ -20,6 +20,7 @@ use editor_session::Session;
 /// A session, and its reply to the last message, so that C need not give back replies.
 #[derive(Drop)]
 pub struct Held {
+    /// The session.
     pub session: Session,
     /// The value of the last reply. It stands beside the rest, so that a plain question writes nothing else.
     pub value: i64,

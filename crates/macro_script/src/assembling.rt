@@ -10,7 +10,11 @@ use ed_model::laws_of_scripts;
 use ed_types::ScriptFault;
 use std::alloc::Global;
 
-/// The script that the bytes spell, in the version that their first line names; else the first fault; or want of memory.
+/// The script that the bytes spell, in the version that their first line names.
+///
+/// # Errors
+///
+/// The first fault of bytes that spell none, with its line, counted from 1; `OutOfMemory` where memory is refused.
 pub fn assemble(alloc: Global, bytes: &[u8]) -> Result<Script, ScriptFault>
     ensures { (result ≡ reading bytes.now) ⊎ (result ≡ Err OutOfMemory) }
 {

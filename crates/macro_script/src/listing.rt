@@ -48,7 +48,11 @@ fn append_command(out: &mut Vec<u8>, command: &Command) -> Result<(), AllocError
     }
 }
 
-/// The listing of a script, in version 2; or want of memory. `assemble` reads it as the script.
+/// The listing of a script, in version 2. `assemble` reads it as the script.
+///
+/// # Errors
+///
+/// `OutOfMemory` where memory is refused.
 pub fn list(alloc: Global, script: &Script) -> Result<Vec<u8>, ScriptFault>
     ensures read_back { IfOk result (λ text. reading text.items ≡ Ok script.now) }
     ensures listed { MatchResult result (λ text. text.items ≡ listing 2 script.now) (λ fault. fault ≡ OutOfMemory) }

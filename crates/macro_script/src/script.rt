@@ -86,8 +86,12 @@ impl Script {
         }
     }
 
-    /// Adds a command at the end. `TooLong` where its line or the whole would pass its limit in the listing; then, and where memory
-    /// runs out, the script stays as it was.
+    /// Adds a command at the end.
+    ///
+    /// # Errors
+    ///
+    /// `TooLong` where its line or the whole would pass its limit in the listing, `OutOfMemory` where memory is refused. The script is
+    /// then as it was.
     pub fn push(&mut self, command: Command) -> Result<(), ScriptFault>
         ensures too_long { (result ≡ Err TooLong) ↔ (keeps_limits (self.old ++ command ∷ []) ≡ false) }
         ensures refused { IfErr result (λ fault. (fault ≡ TooLong) ⊎ (fault ≡ OutOfMemory)) }

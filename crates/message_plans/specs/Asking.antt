@@ -1,4 +1,5 @@
--- Plain questions: messages that are answered by a number of the document or of the view; and text questions, which are answered by bytes of the document. They change nothing, are not recorded, and read no text of the message.
+-- Plain questions: the messages asked most of those that are answered by a number of the document or of the view; and text questions, which
+-- are answered by bytes of the document. They change nothing, are not recorded, and read no text of the message.
 use Rattle.std.specs.Prelude.{ℕ, ℤ, if◌then◌else◌, Bool, List, [], ◌∷◌, Ok, Option, Some, None, is_some}
 use Rattle.ed_types.specs.declared.kind.Kind.{Kind}
 use Rattle.ed_types.specs.declared.kind.Kind.TheVariants as kinds

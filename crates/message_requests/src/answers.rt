@@ -13,8 +13,11 @@ use ed_types::Refusal;
 /// What a text question is answered by: a value, and the `count` bytes of the document's text from `start` on.
 #[derive(Clone, Copy, Debug)]
 pub struct HandedOut {
+    /// The value that the message answers.
     pub value: i64,
+    /// Where the bytes begin, in bytes from the text's start.
     pub start: usize,
+    /// How many they are.
     pub count: usize,
 }
 

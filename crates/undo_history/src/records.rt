@@ -25,31 +25,38 @@ pub enum ChangeKind {
     Container { coalesce: bool, token: i64 },
 }
 
-/// A change as a history lends it: what was done, the bytes of that step, where a container's step has none, and whether it is
-/// the last of its transaction to be performed.
+/// A change as a history lends it. A container's step has no bytes.
 #[derive(Clone, Copy)]
 pub struct LentChange<'a> {
+    /// What was done.
     pub kind: ChangeKind,
+    /// The bytes of that step.
     pub bytes: &'a [u8],
+    /// Whether it is the last of its transaction to be performed.
     pub is_last: bool,
 }
 
-/// A change, with the end of its bytes among the bytes of all steps, and its marks.
+/// A change as it is stored: without its bytes, and with its marks.
 #[derive(Clone, Copy)]
 pub struct StepRecord {
+    /// What was done.
     pub kind: ChangeKind,
+    /// Where its bytes end among the bytes of all steps.
     pub bytes_end: usize,
-    // Whether it begins a transaction.
+    /// Whether it begins a transaction.
     pub starts: bool,
-    // Whether nothing joins its transaction behind it.
+    /// Whether nothing joins its transaction behind it.
     pub is_sealed: bool,
 }
 
-/// A step of the text by where it was and how many bytes it has.
+/// A step of the text without its bytes.
 #[derive(Clone, Copy)]
 pub struct StepOutline {
+    /// Whether bytes were put in or deleted.
     pub kind: StepKind,
+    /// Where, in bytes from the text's start.
     pub place: usize,
+    /// How many bytes.
     pub count: usize,
 }
 
