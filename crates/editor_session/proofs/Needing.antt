@@ -14,6 +14,7 @@ use Rattle.ed_model.specs.declared.plan.Edit.{Edit}
 use Rattle.ed_model.specs.declared.plan.Follow.{Follow}
 use Rattle.ed_model.specs.declared.plan.Follow.TheVariants as follow
 use Rattle.ed_model.specs.declared.plan.DocumentChange.{DocumentChange}
+use Rattle.ed_model.specs.declared.plan.LineEndTypes.{LineEndTypes}
 use Rattle.ed_model.specs.Edits.{steps_of, has_steps}
 use Rattle.document.specs.declared.undoing.Direction.TheVariants.{Undo, Redo}
 use Rattle.document_changes.specs.Needs.{needs_room, notes_of_change}
@@ -25,7 +26,7 @@ use Rattle.editor_session.specs.Edited.{IsPastedFor}
 use Rattle.editor_session.specs.Edits.{edit_steps}
 use Rattle.editor_session.proofs.Performing.{same_edit}
 use Rattle.document.specs.declared.room.DocumentRoom.{DocumentRoom}
-use Rattle.document.specs.Kept.{amount_sum, room_sum, no_room}
+use Rattle.document.specs.Kept.{amount_sum, document_room, room_sum, no_room}
 use Rattle.scene.specs.Needs.{note_room, notes_of_step, bytes_of_step, leaving_count}
 use Rattle.editor_session.specs.declared.need.Need.{Need}
 use Rattle.editor_session.specs.Needs.{no_need, need_sum, clipboard_need, IsAtLeast, IsCounted, IsEnoughFor, IsAbout, text_of_plan, clipboard_of_plan, notes_of_plan, bytes_of_plan, room_of_plan, notes_of_history_of, bytes_of_history_of, room_of_history_of, NeedsSteps, NeedsEdit, NeedsTask}
@@ -71,10 +72,10 @@ one_step_summed scene step room leaving need first extra is left e f sum =
     one_step scene step room leaving need is left (sum ∙ ap (λ n. need_sum n extra) e ∙ ap (λ n. need_sum base n) f)
 
 -- A deletion leaves room for all bytes that it takes out.
-pub frees_all : (start count : ℕ) (bytes : List ℕ) → length bytes ≡ count → count ≤ 2 ^ 64 - 1 → count ≤ free_behind 0 (TextStep (Delete start bytes))
+pub frees_all : (start count : ℕ) (bytes : List ℕ) → length bytes ≡ count → count ≤ 2 ^ 64 - 1 → free_behind 0 (TextStep (Delete start bytes)) ≡ count
 frees_all start count bytes long small = go (length bytes) (2 ^ 64 - 1) long small
   where
-    go : (n m : ℕ) → n ≡ count → count ≤ m → count ≤ min (0 + n) m
+    go : (n m : ℕ) → n ≡ count → count ≤ m → min (0 + n) m ≡ count
     go n m e h = omega arith
 
 -- A deletion, and an insertion beside what it leaves: the need is the sum of theirs.
@@ -100,7 +101,7 @@ two_steps scene gone start count bytes leaving need first extra both second besi
     rw is (record {
       enough = λ c. record {
         notes_there = (let h = three (notes_of_step views gone) leaving (notes_of_step views come) c.notes in omega (arith, h, left));
-        bytes_there = three (bytes_of_step views gone) 0 (bytes_of_step views come) c.note_bytes;
+        bytes_there = both_there (bytes_of_step views gone) (bytes_of_step views come) c.note_bytes;
         document_there = record {
           text = freed x.text y.text count (free_behind 0 (TextStep gone)) frees c.text;
           lines = both_there x.lines y.lines c.lines;
@@ -122,6 +123,48 @@ two_steps scene gone start count bytes leaving need first extra both second besi
 
     freed : (a b count free : ℕ) → count ≤ free → amount_sum (amount_sum a 0) (b - count) < 2 ^ 64 - 1 → a - 0 + (b - free + 0) ≤ amount_sum (amount_sum a 0) (b - count)
     freed a b count free l h = omega arith
+
+-- The room that is asked for, exactly: for one step, and for an insertion beside what a deletion leaves.
+same_room : (a b c d e a' b' c' d' e' : ℕ) → a ≡ a' → b ≡ b' → c ≡ c' → d ≡ d' → e ≡ e' → document_room a b c d e ≡ document_room a' b' c' d' e'
+same_room a b c d e a' b' c' d' e' p q r s t = cc
+
+pub one_room : (types : LineEndTypes) (step : Step) → room_sum (room_of_step types step) no_room ≡ capped_room (room_of_steps types (step ∷ []))
+one_room types step =
+    let x = room_of_step types step in same_room _ _ _ _ _ _ _ _ _ _ (text x.text) (more x.lines) (more x.insertions) (more x.steps) (more x.bytes)
+  where
+    text : (a : ℕ) → amount_sum a 0 ≡ capped (a - 0 + 0)
+    text a = omega arith
+
+    more : (a : ℕ) → amount_sum a 0 ≡ capped (a + 0)
+    more a = omega arith
+
+pub two_rooms : (types : LineEndTypes) (gone come : Step) (count : ℕ) → free_behind 0 (TextStep gone) ≡ count
+    → let y = room_of_step types come in room_sum (room_sum (room_of_step types gone) no_room) (record y { text = y.text - count }) ≡ capped_room (room_of_steps types (gone ∷ come ∷ []))
+two_rooms types gone come count e =
+    let x = room_of_step types gone in
+    let y = room_of_step types come in
+    same_room _ _ _ _ _ _ _ _ _ _ (text x.text y.text count (free_behind 0 (TextStep gone)) e) (more x.lines y.lines) (more x.insertions y.insertions) (more x.steps y.steps) (more x.bytes y.bytes)
+  where
+    text : (a b count free : ℕ) → free ≡ count → amount_sum (amount_sum a 0) (b - count) ≡ capped (a - 0 + (b - free + 0))
+    text a b count free e = omega arith
+
+    more : (a b : ℕ) → amount_sum (amount_sum a 0) b ≡ capped (a + (b + 0))
+    more a b = omega arith
+
+pub one_step_room : (types : LineEndTypes) (step : Step) (need first extra : Need) → first.document ≡ room_of_step types step → extra.document ≡ no_room → need ≡ need_sum first extra
+    → need.document ≡ capped_room (room_of_steps types (step ∷ []))
+one_step_room types step need first extra f e sum =
+    ap (λ (n : Need). n.document) sum ∙ ap (λ r. room_sum r extra.document) f ∙ ap (λ r. room_sum (room_of_step types step) r) e ∙ one_room types step
+
+pub two_steps_room : (types : LineEndTypes) (gone come : Step) (count : ℕ) (need first extra both second beside : Need) → free_behind 0 (TextStep gone) ≡ count
+    → first.document ≡ room_of_step types gone → extra.document ≡ no_room → both ≡ need_sum first extra → second.document ≡ room_of_step types come
+    → beside ≡ record second { document = record second.document { text = second.document.text - count } } → need ≡ need_sum both beside
+    → need.document ≡ capped_room (room_of_steps types (gone ∷ come ∷ []))
+two_steps_room types gone come count need first extra both second beside frees f e b s n sum =
+    let x = room_of_step types gone in
+    let put = ap (λ (v : Need). v.document) b ∙ ap (λ r. room_sum r extra.document) f ∙ ap (λ r. room_sum x r) e in
+    let less = ap (λ (v : Need). v.document) n ∙ ap (λ (r : DocumentRoom). record r { text = r.text - count }) s in
+    ap (λ (v : Need). v.document) sum ∙ ap (λ r. room_sum r beside.document) put ∙ ap (λ r. room_sum (room_sum x no_room) r) less ∙ two_rooms types gone come count frees
 
 -- An attempt.
 

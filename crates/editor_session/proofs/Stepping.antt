@@ -1,17 +1,13 @@
 -- Steps in turn, out of the room that was made for all of them.
-use Rattle.std.proofs.Common.{zero, suc, ◌≡◌, ◌≢◌, ℕ, ◌+◌, ◌-◌, ◌<◌, ◌≤◌, ◌==◌, Bool, true, false, cond, List, [], ◌∷◌, ◌++◌, length, refl, ap, sym, ◌∙◌, subst, arith, slice_range, length-take, length-drop}
+use Rattle.std.proofs.Common.{zero, suc, ◌≡◌, ◌≢◌, ℕ, ◌+◌, ◌-◌, ◌<◌, ◌≤◌, ◌==◌, Bool, true, false, cond, List, [], ◌∷◌, ◌++◌, length, refl, ap, sym, ◌∙◌, subst, arith, slice_range}
 use Rattle.std.specs.List.{AllByRecursion}
-use Rattle.std.proofs.lemmas.List.{length-map}
-use Rattle.ed_model.specs.declared.plan.LineEndTypes.{LineEndTypes}
-use Rattle.ed_model.specs.Text.{Cell, bytes_of}
 use Rattle.ed_model.specs.Steps.{Step, Insert, Delete, step_bytes, replacement, insertion, deletion}
-use Rattle.ed_model.specs.History.{History, Transaction, Change, TextStep, appended, sealed_outside_groups, with_last_sealed}
+use Rattle.ed_model.specs.History.{History, Transaction, TextStep, sealed_outside_groups, with_last_sealed}
 use Rattle.ed_model.specs.Session.{Document, View, text_of, watching}
 use Rattle.ed_model.specs.Performing.{Scene, step_made, edit_made, sealed_scene}
-use Rattle.document.specs.declared.room.DocumentRoom.{DocumentRoom}
 use Rattle.document.specs.declared.text_step.TextStep.TheVariants as lent
 use Rattle.document.specs.Kept.{Kept, HasRoom, TakesRoom}
-use Rattle.document.specs.TextSteps.{step_in, need_of}
+use Rattle.document.specs.TextSteps.{bytes_out, step_in, need_of}
 use Rattle.id_table.specs.Entries.{Entries}
 use Rattle.ed_view.specs.Kept.{KeptView}
 use Rattle.notify.specs.Gathered.{Gathered}

@@ -10,6 +10,7 @@ ghost use Rattle.scene.specs.Needs.{note_room, notes_of_step, bytes_of_step};
 ghost use Rattle.ed_model.specs.LineEnds.{conversion_steps};
 ghost use Rattle.document.specs.Undoing.{changes_of};
 ghost use Rattle.scene.specs.Scenes.{watchers};
+ghost use Rattle.scene.specs.Conversion.{room_of_steps};
 ghost use Rattle.scene.specs.Undoing.{bits_of, notes_of_history, bytes_of_changes, room_of_changes, capped_room, capped_notes};
 ghost use Rattle.message_requests.specs.Requested.{session_in};
 ghost use Rattle.session_changes.specs.Kept.{IsKept};
@@ -143,6 +144,7 @@ pub(crate) fn replacement_need(
     requires named { AreNamed views.now.entries }
     ensures enough { let steps = replacement start count bytes.now (text_of document.now.document) in
         NeedsSteps steps (scene_in document.now.document views.now.entries []) result }
+    ensures document { result.document ≡ capped_room (room_of_steps document.now.document.line_end_types (replacement start count bytes.now (text_of document.now.document))) }
 {
     let deletion = TextStep::Delete {
         place: start,
