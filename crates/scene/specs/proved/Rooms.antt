@@ -100,11 +100,11 @@ next_room k k' types step steps h left freed same =
         rest a.insertions b.insertions c.insertions k.room.insertions k'.room.insertions (ap (λ (r : DocumentRoom). r.insertions) e) h.0.2 left.insertions_left,
       ),
       λ on. (
-        let was = h.1 (sym same ∙ on) in (
-          rest a.steps b.steps c.steps k.room.steps k'.room.steps (ap (λ (r : DocumentRoom). r.steps) e) was.0 left.steps_left,
-          rest a.bytes b.bytes c.bytes k.room.bytes k'.room.bytes (ap (λ (r : DocumentRoom). r.bytes) e) was.1 left.bytes_left,
-        )
-      ),
+          let was = h.1 (sym same ∙ on) in (
+            rest a.steps b.steps c.steps k.room.steps k'.room.steps (ap (λ (r : DocumentRoom). r.steps) e) was.0 left.steps_left,
+            rest a.bytes b.bytes c.bytes k.room.bytes k'.room.bytes (ap (λ (r : DocumentRoom). r.bytes) e) was.1 left.bytes_left,
+          )
+          ),
     )
   where
     text : (a y x free out z z' : ℕ) → a - 0 + y ≤ z → z + out ≤ z' + a → free ≤ out → x ≤ y + (free - 0) → x ≤ z'
