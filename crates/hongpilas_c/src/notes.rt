@@ -43,7 +43,7 @@ pub struct NoteInC {
     pub w: i64,
     /// The second argument of a recorded message, as it was sent.
     pub l: i64,
-    /// Where the note's text begins. It is lent until the next call on the session; where its length is 0, the address means nothing.
+    /// Where the note's text begins. It is lent until the next message that is done; where its length is 0, the address means nothing.
     pub text: *const u8,
     /// The length of the text, in bytes.
     pub text_length: usize,

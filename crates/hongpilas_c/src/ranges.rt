@@ -5,7 +5,8 @@ ghost use Rattle.hongpilas_c.specs.Calls.{IsLendAnswer, IsLent};
 
 use crate::handle::Handle;
 
-/// Lends bytes of a view's document: `bytes` is set to where they begin. C reads them until the session's next call.
+/// Lends bytes of a view's document: `bytes` is set to where they begin. C reads them until the session's next call, but for
+/// those that look at the last reply.
 #[unsafe(no_mangle)]
 pub extern "C" fn hongpilas_lend_range(
     handle: &mut Handle,
