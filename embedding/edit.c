@@ -4,11 +4,14 @@
 #include <hongpilas.h>
 
 #include <errno.h>
+#include <fcntl.h>
+#include <limits.h>
 #include <signal.h>
 #include <stdio.h>
 #include <stdlib.h>
 #include <string.h>
 #include <sys/ioctl.h>
+#include <sys/stat.h>
 #include <termios.h>
 #include <unistd.h>
 
@@ -23,22 +26,16 @@ typedef struct pane {
 } pane;
 
 static hongpilas session;
-static pane panes[2];
-static pane bottom; /* the last row, whose text has a view of its own */
+static pane panes[2], bottom; /* bottom is the last row, whose text has a view of its own */
 static int pane_count = 1, active = 0;
 static int rows = 24, columns = 80;
 static int64_t goal = -1, goal_before = -1; /* the column that moves by rows keep to, of this key and the one before; or -1 */
 static char file_name[4096], needle[256], notice[256];
 static bool is_over;
-static volatile sig_atomic_t is_resized;
+static volatile sig_atomic_t is_resized, is_ended; /* by a signal */
 
 /* What the notes said. The bytes from `from` to `to` changed since their fold levels were set. */
-static struct {
-  bool is_modified;
-  int64_t lines;
-  int64_t position;
-  int64_t from, to;
-} heard = {false, 1, 0, INT64_MAX, -1};
+static struct { bool is_modified; int64_t lines, position, from, to; } heard = {false, 1, 0, INT64_MAX, -1};
 
 #define say(...) snprintf(notice, sizeof notice, __VA_ARGS__)
 
@@ -52,8 +49,7 @@ static void hear_change(const hongpilas_note_data *note) {
   heard.lines += note->lines;
   heard.position = note->position;
   heard.from = least(heard.from, note->position);
-  heard.to = is_deletion ? greatest(heard.to - note->length, note->position)
-                         : greatest(heard.to, note->position) + note->length;
+  heard.to = is_deletion ? greatest(heard.to - note->length, note->position) : greatest(heard.to, note->position) + note->length;
 }
 
 /* Takes up the notes of the last message, as far as they are the first view's: each view of the document is told the same. */
@@ -90,35 +86,38 @@ static int64_t ask_of(const pane *p, uint32_t number, int64_t w) {
 
 /* A query, and a command, of the active view. */
 static int64_t ask(uint32_t number, int64_t w) { return ask_of(&panes[active], number, w); }
-static int64_t command(uint32_t number, int64_t w, int64_t l) {
-  return send_text(&panes[active], number, w, l, NULL, 0);
-}
+static int64_t command(uint32_t number, int64_t w, int64_t l) { return send_text(&panes[active], number, w, l, NULL, 0); }
 
 static int64_t line_at(const pane *p, int64_t position) { return ask_of(p, SCI_LINEFROMPOSITION, position); }
 static int64_t start_of(const pane *p, int64_t line) { return ask_of(p, SCI_POSITIONFROMLINE, line); }
 static int64_t end_of(const pane *p, int64_t line) { return ask_of(p, SCI_GETLINEENDPOSITION, line); }
 static int64_t caret_line(void) { return line_at(&panes[active], ask(SCI_GETCURRENTPOS, 0)); }
-static int64_t last_row(const pane *p) {
-  return ask_of(p, SCI_VISIBLEFROMDOCLINE, ask_of(p, SCI_GETLINECOUNT, 0) - 1);
-}
+static int64_t last_row(const pane *p) { return ask_of(p, SCI_VISIBLEFROMDOCLINE, ask_of(p, SCI_GETLINECOUNT, 0) - 1); }
 
-/* Goes past the character at a position, which begins at this column: most have one byte. */
-static int64_t pass(const pane *p, int64_t at, int64_t *column) {
-  int64_t byte = ask_of(p, SCI_GETCHARAT, at);
-  *column = byte == '\t' ? (*column / TAB_COLUMNS + 1) * TAB_COLUMNS : *column + 1;
-  return 0 <= byte && byte < 0x80 ? at + 1 : ask_of(p, SCI_POSITIONAFTER, at);
+/* Goes past characters, of which the first begins at this column, up to `end`, or to one that would end behind the column `most`. ASCII is read
+ * where it lies, since a line may be long. Where another character ends the component is asked, and then lends the bytes behind it. */
+static int64_t pass(const pane *p, int64_t at, int64_t end, int64_t most, int64_t *column) {
+  const uint8_t *byte = NULL;
+  for (int64_t next; at < end; *column = next) {
+    if (byte == NULL && hongpilas_lend_range(&session, p->view, (size_t)at, (size_t)(end - at), &byte) != HONGPILAS_DONE) break;
+    next = *byte == '\t' ? (*column / TAB_COLUMNS + 1) * TAB_COLUMNS : *column + 1;
+    if (next > most) break;
+    bool is_ascii = *byte < 0x80;
+    at = is_ascii ? at + 1 : ask_of(p, SCI_POSITIONAFTER, at);
+    byte = is_ascii ? byte + 1 : NULL;
+  }
+  return at;
 }
 
 static int64_t column_of(const pane *p, int64_t position) {
   int64_t column = 0;
-  for (int64_t at = start_of(p, line_at(p, position)); at < position;) at = pass(p, at, &column);
+  pass(p, start_of(p, line_at(p, position)), position, INT64_MAX, &column);
   return column;
 }
 
 static int64_t position_in(const pane *p, int64_t line, int64_t column) {
-  int64_t at = start_of(p, line), end = end_of(p, line), next = at, behind = 0;
-  while (at < end && (next = pass(p, at, &behind), behind <= column)) at = next;
-  return at;
+  int64_t behind = 0;
+  return pass(p, start_of(p, line), end_of(p, line), column, &behind);
 }
 
 static bool is_blank(const pane *p, int64_t position) {
@@ -129,7 +128,7 @@ static bool is_blank(const pane *p, int64_t position) {
 /* The column where a line's text begins, or -1 if it has none. */
 static int64_t indentation(const pane *p, int64_t line) {
   int64_t at = start_of(p, line), column = 0;
-  while (is_blank(p, at)) at = pass(p, at, &column);
+  while (is_blank(p, at)) at = pass(p, at, at + 1, INT64_MAX, &column);
   return at == end_of(p, line) ? -1 : least(column, DEEPEST);
 }
 
@@ -221,20 +220,19 @@ static void draw_character(const uint8_t *bytes, size_t count, int64_t width) {
 /* A line's text from the pane's first column on, with what is selected in reverse. */
 static void draw_text(const pane *p, int64_t line, int64_t width) {
   int64_t from = ask_of(p, SCI_GETSELECTIONSTART, 0), to = ask_of(p, SCI_GETSELECTIONEND, 0);
-  int64_t position = start_of(p, line), line_end = end_of(p, line), column = 0, shown = p->left, end = p->left + width;
+  int64_t line_end = end_of(p, line), column = 0, shown = p->left, end = p->left + width;
+  int64_t position = pass(p, start_of(p, line), line_end, p->left, &column);
   bool is_reverse = false;
   const uint8_t *bytes;
   while (position < line_end && column < end) {
-    int64_t next = column, behind = pass(p, position, &next);
+    int64_t behind = pass(p, position, position + 1, INT64_MAX, &column);
     size_t count = (size_t)(behind - position);
     bool is_selected = from <= position && position < to;
-    if (next > p->left && hongpilas_lend_range(&session, p->view, (size_t)position, count, &bytes) == HONGPILAS_DONE) {
-      if (is_selected != is_reverse) fputs(is_selected ? "\x1b[7m" : "\x1b[27m", stdout);
-      is_reverse = is_selected;
-      draw_character(bytes, count, least(next, end) - shown);
-      shown = least(next, end);
-    }
-    column = next;
+    if (hongpilas_lend_range(&session, p->view, (size_t)position, count, &bytes) != HONGPILAS_DONE) break;
+    if (is_selected != is_reverse) fputs(is_selected ? "\x1b[7m" : "\x1b[27m", stdout);
+    is_reverse = is_selected;
+    draw_character(bytes, count, least(column, end) - shown);
+    shown = least(column, end);
     position = behind;
   }
   if (is_reverse) fputs("\x1b[27m", stdout);
@@ -249,19 +247,14 @@ static void draw_line(const pane *p, int64_t line, int64_t width) {
   draw_text(p, line, width - MARGIN);
 }
 
-static void draw_pane(const pane *p, int first_column, int64_t width) {
+static void draw_pane(pane *p, int first_column, int64_t width) {
   int64_t last = last_row(p);
+  p->top = least(p->top, last);
   for (int row = 0; row < rows - 1; row++) {
     printf("\x1b[%d;%dH\x1b[K", row + 1, first_column + 1);
     if (p->top + row <= last) draw_line(p, ask_of(p, SCI_DOCLINEFROMVISIBLE, p->top + row), width);
     else putchar('~');
   }
-}
-
-/* Brings the caret's place into the pane. */
-static void scroll(pane *p, int64_t row, int64_t column, int64_t width) {
-  p->top = least(greatest(least(p->top, row), row - (rows - 2)), last_row(p));
-  p->left = greatest(least(p->left, column), column - (width - MARGIN - 1));
 }
 
 /* Shows a text in the last row: of one that is longer, the beginning in reverse or the end as it is. */
@@ -291,12 +284,10 @@ static void draw(void) {
   int64_t caret = ask(SCI_GETCURRENTPOS, 0), column = column_of(p, caret);
   command(SCI_ENSUREVISIBLE, line, 0);
   int64_t row = ask(SCI_VISIBLEFROMDOCLINE, line);
-  scroll(p, row, column, width);
+  p->top = greatest(least(p->top, row), row - (rows - 2));
+  p->left = greatest(least(p->left, column), column - (width - MARGIN - 1));
   fputs("\x1b[?25l", stdout);
-  for (int i = 0; i < pane_count; i++) {
-    panes[i].top = least(panes[i].top, last_row(&panes[i]));
-    draw_pane(&panes[i], i * (int)(width + 2), width);
-  }
+  for (int i = 0; i < pane_count; i++) draw_pane(&panes[i], i * (int)(width + 2), width);
   for (int i = 1; pane_count == 2 && i < rows; i++) printf("\x1b[%d;%dH||", i, (int)width + 1);
   draw_status(line, column);
   printf("\x1b[%d;%dH\x1b[?25h", (int)(row - p->top) + 1, (int)(column - p->left) + MARGIN + 1 + active * (int)(width + 2));
@@ -324,16 +315,14 @@ static int next_byte(void) {
 
 /* Reads what a terminal sends behind an escape: `[` or `O`, and on to the byte that closes it. Else the escape is a key itself. */
 static void read_sequence(void) {
-  size_t length = 3;
-  int byte = next_byte();
-  if (byte != '[' && byte != 'O') {
-    read_ahead = byte;
-    return;
-  }
-  for (key[2] = '['; length < sizeof key - 1 && (byte = next_byte()) >= 0;) {
+  size_t length = 2;
+  read_ahead = next_byte();
+  if (read_ahead != '[' && read_ahead != 'O') return;
+  for (int byte; length < sizeof key - 1 && (byte = next_byte()) >= 0;) {
     key[length++] = (char)byte;
-    if (byte >= '@' && byte != '[') break;
+    if (length > 3 && byte >= '@' && byte != '[') break;
   }
+  key[2] = '[';
   key[length] = '\0';
 }
 
@@ -350,12 +339,12 @@ static void read_character(int byte) {
 static bool read_key(void) {
   int byte;
   fflush(stdout);
-  while ((byte = next_byte()) == NOTHING && !is_resized) continue;
+  while ((byte = next_byte()) == NOTHING && !is_resized && !is_ended) continue;
   key[0] = '\0';
   if (byte == RUBOUT || (byte >= 0 && byte < ' ' && byte != '\t')) sprintf(key, "^%c", byte ^ 0x40);
   else if (byte >= 0) read_character(byte);
   if (byte == ESCAPE) read_sequence();
-  return byte != AT_END;
+  return byte != AT_END && !is_ended;
 }
 
 /* Asks in the last row. False where Escape leaves it. */
@@ -441,14 +430,16 @@ static bool append(FILE *file) {
   return false;
 }
 
-/* Puts a file into a new document of all views. One that is not there yet is an empty one. Its name is kept only where all of it was read:
- * else saving asks for one, and puts no part in the place of the whole. */
+/* Puts a file into a new document of all views: into an empty one where it is not there yet, and into none where it cannot be read. Its name is
+ * kept only where all of it was read: else saving asks for one, and puts no part in the place of the whole. */
 static void load(const char *name) {
   FILE *file = fopen(name, "rb");
-  if (file == NULL && errno != ENOENT) {
+  int first = file == NULL ? EOF : getc(file);
+  if (file == NULL ? errno != ENOENT : ferror(file)) {
     say("%s: %.100s", strerror(errno), name);
   } else if (renew_document()) {
     if (file == NULL) say("A new file");
+    else ungetc(first, file);
     command(SCI_SETUNDOCOLLECTION, false, 0);
     bool is_whole = file == NULL || append(file);
     command(SCI_SETUNDOCOLLECTION, true, 0);
@@ -465,31 +456,43 @@ static bool agree(const char *question) {
   return prompt(question, answer, sizeof answer) && answer[0] == 'y';
 }
 
-/* Writes the text to a file. False, with the reason in errno, where that fails. */
-static bool write_file(const char *name) {
-  const uint8_t *bytes;
-  size_t length = (size_t)ask(SCI_GETLENGTH, 0);
-  FILE *file = fopen(name, "wb");
-  if (file == NULL) return false;
-  bool is_written = hongpilas_lend_range(&session, panes[active].view, 0, length, &bytes) == HONGPILAS_DONE &&
-                    fwrite(bytes, 1, length, file) == length;
-  return fclose(file) == 0 && is_written;
+/* Puts bytes into the file that a name leads to, or into a new one. They are written beside it, with its owner and mode, and take its place once
+ * they are all there, so that it stays as it was where something fails. Answers 0, or the first reason as errno has it. */
+static int write_file(const char *name, const uint8_t *bytes, size_t length) {
+  char place[PATH_MAX], beside[PATH_MAX + 16];
+  struct stat old;
+  bool is_new = access(name, F_OK) != 0;
+  int found = open(name, O_WRONLY | O_CREAT | O_NONBLOCK, 0666);
+  if (found < 0 || fstat(found, &old) != 0 || close(found) != 0 || realpath(name, place) == NULL) return errno;
+  if (!S_ISREG(old.st_mode)) return ENOTSUP;
+  snprintf(beside, sizeof beside, "%.*s/.edit-XXXXXX", (int)(strrchr(place, '/') - place), place);
+  int made = mkstemp(beside);
+  FILE *file = made < 0 ? NULL : fdopen(made, "wb");
+  bool is_written = file != NULL && (length == 0 || fwrite(bytes, 1, length, file) == length) && fflush(file) == 0 &&
+                    fchown(made, old.st_uid, old.st_gid) == 0 && fchmod(made, old.st_mode & 07777) == 0 && fsync(made) == 0 &&
+                    rename(beside, place) == 0;
+  int reason = is_written ? 0 : errno;
+  if (!is_written && made >= 0) unlink(beside);
+  if (!is_written && is_new) unlink(place);
+  if (file != NULL) fclose(file);
+  return reason;
 }
 
 /* Saves the text, by a name that is asked for where there is none or another is wanted; it is kept once it was written to. */
 static void save(int64_t is_asking) {
   char name[sizeof file_name];
+  const uint8_t *bytes;
   memcpy(name, file_name, sizeof name);
   if ((is_asking || name[0] == '\0') && (!prompt("Save as: ", name, sizeof name) || name[0] == '\0')) return;
   bool is_other = strcmp(name, file_name) != 0 && access(name, F_OK) == 0;
   if (is_other && !agree("That file is there. Replace it? (y) ")) return;
-  if (!write_file(name)) {
-    say("Not saved: %s", strerror(errno));
-    return;
-  }
+  size_t length = (size_t)ask(SCI_GETLENGTH, 0);
+  if (!is_done(hongpilas_lend_range(&session, panes[active].view, 0, length, &bytes))) return;
+  int reason = write_file(name, bytes, length);
+  say("%s%s", reason == 0 ? "Saved" : "Not saved: ", reason == 0 ? "" : strerror(reason));
+  if (reason != 0) return;
   memcpy(file_name, name, sizeof name);
   command(SCI_SETSAVEPOINT, 0, 0);
-  say("Saved");
 }
 
 /* Leaves the text, for another file or for good. */
@@ -562,9 +565,7 @@ static void go_to_bookmark(int64_t direction) {
   else command(SCI_GOTOLINE, line, 0);
 }
 
-static void type_text(const void *text, size_t length) {
-  send_text(&panes[active], SCI_REPLACESEL, 0, 0, text, length);
-}
+static void type_text(const void *text, size_t length) { send_text(&panes[active], SCI_REPLACESEL, 0, 0, text, length); }
 
 /* A line end, and the blanks that the line begins with: one transaction. */
 static void new_line(int64_t none) {
@@ -572,10 +573,8 @@ static void new_line(int64_t none) {
   int64_t end = ask(SCI_GETSELECTIONSTART, none);
   command(SCI_BEGINUNDOACTION, 0, 0);
   command(SCI_NEWLINE, 0, 0);
-  for (int64_t at = start_of(p, line_at(p, end)); at < end && is_blank(p, at); at++) {
-    char blank = (char)ask(SCI_GETCHARAT, at);
-    type_text(&blank, 1);
-  }
+  for (int64_t at = start_of(p, line_at(p, end)); at < end && is_blank(p, at); at++)
+    type_text(ask(SCI_GETCHARAT, at) == '\t' ? "\t" : " ", 1);
   command(SCI_ENDUNDOACTION, 0, 0);
 }
 
@@ -624,8 +623,7 @@ static const struct {
     {"^[[Q", go_to_bookmark, 1, NULL},          {"^[[1;2Q", go_to_bookmark, -1, NULL},
     {"^[[R", search, 1, NULL},                  {"^[[1;2R", search, -1, NULL},
     {"^U", fold_all, 0, NULL},                  {"^[[17~", other_view, 1, NULL},
-    /* F1 to F3 of Linux's console */
-    {"^[[[A", show_keys, 0, NULL}, {"^[[[B", go_to_bookmark, 1, NULL}, {"^[[[C", search, 1, NULL},
+    {"^[[[A", show_keys, 0, NULL}, {"^[[[B", go_to_bookmark, 1, NULL}, {"^[[[C", search, 1, NULL}, /* F1 to F3 of Linux's console */
 };
 
 static void run_key(void) {
@@ -650,8 +648,8 @@ static void show_keys(int64_t none) {
 /* ---- The program ---- */
 
 static struct termios found_terminal;
-
 static void note_size(int signal) { is_resized = signal; }
+static void note_end(int signal) { is_ended = signal; }
 
 static void leave_terminal(void) {
   fputs("\x1b[?7h\x1b[?1049l", stdout);
@@ -661,12 +659,15 @@ static void leave_terminal(void) {
 
 /* Keys as they are sent, a read of at most a tenth of a second, and a screen of its own, whose rows end where they end. */
 static bool take_terminal(void) {
+  static const int ends[] = {SIGTERM, SIGHUP, SIGINT, SIGQUIT};
   if (!isatty(STDOUT_FILENO) || tcgetattr(STDIN_FILENO, &found_terminal) != 0) return false;
   struct termios raw = found_terminal;
   cfmakeraw(&raw);
   raw.c_cc[VMIN] = 0;
   raw.c_cc[VTIME] = 1;
   signal(SIGWINCH, note_size);
+  for (size_t i = 0; i < sizeof ends / sizeof *ends; i++) signal(ends[i], note_end);
+  signal(SIGXFSZ, SIG_IGN); /* a write tells where a file may not grow */
   if (tcsetattr(STDIN_FILENO, TCSAFLUSH, &raw) != 0) return false;
   atexit(leave_terminal);
   setvbuf(stdout, NULL, _IOFBF, 1 << 16);
@@ -695,5 +696,5 @@ int main(int argument_count, char **arguments) {
   if (fault != NULL) fprintf(stderr, "edit: %s\n", fault);
   else edit(argument_count > 1 ? arguments[1] : NULL);
   if (is_open) hongpilas_free(session);
-  return fault != NULL;
+  return fault != NULL || is_ended;
 }

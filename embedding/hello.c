@@ -24,7 +24,7 @@ static void tell_notes(void) {
   for (size_t i = 0; hongpilas_note(&session, i, &note); i++)
     printf("  note %u of view %u: kind %u, position %lld, length %lld, lines %lld, \"%.*s\"\n", (unsigned)note.code,
            (unsigned)note.view, (unsigned)note.kind, (long long)note.position, (long long)note.length,
-           (long long)note.lines, (int)note.text_length, (const char *)note.text);
+           (long long)note.lines, (int)note.text_length, note.text_length > 0 ? (const char *)note.text : "");
 }
 
 /* Reads the last reply's text, and bytes of the document, lent and copied. */
@@ -62,10 +62,11 @@ static void try_refusals(uint32_t view) {
 
 /* A session with lower limits. */
 static bool try_limits(void) {
-  const hongpilas_limits low = {10, 10, 10, 10, 10, 10, 10};
-  const hongpilas_limits none = {0, 10, 10, 10, 10, 10, 10};
+  hongpilas_limits low = HONGPILAS_GREATEST_LIMITS, none = HONGPILAS_GREATEST_LIMITS;
   uint32_t view = 0;
 
+  low.doc_bytes = 10;
+  none.doc_bytes = 0;
   say("a limit of 0", hongpilas_new_with_limits(&session, &none), 0);
   if (hongpilas_new_with_limits(&session, &low) != HONGPILAS_DONE) return false;
   if (hongpilas_new_view(&session, &view) == HONGPILAS_DONE) {

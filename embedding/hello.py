@@ -35,10 +35,17 @@ def lent(address, length):
     return ctypes.string_at(address, length) if length else b""
 
 
+def whole(kind, number):
+    """The number, which a call takes as this kind. Raises OverflowError where ctypes would cut it."""
+    if kind(number).value != number:
+        raise OverflowError(f"{number} is out of range")
+    return number
+
+
 def constants():
     """Scintilla's names and numbers, as the header has them."""
     with open(os.path.join(HERE, "..", "include", "hongpilas.h"), encoding="utf-8") as header:
-        found = re.findall(r"^#define (SC\w+) +(0x[0-9A-F]+|\d+)$", header.read(), re.M)
+        found = re.findall(r"^#define ((?:SC|UNDO)\w+) +(0x[0-9A-F]+|\d+)$", header.read(), re.M)
     return {name: int(number, 0) for name, number in found}
 
 
@@ -91,9 +98,9 @@ class Session:
         self.close()
 
     def close(self):
-        """Gives the session back. It has no handle then, so that what uses it later raises AttributeError."""
-        self.lib.hongpilas_free(self.handle)
-        del self.handle
+        """Gives the session back, once. It has no handle then, so that what uses it later raises AttributeError."""
+        if "handle" in self.__dict__:
+            self.lib.hongpilas_free(self.__dict__.pop("handle"))
 
     def check(self, answer):
         """Raises what a refusal's number stands for."""
@@ -105,6 +112,7 @@ class Session:
     def send(self, number, w=0, l=0, text=b""):
         """Sends a message, and answers its value."""
         value = ctypes.c_int64()
+        number, w, l = whole(ctypes.c_uint32, number), whole(ctypes.c_int64, w), whole(ctypes.c_int64, l)
         self.check(self.lib.hongpilas_send(self.handle, self.view, number, w, l, text, len(text), value))
         return value.value
 
@@ -126,8 +134,9 @@ class Session:
     def bytes(self, start, end):
         """Bytes of the document, without a message."""
         where = ctypes.c_void_p()
-        self.check(self.lib.hongpilas_lend_range(self.handle, self.view, start, end - start, where))
-        return lent(where.value, end - start)
+        start, count = whole(ctypes.c_size_t, start), whole(ctypes.c_size_t, end - start)
+        self.check(self.lib.hongpilas_lend_range(self.handle, self.view, start, count, where))
+        return lent(where.value, count)
 
     def __getattr__(self, name):
         if name not in self.numbers:
@@ -163,10 +172,18 @@ def main():
                 refused()
             except Refused as refusal:
                 print("refused:", refusal)
+        for cut in (lambda: session.gotopos(1 << 63), lambda: session.send(2006 + (1 << 32)), lambda: session.bytes(-1, 2)):
+            try:
+                cut()
+            except OverflowError as fault:
+                print("not sent:", fault)
+        session.close()
+    session.close()
     try:
         session.getlength()
     except AttributeError:
         print("given back")
 
 
-main()
+if __name__ == "__main__":
+    main()

@@ -1,9 +1,13 @@
 /* Refuses each growth in turn: the call that wanted it says so and has changed nothing, what needs no memory goes on, and all is given back.
+ * The last reply stays where it is, until another message is done.
  * Linked with --wrap=malloc,--wrap=realloc,--wrap=free. */
 #include <hongpilas.h>
 #include <stdio.h>
 #include <stdlib.h>
 #include <string.h>
+
+static const char text[] = "one\ntwo\n";
+enum { LENGTH = sizeof text - 1 };
 
 static long growths_left; /* below 0: no end of them */
 static long blocks;
@@ -44,14 +48,78 @@ static void must(bool holds, const char *what) {
   exit(1);
 }
 
+/* Where the texts of the last reply and of its first note lie. Where a length is 0, the address means nothing. */
+typedef struct places {
+  const uint8_t *text, *note;
+  size_t text_length, note_length;
+} places;
+
+static places places_of_reply(hongpilas *session) {
+  hongpilas_note_data note = {0};
+  places found;
+  hongpilas_note(session, 0, &note);
+  found.note = note.text;
+  found.note_length = note.text_length;
+  found.text_length = hongpilas_text(session, &found.text);
+  return found;
+}
+
+static void must_stay(hongpilas *session, places before) {
+  places now = places_of_reply(session);
+  must(now.text_length == before.text_length && now.note_length == before.note_length, "the last reply is kept");
+  must(now.text_length == 0 || (now.text == before.text && memcmp(now.text, text, LENGTH) == 0), "its text stays where it is");
+  must(now.note_length == 0 || (now.note == before.note && memcmp(now.note, text, LENGTH) == 0), "its note stays where it is");
+}
+
+/* Sends a message, and answers whether it was done. */
+static bool send(hongpilas *session, uint32_t view, uint32_t number, const char *sent) {
+  places before = places_of_reply(session);
+  hongpilas_answer answer = hongpilas_call(session, view, number, 0, 0, sent, strlen(sent), NULL);
+  if (answer == HONGPILAS_DONE) return true;
+  must(answer == HONGPILAS_OUT_OF_MEMORY, "a message is refused for want of memory");
+  must_stay(session, before);
+  return false;
+}
+
+/* Does what leaves the last reply where it is: a refused message, lending, opening a view and closing it. Answers whether it was opened. */
+static bool leave_reply(hongpilas *session, uint32_t view, size_t length) {
+  places before = places_of_reply(session);
+  const uint8_t *bytes;
+  uint32_t opened = 0;
+  hongpilas_answer answer;
+  must(hongpilas_call(session, view, 9999, 0, 0, NULL, 0, NULL) == HONGPILAS_UNKNOWN_MESSAGE, "there is no message 9999");
+  must_stay(session, before);
+  must(hongpilas_lend_range(session, view, 0, length, &bytes) == HONGPILAS_DONE, "lending needs none");
+  must(length == 0 || memcmp(bytes, text, length) == 0, "the bytes are lent");
+  must_stay(session, before);
+  answer = hongpilas_new_view(session, &opened);
+  must(answer == (opened != 0 ? HONGPILAS_DONE : HONGPILAS_OUT_OF_MEMORY), "another view is refused for want of memory");
+  must_stay(session, before);
+  must(opened == 0 || hongpilas_close_view(session, opened) == HONGPILAS_DONE, "closing a view needs none");
+  must_stay(session, before);
+  return opened != 0;
+}
+
+/* Messages whose replies have a note with a text, and then a text; answers whether nothing was refused for want of memory. */
+static bool try_messages(hongpilas *session, uint32_t view) {
+  int64_t length = -1;
+  bool is_in = send(session, view, SCI_INSERTTEXT, text);
+  must(!is_in || places_of_reply(session).note_length == LENGTH, "a note has the text");
+  bool is_opened = leave_reply(session, view, is_in ? LENGTH : 0);
+  bool is_read = send(session, view, SCI_GETTEXT, "");
+  must(!is_in || !is_read || places_of_reply(session).text_length == LENGTH, "the reply has the text");
+  bool is_opened_again = leave_reply(session, view, is_in ? LENGTH : 0);
+  bool is_in_again = send(session, view, SCI_INSERTTEXT, text);
+  must(hongpilas_call(session, view, SCI_GETLENGTH, 0, 0, NULL, 0, &length) == HONGPILAS_DONE, "GETLENGTH needs none");
+  must(length == LENGTH * (is_in + is_in_again), "a refused insertion has changed nothing");
+  return is_in && is_opened && is_read && is_opened_again && is_in_again;
+}
+
 /* The steps with this many growths; answers whether none was refused. */
 static bool done_with(long growths) {
-  const char *text = "one\ntwo\n";
   hongpilas session;
   hongpilas_answer answer;
   uint32_t view = 0;
-  int64_t length = -1;
-  const uint8_t *bytes;
   bool whole = false;
 
   growths_left = growths;
@@ -61,22 +129,8 @@ static bool done_with(long growths) {
     return false;
   }
   answer = hongpilas_new_view(&session, &view);
-  if (answer != HONGPILAS_DONE) {
-    must(answer == HONGPILAS_OUT_OF_MEMORY && view == 0, "a view is refused for want of memory");
-  } else {
-    answer = hongpilas_call(&session, view, SCI_INSERTTEXT, 0, 0, text, strlen(text), NULL);
-    must(answer == HONGPILAS_DONE || answer == HONGPILAS_OUT_OF_MEMORY, "an insertion is refused for want of memory");
-    must(hongpilas_call(&session, view, SCI_GETLENGTH, 0, 0, NULL, 0, &length) == HONGPILAS_DONE, "GETLENGTH needs none");
-    must(length == (answer == HONGPILAS_DONE ? 8 : 0), "a refused insertion has changed nothing");
-    must(hongpilas_lend_range(&session, view, 0, (size_t)length, &bytes) == HONGPILAS_DONE, "lending needs none");
-    must(memcmp(bytes, text, (size_t)length) == 0, "the bytes are lent");
-    if (answer == HONGPILAS_DONE) {
-      answer = hongpilas_call(&session, view, SCI_GETTEXT, 0, 0, NULL, 0, NULL);
-      must(answer == HONGPILAS_DONE || answer == HONGPILAS_OUT_OF_MEMORY, "a text is refused for want of memory");
-      whole = answer == HONGPILAS_DONE;
-      must(hongpilas_text(&session, &bytes) == (whole ? 8 : 0), "a refused message leaves the last reply");
-    }
-  }
+  if (answer == HONGPILAS_DONE) whole = try_messages(&session, view);
+  else must(answer == HONGPILAS_OUT_OF_MEMORY && view == 0, "a view is refused for want of memory");
   hongpilas_free(session);
   return whole;
 }

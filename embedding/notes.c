@@ -107,7 +107,7 @@ static void record(const hongpilas_note_data *note) {
   taken->w = note->w;
   taken->l = note->l;
   taken->length = note->text_length;
-  memcpy(taken->text, note->text, note->text_length);
+  if (note->text_length > 0) memcpy(taken->text, note->text, note->text_length);
   step_count++;
 }
 
@@ -161,7 +161,7 @@ static void show_other_notes(uint32_t view) {
   send(view, SCI_SETSTYLING, 5, 2, NULL, 0);
   send(view, SCI_INDICATORFILLRANGE, 1, 3, NULL, 0);
   send(view, SCI_COLOURISE, 0, 8, NULL, 0);
-  send(view, SCI_ADDUNDOACTION, 42, 0, NULL, 0);
+  send(view, SCI_ADDUNDOACTION, 42, UNDO_NONE, NULL, 0);
   send(view, SCI_UNDO, 0, 0, NULL, 0);
   send(view, SCI_UNDO, 0, 0, NULL, 0);
   send(view, SCI_REDO, 0, 0, NULL, 0);

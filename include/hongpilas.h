@@ -1,7 +1,8 @@
 /* Hongpilas: an editing component with the messages of Scintilla 5.
  *
  * A session has documents and views on them. It is reached by calls that are
- * proved: what each answers and changes is what docs/MESSAGES.md states.
+ * proved: what each answers and changes is what docs/MESSAGES.md states, which is
+ * installed in share/doc/hongpilas.
  *
  * Answers. A call of type hongpilas_answer answers HONGPILAS_DONE, or the number
  * of a refusal. A refused call has changed nothing: neither the session, nor the
@@ -10,11 +11,16 @@
  * What the caller owes, which nothing checks:
  *  - a session is set by hongpilas_new or hongpilas_new_with_limits alone, is not
  *    copied, and is used by no call after hongpilas_free;
- *  - a session is used by one call at a time, on the thread that made it;
+ *  - a session is used by one call at a time, on the thread that made it: Go wants
+ *    runtime.LockOSThread for that, and what wraps a session in Rust is !Send;
+ *  - no call is made from a signal handler, nor in the forked child of a process that
+ *    has several threads;
  *  - no pointer is null, also where the length beside it is 0. hongpilas_call, below,
  *    takes a null text;
  *  - bytes that were lent are only read, and only as long as they stand, below; where
- *    their length is 0, the address means nothing.
+ *    their length is 0, the address means nothing;
+ *  - a text that is sent, and a buffer that is filled, has none of the bytes that the
+ *    session lent: they are copied first.
  *
  * How long lent bytes stand. The last reply, with its text and its notes, is kept until
  * the next message that is done, or hongpilas_free: a refused message and all other
@@ -78,6 +84,10 @@ typedef struct hongpilas_limits {
   uint64_t depth;       /* depth of undo groups: 255 */
 } hongpilas_limits;
 
+/* All limits at their greatest, to begin with where only some are to be lower:
+ * hongpilas_limits limits = HONGPILAS_GREATEST_LIMITS; */
+#define HONGPILAS_GREATEST_LIMITS {0x7FFFFFFF, 0x10000000000, 0x7FFFFFFF, 0x7FFFFFFF, 0x7FFFFFFF, 1024, 255}
+
 /* Opens a session without documents and views: with the greatest limits, or with
  * lower ones. *session may be anything before. What a session had that was open is
  * not given back by this.
@@ -134,7 +144,7 @@ typedef struct hongpilas_note_data {
   int64_t position;    /* a position, in bytes */
   int64_t length;      /* a length, in bytes */
   int64_t lines;       /* Scintilla's linesAdded */
-  int64_t line;        /* a line, from 0 */
+  int64_t line;        /* a line, from 0; -1 where all lines are meant */
   int64_t now;         /* a fold level after a change: foldLevelNow */
   int64_t prev;        /* a fold level before it: foldLevelPrev */
   int64_t token;       /* the token of a container's own undo step */
@@ -354,6 +364,8 @@ hongpilas_answer hongpilas_copy_range(hongpilas *session, uint32_t view, size_t 
 #define SC_PERFORMED_UNDO             0x20
 #define SC_PERFORMED_USER             0x10
 #define SC_STARTACTION                0x2000
+#define UNDO_MAY_COALESCE             1
+#define UNDO_NONE                     0
 /* Written by tools/header.py: end */
 
 #ifdef __cplusplus

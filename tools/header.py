@@ -2,7 +2,8 @@
 """Writes Scintilla's names and numbers into include/hongpilas.h, from the messages of ed_types and the tables of docs/MESSAGES.md.
 
 Run it at the top of the repository after a message or a constant was added. With --check it writes nothing, and fails where the
-header is not what it would write, or where its calls and structs, with their names and types, or its refusals are not those of the crates.
+header is not what it would write, where a constant that the tables name has no number there, or where its calls and structs, with their
+names and types, its refusals or the greatest limits are not those of the crates.
 """
 import os
 import re
@@ -12,11 +13,13 @@ TOP = os.path.dirname(os.path.dirname(os.path.abspath(__file__)))
 HEADER = "include/hongpilas.h"
 BEGIN = "/* Written by tools/header.py: begin */\n"
 END = "/* Written by tools/header.py: end */\n"
-CONSTANT = r"(?:SC|SCFIND|INDIC)_?[A-Z0-9_]+"
+CONSTANT = r"(?:SC|SCFIND|INDIC|UNDO)_?[A-Z0-9_]+"
 NUMBER = r"(?P<number>0x[0-9A-Fa-f]+|\d+)"
+# What looks like a constant in the tables, of whatever kind.
+NAME = r"`((?!SCI_|SCN_)[A-Z][A-Z0-9]*_[A-Z0-9_]+)`"
 # How the tables name a constant, each with what its number means: before it, behind it, or as a count of low bits.
 NAMINGS = (
-    (rf"`(?P<name>{CONSTANT})`,? {NUMBER}\b", lambda number: int(number, 0)),
+    (rf"`(?P<name>{CONSTANT})` {NUMBER}\b", lambda number: int(number, 0)),
     (rf"{NUMBER} \(`(?P<name>{CONSTANT})`\)", lambda number: int(number, 0)),
     (rf"`(?P<name>{CONSTANT})`, its low {NUMBER} bits", lambda bits: (1 << int(bits)) - 1),
 )
@@ -140,6 +143,26 @@ def refusals():
     return {("HONGPILAS_" + re.sub(r"(?<!^)(?=[A-Z])", "_", name).upper(), number) for name, number in [("Done", "0"), *found]}
 
 
+def nameless(table):
+    """What the tables name as a constant, and never with its number."""
+    return sorted(set(re.findall(NAME, table)) - {name for name, _ in named(table)})
+
+
+def greatest_limits():
+    """The greatest limits of the definitions, as `views = 1024; depth = 2 ^ 8 - 1`, by their names."""
+    defined = re.search(r"^greatest_limits = record \{ (.*) \}$", read("crates/ed_model/specs/Session.antt"), re.M)[1]
+    found = re.findall(r"(\w+) = (2 \^ )?(\d+)( - 1)?(?:;|$)", defined)
+    return {name: (2 ** int(number) if power else int(number)) - bool(less) for name, power, number, less in found}
+
+
+def has_greatest_limits(header):
+    """Whether the header has them, in the comments of its struct, and in its macro in the same order."""
+    told = re.findall(r"^  uint64_t (\w+); +/\* .*: (\w+) \*/$", header, re.M)
+    numbers = [int(number, 0) for _, number in told]
+    spelled = re.search(r"^#define HONGPILAS_GREATEST_LIMITS \{(.*)\}$", header, re.M)[1].split(", ")
+    return dict(zip((name for name, _ in told), numbers)) == greatest_limits() and [int(number, 0) for number in spelled] == numbers
+
+
 def faults(header):
     """Where the header's hand-written part is not that of the crates."""
     folder = "crates/hongpilas_c/src"
@@ -151,6 +174,9 @@ def faults(header):
         yield "an answer is not the number of the crate's refusal, a uint32_t"
     wrong = refusals() ^ set(re.findall(r"^  (HONGPILAS_\w+) = (\w+)", header, re.M))
     yield from (f"{name} = {number} is not on both sides" for name, number in sorted(wrong))
+    yield from (f"{name} has no number in the tables" for name in nameless(read("docs/MESSAGES.md")))
+    if not has_greatest_limits(header):
+        yield f"the greatest limits are not those of the definitions: {greatest_limits()}"
     version = re.search(r"const VERSION: u32 = (\d+);", sources)[1]
     if f"#define HONGPILAS_VERSION {version}\n" not in header:
         yield f"the version is not {version}"
