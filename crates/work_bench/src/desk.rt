@@ -1,0 +1,153 @@
+//! A session at work, and the digest of all that it answers.
+
+use crate::digest::Digest;
+use ed_types::{Kind, Outcome, Reply};
+use editor_session::Session;
+use std::alloc::Global;
+
+/// A session, what it has answered, and a buffer for texts that are asked for.
+#[derive(Drop)]
+pub struct Desk {
+    session: Session,
+    digest: Digest,
+    buffer: Vec<u8>,
+}
+
+/// The number of a place, as messages have it.
+pub fn argument(place: usize) -> i64 {
+    i64::try_from(place).unwrap_or(i64::MAX)
+}
+
+/// A place of an answer: 0 for what is none.
+pub fn place_of(value: i64) -> usize {
+    usize::try_from(value).unwrap_or(0)
+}
+
+/// Takes in a reply: its value, its text, and each of its notes.
+fn take_in(digest: &mut Digest, reply: &Reply) {
+    digest.integer(reply.value());
+    if !reply.text().is_empty() {
+        digest.bytes(reply.text());
+    }
+    for index in 0..reply.note_count() {
+        let (note, text) = reply.note(index);
+        digest.note(note, text);
+    }
+}
+
+impl Desk {
+    /// A session without a view.
+    pub fn new(alloc: Global) -> Self {
+        Desk {
+            session: Session::new(alloc),
+            digest: Digest::new(),
+            buffer: Vec::new(alloc),
+        }
+    }
+
+    /// The digest of all answers so far.
+    pub fn digest(&self) -> u64 {
+        self.digest.value()
+    }
+
+    /// Takes a number in, as if it were answered.
+    pub fn note_down(&mut self, number: u64) {
+        self.digest.natural(number);
+    }
+
+    /// Opens a view on a new document, which hears of all; 0 where it is refused.
+    pub fn open(&mut self) -> u32 {
+        let view = self.session.new_view().unwrap_or(0);
+        self.digest.natural(u64::from(view));
+        view
+    }
+
+    /// Opens a view on the document of another.
+    pub fn open_beside(&mut self, other: u32) -> u32 {
+        let document = self.send(other, Kind::GetDocPointer, 0, 0, &[]);
+        let view = self.open();
+        self.send(view, Kind::SetDocPointer, 0, document, &[]);
+        view
+    }
+
+    /// Closes a view.
+    pub fn close(&mut self, view: u32) {
+        let closed = self.session.close_view(view).is_ok();
+        self.digest.natural(u64::from(closed));
+    }
+
+    /// Sends a message, reads its notes, and answers its value: -1 where it is refused.
+    pub fn send(&mut self, view: u32, kind: Kind, w: i64, l: i64, text: &[u8]) -> i64 {
+        match self.session.send_lent(view, kind.number(), w, l, text) {
+            Ok(reply) => {
+                take_in(&mut self.digest, &reply);
+                reply.value()
+            }
+            Err(refusal) => {
+                self.digest.integer(-1);
+                self.digest.natural(refusal as u64);
+                -1
+            }
+        }
+    }
+
+    /// Takes in what came of a command of a script.
+    pub fn take_outcome(&mut self, outcome: &Outcome) {
+        match outcome {
+            Outcome::Opened(view) => self.digest.natural(u64::from(*view)),
+            Outcome::Closed => self.digest.natural(0),
+            Outcome::Replied(reply) => take_in(&mut self.digest, reply),
+            Outcome::Refused(refusal) => self.digest.natural(*refusal as u64),
+            Outcome::Expected { met, value } => {
+                self.digest.natural(u64::from(*met));
+                self.digest.integer(*value);
+            }
+        }
+    }
+
+    /// Takes bytes in, as if they were answered.
+    pub fn note_bytes(&mut self, bytes: &[u8]) {
+        self.digest.bytes(bytes);
+    }
+
+    /// Asks a plain question, and answers its value: -1 where it is none.
+    pub fn ask(&mut self, view: u32, kind: Kind, w: i64, l: i64) -> i64 {
+        let value = self.session.ask(view, kind.number(), w, l).unwrap_or(-1);
+        self.digest.integer(value);
+        value
+    }
+
+    /// Asks for a text, and answers how long it is: -1 where it is none.
+    pub fn read(&mut self, view: u32, kind: Kind, w: i64, l: i64) -> i64 {
+        let value = self
+            .session
+            .read(view, kind.number(), w, l, &mut self.buffer);
+        self.digest.bytes(self.buffer.as_slice());
+        let value = value.unwrap_or(-1);
+        self.digest.integer(value);
+        value
+    }
+
+    /// The text that was asked for last.
+    pub fn last_text(&self) -> &[u8] {
+        self.buffer.as_slice()
+    }
+
+    /// How many bytes the document has.
+    pub fn length(&mut self, view: u32) -> usize {
+        place_of(self.ask(view, Kind::GetLength, 0, 0))
+    }
+
+    /// How many lines the document has.
+    pub fn lines(&mut self, view: u32) -> usize {
+        place_of(self.ask(view, Kind::GetLineCount, 0, 0))
+    }
+
+    /// Opens a view on a new document with this text, which is saved, with nothing to undo.
+    pub fn open_on(&mut self, text: &[u8]) -> u32 {
+        let view = self.open();
+        self.send(view, Kind::InsertText, 0, 0, text);
+        self.send(view, Kind::EmptyUndoBuffer, 0, 0, &[]);
+        view
+    }
+}

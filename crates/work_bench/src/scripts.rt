@@ -1,0 +1,224 @@
+//! Recorded sessions: listed, read again, run with their notes printed and without them, checked, and stepped through.
+
+ghost use Rattle.std.specs.Prelude.{◌≡◌, None, false};
+
+use crate::desk::{Desk, argument};
+use crate::dice::Dice;
+use crate::digest::Digest;
+use crate::source::{Ends, source_lines, word};
+use ed_types::{Bytes, Command, Kind, Message};
+use macro_script::{Script, assemble, list};
+use script_ends::{Sink, TextSource, WriteFailed, check_script};
+use script_jobs::{run_quietly, run_script};
+use script_stepper::Stepper;
+use std::alloc::{AllocError, Global};
+
+/// Takes in what is written, and how much it is.
+#[derive(Drop)]
+struct DigestSink {
+    digest: Digest,
+    failed: bool,
+}
+
+impl DigestSink {
+    /// Nothing yet.
+    fn new() -> Self
+        ensures { result.failed ≡ false }
+    {
+        DigestSink {
+            digest: Digest::new(),
+            failed: false,
+        }
+    }
+}
+
+impl Sink for DigestSink {
+    ghost contents = { λ _. None };
+
+    ghost has_failed = { λ sink. sink.failed };
+
+    fn write(&mut self, bytes: &[u8]) -> Result<usize, WriteFailed> {
+        self.digest.bytes(bytes);
+        Ok(bytes.len())
+    }
+}
+
+/// Appends a message to the view 1; nothing where it does not fit.
+fn push(
+    script: &mut Script,
+    alloc: Global,
+    kind: Kind,
+    w: i64,
+    l: i64,
+    text: &[u8],
+) -> Result<(), AllocError> {
+    let mut bytes = Vec::new(alloc);
+    bytes.extend_from_slice(text)?;
+    let message = Message {
+        number: kind.number(),
+        w,
+        l,
+        text: Bytes::new(bytes),
+    };
+    let _ = script.push(Command::SendMessage { view: 1, message });
+    Ok(())
+}
+
+/// Appends the bytes of a word, typed one by one.
+fn push_word(script: &mut Script, alloc: Global, dice: &mut Dice) -> Result<(), AllocError> {
+    for byte in word(dice) {
+        push(script, alloc, Kind::AddText, 1, 0, &[*byte])?;
+    }
+    push(script, alloc, Kind::AddText, 1, 0, b" ")
+}
+
+/// A message without a text that somebody sent in a document of so many bytes: which one, and its first argument.
+fn plain_deed(dice: &mut Dice, length: usize) -> (Kind, i64) {
+    match dice.below(10) {
+        0 => (Kind::GotoPos, argument(dice.below(length))),
+        1 => (Kind::Undo, 0),
+        2 => (Kind::Redo, 0),
+        3 => (Kind::DeleteBack, 0),
+        4 => (Kind::NewLine, 0),
+        5 => (Kind::LineFromPosition, argument(dice.below(length))),
+        6 => (Kind::GetLine, argument(dice.below(100))),
+        7 => (Kind::MarkerAdd, argument(dice.below(100))),
+        8 => (Kind::CharRight, 0),
+        _ => (Kind::GetLength, 0),
+    }
+}
+
+/// Appends a thing that somebody did: a word typed, or another message.
+fn push_deed(
+    script: &mut Script,
+    alloc: Global,
+    dice: &mut Dice,
+    length: usize,
+) -> Result<(), AllocError> {
+    if dice.happens(38) {
+        return push_word(script, alloc, dice);
+    }
+    let (kind, w) = plain_deed(dice, length);
+    push(script, alloc, kind, w, 3, &[])
+}
+
+/// A session that opens a view on a text and does so many things in it.
+fn recorded(
+    alloc: Global,
+    dice: &mut Dice,
+    lines: usize,
+    deeds: usize,
+) -> Result<Script, AllocError> {
+    let text = source_lines(alloc, dice, lines, Ends::Feeds)?;
+    let mut script = Script::new(alloc);
+    let _ = script.push(Command::OpenView);
+    for line in text.split_inclusive(|byte| *byte == b'\n') {
+        push(
+            &mut script,
+            alloc,
+            Kind::AppendText,
+            argument(line.len()),
+            0,
+            line,
+        )?;
+    }
+    for _ in 0..deeds {
+        push_deed(&mut script, alloc, dice, text.len())?;
+    }
+    Ok(script)
+}
+
+/// A session of few messages with long texts, each byte of which is spelled by an escape.
+fn escaped(alloc: Global, dice: &mut Dice, count: usize) -> Result<Script, AllocError> {
+    let mut script = Script::new(alloc);
+    let _ = script.push(Command::OpenView);
+    for _ in 0..count {
+        let mut text = Vec::new(alloc);
+        for _ in 0..1_800 {
+            text.extend_from_slice(&dice.number().to_le_bytes())?;
+        }
+        for byte in text.iter_mut() {
+            *byte |= 0x80;
+        }
+        push(
+            &mut script,
+            alloc,
+            Kind::AppendText,
+            argument(text.len()),
+            0,
+            &text,
+        )?;
+    }
+    Ok(script)
+}
+
+/// Runs a script with its notes and without, and checks it.
+fn run_each_way(desk: &mut Desk, alloc: Global, listing: &[u8]) {
+    let mut sink = DigestSink::new();
+    let files = Vec::new(alloc);
+    let unmet = run_script(alloc, &mut TextSource::new(listing), files, &mut sink);
+    desk.note_down(unmet.unwrap_or(u64::MAX));
+    desk.note_down(sink.digest.value());
+    let mut sink = DigestSink::new();
+    let unmet = run_quietly(alloc, &mut TextSource::new(listing), &[], &mut sink);
+    desk.note_down(unmet.unwrap_or(u64::MAX));
+    desk.note_down(sink.digest.value());
+    let mut sink = DigestSink::new();
+    let checked = check_script(alloc, &mut TextSource::new(listing), &mut sink);
+    desk.note_down(checked.unwrap_or(u64::MAX));
+    desk.note_down(sink.digest.value());
+}
+
+/// Lists a script, and runs the listing.
+fn list_and_run(desk: &mut Desk, alloc: Global, script: &Script) {
+    if let Ok(listing) = list(alloc, script) {
+        desk.note_bytes(&listing);
+        run_each_way(desk, alloc, &listing);
+    }
+}
+
+/// Steps through a script to its end, and back a few times.
+fn step_through(desk: &mut Desk, alloc: Global, listing: &[u8]) {
+    let Ok(script) = assemble(alloc, listing) else {
+        return;
+    };
+    let steps = script.commands().len();
+    let mut stepper = Stepper::new(alloc, script, Vec::new(alloc));
+    let done = stepper.run_to(steps / 2).is_ok();
+    desk.note_down(u64::from(done));
+    for _ in 0..4 {
+        let back = stepper.back().unwrap_or(false);
+        desk.note_down(u64::from(back));
+    }
+    for _ in 0..steps / 2 {
+        if let Ok(Some(outcome)) = stepper.step() {
+            desk.take_outcome(&outcome);
+        }
+    }
+    desk.note_down(stepper.state() as u64);
+}
+
+/// Lists a recorded session, and steps through the listing.
+fn list_and_step(desk: &mut Desk, alloc: Global, script: &Script) {
+    if let Ok(listing) = list(alloc, script) {
+        step_through(desk, alloc, &listing);
+    }
+}
+
+/// Works with recorded sessions of three kinds.
+pub fn scripts(
+    desk: &mut Desk,
+    alloc: Global,
+    dice: &mut Dice,
+    size: usize,
+) -> Result<(), AllocError> {
+    for _ in 0..4 {
+        let script = recorded(alloc, dice, size / 20, size)?;
+        list_and_run(desk, alloc, &script);
+    }
+    let script = escaped(alloc, dice, size / 500)?;
+    list_and_run(desk, alloc, &script);
+    let script = recorded(alloc, dice, size / 40, size / 8)?;
+    list_and_step(desk, alloc, &script);
+    Ok(())
+}
