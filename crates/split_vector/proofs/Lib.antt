@@ -1,5 +1,6 @@
 pub mod Items
 pub mod Memory
+pub mod Overwriting
 pub mod Sharing
 pub mod Splits
 pub mod Whole

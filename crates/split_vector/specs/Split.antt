@@ -1,5 +1,5 @@
 -- What a contract sees of a `SplitVector`.
-use Rattle.std.specs.Prelude.{ℕ, ◌+◌, ◌-◌, ◌^◌, ◌==◌, nat_lt, nat_le, ◌&&◌, if◌then◌else◌, min, max, ◌*◌, List, take, drop, ◌++◌, refl}
+use Rattle.std.specs.Prelude.{ℕ, ◌+◌, ◌-◌, ◌^◌, ◌==◌, nat_lt, nat_le, ◌&&◌, if◌then◌else◌, min, max, ◌*◌, List, length, take, drop, ◌++◌, refl}
 use Rattle.std.specs.Coded.{Coded, code_by, coded×, coded_list, coded_ℕ}
 
 -- the items, how many more fit into the block, how many items lie before the gap, and how many were moved or written so far
@@ -23,6 +23,10 @@ module _ {X : Type 0} where
   -- xs without the count items from the place on
   abbrev pub deleted : List X → ℕ → ℕ → List X
   deleted xs place count = take place xs ++ drop (place + count) xs
+
+  -- xs with the items new in place of those from the place on
+  abbrev pub overwritten : List X → ℕ → List X → List X
+  overwritten xs place new = take place xs ++ new ++ drop (place + length new) xs
 
 -- a counter that stays at the greatest `u64`
 abbrev pub counted : ℕ → ℕ → ℕ

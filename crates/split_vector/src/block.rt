@@ -1,14 +1,22 @@
 //! The fields of a vector, and the steps that keep them a gap buffer. The arithmetic of the gap is here.
-ghost use Rattle.std.specs.Prelude.{◌≡◌, ◌≤◌, ◌<◌, ◌+◌, ◌-◌, ◌*◌, [], ◌∷◌, ◌++◌, length, take, drop, replicate, slice_index_or, slice_set, slice_range, OnOk, OnErr, Some};
+ghost use Rattle.std.specs.Prelude.{◌≡◌, ◌≤◌, ◌<◌, ◌+◌, ◌-◌, ◌*◌, ◌^◌, [], ◌∷◌, ◌++◌, length, take, drop, replicate, slice_index_or, slice_set, slice_range, OnOk, OnErr, Some, true};
 ghost use Rattle.std.specs.Vec.Ownership.{FitsInBlock};
+ghost use Rattle.std.specs.Mem.{type_size};
 ghost use Rattle.split_vector.specs.Cells.{IsRun};
-ghost use Rattle.split_vector.specs.Split.{counted, apart, outside};
+ghost use Rattle.split_vector.specs.Split.{counted, apart, outside, overwritten};
 ghost use Rattle.split_vector.specs.Block.{IsBlock, Has, block_items, block_cells};
 
 use crate::cells::{Base, Cells, Deed, allocate, deallocate, discard, enlarge, no_cells};
 use std::alloc::{AllocError, Allocator};
-use std::mem;
+use std::mem::{self, size_of_val};
 use std_alloc::room::may_hold;
+
+/// So many items are carried over the gap at once, where it moves far: a copy of them that is written on the other side is one move of
+/// memory, by the widest registers that the processor has.
+const PART: usize = 4096;
+
+/// A part of more bytes is not copied to the stack.
+const PART_BYTES: usize = 32_768;
 
 /// A row of `len + spare` cells: `gap` items, then `spare` cells with no item, then the other items.
 pub struct Block<T, A: Allocator> {
@@ -31,6 +39,15 @@ fn release<T, A: Allocator>(alloc: &A, base: Base<T>, len: usize, cells: Cells<T
     } else {
         deallocate(alloc, base, len, cells, deed);
     }
+}
+
+// Whether a part of these items takes so few bytes that a copy of it may stand on the stack.
+#[inline(always)]
+fn is_small_part<T>(items: &[T]) -> bool
+    requires { 4096 ≤ length items.now }
+    ensures { result ≡ true → 4096 * type_size T.row < 2 ^ 63 }
+{
+    size_of_val(&items[..PART]) <= PART_BYTES
 }
 
 impl<T, A: Allocator> Block<T, A> {
@@ -104,8 +121,45 @@ impl<T, A: Allocator> Block<T, A> {
         self.moved = self.moved.saturating_add(items as u64);
     }
 
-    /// Moves the gap to `place`. The items that lie between are copied, and not counted.
-    pub(crate) fn slide(&mut self, place: usize)
+    // Carries the last `PART` items before the gap over it.
+    fn raise_part(&mut self)
+    where
+        T: Copy,
+        requires here { IsBlock self.old × (4096 ≤ self.old.gap) }
+        requires few { 4096 * type_size T.row < 2 ^ 63 }
+        ensures { Has self.new (take (self.old.gap - 4096) (block_items self.old)) self.old.spare (drop (self.old.gap - 4096) (block_items self.old)) self.old.moved }
+    {
+        let from = self.gap - PART;
+        let end = self.gap + self.spare;
+        let Some(part) = self.left()[from..].first_chunk::<PART>() else {
+            unreachable!()
+        };
+        let part = *part;
+        self.cells.widen(from, 0);
+        self.cells.push_right_slice(self.base, end, &part);
+        self.gap = from;
+    }
+
+    // Carries the first `PART` items behind the gap over it.
+    fn lower_part(&mut self)
+    where
+        T: Copy,
+        requires here { IsBlock self.old × (self.old.gap + 4096 ≤ self.old.len) }
+        requires few { 4096 * type_size T.row < 2 ^ 63 }
+        ensures { Has self.new (take (self.old.gap + 4096) (block_items self.old)) self.old.spare (drop (self.old.gap + 4096) (block_items self.old)) self.old.moved }
+    {
+        let gap = self.gap;
+        let Some(part) = self.right().first_chunk::<PART>() else {
+            unreachable!()
+        };
+        let part = *part;
+        self.cells.widen(gap, PART);
+        self.cells.push_slice(self.base, gap, &part);
+        self.gap = gap + PART;
+    }
+
+    // Moves the gap to `place`, where that is near. The items that lie between are copied, and not counted.
+    fn slide_near(&mut self, place: usize)
         requires { IsBlock self.old × (place ≤ self.old.len) }
         ensures { Has self.new (take place (block_items self.old)) self.old.spare (drop place (block_items self.old)) self.old.moved }
     {
@@ -122,9 +176,52 @@ impl<T, A: Allocator> Block<T, A> {
         }
     }
 
+    // Moves the gap back to less than a part behind `place`, a part after the other.
+    fn slide_back(&mut self, place: usize)
+    where
+        T: Copy,
+        requires { IsBlock self.old × (place ≤ self.old.gap) }
+        ensures parted { Has self.new (take self.new.gap (block_items self.old)) self.old.spare (drop self.new.gap (block_items self.old)) self.old.moved }
+        ensures within { place ≤ self.new.gap }
+    {
+        'parts: while self.gap - place >= PART && is_small_part(self.left()) {
+            self.raise_part();
+        }
+    }
+
+    // Moves the gap on to less than a part before `place`, a part after the other.
+    fn slide_on(&mut self, place: usize)
+    where
+        T: Copy,
+        requires { IsBlock self.old × (self.old.gap ≤ place) × (place ≤ self.old.len) }
+        ensures parted { Has self.new (take self.new.gap (block_items self.old)) self.old.spare (drop self.new.gap (block_items self.old)) self.old.moved }
+        ensures within { self.new.gap ≤ place }
+    {
+        'parts: while place - self.gap >= PART && is_small_part(self.right()) {
+            self.lower_part();
+        }
+    }
+
+    /// Moves the gap to `place`. The items that lie between are copied, and not counted.
+    pub(crate) fn slide(&mut self, place: usize)
+    where
+        T: Copy,
+        requires { IsBlock self.old × (place ≤ self.old.len) }
+        ensures { Has self.new (take place (block_items self.old)) self.old.spare (drop place (block_items self.old)) self.old.moved }
+    {
+        if place < self.gap {
+            self.slide_back(place);
+        } else {
+            self.slide_on(place);
+        }
+        self.slide_near(place);
+    }
+
     /// Moves the gap to `place`, and counts the items that were copied. Mostly it stands there.
     #[inline(always)]
     pub(crate) fn move_gap(&mut self, place: usize)
+    where
+        T: Copy,
         requires { IsBlock self.old × (place ≤ self.old.len) }
         ensures { Has self.new (take place (block_items self.old)) self.old.spare (drop place (block_items self.old)) (counted self.old.moved (apart place self.old.gap)) }
     {
@@ -137,6 +234,8 @@ impl<T, A: Allocator> Block<T, A> {
     // Moves the gap to `place` from elsewhere.
     #[inline(never)]
     fn carry_gap(&mut self, place: usize)
+    where
+        T: Copy,
         requires { IsBlock self.old × (place ≤ self.old.len) }
         ensures { Has self.new (take place (block_items self.old)) self.old.spare (drop place (block_items self.old)) (counted self.old.moved (apart place self.old.gap)) }
     {
@@ -151,6 +250,8 @@ impl<T, A: Allocator> Block<T, A> {
 
     /// Moves the gap, if it lies outside, to the nearer end of the range from `low` to `high`.
     fn reach(&mut self, low: usize, high: usize)
+    where
+        T: Copy,
         requires { IsBlock self.old × (low ≤ high) × (high ≤ self.old.len) }
         ensures fields { Has self.new (take self.new.gap (block_items self.old)) self.old.spare (drop self.new.gap (block_items self.old)) (counted self.old.moved (outside low high self.old.gap)) }
         ensures within { (low ≤ self.new.gap) × (self.new.gap ≤ high) }
@@ -164,6 +265,8 @@ impl<T, A: Allocator> Block<T, A> {
 
     /// Takes the `count` items from `place` on away.
     pub(crate) fn remove(&mut self, place: usize, count: usize)
+    where
+        T: Copy,
         requires { IsBlock self.old × (place + count ≤ self.old.len) }
         ensures { Has self.new (take place (block_items self.old)) (self.old.spare + count) (drop (place + count) (block_items self.old)) (counted self.old.moved (outside place (place + count) self.old.gap)) }
     {
@@ -229,6 +332,29 @@ impl<T, A: Allocator> Block<T, A> {
         } else {
             self.cells
                 .replace_right(self.base, index + self.spare, item);
+        }
+    }
+
+    /// Writes the items of `source` over those from `place` on.
+    pub(crate) fn overwrite(&mut self, place: usize, source: &[T])
+    where
+        T: Copy,
+        requires { IsBlock self.old × (place + length source.now ≤ self.old.len) }
+        ensures fields { IsBlock self.new × (self.new.spare ≡ self.old.spare) × (self.new.gap ≡ self.old.gap) × (self.new.moved ≡ self.old.moved) }
+        ensures items { block_items self.new ≡ overwritten (block_items self.old) place source.now }
+    {
+        let gap = self.gap;
+        let behind = gap + self.spare;
+        if place + source.len() <= gap {
+            self.cells.overwrite_left(self.base, place, source);
+        } else if gap <= place {
+            let cell = place + self.spare;
+            self.cells
+                .overwrite_right(self.base, place - gap, cell, source);
+        } else {
+            let (left, right) = source.split_at(gap - place);
+            self.cells.overwrite_left(self.base, place, left);
+            self.cells.overwrite_right(self.base, 0, behind, right);
         }
     }
 

@@ -44,6 +44,8 @@ impl<T, A: Allocator> Block<T, A> {
     /// Moves the gap, if it lies between `low` and `high`, to the nearer of the two. Mostly it lies elsewhere.
     #[inline(always)]
     pub(crate) fn settle(&mut self, low: usize, high: usize)
+    where
+        T: Copy,
         requires { IsBlock self.old × (low ≤ high) × (high ≤ self.old.len) }
         ensures fields { IsBlock self.new × (self.new.len ≡ self.old.len) × (self.new.spare ≡ self.old.spare) × (self.new.moved ≡ self.old.moved) }
         ensures items { block_items self.new ≡ block_items self.old }
@@ -58,6 +60,8 @@ impl<T, A: Allocator> Block<T, A> {
     // Moves the gap from between `low` and `high` to the nearer of the two.
     #[inline(never)]
     fn settle_from_between(&mut self, low: usize, high: usize)
+    where
+        T: Copy,
         requires inside { IsBlock self.old × (high ≤ self.old.len) }
         requires between { (low < self.old.gap) × (self.old.gap < high) }
         ensures fields { IsBlock self.new × (self.new.len ≡ self.old.len) × (self.new.spare ≡ self.old.spare) × (self.new.moved ≡ self.old.moved) }

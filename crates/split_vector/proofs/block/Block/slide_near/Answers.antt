@@ -1,6 +1,6 @@
 use Rattle.std.proofs.Common.{◌≡◌, ◌-◌, ◌≤◌, ◌++◌, length, take, drop, refl, sym, ap, ◌∙◌, arith, length-append, length-take, length-drop}
 use Rattle.split_vector.proofs.Splits.{take_at_right, drop_at_right}
-use Rattle.split_vector.proofs.block.Block.slide.Goals as goal
+use Rattle.split_vector.proofs.block.Block.slide_near.Goals as goal
 
 pub returns-else-place-self : goal.returns-else-place-self
 returns-else-place-self g c =
