@@ -1,7 +1,7 @@
 use Rattle.std.proofs.Common.{◌≡◌, ◌<◌, ◌-◌, length, get_or, map, ◌∙◌, arith}
 use Rattle.std.proofs.lemmas.List.{map-set, length-map}
 use Rattle.partitioning.proofs.Lists.{read_number, turned_more}
-use Rattle.partitioning.proofs.stepping.turn.Goals as goal
+use Rattle.partitioning.proofs.stepping.turn_singly.Goals as goal
 
 pub loop-index-preserved : goal.loop-index-preserved
 loop-index-preserved g c =
