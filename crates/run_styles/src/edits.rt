@@ -3,7 +3,7 @@ ghost use Rattle.std.specs.Prelude.{◌≡◌, ◌≤◌, ◌<◌, ◌+◌, leng
 ghost use Rattle.run_styles.specs.Expansion.{expansion, IsTable, IsExact, NeighboursDiffer};
 ghost use Rattle.run_styles.specs.Runs.{inserted, deleted, inserted_value};
 
-use crate::table::{delete_runs, end_of, insert_first, insert_last, join_at, run_of};
+use crate::table::{delete_runs, end_of, insert_first, insert_last, join_at, run_about};
 use partitioning::{Partitioning, Place};
 use split_vector::SplitVector;
 use std::alloc::Allocator;
@@ -82,7 +82,7 @@ fn insert_inside<P: Place, V: Copy + Eq, A: Allocator>(
     ensures room { starts.new.room ≡ starts.old.room }
     ensures start_cells { length starts.new.starts + starts.new.room ≡ length starts.old.starts + starts.old.room }
 {
-    let run = run_of(starts, place);
+    let run = run_about(starts, place);
     if starts.start_of(run) == place && values.get(run) != default {
         starts.insert_text(run - 1, count);
     } else {
@@ -145,7 +145,7 @@ pub(crate) fn delete_places<P: Place, V: Copy + Eq, A: Allocator>(
     ensures start_cells { length starts.new.starts + starts.new.room ≡ length starts.old.starts + starts.old.room }
     ensures value_cells { length values.new.items + values.new.spare ≡ length values.old.items + values.old.spare }
 {
-    let run = run_of(starts, place);
+    let run = run_about(starts, place);
     if starts.start_of(run) == place {
         delete_runs(starts, values, run, count);
         join_at(starts, values, run);
