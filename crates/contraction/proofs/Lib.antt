@@ -2,6 +2,7 @@ pub mod Carried
 pub mod Changed
 pub mod Expanding
 pub mod FoldLines
+pub mod Headings
 pub mod InAll
 pub mod Kept
 pub mod LineSets

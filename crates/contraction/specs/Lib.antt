@@ -1,4 +1,5 @@
 pub mod Folding
+pub mod Headings
 pub mod Levels
 pub mod LineSets
 pub mod ViewLines

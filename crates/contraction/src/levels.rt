@@ -1,6 +1,7 @@
 //! The fold levels of all lines, lent.
 
-ghost use Rattle.std.specs.Prelude.{◌≡◌, ◌+◌, ◌≤◌, ◌<◌, length, slice_index};
+ghost use Rattle.std.specs.Prelude.{◌≡◌, ◌+◌, ◌≤◌, ◌<◌, ℕ, length, slice_index};
+ghost use Rattle.ed_model.specs.Rows.{base_level};
 ghost use Rattle.contraction.specs.Levels.{all_levels};
 
 use std::marker::Model;
@@ -62,5 +63,19 @@ impl<'a> Levels<'a> {
             return self.after[line - first];
         }
         BASE
+    }
+
+    /// Returns the levels of the lines before one, as far as they are kept: those of the first lines, and those of the lines behind
+    /// these. Behind both lines have the base level.
+    pub(crate) fn kept_before(&self, line: usize) -> (&[u32], &[u32])
+        requires { line < length self.now }
+        ensures within { length result.0.now + length result.1.now ≤ line }
+        ensures first { (k : ℕ) → k < length result.0.now → slice_index self.now k ≡ slice_index result.0.now k }
+        ensures others { (k : ℕ) → k < length result.1.now → slice_index self.now (length result.0.now + k) ≡ slice_index result.1.now k }
+        ensures base { (k : ℕ) → length result.0.now + length result.1.now ≤ k → k < line → slice_index self.now k ≡ base_level }
+    {
+        let first = line.min(self.before.len());
+        let others = (line - first).min(self.after.len());
+        (&self.before[..first], &self.after[..others])
     }
 }

@@ -1,17 +1,21 @@
-use Rattle.std.proofs.Common.{◌-◌, sym, ◌∙◌, arith}
-use Rattle.ed_model.specs.Folding.{is_parent_of}
-use Rattle.contraction.proofs.FoldLines.{last_here, last_earlier}
+use Rattle.std.proofs.Common.{◌≡◌, length, sym, ap, ◌∙◌}
+use Rattle.contraction.specs.Headings.{last_heading}
+use Rattle.contraction.proofs.Headings.{heading_of_parts, in_part}
 use Rattle.contraction.proofs.folds.fold_parent.Goals as goal
 
-pub returns-then-is_parent-clause-parent : goal.returns-then-is_parent-clause-parent
-returns-then-is_parent-clause-parent c =
-    let inv = c.seeking.invariant in
-    sym (inv.left ∙ last_here (is_parent_of c.args.levels.now c.args.line) c.seeking.earlier (c.seeking.earlier - 1) (omega arith) (sym c.is_parent.ensures ∙ c.if-is_parent.true))
+pub returns-in-Some-clause-parent : goal.returns-in-Some-clause-parent
+returns-in-Some-clause-parent c =
+    let n = c.number_at-number.result in let k = c.kept_before in let first = k.result.0.now in let others = k.result.1.now in
+    let whole : last_heading n c.args.levels.now c.args.line ≡ in_part (length first) (last_heading n others (length others)) (last_heading n first (length first)) =
+    heading_of_parts n c.args.line c.args.levels.now first others k.ensures.within k.ensures.first k.ensures.others k.ensures.base in
+    ap (λ o. in_part (length first) o (last_heading n first (length first))) (sym c.in-Some.is ∙ c.last_heading.ensures.last)
+    ∙ sym whole ∙ ap (λ m. last_heading m c.args.levels.now c.args.line) c.number_at-number.ensures
 
-pub seeking-preserved : goal.seeking-preserved
-seeking-preserved c =
-    let inv = c.seeking.invariant in
-    record {
-      left = inv.left ∙ last_earlier (is_parent_of c.args.levels.now c.args.line) c.seeking.earlier (c.seeking.earlier - 1) (omega arith) (sym c.is_parent.ensures ∙ c.if-is_parent.false);
-      within = omega (arith, inv.within);
-    }
+pub returns-clause-parent : goal.returns-clause-parent
+returns-clause-parent c =
+    let n = c.number_at-number.result in let k = c.kept_before in let first = k.result.0.now in let others = k.result.1.now in
+    let whole : last_heading n c.args.levels.now c.args.line ≡ in_part (length first) (last_heading n others (length others)) (last_heading n first (length first)) =
+    heading_of_parts n c.args.line c.args.levels.now first others k.ensures.within k.ensures.first k.ensures.others k.ensures.base in
+    c.last_heading-2.ensures.last
+    ∙ ap (λ o. in_part (length first) o (last_heading n first (length first))) (sym c.in_default.is ∙ c.last_heading.ensures.last)
+    ∙ sym whole ∙ ap (λ m. last_heading m c.args.levels.now c.args.line) c.number_at-number.ensures
