@@ -1,4 +1,5 @@
 mod SpelledNumbers
+mod ShortNumbers
 mod Words
 mod Plain
 mod Splitting

@@ -2,7 +2,8 @@
 use Rattle.std.proofs.Common.{◌≡◌, ℕ, zero, suc, ◌+◌, ◌<◌, ◌≤◌, ℤ, List, [], ◌∷◌, ◌++◌, length, take, drop, refl, sym, ◌∙◌, ap, subst, arith, Result, Ok, Err, append_assoc, append-nil, take-append-drop, get_or, pos, IsErr, take-add, length-drop, ◌-◌, slice_get, Some, flat_map}
 use Rattle.std.proofs.lemmas.List.{take_more, drop_more, take_rest}
 use Rattle.std.proofs.lemmas.List.Concat.{flat_map-append}
-use Rattle.ed_model.specs.Spelling.{space, spelled_int, spelled_byte, spelled_bytes}
+use Rattle.ed_model.specs.Text.{line_feed}
+use Rattle.ed_model.specs.Spelling.{space, quote, spelled_int, spelled_byte, spelled_bytes, spelled_text}
 use Rattle.macro_script.proofs.Plain.{ArePlainBefore, tail}
 use Rattle.std.specs.declared.alloc.AllocError.{AllocError}
 use Rattle.macro_script.specs.Appending.{Appends, AppendsPart, AppendsSome, number_fields}
@@ -35,6 +36,10 @@ first_part old new first second some = record {
 -- the same text in other words
 pub in_words : (first second old new : List ℕ) (r : Result (Unit {0}) AllocError) → first ≡ second → Appends first old new r → Appends second old new r
 in_words first second old new r same h = subst (λ text. Appends text old new r) same h
+
+-- a line's end in the pieces that are appended: the space and a quote, the text, and a quote and the LF
+pub text_end : (text : List ℕ) → (space ∷ spelled_text text) ++ line_feed ∷ [] ≡ (space ∷ quote ∷ []) ++ (spelled_bytes text ++ quote ∷ line_feed ∷ [])
+text_end text = ap (λ bs. space ∷ quote ∷ bs) (append_assoc (spelled_bytes text) (quote ∷ []) (line_feed ∷ []))
 
 -- A run of bytes that stand for themselves is its own spelling.
 pub plain_run : (n : ℕ) (text : List ℕ) → n ≤ length text → ArePlainBefore text n → spelled_bytes (take n text) ≡ take n text

@@ -1,7 +1,7 @@
 //! Pieces of text, appended to an output.
 
-ghost use Rattle.std.specs.Prelude.{◌∷◌, ◌<◌, length};
-ghost use Rattle.ed_model.specs.Spelling.{spelled, spelled_int, spelled_bytes, spelled_text};
+ghost use Rattle.std.specs.Prelude.{◌≡◌, ◌+◌, ◌∷◌, ◌++◌, [], ◌<◌, length};
+ghost use Rattle.ed_model.specs.Spelling.{spelled, spelled_int, spelled_byte, spelled_bytes, spelled_text};
 ghost use Rattle.macro_script.specs.Appending.{Appends, AppendsSome, number_fields, text_field, line_of, lent_text};
 
 use crate::spelled::{plain_len, spell_byte};
@@ -31,12 +31,52 @@ pub fn append_integer(out: &mut Vec<u8>, value: i64) -> Result<(), AllocError>
     append_bytes(out, buffer.format(value).as_bytes())
 }
 
-/// Appends a space and a number.
-fn append_field(out: &mut Vec<u8>, number: i64) -> Result<(), AllocError>
+/// The digit of a number below 10.
+fn digit(value: u64) -> u8
+    requires { value < 10 }
+    ensures { result ≡ 48 + value }
+{
+    b'0' + value as u8
+}
+
+/// Appends a space and a number of up to four digits, as one array: its length is fixed in each case, so that the bytes are stored
+/// without a call.
+fn append_short_field(out: &mut Vec<u8>, number: u64) -> Result<(), AllocError>
+    requires { number < 10000 }
+    ensures { Appends (32 ∷ spelled number) out.old.items out.new.items result }
+{
+    let ones = digit(number % 10);
+    if number < 10 {
+        return append_bytes(out, &[b' ', ones]);
+    }
+    let tens = digit(number / 10 % 10);
+    if number < 100 {
+        return append_bytes(out, &[b' ', tens, ones]);
+    }
+    let hundreds = digit(number / 100 % 10);
+    if number < 1000 {
+        return append_bytes(out, &[b' ', hundreds, tens, ones]);
+    }
+    append_bytes(out, &[b' ', digit(number / 1000), hundreds, tens, ones])
+}
+
+/// Appends a space and a number, however long.
+fn append_long_field(out: &mut Vec<u8>, number: i64) -> Result<(), AllocError>
     ensures { Appends (32 ∷ spelled_int number) out.old.items out.new.items result }
 {
     append_bytes(out, b" ")?;
     append_integer(out, number)
+}
+
+/// Appends a space and a number.
+fn append_field(out: &mut Vec<u8>, number: i64) -> Result<(), AllocError>
+    ensures { Appends (32 ∷ spelled_int number) out.old.items out.new.items result }
+{
+    if (0..10_000).contains(&number) {
+        append_short_field(out, number as u64)
+    } else {
+        append_long_field(out, number)
+    }
 }
 
 /// Appends numbers, each behind a space.
@@ -49,6 +89,18 @@ fn append_fields(out: &mut Vec<u8>, numbers: &[i64]) -> Result<(), AllocError>
     Ok(())
 }
 
+/// Appends the spelling of a byte, as an array of fixed length where it is an escape.
+fn append_escape(out: &mut Vec<u8>, byte: u8) -> Result<(), AllocError>
+    ensures { Appends (spelled_byte byte) out.old.items out.new.items result }
+{
+    let (bytes, len) = spell_byte(byte);
+    match len {
+        4 => append_bytes(out, &bytes),
+        2 => append_bytes(out, &bytes[..2]),
+        _ => append_bytes(out, &bytes[..len]),
+    }
+}
+
 /// Appends the spelling of the first bytes, and says of how many, one at least.
 fn append_some(out: &mut Vec<u8>, text: &[u8]) -> Result<usize, AllocError>
     requires { 0 < length text.now }
@@ -59,8 +111,7 @@ fn append_some(out: &mut Vec<u8>, text: &[u8]) -> Result<usize, AllocError>
         append_bytes(out, &text[..run])?;
         return Ok(run);
     }
-    let (bytes, len) = spell_byte(text[0]);
-    append_bytes(out, &bytes[..len])?;
+    append_escape(out, text[0])?;
     Ok(1)
 }
 
@@ -84,18 +135,42 @@ pub fn append_text(out: &mut Vec<u8>, text: &[u8]) -> Result<(), AllocError>
     append_bytes(out, b"\"")
 }
 
-/// Appends a space and a text, if there is one.
-fn append_text_field(out: &mut Vec<u8>, text: Option<&[u8]>) -> Result<(), AllocError>
-    ensures { Appends (text_field (lent_text text.entry)) out.old.items out.new.items result }
+/// Appends the end of a line: a space, a text and the LF.
+fn append_text_end(out: &mut Vec<u8>, text: &[u8]) -> Result<(), AllocError>
+    ensures { Appends ((32 ∷ spelled_text text.now) ++ 10 ∷ []) out.old.items out.new.items result }
 {
-    let Some(text) = text else {
-        return Ok(());
-    };
-    append_bytes(out, b" ")?;
-    append_text(out, text)
+    if text.is_empty() {
+        return append_bytes(out, b" \"\"\n");
+    }
+    append_bytes(out, b" \"")?;
+    append_spelled(out, text)?;
+    append_bytes(out, b"\"\n")
 }
 
-/// Appends a line of a word, numbers and a text.
+/// Appends the end of a line, with a text if there is one.
+fn append_end(out: &mut Vec<u8>, text: Option<&[u8]>) -> Result<(), AllocError>
+    ensures { Appends (text_field (lent_text text.entry) ++ 10 ∷ []) out.old.items out.new.items result }
+{
+    match text {
+        Some(text) => append_text_end(out, text),
+        None => append_bytes(out, b"\n"),
+    }
+}
+
+/// Appends what follows a line's word: numbers and a text.
+fn append_behind_word(
+    out: &mut Vec<u8>,
+    numbers: &[i64],
+    text: Option<&[u8]>,
+) -> Result<(), AllocError>
+    ensures { Appends (number_fields numbers.now ++ (text_field (lent_text text.entry) ++ 10 ∷ [])) out.old.items out.new.items result }
+{
+    append_fields(out, numbers)?;
+    append_end(out, text)
+}
+
+/// Appends a line of a word, numbers and a text. A part of each caller, where the word and so its length are known.
+#[inline]
 pub fn append_line(
     out: &mut Vec<u8>,
     word: &[u8],
@@ -105,7 +180,5 @@ pub fn append_line(
     ensures { Appends (line_of word.now numbers.now (lent_text text.entry)) out.old.items out.new.items result }
 {
     append_bytes(out, word)?;
-    append_fields(out, numbers)?;
-    append_text_field(out, text)?;
-    append_bytes(out, b"\n")
+    append_behind_word(out, numbers, text)
 }

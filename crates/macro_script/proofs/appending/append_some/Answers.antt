@@ -1,3 +1,4 @@
+use Rattle.std.proofs.Common.{refl}
 use Rattle.macro_script.proofs.Pieces.{stopped_some, some_is_run, run_appended, byte_stopped}
 use Rattle.macro_script.proofs.appending.append_some.Goals as goal
 
@@ -8,6 +9,6 @@ returns-in_err-append_bytes c = stopped_some _ _ _ c.from_residual.result c.from
 pub returns-then-run-gt0 : goal.returns-then-run-gt0
 returns-then-run-gt0 c = (c.if-run-gt0.true, c.plain_len-run.ensures.within, run_appended c.args.text.now _ _ c.plain_len-run.result c.plain_len-run.ensures.within c.plain_len-run.ensures.plain c.in_ok-append_bytes.ensures)
 
-pub returns-in_err-append_bytes-2 : goal.returns-in_err-append_bytes-2
-returns-in_err-append_bytes-2 c = stopped_some _ _ _ c.from_residual-in_err-append_bytes-2.result c.from_residual-in_err-append_bytes-2.ensures.0
-    (byte_stopped c.args.text.now _ _ _ c.requires c.spell_byte-len.ensures.spelling c.in_err-append_bytes-2.ensures)
+pub returns-in_err-append_escape : goal.returns-in_err-append_escape
+returns-in_err-append_escape c = stopped_some _ _ _ c.from_residual-in_err-append_escape.result c.from_residual-in_err-append_escape.ensures.0
+    (byte_stopped c.args.text.now _ _ _ c.requires refl c.in_err-append_escape.ensures)
