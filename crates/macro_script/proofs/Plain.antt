@@ -2,7 +2,7 @@
 use Rattle.std.proofs.Common.{◌≡◌, ◌≢◌, ℕ, zero, suc, ◌+◌, ◌<◌, ◌≤◌, List, [], ◌∷◌, ◌++◌, length, get_or, take, drop, refl, sym, ◌∙◌, ap, subst, arith, Result, Ok, Err, append_assoc, append-nil, length-drop, drop-drop, get_or-drop, slice_range, ◌-◌}
 use Rattle.std.proofs.lemmas.List.{take_rest}
 use Rattle.std.specs.Prelude.{◌==◌, ◌&&◌, ◌||◌, nat_le}
-use Rattle.std.proofs.lemmas.Bool.{ne_eqb, le-leb, or_from, and_from, cond-true, cond-false}
+use Rattle.std.proofs.lemmas.Bool.{eq-eqb, ne_eqb, le-leb, or_from, and_from, cond-true, cond-false}
 use Rattle.ed_types.specs.declared.script.Cause.{Cause}
 use Rattle.ed_types.specs.declared.script.Cause.TheVariants.{BadText}
 use Rattle.macro_script.specs.Fronts.{IsFront}
@@ -49,6 +49,10 @@ run_is_read (suc n) (b ∷ bs) h plain bytes =
 pub record IsReadSoFar (spelling : List ℕ) (at : ℕ) (bytes : List ℕ) : Type 0 where
   pub within : at ≤ length spelling
   pub read : text_past 0 spelling ≡ with_bytes bytes (text_past 0 (drop at spelling))
+
+-- the run at the front, where it is all that is read so far
+pub read_first_run : (spelling : List ℕ) (n : ℕ) (copied : List ℕ) → n ≤ length spelling → ArePlainBefore spelling n → ((k : ℕ) → get_or spelling k 0 < 256) → copied ≡ take n spelling → IsReadSoFar spelling n copied
+read_first_run spelling n copied h plain all is = subst (IsReadSoFar spelling n) (sym is) (record { within = h; read = run_is_read n spelling h plain all })
 
 pub read_run : (spelling : List ℕ) (at n : ℕ) (bytes : List ℕ) → IsReadSoFar spelling at bytes → n ≤ length (drop at spelling) → ArePlainBefore (drop at spelling) n → ((k : ℕ) → get_or (drop at spelling) k 0 < 256) → IsReadSoFar spelling (at + n) (bytes ++ take n (drop at spelling))
 read_run spelling at n bytes so_far h plain all = record {
@@ -101,3 +105,14 @@ pub read_wrong : (spelling : List ℕ) (at : ℕ) (bytes : List ℕ) → IsReadS
 read_wrong spelling at bytes so_far front =
     let at-front : IsFront (drop at spelling) Wrong = subst (λ bs. IsFront bs Wrong) (take_rest spelling at) front in
     so_far.read ∙ ap (with_bytes bytes) at-front
+
+-- a text that is one run, with its closing quote behind
+closed : (text : List ℕ) → get_or text 0 0 ≡ quote → (0 < length text) × (text_past 0 text ≡ Ok ([], drop 1 text))
+closed [] is = cc
+closed (b ∷ bs) is = (omega arith, cond-true (b == quote) _ _ (eq-eqb b quote is))
+
+pub read_plain : (spelling : List ℕ) (n : ℕ) (text : List ℕ) → n ≤ length spelling → ArePlainBefore spelling n → ((k : ℕ) → get_or spelling k 0 < 256) → get_or spelling n 0 ≡ quote → text ≡ take n spelling → (text_past 0 spelling ≡ Ok (text, drop (n + 1) spelling)) × (n + 1 ≤ length spelling)
+read_plain spelling n text h plain all is copied =
+    let place : n + 0 ≡ n = omega arith in
+    let end = closed (drop n spelling) (get_or-drop n spelling 0 0 ∙ ap (λ k. get_or spelling k 0) place ∙ is) in
+    read_close spelling n text (read_first_run spelling n text h plain all copied) end.0 end.1

@@ -1,6 +1,6 @@
 //! How bytes are spelled in texts.
 
-ghost use Rattle.std.specs.Prelude.{◌≡◌, ℕ, ◌<◌, ◌≤◌, ◌∷◌, [], length, take, slice_index};
+ghost use Rattle.std.specs.Prelude.{◌≡◌, ℕ, ◌<◌, ◌≤◌, ◌∷◌, [], length, take, slice_index, IsTrue};
 ghost use Rattle.ed_model.specs.Spelling.{hex_digit as hex_digit_of, spelled_byte};
 
 /// The digit that stands for a number below 16.
@@ -27,6 +27,13 @@ pub fn spell_byte(byte: u8) -> ([u8; 4], usize)
         0x20..=0x7E => ([byte, 0, 0, 0], 1),
         _ => ([b'\\', b'x', hex_digit(byte / 16), hex_digit(byte % 16)], 4),
     }
+}
+
+/// Whether a byte is spelled by an escape of these two digits.
+pub fn is_escape(byte: u8, high: u8, low: u8) -> bool
+    ensures { IsTrue result → spelled_byte byte ≡ 92 ∷ 120 ∷ high ∷ low ∷ [] }
+{
+    (byte < 0x20 || byte > 0x7E) && hex_digit(byte / 16) == high && hex_digit(byte % 16) == low
 }
 
 /// How many bytes at the front stand for themselves.

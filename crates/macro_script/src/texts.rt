@@ -1,14 +1,15 @@
 //! Texts, read from their spelling.
 
-ghost use Rattle.std.specs.Prelude.{◌≡◌, ◌+◌, ◌<◌, ◌≤◌, length, drop, slice_index, IfSome, IfNone, false, true};
-ghost use Rattle.ed_model.specs.Spelling.{hex_value as hex_value_of, spelled_byte};
+ghost use Rattle.std.specs.Prelude.{◌≡◌, ℕ, ◌+◌, ◌<◌, ◌≤◌, ◌++◌, ◌∷◌, [], length, drop, slice_index, IfSome, IfNone, IfOk, OnOk, false, true};
+ghost use Rattle.ed_model.specs.Spelling.{hex_digit, hex_value as hex_value_of, spelled_byte};
 ghost use Rattle.ed_model.specs.Reading.{front_byte as front_byte_of, spells_front, text_past};
 ghost use Rattle.macro_script.specs.Fronts.{IsFront, ReadsText};
+ghost use Rattle.macro_script.specs.declared.texts.Front.TheVariants.{Byte};
 
-use crate::spelled::{plain_len, spell_byte};
+use crate::spelled::{is_escape, plain_len, spell_byte};
 use crate::stop::Stop;
 use ed_types::{Bytes, Cause};
-use std::alloc::Global;
+use std::alloc::{AllocError, Global};
 
 /// What stands at the front of a text's spelling.
 #[derive(Clone, Copy)]
@@ -52,8 +53,46 @@ fn front_byte(text: &[u8]) -> u16
     16 * hex_value(byte_at(text, 2)) + hex_value(byte_at(text, 3))
 }
 
+/// What a hexadecimal digit stands for, found without a branch, since digits come in no order; other bytes stand for anything.
+fn digit_value(digit: u8) -> u8
+    ensures value { (v : ℕ) → v < 16 → digit ≡ hex_digit v → result ≡ v }
+    ensures below { result < 16 }
+{
+    ((digit & 0xF) + 9 * (digit >> 6)) & 0xF
+}
+
+/// The byte that an escape of two digits at the front spells, if there is one.
+fn escaped_byte(text: &[u8]) -> Option<u8>
+    ensures { IfSome result (λ byte. IsFront text.now (Byte byte 4)) }
+{
+    let [b'\\', b'x', high, low, ..] = text else {
+        return None;
+    };
+    let byte = 16 * digit_value(*high) + digit_value(*low);
+    if is_escape(byte, *high, *low) {
+        Some(byte)
+    } else {
+        None
+    }
+}
+
 /// What stands at the front.
 fn front_of(text: &[u8]) -> Front
+    ensures { IsFront text.now result }
+{
+    match text {
+        [b'"', ..] => Front::Closing,
+        [b'\\', b'"', ..] => Front::Byte(b'"', 2),
+        [b'\\', b'\\', ..] => Front::Byte(b'\\', 2),
+        _ => match escaped_byte(text) {
+            Some(byte) => Front::Byte(byte, 4),
+            None => other_front(text),
+        },
+    }
+}
+
+/// What stands at the front, found by spelling what the front would spell.
+fn other_front(text: &[u8]) -> Front
     ensures { IsFront text.now result }
 {
     if text.is_empty() {
@@ -75,16 +114,48 @@ fn front_of(text: &[u8]) -> Front
     }
 }
 
+/// Appends a run of bytes, if it has any: mostly none stand between two escapes.
+fn append_run(text: &mut Vec<u8>, run: &[u8]) -> Result<(), AllocError>
+    ensures { OnOk result (text.new.items ≡ text.old.items ++ run.now) }
+{
+    if run.is_empty() {
+        return Ok(());
+    }
+    text.extend_from_slice(run)
+}
+
+/// A copy of bytes, which takes memory only where there are some, and no more than they need.
+fn copied(alloc: Global, bytes: &[u8]) -> Result<Bytes, AllocError>
+    ensures { IfOk result (λ copy. copy ≡ bytes.now) }
+{
+    if bytes.is_empty() {
+        return Ok(Bytes::empty(alloc));
+    }
+    let copy = Vec::from_slice(alloc, bytes)?;
+    Ok(Bytes::new(copy))
+}
+
 /// The text up to its closing quote, and how many bytes its spelling has, with that quote.
 pub fn read_text(alloc: Global, spelling: &[u8]) -> Result<(Bytes, usize), Stop>
     ensures { ReadsText spelling.now result }
 {
-    let mut text = Vec::new(alloc);
-    let mut at = 0;
+    let run = plain_len(spelling);
+    if byte_at(spelling, run) != b'"' {
+        return read_behind(alloc, spelling, run);
+    }
+    let text = copied(alloc, &spelling[..run])?;
+    Ok((text, run + 1))
+}
+
+/// The same, where so many bytes at the front stand for themselves.
+fn read_behind(alloc: Global, spelling: &[u8], run: usize) -> Result<(Bytes, usize), Stop>
+    requires within { run ≤ length spelling.now }
+    requires plain { (k : ℕ) → k < run → spelled_byte (slice_index spelling.now k) ≡ slice_index spelling.now k ∷ [] }
+    ensures { ReadsText spelling.now result }
+{
+    let mut text = Vec::from_slice(alloc, &spelling[..run])?;
+    let mut at = run;
     loop {
-        let run = plain_len(&spelling[at..]);
-        text.extend_from_slice(&spelling[at..at + run])?;
-        at += run;
         match front_of(&spelling[at..]) {
             Front::Closing => return Ok((Bytes::new(text), at + 1)),
             Front::Byte(byte, len) => {
@@ -93,5 +164,8 @@ pub fn read_text(alloc: Global, spelling: &[u8]) -> Result<(Bytes, usize), Stop>
             }
             Front::Wrong => return Err(Stop::Fault(Cause::BadText)),
         }
+        let run = plain_len(&spelling[at..]);
+        append_run(&mut text, &spelling[at..at + run])?;
+        at += run;
     }
 }
