@@ -45,10 +45,10 @@ fn append_short_field(out: &mut Vec<u8>, number: u64) -> Result<(), AllocError>
     requires { number < 10000 }
     ensures { Appends (32 ∷ spelled number) out.old.items out.new.items result }
 {
-    let ones = digit(number % 10);
     if number < 10 {
-        return append_bytes(out, &[b' ', ones]);
+        return append_bytes(out, &[b' ', digit(number)]);
     }
+    let ones = digit(number % 10);
     let tens = digit(number / 10 % 10);
     if number < 100 {
         return append_bytes(out, &[b' ', tens, ones]);
@@ -89,14 +89,15 @@ fn append_fields(out: &mut Vec<u8>, numbers: &[i64]) -> Result<(), AllocError>
     Ok(())
 }
 
-/// Appends the spelling of a byte, as an array of fixed length where it is an escape.
-fn append_escape(out: &mut Vec<u8>, byte: u8) -> Result<(), AllocError>
+/// Appends the spelling of a byte, as an array whose length is fixed in each case, so that it is stored without a call.
+fn append_byte(out: &mut Vec<u8>, byte: u8) -> Result<(), AllocError>
     ensures { Appends (spelled_byte byte) out.old.items out.new.items result }
 {
     let (bytes, len) = spell_byte(byte);
     match len {
         4 => append_bytes(out, &bytes),
         2 => append_bytes(out, &bytes[..2]),
+        1 => append_bytes(out, &bytes[..1]),
         _ => append_bytes(out, &bytes[..len]),
     }
 }
@@ -107,11 +108,11 @@ fn append_some(out: &mut Vec<u8>, text: &[u8]) -> Result<usize, AllocError>
     ensures { AppendsSome text.now out.old.items out.new.items result }
 {
     let run = plain_len(text);
-    if run > 0 {
+    if run > 1 {
         append_bytes(out, &text[..run])?;
         return Ok(run);
     }
-    append_escape(out, text[0])?;
+    append_byte(out, text[0])?;
     Ok(1)
 }
 

@@ -18,6 +18,6 @@ returns-then-number-lt1000 c =
 
 pub returns : goal.returns
 returns c =
-    let digits : 32 ∷ c.digit.result ∷ c.digit-hundreds.result ∷ c.digit-tens.result ∷ c.digit-ones.result ∷ [] ≡ 32 ∷ spelled c.args.number =
-    rw (c.digit.ensures, c.digit-hundreds.ensures, c.digit-tens.ensures, c.digit-ones.ensures) (ap (λ ds. 32 ∷ ds) (sym (four_digits c.args.number c.if-number-lt1000.false c.requires))) in
+    let digits : 32 ∷ c.digit-2.result ∷ c.digit-hundreds.result ∷ c.digit-tens.result ∷ c.digit-ones.result ∷ [] ≡ 32 ∷ spelled c.args.number =
+    rw (c.digit-2.ensures, c.digit-hundreds.ensures, c.digit-tens.ensures, c.digit-ones.ensures) (ap (λ ds. 32 ∷ ds) (sym (four_digits c.args.number c.if-number-lt1000.false c.requires))) in
     in_words _ _ _ _ c.append_bytes-2.result digits c.append_bytes-2.ensures
