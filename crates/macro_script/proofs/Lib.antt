@@ -1,5 +1,6 @@
 mod SpelledNumbers
 mod ShortNumbers
+mod LeadingNumbers
 mod Words
 mod Plain
 mod Splitting

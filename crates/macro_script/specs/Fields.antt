@@ -1,7 +1,9 @@
 -- What the reading of a field answers and leaves.
-use Rattle.std.specs.Prelude.{ℕ, List, Result, Ok, Err}
+use Rattle.std.specs.Prelude.{◌≡◌, ◌≤◌, ℕ, List, length, drop, Result, Ok, Err}
 use Rattle.std.proofs.Common.{Bor}
 use Rattle.ed_types.specs.declared.script.Cause.{Cause}
+use Rattle.ed_model.specs.Spelling.{spelled}
+use Rattle.ed_model.specs.Reading.{word_field}
 
 -- the answer, and what is left of the line
 abbrev pub and_rest : {T : Type 0} → Result T Cause → List ℕ → Result (T × List ℕ) Cause
@@ -17,3 +19,7 @@ rest_of (Err cause) rest = Err cause
 abbrev pub lent : Result (Bor (List ℕ)) Cause → Result (List ℕ) Cause
 lent (Ok bytes) = Ok bytes.now
 lent (Err cause) = Err cause
+
+-- the number's word stands at the front behind a space, and both have so many bytes
+abbrev pub IsNumberAtFront : List ℕ → ℕ → ℕ → Type 0
+IsNumberAtFront line n len = (word_field line ≡ Ok (spelled n, drop len line)) × (len ≤ length line)

@@ -1,10 +1,10 @@
 //! The fields of a line, read from the left.
 
-ghost use Rattle.std.specs.Prelude.{◌≡◌, length, ◌==◌};
+ghost use Rattle.std.specs.Prelude.{◌≡◌, ◌<◌, IfSome, IsTrue, length, slice_index, ◌==◌};
 ghost use Rattle.std.specs.List.{position_or_len};
 ghost use Rattle.ed_model.specs.Reading.{natural as natural_of, integer as integer_of, behind, word_of, behind_word, word_field, number_field, text_field, ended as ended_by};
 ghost use Rattle.macro_script.specs.Stops.{AnswersAndLeaves};
-ghost use Rattle.macro_script.specs.Fields.{and_rest, rest_of, lent};
+ghost use Rattle.macro_script.specs.Fields.{and_rest, rest_of, lent, IsNumberAtFront};
 
 use crate::numbers;
 use crate::stop::Stop;
@@ -38,6 +38,33 @@ fn word_len(line: &[u8]) -> usize
         }
     }
     line.len()
+}
+
+/// Whether no byte but a space stands at the place.
+fn ends_word(line: &[u8], place: usize) -> bool
+    ensures { IsTrue result → place < length line.now → slice_index line.now place ≡ 32 }
+{
+    place >= line.len() || line[place] == b' '
+}
+
+/// The number of one digit at the front behind a space, if one stands there: most numbers have one.
+fn lone_digit(line: &[u8]) -> Option<u8>
+    ensures { IfSome result (λ digit. IsNumberAtFront line.now digit 2) }
+{
+    let [first, digit, ..] = line else {
+        return None;
+    };
+    if *first != b' ' {
+        return None;
+    }
+    if !digit.is_ascii_digit() {
+        return None;
+    }
+    if ends_word(line, 2) {
+        Some(*digit - b'0')
+    } else {
+        None
+    }
 }
 
 impl<'a> Fields<'a> {
@@ -87,6 +114,10 @@ impl<'a> Fields<'a> {
     pub fn natural(&mut self) -> Result<u32, Cause>
         ensures { and_rest result self.new ≡ number_field natural_of self.old }
     {
+        if let Some(digit) = lone_digit(self.rest) {
+            self.rest = &self.rest[2..];
+            return Ok(u32::from(digit));
+        }
         let word = self.next_word()?;
         numbers::natural(word).ok_or(Cause::BadNumber)
     }
@@ -95,6 +126,10 @@ impl<'a> Fields<'a> {
     pub fn integer(&mut self) -> Result<i64, Cause>
         ensures { and_rest result self.new ≡ number_field integer_of self.old }
     {
+        if let Some(digit) = lone_digit(self.rest) {
+            self.rest = &self.rest[2..];
+            return Ok(i64::from(digit));
+        }
         let word = self.next_word()?;
         numbers::integer(word).ok_or(Cause::BadNumber)
     }
