@@ -67,6 +67,21 @@ pub stopped : (text old new : List ℕ) (r : Result (Unit {0}) AllocError) → I
 stopped text old new (Ok done) is some = cc
 stopped text old new (Err refused) is some = some
 
+-- where a step ran out of memory, and then as many bytes were appended as fitted
+pub front_part : (n : ℕ) (text old mid new : List ℕ) → mid ≡ old → new ≡ mid ++ take n text → AppendsPart old new text
+front_part n text old mid new same is = record {
+  part = take n text;
+  left = drop n text;
+  split = sym (take-append-drop n text);
+  appended = is ∙ ap (λ bs. bs ++ take n text) same;
+}
+
+-- the same of a text that goes on
+pub front_of_more : (n k : ℕ) (first text old mid new : List ℕ) → take k text ≡ first → mid ≡ old → new ≡ mid ++ take n first → AppendsPart old new text
+front_of_more n k first text old mid new begins same is =
+    let whole : first ++ drop k text ≡ text = ap (λ bs. bs ++ drop k text) (sym begins) ∙ take-append-drop k text in
+    subst (AppendsPart old new) whole (first_part old new first (drop k text) (front_part n first old mid new same is))
+
 pub stopped_some : (text old new : List ℕ) (r : Result ℕ AllocError) → IsErr r → AppendsPart old new (spelled_bytes text) → AppendsSome text old new r
 stopped_some text old new (Ok n) is some = cc
 stopped_some text old new (Err refused) is some = some

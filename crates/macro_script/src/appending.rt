@@ -1,6 +1,6 @@
 //! Pieces of text, appended to an output.
 
-ghost use Rattle.std.specs.Prelude.{◌≡◌, ◌+◌, ◌∷◌, ◌++◌, [], ◌<◌, length};
+ghost use Rattle.std.specs.Prelude.{◌≡◌, ◌+◌, ◌-◌, ◌∷◌, ◌++◌, [], ◌<◌, length, take, vec_len, vec_capacity, IsErr};
 ghost use Rattle.ed_model.specs.Spelling.{spelled, spelled_int, spelled_byte, spelled_bytes, spelled_text};
 ghost use Rattle.macro_script.specs.Appending.{Appends, AppendsSome, number_fields, text_field, line_of, lent_text};
 
@@ -13,6 +13,39 @@ fn append_bytes(out: &mut Vec<u8>, bytes: &[u8]) -> Result<(), AllocError>
     ensures { Appends bytes.now out.old.items out.new.items result }
 {
     out.extend_from_slice(bytes)
+}
+
+/// Where more memory has been refused: appends as many of the bytes as fit without it, and answers the refusal.
+#[cold]
+fn append_front(out: &mut Vec<u8>, bytes: &[u8]) -> Result<(), AllocError>
+    ensures front { out.new.items ≡ out.old.items ++ take (vec_capacity out.old - vec_len out.old) bytes.now }
+    ensures refused { IsErr result }
+{
+    let fits = bytes.len().min(out.capacity() - out.len());
+    out.extend_from_slice(&bytes[..fits])?;
+    Err(AllocError)
+}
+
+/// Appends bytes at once. Where memory is refused, it leaves what appending them one by one leaves: as many as fit.
+fn append_each(out: &mut Vec<u8>, bytes: &[u8]) -> Result<(), AllocError>
+    ensures { Appends bytes.now out.old.items out.new.items result }
+{
+    match out.extend_from_slice(bytes) {
+        Ok(()) => Ok(()),
+        Err(AllocError) => append_front(out, bytes),
+    }
+}
+
+/// Appends a space and digits at once. Where memory is refused, it leaves what appending the space and then the digits leaves: the
+/// space, if it fits. That space is a constant: bytes that the cold call took from `field` would have to lie in memory for it.
+fn append_spaced(out: &mut Vec<u8>, field: &[u8]) -> Result<(), AllocError>
+    requires { take 1 field.now ≡ 32 ∷ [] }
+    ensures { Appends field.now out.old.items out.new.items result }
+{
+    match out.extend_from_slice(field) {
+        Ok(()) => Ok(()),
+        Err(AllocError) => append_front(out, b" "),
+    }
 }
 
 /// Appends a number that is not negative, in decimal digits.
@@ -46,18 +79,18 @@ fn append_short_field(out: &mut Vec<u8>, number: u64) -> Result<(), AllocError>
     ensures { Appends (32 ∷ spelled number) out.old.items out.new.items result }
 {
     if number < 10 {
-        return append_bytes(out, &[b' ', digit(number)]);
+        return append_spaced(out, &[b' ', digit(number)]);
     }
     let ones = digit(number % 10);
     let tens = digit(number / 10 % 10);
     if number < 100 {
-        return append_bytes(out, &[b' ', tens, ones]);
+        return append_spaced(out, &[b' ', tens, ones]);
     }
     let hundreds = digit(number / 100 % 10);
     if number < 1000 {
-        return append_bytes(out, &[b' ', hundreds, tens, ones]);
+        return append_spaced(out, &[b' ', hundreds, tens, ones]);
     }
-    append_bytes(out, &[b' ', digit(number / 1000), hundreds, tens, ones])
+    append_spaced(out, &[b' ', digit(number / 1000), hundreds, tens, ones])
 }
 
 /// Appends a space and a number, however long.
@@ -98,6 +131,7 @@ fn append_byte(out: &mut Vec<u8>, byte: u8) -> Result<(), AllocError>
         4 => append_bytes(out, &bytes),
         2 => append_bytes(out, &bytes[..2]),
         1 => append_bytes(out, &bytes[..1]),
+        // There is no other length: this arm spares the proof of that.
         _ => append_bytes(out, &bytes[..len]),
     }
 }
@@ -141,11 +175,11 @@ fn append_text_end(out: &mut Vec<u8>, text: &[u8]) -> Result<(), AllocError>
     ensures { Appends ((32 ∷ spelled_text text.now) ++ 10 ∷ []) out.old.items out.new.items result }
 {
     if text.is_empty() {
-        return append_bytes(out, b" \"\"\n");
+        return append_each(out, b" \"\"\n");
     }
-    append_bytes(out, b" \"")?;
+    append_each(out, b" \"")?;
     append_spelled(out, text)?;
-    append_bytes(out, b"\"\n")
+    append_each(out, b"\"\n")
 }
 
 /// Appends the end of a line, with a text if there is one.
@@ -170,7 +204,7 @@ fn append_behind_word(
     append_end(out, text)
 }
 
-/// Appends a line of a word, numbers and a text. A part of each caller, where the word and so its length are known.
+/// Appends a line of a word, numbers and a text. It is compiled into its callers, where the word and so its length are known.
 #[inline]
 pub fn append_line(
     out: &mut Vec<u8>,

@@ -53,7 +53,8 @@ fn front_byte(text: &[u8]) -> u16
     16 * hex_value(byte_at(text, 2)) + hex_value(byte_at(text, 3))
 }
 
-/// What a hexadecimal digit stands for, found without a branch, since digits come in no order; other bytes stand for anything.
+/// What a hexadecimal digit stands for; other bytes stand for anything. It is found without a branch, which would be guessed wrongly
+/// half of the time, since digits come in no order.
 fn digit_value(digit: u8) -> u8
     ensures value { (v : ℕ) → v < 16 → digit ≡ hex_digit v → result ≡ v }
     ensures below { result < 16 }
@@ -153,7 +154,8 @@ fn read_behind(alloc: Global, spelling: &[u8], run: usize) -> Result<(Bytes, usi
     requires plain { (k : ℕ) → k < run → spelled_byte (slice_index spelling.now k) ≡ slice_index spelling.now k ∷ [] }
     ensures { ReadsText spelling.now result }
 {
-    let mut text = Vec::from_slice(alloc, &spelling[..run])?;
+    let mut text = Vec::new(alloc);
+    append_run(&mut text, &spelling[..run])?;
     let mut at = run;
     loop {
         match front_of(&spelling[at..]) {
