@@ -75,6 +75,8 @@ bound() {
         items_at_once_and_one_by_one) echo $((2 * 1048576 + 1048576 + 524288 + 40000)) ;;
         # the text, bytes, styles, and the copy
         cells_of_a_large_text) echo $((4 * 1048576 + 40000)) ;;
+        # the text, and bytes and styles in blocks that grew twice by a sixty-fourth part, of the styles the last two of them
+        a_large_text_that_is_changed) echo $((1048576 + 1064960 + 2 * 1081600 + 40000)) ;;
         # bytes, and styles in a block that grew
         cells_of_a_large_text_line_by_line) echo $((1048576 + 1048576 + 524288 + 40000)) ;;
         # 65,536 starts of 4 bytes, or of 8, in a block that grew

@@ -9,6 +9,7 @@ ghost use Rattle.ed_model.specs.Indicators.{changed_range};
 ghost use Rattle.split_vector.specs.Split.{most_room, gap_after, moved_after, gap_closed, moved_closed};
 ghost use Rattle.cell_buffer.specs.Buffer.{no_cells, stored, styles_in, styles_out, styled_up_to, CostsBoth};
 
+use crate::growth::grow_blocks;
 use crate::styling::{fill, overwrite};
 use split_vector::SplitVector;
 use std::alloc::{AllocError, Global};
@@ -27,6 +28,8 @@ pub struct Cells {
     // Of the first cells; those behind are 0. Empty where no styles are kept.
     styles: SplitVector<u8>,
     keeps_styles: bool,
+    // Once more units of bytes than these were moved or written, a growth by little is paid for.
+    paid_from: u32,
     // How many more cells were asked for and are there. Both blocks may hold more.
     room: usize,
 }
@@ -67,6 +70,7 @@ impl Cells {
             bytes: SplitVector::new(alloc),
             styles: SplitVector::new(alloc),
             keeps_styles: false,
+            paid_from: 0,
             room: 0,
         }
     }
@@ -123,9 +127,12 @@ impl Cells {
         }
     }
 
-    /// Makes room for `count` more bytes, and for their styles where styles are kept, and gives none back. A block that is too
-    /// small grows to twice its size, or to what was asked where that is more, and one that is large enough stays as it is: where
-    /// both are, no memory is asked for.
+    /// Makes room for `count` more bytes, and for their styles where styles are kept, and gives none back. A block that is large
+    /// enough stays as it is: where both are, no memory is asked for. One that is too small grows to twice its size, or to what was
+    /// asked where that is more; but in a text of 262,144 bytes and more, for which at most a sixty-fourth part is asked, it grows by a
+    /// sixty-fourth part where that is paid for: at the first growth after one for more than that, and later where since the last
+    /// growth 64 times as many bytes were moved or written as the text had then. Its gap stays narrow so, and what is carried over it
+    /// is written near where it was read.
     ///
     /// # Errors
     ///
@@ -182,15 +189,16 @@ impl Cells {
         ensures err { OnErr result (self.new ≡ record self.old { spare = self.new.spare }) }
         ensures within { length self.new.cells + self.new.room < 2 ^ 63 }
     {
-        let Ok(()) = self.bytes.reserve(count) else {
+        let grown = grow_blocks(
+            &mut self.bytes,
+            &mut self.styles,
+            self.keeps_styles,
+            &mut self.paid_from,
+            count,
+        );
+        let Ok(()) = grown else {
             return Err(AllocError);
         };
-        if self.keeps_styles {
-            let unstored = self.bytes.len() - self.styles.len();
-            let Ok(()) = self.styles.reserve(unstored + count) else {
-                return Err(AllocError);
-            };
-        }
         self.room = count;
         Ok(())
     }

@@ -2,6 +2,7 @@
 #![tactic(auto)]
 
 mod cells;
+mod growth;
 mod laws;
 mod styling;
 

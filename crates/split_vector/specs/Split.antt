@@ -1,5 +1,5 @@
 -- What a contract sees of a `SplitVector`.
-use Rattle.std.specs.Prelude.{ℕ, ◌+◌, ◌-◌, ◌^◌, ◌==◌, nat_lt, nat_le, ◌&&◌, if◌then◌else◌, min, max, ◌*◌, List, length, take, drop, ◌++◌, refl}
+use Rattle.std.specs.Prelude.{ℕ, ◌+◌, ◌-◌, ◌/◌, ◌^◌, ◌==◌, nat_lt, nat_le, ◌&&◌, if◌then◌else◌, min, max, ◌*◌, List, length, take, drop, ◌++◌, refl}
 use Rattle.std.specs.Coded.{Coded, code_by, coded×, coded_list, coded_ℕ}
 
 -- the items, how many more fit into the block, how many items lie before the gap, and how many were moved or written so far
@@ -44,6 +44,10 @@ outside low high g = (low - g) + (g - high)
 -- block of twice the size has
 abbrev pub most_room : ℕ → ℕ → ℕ → ℕ
 most_room items room count = max count (items + 2 * room)
+
+-- the size of a block of so many cells once it has grown by a sixty-fourth part, or to what was wanted where that is more
+abbrev pub part_larger : ℕ → ℕ → ℕ
+part_larger held wanted = max wanted (held + held / 64)
 
 -- where the gap lies after count items went in at the place, or after none did
 abbrev pub gap_after : ℕ → ℕ → ℕ → ℕ

@@ -1,11 +1,14 @@
 //! `SplitVector` and its calls. A clause sees a vector as its `items`, `spare`, `gap` and `moved`.
 ghost use Rattle.std.specs.Prelude.{◌≡◌, ◌≤◌, ◌<◌, ◌+◌, ◌*◌, ◌^◌, ◌==◌, ◌⊎◌, [], ◌∷◌, ◌++◌, length, replicate, slice_index_or, slice_set, slice_range, OnOk, OnErr, IsOk};
 ghost use Rattle.std.specs.Borrow.{sem};
-ghost use Rattle.split_vector.specs.Split.{split, inserted, deleted, overwritten, gap_after, moved_after, gap_closed, moved_closed, most_room};
+ghost use Rattle.split_vector.specs.Split.{split, inserted, deleted, overwritten, gap_after, moved_after, gap_closed, moved_closed, most_room, part_larger};
 
 use crate::block::Block;
 use std::alloc::{AllocError, Allocator, Global};
 use std::marker::Model;
+
+/// A block that grows by little grows by its size divided by this.
+const PARTS: usize = 64;
 
 /// A list of items in one block of memory, with the free room as a gap among them.
 pub struct SplitVector<T, A: Allocator = Global> {
@@ -142,6 +145,30 @@ impl<T: Copy, A: Allocator> SplitVector<T, A> {
         let wanted = self.len().saturating_add(count);
         let doubled = 2 * (self.len() + self.spare());
         self.block.grow(wanted.max(doubled))
+    }
+
+    /// Makes room for `count` more items. Where the room is too small, it takes a block that is larger by a sixty-fourth part, or of the
+    /// size that is needed where that is more. The gap of a vector that grew so is narrow: what is carried over it is written near where
+    /// it was read, and memory does that at a multiple of the speed. But all items are copied some 45 times while a vector grows to
+    /// twice its size, and not once as by `reserve`: it is for owners who see to it that it is seldom.
+    ///
+    /// # Errors
+    ///
+    /// `AllocError` where the memory is refused, or where no block can be so large. The vector is then as it was.
+    pub fn reserve_narrow(&mut self, count: usize) -> Result<(), AllocError>
+        ensures ok { OnOk result ((self.new.items ≡ self.old.items) × (count ≤ self.new.spare) × (self.new.gap ≡ self.old.gap) × (self.new.moved ≡ self.old.moved)) }
+        ensures room_is_there { count ≤ self.old.spare → IsOk result × (self.new ≡ self.old) }
+        ensures grows { self.old.spare < count → OnOk result (length self.new.items + self.new.spare ≡ part_larger (length self.old.items + self.old.spare) (length self.old.items + count)) }
+        ensures at_most { OnOk result (self.new.spare ≤ most_room (length self.old.items) self.old.spare count) }
+        ensures err { OnErr result (self.new ≡ self.old) }
+        ensures within { length self.new.items + self.new.spare < 2 ^ 63 }
+    {
+        if self.spare() < count {
+            let held = self.len() + self.spare();
+            let needed = self.len().saturating_add(count);
+            return self.block.grow(needed.max(held + held / PARTS));
+        }
+        Ok(())
     }
 
     /// Puts `item` in before the one at `place`, or at the end. There must be room for it.

@@ -72,6 +72,36 @@ fn cells_of_a_large_text(rt: HostRuntime) {
     assert!(rt; copy == text);
 }
 
+fn style_all(rt: &impl Abort, cells: &mut Cells) {
+    assert!(rt; cells.keeps_styles());
+    let len = cells.len();
+    assert_eq!(rt; cells.set_style_run(0, len, 1), Some((0, LARGE)));
+}
+
+// Each change moves both gaps over the whole text, so that growth by little is paid for.
+fn change_at_both_ends(rt: &impl Abort, cells: &mut Cells) {
+    for i in 0..256 {
+        cells.reserve(128).expect(rt, "memory");
+        let place = if i % 2 == 0 {
+            0
+        } else {
+            cells.len().saturating_sub(1)
+        };
+        cells.insert_reserved(place, [b'x'; 128].as_slice());
+    }
+    assert_eq!(rt; cells.len(), LARGE + 32_768);
+}
+
+// That its blocks grow by little shows where the heap is bounded.
+#[test]
+fn a_large_text_that_is_changed(rt: HostRuntime) {
+    let text = large_text(rt.alloc()).expect(&rt, "memory");
+    let mut cells = Cells::new(rt.alloc());
+    put_cells_in_at_once(&rt, &mut cells, text.as_slice());
+    style_all(&rt, &mut cells);
+    change_at_both_ends(&rt, &mut cells);
+}
+
 fn put_cells_in_line_by_line(rt: &impl Abort, cells: &mut Cells) {
     cells.keep_styles().expect(rt, "memory");
     for _ in 0..LINES {

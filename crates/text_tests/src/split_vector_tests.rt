@@ -75,6 +75,27 @@ fn a_refused_growth_changes_nothing(rt: HostRuntime) {
 }
 
 #[test]
+fn a_narrow_growth_is_a_sixty_fourth_part(rt: HostRuntime) {
+    let mut v: SplitVector<u8> = SplitVector::new(rt.alloc());
+    v.reserve_narrow(128).expect(&rt, "memory");
+    v.insert_fill_reserved(0, 128, b'x');
+    assert_eq!(rt; v.spare(), 0);
+    v.reserve_narrow(1).expect(&rt, "memory");
+    assert_eq!(rt; v.spare(), 2);
+    v.reserve_narrow(2).expect(&rt, "memory");
+    assert_eq!(rt; v.spare(), 2);
+    v.reserve_narrow(3).expect(&rt, "memory");
+    assert_eq!(rt; v.spare(), 4);
+    v.reserve_narrow(10).expect(&rt, "memory");
+    assert_eq!(rt; v.spare(), 10);
+    assert!(rt; v.reserve_narrow(usize::MAX).is_err());
+    assert!(rt; v.reserve_narrow(usize::MAX / 2).is_err());
+    assert_eq!(rt; v.spare(), 10);
+    assert_eq!(rt; v.len(), 128);
+    assert_eq!(rt; v.moved(), 128);
+}
+
+#[test]
 fn moves_are_counted(rt: HostRuntime) {
     let mut v: SplitVector<u8> = SplitVector::new(rt.alloc());
     v.reserve(1001).expect(&rt, "memory");

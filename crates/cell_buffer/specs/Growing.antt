@@ -1,0 +1,11 @@
+-- What a growth leaves of a block, and how large it becomes.
+use Rattle.std.specs.Prelude.{◌≡◌, ℕ, ◌+◌, ◌*◌, ◌≤◌, ◌⊎◌, length}
+use Rattle.split_vector.specs.Split.{Split}
+
+-- all but the room is as it was
+abbrev pub HasSameItems : Split ℕ → Split ℕ → Type 0
+HasSameItems old new = (new.items ≡ old.items) × (new.gap ≡ old.gap) × (new.moved ≡ old.moved)
+
+-- the block did not grow, or has twice as many cells
+abbrev pub IsDoubled : Split ℕ → Split ℕ → Type 0
+IsDoubled old new = (new ≡ old) ⊎ (2 * (length old.items + old.spare) ≤ length new.items + new.spare)
