@@ -28,16 +28,14 @@ fn in_both_cases(byte: u8) -> (u8, u8)
     }
 }
 
-// How common a byte is in texts, counting both cases.
+// How common a byte is in texts. A letter counts as its lower case, which is the commoner one but for `j`.
 fn rank(byte: u8) -> u8 {
-    let (lower, upper) = in_both_cases(byte);
-    DefaultFrequencyRank
-        .rank(lower)
-        .max(DefaultFrequencyRank.rank(upper))
+    let (lower, _) = in_both_cases(byte);
+    DefaultFrequencyRank.rank(lower)
 }
 
-// The places of two bytes of the pattern that are not the same and the rarest in texts, counting both cases. A pattern of
-// one byte over and over has one place twice.
+// The places of two bytes of the pattern that are not the same and the rarest in texts. A pattern of one byte over and over
+// has one place twice.
 fn rarest_two(pattern: &[u8]) -> (usize, usize)
     requires { 0 < length pattern.now }
     ensures first { result.0 < length pattern.now }
@@ -45,13 +43,19 @@ fn rarest_two(pattern: &[u8]) -> (usize, usize)
 {
     let mut best = 0;
     let mut next = 0;
+    // How common the bytes at these places are, asked once for each.
+    let mut best_rank = rank(pattern[0]);
+    let mut next_rank = best_rank;
     for (place, byte) in pattern.iter().enumerate() {
         let common = rank(*byte);
-        if common < rank(pattern[best]) {
+        if common < best_rank {
             next = best;
+            next_rank = best_rank;
             best = place;
-        } else if *byte != pattern[best] && (next == best || common < rank(pattern[next])) {
+            best_rank = common;
+        } else if *byte != pattern[best] && (next == best || common < next_rank) {
             next = place;
+            next_rank = common;
         }
     }
     (best, next)
