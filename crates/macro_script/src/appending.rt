@@ -1,6 +1,6 @@
 //! Pieces of text, appended to an output.
 
-ghost use Rattle.std.specs.Prelude.{◌≡◌, ◌+◌, ◌-◌, ◌∷◌, ◌++◌, [], ◌<◌, length, take, vec_len, vec_capacity, IsErr};
+ghost use Rattle.std.specs.Prelude.{◌≡◌, ◌+◌, ◌-◌, ◌∷◌, ◌++◌, [], ◌<◌, ◌≤◌, length, take, vec_len, vec_capacity, IsErr, OnErr};
 ghost use Rattle.ed_model.specs.Spelling.{spelled, spelled_int, spelled_byte, spelled_bytes, spelled_text};
 ghost use Rattle.macro_script.specs.Appending.{Appends, AppendsSome, number_fields, text_field, line_of, lent_text};
 
@@ -28,7 +28,8 @@ fn append_front(out: &mut Vec<u8>, bytes: &[u8]) -> Result<(), AllocError>
 
 /// Appends bytes at once. Where memory is refused, it leaves what appending them one by one leaves: as many as fit.
 fn append_each(out: &mut Vec<u8>, bytes: &[u8]) -> Result<(), AllocError>
-    ensures { Appends bytes.now out.old.items out.new.items result }
+    ensures appended { Appends bytes.now out.old.items out.new.items result }
+    ensures left { OnErr result (vec_capacity out.old - vec_len out.old ≤ length out.new.items - length out.old.items) }
 {
     match out.extend_from_slice(bytes) {
         Ok(()) => Ok(()),
@@ -40,7 +41,8 @@ fn append_each(out: &mut Vec<u8>, bytes: &[u8]) -> Result<(), AllocError>
 /// space, if it fits. That space is a constant: bytes that the cold call took from `field` would have to lie in memory for it.
 fn append_spaced(out: &mut Vec<u8>, field: &[u8]) -> Result<(), AllocError>
     requires { take 1 field.now ≡ 32 ∷ [] }
-    ensures { Appends field.now out.old.items out.new.items result }
+    ensures appended { Appends field.now out.old.items out.new.items result }
+    ensures left { OnErr result (vec_len out.old < vec_capacity out.old → out.new.items ≡ out.old.items ++ 32 ∷ []) }
 {
     match out.extend_from_slice(field) {
         Ok(()) => Ok(()),
