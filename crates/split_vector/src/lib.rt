@@ -4,7 +4,8 @@
 //!
 //! The layers, from the memory up:
 //!
-//! - `raw` moves a run of items inside one block, up or down, in loops that the compiler turns into memory moves.
+//! - `raw` moves a run of items inside one block, up or down, in loops that the compiler turns into memory moves. Where a gap
+//!   moves far, `block` carries it by parts instead.
 //! - `cells` has the raw pointers, in functions of a line or two. A block is seen as the items left of the gap, a number
 //!   of cells with no item, and the items right of it. Only the cells of items are ever read.
 //! - `runs` repeats those steps over slices.
@@ -13,8 +14,8 @@
 //! - `vector` is the type itself, `SplitVector`. A clause sees it as a record: its `items`, how many more fit in
 //!   (`spare`), how many items lie before the gap (`gap`), and how many were moved or written so far (`moved`).
 //!
-//! Who owns the block: a vector starts with no block and takes one in `reserve`, the one call that takes memory. Three
-//! values stand for a block. `Base` is its address, a plain copy that owns nothing. `Cells` is the right to read and
+//! Who owns the block: a vector starts with no block and takes one in `reserve` or `reserve_narrow`, the calls that take
+//! memory. Three values stand for a block. `Base` is its address, a plain copy that owns nothing. `Cells` is the right to read and
 //! write the cells. `Deed` is the right to give the block back, and holds the size to give back. `Cells` and `Deed` take
 //! no bytes at run time, cannot be copied, and cannot be let go: they can only be handed to `deallocate`, which gives the
 //! block back, to `enlarge`, which has the allocator make it larger and answers the rights to what it then is, or, where
