@@ -21,3 +21,4 @@ pub mod PlainEdits
 pub mod Going
 pub mod Leaving
 pub mod FrequentChanges
+pub mod Targets

@@ -3,7 +3,7 @@
 //! A message goes one way. Its view and document are found and its number is decoded; a plan is made, which carries every
 //! refusal but want of memory; what the plan needs is told, and reserved in one pass; and then the plan is performed, which
 //! cannot fail. A plain question or a text question is answered before a plan is made, and so are frequent changes of a document, undo
-//! and redo, of which nobody hears; and what is not recorded is done at once, without a task, where it is a plain replacement of bytes,
+//! and redo, of which nobody hears; messages about the target of a view are answered by their plan alone; and what is not recorded is done at once, without a task, where it is a plain replacement of bytes,
 //! undo or redo, a change of a document that is no edit, or one of a view that takes no memory.
 #![tactic(auto)]
 
@@ -32,6 +32,7 @@ mod run;
 mod sending;
 mod session;
 mod short_way;
+mod target;
 
 pub use laws::marked_messages_are_free;
 pub use run::Run;

@@ -1,9 +1,9 @@
 //! A message on its way through a session: found, planned, and answered at once or carried out.
 
-ghost use Rattle.std.specs.Prelude.{◌≡◌, ◌≢◌, ◌&&◌, ◌≤◌, ◌+◌, [], length, slice_range, true, IfOk, IfErr, IsOk, Err};
+ghost use Rattle.std.specs.Prelude.{◌≡◌, ◌≢◌, ◌&&◌, ◌≤◌, ◌+◌, [], length, slice_range, true, IfOk, IfErr, IfSome, IfNone, IsOk, Ok, Err};
 ghost use Rattle.ed_types.specs.declared.refusal.Refusal.TheVariants.{OutOfMemory};
 ghost use Rattle.ed_types.specs.Messages.{marks_of};
-ghost use Rattle.ed_model.specs.Performing.{response};
+ghost use Rattle.ed_model.specs.Performing.{quiet, response};
 ghost use Rattle.ed_model.specs.Session.{text_of};
 ghost use Rattle.ed_model.specs.Table.{table};
 ghost use Rattle.message_requests.specs.Requested.{session_in};
@@ -18,6 +18,7 @@ use crate::frequent::settle;
 use crate::left::{answer, keep, keep_made, whole};
 use crate::reading::read;
 use crate::short_way::{do_apart, do_shortly};
+use crate::target::{is_about_target, turn_target};
 use document::Document;
 use ed_model::{Plan, plans_are_fit};
 use ed_types::{Bytes, Kind, Refusal, Reply};
@@ -133,6 +134,29 @@ fn answer_into_by_plan(
     }
 }
 
+/// Does what a message to the view of an id asks for, and returns the value that is answered, if that takes no notes and no plan, or no
+/// more than the view's target. Of all others it does nothing.
+#[inline(always)]
+fn settle_at_once(
+    alloc: Global,
+    state: &mut SessionState,
+    view: u32,
+    number: u32,
+    w: i64,
+    l: i64,
+    text: &[u8],
+) -> Option<i64>
+    requires kept { IsKept state.old }
+    ensures answer { IfSome result (λ value. table (session_in state.old) view (message_with number w l text.now) ≡ Ok (session_in state.new, quiet value)) }
+    ensures same { IfNone result (session_in state.new ≡ session_in state.old) }
+    ensures kept { IsKept state.new }
+{
+    if is_about_target(number) {
+        return turn_target(state, view, number, w, l, text);
+    }
+    settle(alloc, state, view, number, w, l)
+}
+
 /// Answers a message to the view of an id: the value is returned, and the text and the notes of its reply take the place of another's.
 /// It stands apart, so that a plain question sets up nothing of it.
 ///
@@ -157,7 +181,7 @@ pub(crate) fn answer_into(
     ensures kept { IsKept state.new }
     ensures free { is_free (session_in state.old) view (message_with number w l text.now) ≡ true → IfErr result (λ refusal. refusal ≢ OutOfMemory) }
 {
-    match settle(alloc, state, view, number, w, l) {
+    match settle_at_once(alloc, state, view, number, w, l, text) {
         Some(value) => Ok(keep(reply, answer(alloc, value))),
         None => answer_into_by_plan(alloc, state, view, number, w, l, text, reply),
     }
@@ -246,7 +270,7 @@ pub(crate) fn answer_message(
     if let Some(_) = text_question_of(number) {
         return answer_text_question(alloc, state, view, number, w, l, text);
     }
-    if let Some(value) = settle(alloc, state, view, number, w, l) {
+    if let Some(value) = settle_at_once(alloc, state, view, number, w, l, text) {
         return Ok(answer(alloc, value));
     }
     answer_by_plan(alloc, state, view, number, w, l, text)

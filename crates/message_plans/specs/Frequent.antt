@@ -47,3 +47,14 @@ abbrev pub is_performed : Kind → Planned → Bool
 is_performed kinds.Undo (Ok plan.Undo) = true
 is_performed kinds.Redo (Ok plan.Redo) = true
 is_performed other planned = false
+
+-- Messages that set the target of a view or search in it, by rising numbers.
+abbrev pub target_messages : List Kind
+target_messages = kinds.SetTargetStart ∷ kinds.SetTargetEnd ∷ kinds.SearchInTarget ∷ kinds.SetTargetRange ∷ []
+
+abbrev pub is_target_message : Kind → Bool
+is_target_message kind = is_some (kind_among target_messages (number_of kind))
+
+-- the plan of such a message; none for all others
+abbrev pub target_plan_of : Kind → Request → Option Planned
+target_plan_of kind r = if is_target_message kind then Some (plan_of kind r) else None

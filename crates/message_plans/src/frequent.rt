@@ -3,7 +3,7 @@
 ghost use Rattle.std.specs.Prelude.{◌≡◌};
 ghost use Rattle.ed_model.specs.PlansFit.{IsSoundRequest};
 ghost use Rattle.ed_model.specs.Table.{plan_of};
-ghost use Rattle.message_plans.specs.Frequent.{frequent_change_of, change_asked, transaction_of, is_performed};
+ghost use Rattle.message_plans.specs.Frequent.{frequent_change_of, change_asked, transaction_of, is_performed, target_plan_of};
 
 use crate::plan::plan_of;
 use ed_model::{DocumentChange, Plan, Planned};
@@ -110,5 +110,24 @@ pub fn is_performed(kind: Kind, r: &Request) -> bool
             _ => false,
         },
         _ => false,
+    }
+}
+
+/// The plan of a message that sets the target of a view or searches in it, as `plan_of` has it. `None` for all other messages.
+///
+/// # Errors
+///
+/// As of `plan_of`.
+#[inline(always)]
+pub fn target_plan_of(kind: Kind, r: &Request) -> Option<Planned>
+    requires sound { IsSoundRequest r.now }
+    ensures { result ≡ target_plan_of kind r.now }
+{
+    match kind {
+        Kind::SetTargetStart => Some(target_plans::set_target_start(r)),
+        Kind::SetTargetEnd => Some(target_plans::set_target_end(r)),
+        Kind::SearchInTarget => Some(target_plans::search_in_target(r)),
+        Kind::SetTargetRange => Some(target_plans::set_target_range(r)),
+        _ => None,
     }
 }

@@ -13,7 +13,7 @@ returns-in-None-clause-answer c =
     let n = c.answer_into_by_plan in
     let same : message_with a.number (to_z w64 (of_z w64 a.w)) (to_z w64 (of_z w64 a.l)) a.text.now ≡ message_with a.number a.w a.l a.text.now = search rules in
     subst (λ (s : Session). AnswersBy (table s a.view (message_with a.number a.w a.l a.text.now)) s (session_in n.new.state) (told n.result n.new.reply)) c.in-None.ensures.same
-    (subst (λ m. AnswersBy (table (session_in c.settle.new.state) a.view m) (session_in c.settle.new.state) (session_in n.new.state) (told n.result n.new.reply)) same n.ensures.answer)
+    (subst (λ m. AnswersBy (table (session_in c.settle_at_once.new.state) a.view m) (session_in c.settle_at_once.new.state) (session_in n.new.state) (told n.result n.new.reply)) same n.ensures.answer)
 
 pub returns-in-None-clause-refused : goal.returns-in-None-clause-refused
 returns-in-None-clause-refused c =
@@ -21,4 +21,4 @@ returns-in-None-clause-refused c =
     let n = c.answer_into_by_plan in
     let same : message_with a.number (to_z w64 (of_z w64 a.w)) (to_z w64 (of_z w64 a.l)) a.text.now ≡ message_with a.number a.w a.l a.text.now = search rules in
     subst (λ (s : Session). IfErr (table s a.view (message_with a.number a.w a.l a.text.now)) (λ refusal. n.result ≡ Err refusal)) c.in-None.ensures.same
-    (subst (λ m. IfErr (table (session_in c.settle.new.state) a.view m) (λ refusal. n.result ≡ Err refusal)) same n.ensures.refused)
+    (subst (λ m. IfErr (table (session_in c.settle_at_once.new.state) a.view m) (λ refusal. n.result ≡ Err refusal)) same n.ensures.refused)

@@ -41,15 +41,15 @@ returns-in-Some-text_question_of-clause-free c =
     let same : message_with a.number (to_z w64 (of_z w64 a.w)) (to_z w64 (of_z w64 a.l)) a.text.now ≡ message_with a.number a.w a.l a.text.now = search rules in
     subst (λ x. is_free s a.view x ≡ true → IfErr c.answer_text_question.result (λ refusal. refusal ≢ OutOfMemory)) same c.answer_text_question.ensures.free
 
-pub returns-in-Some-settle-clause-answer : goal.returns-in-Some-settle-clause-answer
-returns-in-Some-settle-clause-answer c =
+pub returns-in-Some-settle_at_once-clause-answer : goal.returns-in-Some-settle_at_once-clause-answer
+returns-in-Some-settle_at_once-clause-answer c =
     let a = c.args in
     let same : message_with a.number (to_z w64 (of_z w64 a.w)) (to_z w64 (of_z w64 a.l)) a.text.now ≡ message_with a.number a.w a.l a.text.now = search rules in
-    ap (table (session_in a.state.now) a.view) (sym same) ∙ c.in-Some-settle.ensures.answer a.text.now ∙ ap (λ x. Ok (session_in c.settle.new.state, x)) (search rules)
+    ap (table (session_in a.state.now) a.view) (sym same) ∙ c.in-Some-settle_at_once.ensures.answer ∙ ap (λ x. Ok (session_in c.settle_at_once.new.state, x)) (search rules)
 
-pub returns-in-Some-settle-clause-refused : goal.returns-in-Some-settle-clause-refused
-returns-in-Some-settle-clause-refused c =
-    let answer = returns-in-Some-settle-clause-answer c in
+pub returns-in-Some-settle_at_once-clause-refused : goal.returns-in-Some-settle_at_once-clause-refused
+returns-in-Some-settle_at_once-clause-refused c =
+    let answer = returns-in-Some-settle_at_once-clause-answer c in
     rw answer (search rules)
 
 pub returns-clause-answer : goal.returns-clause-answer
@@ -57,13 +57,13 @@ returns-clause-answer c =
     let a = c.args in
     let n = c.answer_by_plan in
     let same : message_with a.number (to_z w64 (of_z w64 a.w)) (to_z w64 (of_z w64 a.l)) a.text.now ≡ message_with a.number a.w a.l a.text.now = search rules in
-    subst (λ (s : Session). AnswersBy (table s a.view (message_with a.number a.w a.l a.text.now)) s (session_in n.new.state) n.result) c.in_default-settle.ensures.same
-    (subst (λ m. AnswersBy (table (session_in c.settle.new.state) a.view m) (session_in c.settle.new.state) (session_in n.new.state) n.result) same n.ensures.answer)
+    subst (λ (s : Session). AnswersBy (table s a.view (message_with a.number a.w a.l a.text.now)) s (session_in n.new.state) n.result) c.in_default-settle_at_once.ensures.same
+    (subst (λ m. AnswersBy (table (session_in c.settle_at_once.new.state) a.view m) (session_in c.settle_at_once.new.state) (session_in n.new.state) n.result) same n.ensures.answer)
 
 pub returns-clause-refused : goal.returns-clause-refused
 returns-clause-refused c =
     let a = c.args in
     let n = c.answer_by_plan in
     let same : message_with a.number (to_z w64 (of_z w64 a.w)) (to_z w64 (of_z w64 a.l)) a.text.now ≡ message_with a.number a.w a.l a.text.now = search rules in
-    subst (λ (s : Session). IfErr (table s a.view (message_with a.number a.w a.l a.text.now)) (λ refusal. n.result ≡ Err refusal)) c.in_default-settle.ensures.same
-    (subst (λ m. IfErr (table (session_in c.settle.new.state) a.view m) (λ refusal. n.result ≡ Err refusal)) same n.ensures.refused)
+    subst (λ (s : Session). IfErr (table s a.view (message_with a.number a.w a.l a.text.now)) (λ refusal. n.result ≡ Err refusal)) c.in_default-settle_at_once.ensures.same
+    (subst (λ m. IfErr (table (session_in c.settle_at_once.new.state) a.view m) (λ refusal. n.result ≡ Err refusal)) same n.ensures.refused)

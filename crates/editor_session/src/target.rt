@@ -1,0 +1,61 @@
+//! Messages that set the target of a view or search in it, of which a search from match to match sends two for each match. They are
+//! answered without a place for notes and a reply.
+
+ghost use Rattle.std.specs.Prelude.{◌≡◌, Ok, IfNone, IfSome};
+ghost use Rattle.ed_model.specs.Performing.{quiet};
+ghost use Rattle.ed_model.specs.Table.{table};
+ghost use Rattle.message_requests.specs.Requested.{session_in};
+ghost use Rattle.session_changes.specs.Kept.{IsKept};
+ghost use Rattle.editor_session.specs.Answers.{message_with};
+
+use crate::find::find;
+use crate::quietly::{change_lightly, is_light};
+use ed_model::{Plan, plans_are_fit};
+use message_plans::target_plan_of;
+use message_requests::SessionState;
+
+/// Whether the message with this number is one of them: SETTARGETSTART, SETTARGETEND, SEARCHINTARGET and SETTARGETRANGE. Whatever is
+/// answered here, the message is answered the same.
+#[inline(always)]
+pub(crate) fn is_about_target(number: u32) -> bool {
+    matches!(number, 2190 | 2192 | 2197 | 2686)
+}
+
+/// Does what such a message to the view of an id asks for, and returns the value that is answered. Of what the table refuses, and of all
+/// other messages, it does nothing, and where the view records. It stands apart, so that other messages set up nothing of it.
+#[inline(never)]
+pub(crate) fn turn_target(
+    state: &mut SessionState,
+    view: u32,
+    number: u32,
+    w: i64,
+    l: i64,
+    text: &[u8],
+) -> Option<i64>
+    requires kept { IsKept state.old }
+    ensures answer { IfSome result (λ value. table (session_in state.old) view (message_with number w l text.now) ≡ Ok (session_in state.new, quiet value)) }
+    ensures same { IfNone result (session_in state.new ≡ session_in state.old) }
+    ensures kept { IsKept state.new }
+{
+    // The laws that a plan's numbers are in range, and that no refusal is for want of memory.
+    plans_are_fit();
+    let (kind, request) = match find(state, view, number, w, l, text) {
+        Ok(found) => found,
+        Err(_) => return None,
+    };
+    if request.view.records() {
+        return None;
+    }
+    let document = request.document.id();
+    let Some(planned) = target_plan_of(kind, &request) else {
+        return None;
+    };
+    match planned {
+        Ok(Plan::Answer { value }) => Some(value),
+        Ok(Plan::ChangeView { change, value }) if is_light(change) => {
+            change_lightly(state, document, view, change);
+            Some(value)
+        }
+        _ => None,
+    }
+}
