@@ -60,11 +60,6 @@ next_behind starts end place line sound low inside high = record {
   last = λ k a b. omega (arith, not_above starts sound.rising (line + 1) k (omega arith) b);
 }
 
--- .. where the next one has a name of its own
-pub named_next_behind : (starts : List ℕ) (end place line next : ℕ) → ArePartitions starts end → slice_index starts line ≤ place → next ≡ line + 1 → next < length starts → place < slice_index starts next → IsLastAtMost starts place line
-named_next_behind starts end place line next sound low e within high =
-    next_behind starts end place line sound low (omega (arith, e, within)) (rw (sym e) high)
-
 -- where a line holds a place, no line but the next starts at the place behind
 pub none_past_next : (starts : List ℕ) (end place line behind : ℕ) → ArePartitions starts end → IsLastAtMost starts place line → behind ≤ place + 1 → (k : ℕ) → line + 1 < k → k < length starts → behind < slice_index starts k
 none_past_next starts end place line behind sound last near k a b =

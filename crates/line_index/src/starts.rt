@@ -53,56 +53,27 @@ fn holds<P: Place>(starts: &Partitioning<P>, line: usize, place: usize) -> bool
 // lies a few lines from the last change. A line that is farther off costs two more starts read.
 const ABOUT: usize = 32;
 
-// The line that holds the place, where the first of these lines starts there or before it and the other one behind it. They are so few
-// that five starts are read at most.
-#[inline]
-fn line_between<P: Place>(
-    starts: &Partitioning<P>,
-    place: usize,
-    first: usize,
-    behind: usize,
-) -> usize
-    requires near { (first < behind) × (behind ≤ first + 32) }
-    requires within { behind < length starts.now.starts }
-    requires low { slice_index starts.now.starts first ≤ place }
-    requires high { place < slice_index starts.now.starts behind }
-    ensures { IsLastAtMost starts.now.starts place result }
-{
-    let _ = starts.count(); // it says that the starts rise
-    let mut low = first;
-    let mut high = behind;
-    'halving: while high - low > 1 {
-        let middle = low + (high - low) / 2;
-        if starts.start_of(middle) <= place {
-            low = middle;
-        } else {
-            high = middle;
-        }
-    }
-    low
-}
-
-// The line that holds the place: one of those about the likely one, or any. It stands apart, since mostly the likely line holds the
-// place, or the next one does.
+// The line that holds the place: one of those about the likely one, which are so few that five of their starts are read at most, or any.
+// It stands apart, since mostly the likely line holds the place, or the next one does.
 #[inline(never)]
 fn line_about<P: Place>(starts: &Partitioning<P>, place: usize, likely: usize) -> usize
     ensures { IsLastAtMost starts.now.starts place result }
 {
     let count = starts.count();
+    let mut probes = Probes::new();
     if likely < count {
         if place < starts.start_of(likely) {
             let first = likely.saturating_sub(ABOUT);
             if starts.start_of(first) <= place {
-                return line_between(starts, place, first, likely);
+                return starts.partition_between(place, first, likely, &mut probes);
             }
         } else {
             let behind = likely.saturating_add(ABOUT).min(count - 1);
             if likely < behind && place < starts.start_of(behind) {
-                return line_between(starts, place, likely, behind);
+                return starts.partition_between(place, likely, behind, &mut probes);
             }
         }
     }
-    let mut probes = Probes::new();
     starts.partition_of(place, &mut probes)
 }
 

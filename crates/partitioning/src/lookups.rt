@@ -1,5 +1,5 @@
 //! How the partition of a place is found.
-ghost use Rattle.std.specs.Prelude.{◌≡◌, ◌≤◌, ◌+◌, ℕ, length};
+ghost use Rattle.std.specs.Prelude.{◌≡◌, ◌≤◌, ◌<◌, ◌+◌, ◌-◌, ℕ, length, slice_index};
 ghost use Rattle.partitioning.specs.Partitions.{IsLastAtMost, IsFloorLog};
 ghost use Rattle.split_vector.specs.Split.{counted};
 
@@ -75,6 +75,36 @@ fn last_of_many<P: Place, A: Allocator>(
         let middle = low + half;
         width -= half;
         if starts.probe(middle, probes).is_at_most(wanted) {
+            low = middle;
+        }
+    }
+    low
+}
+
+/// Returns the last partition that starts at `place` or before it, which is one of those from `first` up to `behind`. Each start that it
+/// reads is counted in `probes`.
+pub(crate) fn last_between<P: Place, A: Allocator>(
+    starts: &CountedStarts<'_, P, A>,
+    place: usize,
+    first: usize,
+    behind: usize,
+    probes: &mut Probes,
+) -> usize
+    requires range { (first < behind) × (behind < length starts.now.starts) }
+    requires low { slice_index starts.now.starts first ≤ place }
+    requires high { place < slice_index starts.now.starts behind }
+    ensures last { IsLastAtMost starts.now.starts place result }
+    ensures counted { probes.old ≤ probes.new }
+    ensures few { (k : ℕ) → IsFloorLog k (behind - first) → probes.new ≤ probes.old + (1 + k) }
+{
+    let wanted = P::from_usize(place.min(starts.length()));
+    let mut low = first;
+    let mut width = behind - first;
+    'halving: while width > 1 {
+        let half = width / 2;
+        let middle = low + half;
+        width -= half;
+        if starts.is_at_most(middle, wanted, probes) {
             low = middle;
         }
     }

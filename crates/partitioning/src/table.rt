@@ -1,10 +1,10 @@
 //! `Partitioning`: how it is made and read, and its room.
-ghost use Rattle.std.specs.Prelude.{◌≡◌, ◌≤◌, ◌<◌, ◌+◌, ◌^◌, ◌↔◌, ℕ, [], ◌∷◌, length, slice_index, IfOk, OnOk, OnErr, IsOk, IsTrue};
+ghost use Rattle.std.specs.Prelude.{◌≡◌, ◌≤◌, ◌<◌, ◌+◌, ◌-◌, ◌^◌, ◌↔◌, ℕ, [], ◌∷◌, length, slice_index, IfOk, OnOk, OnErr, IsOk, IsTrue};
 ghost use Rattle.partitioning.specs.Partitions.{ArePartitions, IsLastAtMost, IsFloorLog};
 ghost use Rattle.split_vector.specs.Split.{counted, most_room};
 
 use crate::counted::{CountedStarts, Probes};
-use crate::lookups::last_at_most;
+use crate::lookups::{last_at_most, last_between};
 use crate::places::Place;
 use split_vector::SplitVector;
 use std::alloc::{AllocError, Allocator, Global};
@@ -154,5 +154,24 @@ impl<P: Place, A: Allocator> Partitioning<P, A> {
         ensures many { (k : ℕ) → IsFloorLog k (length self.now.starts) → counted probes.old k ≤ probes.new }
     {
         last_at_most(&CountedStarts::of(self), place, probes)
+    }
+
+    /// Returns the same partition where it is known to be one of those from `first` up to `behind`. Each start that it reads is counted
+    /// in `probes`.
+    pub fn partition_between(
+        &self,
+        place: usize,
+        first: usize,
+        behind: usize,
+        probes: &mut Probes,
+    ) -> usize
+        requires range { (first < behind) × (behind < length self.now.starts) }
+        requires low { slice_index self.now.starts first ≤ place }
+        requires high { place < slice_index self.now.starts behind }
+        ensures last { IsLastAtMost self.now.starts place result }
+        ensures counted { probes.old ≤ probes.new }
+        ensures few { (k : ℕ) → IsFloorLog k (behind - first) → probes.new ≤ probes.old + (1 + k) }
+    {
+        last_between(&CountedStarts::of(self), place, first, behind, probes)
     }
 }

@@ -1,0 +1,15 @@
+use Rattle.std.proofs.Common.{◌+◌, ◌-◌, ◌≤◌}
+use Rattle.partitioning.proofs.Halving.{IsRange, MayRead}
+use Rattle.partitioning.proofs.lookups.last_between.Given as goal
+
+abbrev pub invariant-halving : goal.invariant-halving
+invariant-halving g l =
+    record {
+      end : l.low + l.width ≤ l.behind;
+      range : IsRange l.starts.starts (g.P.Place.number l.wanted) l.low l.width;
+      counted : l.initial.probes ≤ l.probes;
+      few : MayRead (l.behind - l.first) l.initial.probes l.probes l.width;
+    }
+
+abbrev pub decreases-halving : goal.decreases-halving
+decreases-halving g l = l.width
