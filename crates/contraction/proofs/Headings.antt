@@ -1,7 +1,8 @@
 -- The last number before another that passes a test, found part by part.
 use Rattle.std.proofs.Common.{◌≡◌, ℕ, zero, suc, ◌+◌, ◌-◌, ◌<◌, ◌≤◌, List, length, slice_index, Bool, true, false, Option, Some, None, refl, sym, ap, ◌∙◌, arith}
 use Rattle.ed_model.specs.Rows.{base_level}
-use Rattle.contraction.specs.Headings.{heads, last_heading}
+use Rattle.contraction.specs.Headings.{heads, last_heading, HeadFrom}
+use Rattle.contraction.specs.proved.Least.{less_heads}
 use Rattle.contraction.proofs.FoldLines.{last_before, last_here, last_earlier}
 
 -- none of the numbers behind m passes
@@ -57,3 +58,8 @@ heading_of_parts number line levels first others within in_first in_others base 
     ∙ last_joined (λ k. heads number (slice_index levels k)) (λ k. heads number (slice_index others k)) (length first) (length others) (λ k a. ap (heads number) (in_others k a))
     ∙ ap (in_part (length first) (last_heading number others (length others)))
     (last_same (λ k. heads number (slice_index levels k)) (λ k. heads number (slice_index first k)) (length first) (λ k a. ap (heads number) (in_first k a)))
+
+-- there is none where no header has a smaller number
+pub none_from : (number least line : ℕ) (levels : List ℕ) → line ≤ length levels → number ≤ least → HeadFrom least levels → last_heading number levels line ≡ None
+none_from number least line levels within le all =
+    last_skipped (λ k. heads number (slice_index levels k)) 0 line (omega arith) (λ k a b. less_heads number least (slice_index levels k) le (all k 0 (omega (arith, within, b))))

@@ -124,6 +124,10 @@ pub fn fold_parent(levels: &Levels, line: usize) -> Option<usize>
     ensures before { IfSome result (λ earlier. earlier < line) }
 {
     let number = number_at(levels, line);
+    // So it is of most lines that have no parent, which would be looked for up to the first line.
+    if number <= levels.least() {
+        return None;
+    }
     let (before, after) = levels.kept_before(line);
     if let Some(place) = last_heading(after, number) {
         return Some(before.len() + place);

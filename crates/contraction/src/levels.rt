@@ -2,6 +2,7 @@
 
 ghost use Rattle.std.specs.Prelude.{◌≡◌, ◌+◌, ◌≤◌, ◌<◌, ℕ, length, slice_index};
 ghost use Rattle.ed_model.specs.Rows.{base_level};
+ghost use Rattle.contraction.specs.Headings.{HeadFrom};
 ghost use Rattle.contraction.specs.Levels.{all_levels};
 
 use std::marker::Model;
@@ -15,6 +16,8 @@ pub struct Levels<'a> {
     before: &'a [u32],
     after: &'a [u32],
     count: usize,
+    // No header has a smaller number.
+    least: u32,
 }
 
 impl<'a> Model for Levels<'a> {
@@ -22,11 +25,15 @@ impl<'a> Model for Levels<'a> {
 
     ghost Value = { List ℕ };
 
+    ghost use Rattle.contraction.specs.Headings.{HeadFrom};
     ghost use Rattle.contraction.specs.Levels.{all_levels};
 
     ghost view = { λ levels. all_levels levels.before.now levels.after.now levels.count };
 
-    ghost invariant = { λ levels. length levels.before.now + length levels.after.now ≤ levels.count };
+    ghost invariant = { λ levels. record {
+      within : length levels.before.now + length levels.after.now ≤ levels.count;
+      least : HeadFrom levels.least (all_levels levels.before.now levels.after.now levels.count);
+    } };
 }
 
 impl<'a> Levels<'a> {
@@ -36,11 +43,30 @@ impl<'a> Levels<'a> {
         ensures levels { result ≡ all_levels before.now after.now count }
         ensures lines { length result ≡ count }
     {
+        Levels::from_least(before, after, count, 0)
+    }
+
+    /// Returns the same levels, where it is known that no header has a smaller number than `least`: no parent of a line whose own number is
+    /// no greater is then looked for.
+    pub fn from_least(before: &'a [u32], after: &'a [u32], count: usize, least: u32) -> Self
+        requires within { length before.now + length after.now ≤ count }
+        requires least { HeadFrom least (all_levels before.now after.now count) }
+        ensures levels { result ≡ all_levels before.now after.now count }
+        ensures lines { length result ≡ count }
+    {
         Levels {
             before,
             after,
             count,
+            least,
         }
+    }
+
+    /// Returns a number that no header's number is smaller than.
+    pub(crate) fn least(&self) -> u32
+        ensures { HeadFrom result self.now }
+    {
+        self.least
     }
 
     /// Returns the number of lines.

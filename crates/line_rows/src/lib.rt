@@ -4,6 +4,7 @@
 //! there are any. So the lines of a text that has none cost nothing here.
 #![tactic(auto)]
 
+mod fold_levels;
 mod laws;
 mod rows;
 mod values;

@@ -10,7 +10,9 @@ ghost use Rattle.line_rows.specs.Values.{wanted_block, most_block, stored_after}
 ghost use Rattle.line_rows.specs.Kept.{kept_rows, row_room, row_blocks, HasLineMemory, row_at, levels_of, is_marked, has_handle, first_from, last_up_to};
 ghost use Rattle.line_rows.specs.Rows.{markers_together};
 
+use crate::fold_levels::FoldLevels;
 use crate::values::LineValues;
+use contraction::Levels;
 use line_index::LineEdit;
 use marker_store::MarkerStore;
 use std::alloc::{AllocError, Global};
@@ -23,7 +25,7 @@ pub const BASE_LEVEL: u32 = 0x400;
 #[derive(Drop)]
 pub struct LineRows {
     markers: MarkerStore,
-    levels: LineValues<u32>,
+    levels: FoldLevels,
     states: LineValues<i32>,
 }
 
@@ -77,7 +79,7 @@ impl LineRows {
     {
         LineRows {
             markers: MarkerStore::new(alloc),
-            levels: LineValues::new(alloc, BASE_LEVEL),
+            levels: FoldLevels::new(alloc),
             states: LineValues::new(alloc, 0),
         }
     }
@@ -231,7 +233,16 @@ impl LineRows {
         ensures values { result.now.values ≡ levels_of self.now.rows }
         ensures default { result.now.default ≡ base_level }
     {
-        &self.levels
+        self.levels.values()
+    }
+
+    /// Lends the levels of all lines to those who look for folds among them. It knows of most lines that have no fold parent that they
+    /// have none.
+    pub fn fold_levels(&self) -> Levels<'_>
+        ensures levels { result ≡ levels_of self.now.rows }
+        ensures lines { length result ≡ length self.now.rows }
+    {
+        self.levels.lent()
     }
 
     /// Returns the fold level of a line.

@@ -1,4 +1,5 @@
 //! Rows of calls of `LineRows`.
+use contraction::folds;
 use line_index::LineEdit;
 use line_rows::{BASE_LEVEL, LineRows};
 use std::process::Abort;
@@ -117,4 +118,30 @@ fn reserve_for_many(rt: &impl Abort, rows: &mut LineRows) {
 fn rows_of_many_lines(rt: HostRuntime) {
     let mut rows = LineRows::new(rt.alloc());
     reserve_for_many(&rt, &mut rows);
+}
+
+fn parent(rt: &impl Abort, rows: &LineRows, line: usize) -> Option<usize> {
+    assert!(rt; line < rows.count());
+    folds::fold_parent(&rows.fold_levels(), line)
+}
+
+// A header of a smaller number than all others comes, is joined with a line, and goes.
+fn look_for_parents(rt: &impl Abort, rows: &mut LineRows) {
+    come(rt, rows, 1, 5);
+    assert!(rt; parent(rt, rows, 5) == None);
+    set_level(rt, rows, 1, 0x2400);
+    set_level(rt, rows, 2, 0x401);
+    assert!(rt; parent(rt, rows, 2) == Some(1) && parent(rt, rows, 3) == None);
+    set_level(rt, rows, 0, 0x23FF);
+    assert!(rt; parent(rt, rows, 3) == Some(0) && parent(rt, rows, 2) == Some(1));
+    join(rt, rows, 0, 1);
+    assert!(rt; parent(rt, rows, 1) == Some(0) && parent(rt, rows, 0) == None);
+    set_level(rt, rows, 0, BASE_LEVEL);
+    assert!(rt; parent(rt, rows, 1) == None);
+}
+
+#[test]
+fn parents_of_lines(rt: HostRuntime) {
+    let mut rows = LineRows::new(rt.alloc());
+    look_for_parents(&rt, &mut rows);
 }

@@ -288,9 +288,7 @@ impl<'a> Request<'a> {
         ensures levels { result ≡ levels self.now }
         ensures lines { length (levels self.now) ≡ line_total self.now }
     {
-        let levels = self.document.rows().levels();
-        let (first, second) = levels.stored();
-        Levels::new(first, second, levels.count())
+        self.document.rows().fold_levels()
     }
 
     /// The document whose id the argument is, if there is one.

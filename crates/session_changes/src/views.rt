@@ -78,8 +78,7 @@ fn levels_of(document: &Document) -> Levels<'_>
     ensures levels { result ≡ levels_of document.now.document }
     ensures lines { length result ≡ lines_in document.now.document }
 {
-    let (before, after) = document.rows().levels().stored();
-    Levels::new(before, after, document.line_count())
+    document.rows().fold_levels()
 }
 
 /// Changes the view of an id; the levels are those of its document.

@@ -1,6 +1,6 @@
-use Rattle.std.proofs.Common.{◌≡◌, length, sym, ap, ◌∙◌}
+use Rattle.std.proofs.Common.{◌≡◌, length, sym, ap, ◌∙◌, arith}
 use Rattle.contraction.specs.Headings.{last_heading}
-use Rattle.contraction.proofs.Headings.{heading_of_parts, in_part}
+use Rattle.contraction.proofs.Headings.{heading_of_parts, in_part, none_from}
 use Rattle.contraction.proofs.folds.fold_parent.Goals as goal
 
 pub returns-in-Some-clause-parent : goal.returns-in-Some-clause-parent
@@ -19,3 +19,9 @@ returns-clause-parent c =
     c.last_heading-2.ensures.last
     ∙ ap (λ o. in_part (length first) o (last_heading n first (length first))) (sym c.in_default.is ∙ c.last_heading.ensures.last)
     ∙ sym whole ∙ ap (λ m. last_heading m c.args.levels.now c.args.line) c.number_at-number.ensures
+
+pub returns-then-number-least-clause-parent : goal.returns-then-number-least-clause-parent
+returns-then-number-least-clause-parent c =
+    let a = c.args in
+    sym (none_from c.number_at-number.result c.least.result a.line a.levels.now (omega (arith, c.requires)) c.if-number-least.true c.least.ensures)
+    ∙ ap (λ m. last_heading m a.levels.now a.line) c.number_at-number.ensures

@@ -1,9 +1,10 @@
-use Rattle.std.proofs.Common.{ap, ◌∙◌}
+use Rattle.std.proofs.Common.{ℕ, ap, ◌∙◌}
 use Rattle.line_rows.proofs.RowReads.{rows_levels}
 use Rattle.line_rows.specs.Kept.{KeptRows, levels_of}
+use Rattle.line_rows.specs.Values.{Valued}
 use Rattle.line_rows.proofs.rows.LineRows.levels.Goals as goal
 
 pub returns-clause-values : goal.returns-clause-values
 returns-clause-values c =
     let d = c.self.inside in
-    rows_levels d.markers.lines d.levels.values d.states.values c.self.invariant.levelled c.self.invariant.stated ∙ ap (λ (v : KeptRows). levels_of v.rows) c.self.view_is
+    ap (λ (v : Valued ℕ). v.values) c.values.ensures ∙ rows_levels d.markers.lines d.levels.values d.states.values c.self.invariant.levelled c.self.invariant.stated ∙ ap (λ (v : KeptRows). levels_of v.rows) c.self.view_is

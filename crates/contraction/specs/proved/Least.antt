@@ -1,0 +1,13 @@
+-- Numbers that no header's number is smaller than.
+use Rattle.std.proofs.Common.{◌≡◌, ℕ, ◌≤◌, ◌&&◌, Bool, true, false, nat_lt, refl, arith}
+use Rattle.std.proofs.lemmas.Bool.{ltb-false, le-ltb}
+use Rattle.ed_model.specs.Folding.{level_number, is_header_level}
+use Rattle.contraction.specs.Headings.{heads}
+
+-- A level that is not of a header of a smaller number than one is not of a header of a smaller number than a lesser one.
+pub less_heads : (less number level : ℕ) → less ≤ number → heads number level ≡ false → heads less level ≡ false
+less_heads less number level le e = go (is_header_level level) (level_number level) e
+  where
+    go : (header : Bool) (n : ℕ) → (header && nat_lt n number) ≡ false → (header && nat_lt n less) ≡ false
+    go false n e = refl
+    go true n e = le-ltb n less (omega (arith, le, ltb-false n number e))

@@ -1,0 +1,125 @@
+//! `FoldLevels`: the fold level of each line, and what is known of all headers.
+ghost use Rattle.std.specs.Prelude.{◌≡◌, ◌≤◌, ◌<◌, ◌+◌, ◌^◌, ◌∷◌, [], length, max, slice_set, slice_index_or, OnOk, OnErr, IsOk};
+ghost use Rattle.ed_model.specs.Rows.{base_level};
+ghost use Rattle.line_index.specs.Edits.{after_edits, FitLines, fresh_lines};
+ghost use Rattle.line_rows.specs.Values.{valued, first_or, wanted_block, most_block, stored_after};
+
+use crate::rows::BASE_LEVEL;
+use crate::values::LineValues;
+use contraction::Levels;
+use line_index::LineEdit;
+use std::alloc::{AllocError, Global};
+use std::marker::Model;
+
+// SC_FOLDLEVELNUMBERMASK
+const NUMBER: u32 = 0xFFF;
+
+// SC_FOLDLEVELHEADERFLAG
+const HEADER: u32 = 0x2000;
+
+/// The fold level of each line, counted from 0. No header has a smaller number than `least`, which is the least number that a header has
+/// been given so far, or one that is greater than any number: so no line of that number or less has a parent, and none is looked for.
+#[derive(Drop)]
+pub(crate) struct FoldLevels {
+    values: LineValues<u32>,
+    least: u32,
+}
+
+impl Model for FoldLevels {
+    ghost use Rattle.std.specs.Prelude.{◌≡◌, ℕ};
+    ghost use Rattle.ed_model.specs.Rows.{base_level};
+    ghost use Rattle.contraction.specs.Headings.{HeadFrom};
+    ghost use Rattle.line_rows.specs.Values.{Valued};
+
+    ghost Value = { Valued ℕ };
+
+    ghost view = { λ l. l.values };
+
+    ghost invariant = { λ l. record { base : l.values.default ≡ base_level; least : HeadFrom l.least l.values.values } };
+}
+
+impl FoldLevels {
+    /// The level of one fresh line, and no room. Takes no memory.
+    pub(crate) fn new(alloc: Global) -> Self
+        ensures { result ≡ valued base_level (base_level ∷ []) 0 0 0 0 }
+    {
+        FoldLevels {
+            values: LineValues::new(alloc, BASE_LEVEL),
+            least: NUMBER + 1,
+        }
+    }
+
+    /// The values of all lines.
+    pub(crate) fn values(&self) -> &LineValues<u32>
+        ensures { result.now ≡ self.now }
+    {
+        &self.values
+    }
+
+    /// The levels of all lines, lent.
+    pub(crate) fn lent(&self) -> Levels<'_>
+        ensures levels { result ≡ self.now.values }
+        ensures lines { length result ≡ length self.now.values }
+    {
+        let (first, second) = self.values.stored();
+        Levels::from_least(first, second, self.values.count(), self.least)
+    }
+
+    /// For how many fresh lines there is room.
+    pub(crate) fn room(&self) -> usize
+        ensures { result ≡ self.now.room }
+    {
+        self.values.room()
+    }
+
+    /// The level of a line.
+    pub(crate) fn get(&self, line: usize) -> u32
+        requires { line < length self.now.values }
+        ensures { result ≡ slice_index_or self.now.values line result }
+    {
+        self.values.get(line)
+    }
+
+    /// Makes room as `LineValues` does.
+    ///
+    /// # Errors
+    ///
+    /// `AllocError` where memory is refused. All is then as it was.
+    #[inline(always)]
+    pub(crate) fn reserve(&mut self, lines: usize, reach: usize) -> Result<(), AllocError>
+        ensures ok { OnOk result (self.new ≡ record self.old { room = max self.old.room lines; reach = max self.old.reach reach; block = self.new.block }) }
+        ensures room_is_there { lines ≤ self.old.room → reach ≤ self.old.reach → IsOk result × (self.new ≡ self.old) }
+        ensures memory_is_there { wanted_block self.old.stored (max self.old.room lines) (max self.old.reach reach) ≤ self.old.block → IsOk result × (self.new ≡ record self.old { room = max self.old.room lines; reach = max self.old.reach reach }) }
+        ensures at_most { self.new.block ≤ most_block self.old.stored self.old.block (max self.old.room lines) (max self.old.reach reach) }
+        ensures err { OnErr result (self.new ≡ self.old) }
+    {
+        self.values.reserve(lines, reach)
+    }
+
+    /// Sets the level of a line, for which there must be room.
+    pub(crate) fn set(&mut self, line: usize, level: u32)
+        requires line { line < length self.old.values }
+        requires room { line < self.old.reach }
+        ensures { self.new ≡ record self.old { values = slice_set self.old.values line level; stored = max self.old.stored (line + 1) } }
+    {
+        if level & HEADER != 0 {
+            self.least = self.least.min(level & NUMBER);
+        }
+        self.values.set(line, level);
+    }
+
+    /// Carries the levels of lines through edits, as `LineValues` does. No header comes by them.
+    pub(crate) fn carry(&mut self, edits: &[LineEdit])
+        requires lines { FitLines (length self.old.values) edits.now }
+        requires fits { length self.old.values + fresh_lines edits.now < 2 ^ 63 }
+        requires room { fresh_lines edits.now ≤ self.old.room }
+        ensures values { self.new.values ≡ after_edits (first_or self.old.default) edits.now self.old.values }
+        ensures default { self.new.default ≡ self.old.default }
+        ensures room { self.new.room + fresh_lines edits.now ≡ self.old.room }
+        ensures reach { self.new.reach ≡ self.old.reach }
+        ensures stored { self.new.stored ≡ stored_after edits.now self.old.stored }
+        ensures block { self.new.block ≡ self.old.block }
+    {
+        self.values.carry(edits);
+    }
+}
