@@ -19,6 +19,7 @@ pub mod RunLemmas
 pub mod PlainChanges
 pub mod PlainEdits
 pub mod Going
+pub mod HeardChanges
 pub mod Leaving
 pub mod FrequentChanges
 pub mod Targets

@@ -1,8 +1,9 @@
-//! Frequent changes of a document of which nobody hears: a run's style, a marker, a fold level, undo and redo. They are made without a plan,
-//! notes and a reply.
+//! Frequent changes of a document: a run's style, a marker and a fold level, which are made without a task, and without notes where nobody
+//! hears of them; and undo and redo of which nobody hears, which take no plan, notes and reply.
 
-ghost use Rattle.std.specs.Prelude.{◌≡◌, ℕ, ℤ, List, [], map, true, false, Ok, Some, IfNone, IfSome, IsSomeAnd};
+ghost use Rattle.std.specs.Prelude.{◌≡◌, ℕ, ℤ, List, [], map, true, false, Ok, Some, IfNone, IfSome, IfOk, IfErr, IsOk, OnErr, IsSomeAnd};
 ghost use Rattle.ed_types.specs.declared.message.Message.{Message};
+ghost use Rattle.ed_types.specs.declared.refusal.Refusal.TheVariants.{OutOfMemory};
 ghost use Rattle.ed_model.specs.declared.plan.Plan.TheVariants as plan;
 ghost use Rattle.ed_model.specs.Performing.{quiet};
 ghost use Rattle.ed_model.specs.Session.{Document as ModelDocument};
@@ -15,19 +16,22 @@ ghost use Rattle.session_changes.specs.Kept.{IsKept, DocumentsAreNamed};
 ghost use Rattle.editor_session.specs.Answers.{message_with};
 ghost use Rattle.editor_session.specs.Doing.{CanBeMade, IsChangedIn};
 ghost use Rattle.editor_session.specs.Tasks.{IsTask};
-ghost use Rattle.editor_session.specs.Unheard.{unrecorded, going, no_notes, IsSent};
+ghost use Rattle.editor_session.specs.Plans.{is_free};
+ghost use Rattle.editor_session.specs.Unheard.{unrecorded, going, no_notes, IsSent, IsSentWith};
 
 use crate::attached::look_up;
 use crate::history::go_unheard;
+use crate::plain_changes::change_at_once;
 use document::Direction;
 use document_changes::change_unheard;
 use document_table::DocumentTable;
 use ed_model::{DocumentChange, plans_are_fit, soundness_is_kept};
-use ed_types::{Kind, kinds_and_numbers};
+use ed_types::{Bytes, Kind, Refusal, Reply, kinds_and_numbers};
 use ed_view::View;
 use id_table::IdTable;
-use message_plans::{change_of, frequent_change_of, is_performed, transaction_of};
+use message_plans::{change_of, is_performed, transaction_of};
 use message_requests::{Request, SentMessage, SessionState};
+use notify::NoteList;
 use std::alloc::Global;
 
 /// The bits of a view's mask by which it hears of frequent changes: CHANGESTYLE, CHANGEFOLD and CHANGEMARKER of Scintilla.
@@ -35,17 +39,18 @@ const FREQUENT_CHANGES: u32 = 0x4 | 0x8 | 0x200;
 
 /// What a frequent change is, and the value that its message answers.
 #[derive(Clone, Copy, Debug)]
-struct FrequentChange {
+pub(crate) struct FrequentChange {
     /// The id of the document.
-    document: u32,
-    change: DocumentChange,
-    value: i64,
+    pub document: u32,
+    pub change: DocumentChange,
+    pub value: i64,
+    /// Whether the view hears of such changes.
+    pub is_heard: bool,
 }
 
-/// Finds what this message to the view of an id changes. `None` where the table refuses it or it changes nothing, and where that view
-/// hears of such changes.
+/// Finds what this message to the view of an id changes. `None` where the table refuses it or it changes nothing.
 #[inline(always)]
-fn find_change(
+pub(crate) fn find_change(
     state: &SessionState,
     view: u32,
     kind: Kind,
@@ -63,10 +68,6 @@ fn find_change(
     let Some(found) = look_up(state, view) else {
         return None;
     };
-    // A view that hears of such changes is told of it, mostly: it goes the longer way at once.
-    if found.view.mask() & FREQUENT_CHANGES != 0 {
-        return None;
-    }
     // No such message reads a text.
     let message = SentMessage {
         number,
@@ -87,6 +88,7 @@ fn find_change(
         document: found.document.id(),
         change,
         value,
+        is_heard: found.view.mask() & FREQUENT_CHANGES != 0,
     })
 }
 
@@ -115,7 +117,7 @@ fn change_quickly_in(
 
 /// The same for the view of an id, whatever value is answered.
 #[inline(always)]
-fn change_quickly(
+pub(crate) fn change_quickly(
     state: &mut SessionState,
     document: u32,
     view: u32,
@@ -137,30 +139,34 @@ fn change_quickly(
     change_quickly_in(documents, views, document, change)
 }
 
-/// Does what this message to the view of an id asks for, and returns the value that is answered, if that takes no more than a change of
-/// the document of which nobody hears. It stands apart, so that other messages set up nothing of it.
+/// Makes a change of the document of an id that a message to the view of an id asks for, and answers a value with the notes of it. It takes
+/// memory for the change and its notes alone. It stands apart, so that changes of which nobody hears set up no notes.
+///
+/// # Errors
+///
+/// `OutOfMemory` where memory is refused. The session is as it was, here too.
 #[inline(never)]
-fn settle_as(
+pub(crate) fn change_and_tell(
+    alloc: Global,
     state: &mut SessionState,
+    document: u32,
     view: u32,
-    kind: Kind,
-    number: u32,
-    w: i64,
-    l: i64,
-) -> Option<i64>
+    text: &[u8],
+    change: DocumentChange,
+    value: i64,
+) -> Result<Reply, Refusal>
     requires kept { IsKept state.old }
-    requires frequent { frequent_change_of number ≡ Some kind }
-    ensures answer { IfSome result (λ value. (text : List ℕ) → table (session_in state.old) view (message_with number w l text) ≡ Ok (session_in state.new, quiet value)) }
-    ensures same { IfNone result (session_in state.new ≡ session_in state.old) }
+    requires sent { IsSentWith (session_in state.old) document view text.now (plan.ChangeDocument change) }
+    ensures answer { IfOk result (λ reply. (m : Message) → IsTask (session_in state.old) view m (unrecorded document view (plan.ChangeDocument change value)) → m.text ≡ text.now → table (session_in state.old) view m ≡ Ok (session_in state.new, reply)) }
+    ensures same { OnErr result (session_in state.new ≡ session_in state.old) }
+    ensures refused { IfErr result (λ refusal. refusal ≡ OutOfMemory) }
     ensures kept { IsKept state.new }
+    ensures free { (m : Message) → IsTask (session_in state.old) view m (unrecorded document view (plan.ChangeDocument change value)) → m.text ≡ text.now → is_free (session_in state.old) view m ≡ true → IsOk result }
 {
-    let Some(found) = find_change(state, view, kind, number, w, l) else {
-        return None;
-    };
-    if change_quickly(state, found.document, view, found.change) {
-        Some(found.value)
-    } else {
-        None
+    let mut notes = NoteList::new(alloc);
+    match change_at_once(alloc, state, document, view, text, change, &mut notes) {
+        Ok(()) => Ok(notes.finish(value, Bytes::empty(alloc))),
+        Err(refusal) => Err(refusal),
     }
 }
 
@@ -221,7 +227,7 @@ fn direction_of(kind: Kind) -> Direction
 }
 
 /// Undoes or redoes a transaction of which nobody hears, by a message to the view of an id, and returns the value that is answered. It
-/// stands apart, as `settle_as` does.
+/// stands apart, so that other messages set up nothing of it.
 #[inline(never)]
 fn go_as(
     alloc: Global,
@@ -248,8 +254,8 @@ fn go_as(
     }
 }
 
-/// Does what a message to the view of an id asks for, and returns the value that is answered, if it is one of the frequent changes of a
-/// document, the table does not refuse it, nobody hears of it, and there is memory for it. Of all others it does nothing.
+/// Does what a message to the view of an id asks for, and returns the value that is answered, if it is undo or redo of a transaction, nobody
+/// hears of it, and there is memory for it. Of all others it does nothing.
 #[inline(always)]
 pub(crate) fn settle(
     alloc: Global,
@@ -264,9 +270,6 @@ pub(crate) fn settle(
     ensures same { IfNone result (session_in state.new ≡ session_in state.old) }
     ensures kept { IsKept state.new }
 {
-    if let Some(kind) = frequent_change_of(number) {
-        return settle_as(state, view, kind, number, w, l);
-    }
     match transaction_of(number) {
         Some(kind) => go_as(alloc, state, view, kind, number, w, l),
         None => None,

@@ -1,4 +1,5 @@
 -- Messages that change a document and are sent most: a run's style, a marker that comes alone, a fold level; undo and redo. They are not recorded, and read no text of the message.
+-- And those by which a search goes from match to match.
 use Rattle.std.specs.Prelude.{ℕ, ℤ, if◌then◌else◌, Bool, true, false, List, [], ◌∷◌, Ok, Option, Some, None, is_some}
 use Rattle.ed_types.specs.declared.kind.Kind.{Kind}
 use Rattle.ed_types.specs.declared.kind.Kind.TheVariants as kinds
@@ -48,7 +49,7 @@ is_performed kinds.Undo (Ok plan.Undo) = true
 is_performed kinds.Redo (Ok plan.Redo) = true
 is_performed other planned = false
 
--- Messages that set the target of a view or search in it, by rising numbers.
+-- Messages that set the start of a view's target, its end or both, and that search in it, by rising numbers.
 abbrev pub target_messages : List Kind
 target_messages = kinds.SetTargetStart ∷ kinds.SetTargetEnd ∷ kinds.SearchInTarget ∷ kinds.SetTargetRange ∷ []
 

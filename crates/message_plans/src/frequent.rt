@@ -113,7 +113,8 @@ pub fn is_performed(kind: Kind, r: &Request) -> bool
     }
 }
 
-/// The plan of a message that sets the target of a view or searches in it, as `plan_of` has it. `None` for all other messages.
+/// The plan of SETTARGETSTART, SETTARGETEND, SETTARGETRANGE and SEARCHINTARGET, by which a search goes from match to match, as `plan_of`
+/// has it. `None` for all other messages.
 ///
 /// # Errors
 ///
