@@ -236,8 +236,7 @@ impl LineRows {
         self.levels.values()
     }
 
-    /// Lends the levels of all lines to those who look for folds among them. It knows of most lines that have no fold parent that they
-    /// have none.
+    /// Lends the levels of all lines for looking up folds: of most lines without a fold parent, what is lent tells so at once.
     pub fn fold_levels(&self) -> Levels<'_>
         ensures levels { result ≡ levels_of self.now.rows }
         ensures lines { length result ≡ length self.now.rows }

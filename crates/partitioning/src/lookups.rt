@@ -26,7 +26,7 @@ pub(crate) fn last_at_most<P: Place, A: Allocator>(
     if starts.count() <= FEW {
         return last_of_few(starts, wanted, probes);
     }
-    last_of_many(starts, wanted, probes)
+    last_among(starts, wanted, 0, starts.count(), probes)
 }
 
 // Among few starts: no jump rests on what a start is, since the processor would guess it wrongly half of the time. The first
@@ -55,21 +55,26 @@ fn last_of_few<P: Place, A: Allocator>(
     low
 }
 
-// Among many: by a guess the processor fetches the next start before it has this one, which wins where starts come from
-// memory, though half of the guesses are wrong.
-fn last_of_many<P: Place, A: Allocator>(
+// The last of those from `first` to before `behind` that starts at `wanted` or before it: by a guess the processor fetches the next start
+// before it has this one, which wins where starts come from memory, though half of the guesses are wrong.
+fn last_among<P: Place, A: Allocator>(
     starts: &CountedStarts<'_, P, A>,
     wanted: P,
+    first: usize,
+    behind: usize,
     probes: &mut Probes,
 ) -> usize
-    requires { P.number wanted ≤ starts.now.length }
+    requires range { (first < behind) × (behind ≤ length starts.now.starts) }
+    requires low { slice_index starts.now.starts first ≤ P.number wanted }
+    requires high { behind < length starts.now.starts → P.number wanted < slice_index starts.now.starts behind }
     ensures last { IsLastAtMost starts.now.starts (P.number wanted) result }
     ensures counted { probes.old ≤ probes.new }
-    ensures few { (k : ℕ) → IsFloorLog k (length starts.now.starts) → probes.new ≤ probes.old + (2 + k) }
-    ensures many { (k : ℕ) → IsFloorLog k (length starts.now.starts) → counted probes.old k ≤ probes.new }
+    ensures few { (k : ℕ) → IsFloorLog k (behind - first) → probes.new ≤ probes.old + (1 + k) }
+    ensures many { (k : ℕ) → IsFloorLog k (behind - first) → counted probes.old k ≤ probes.new }
 {
-    let mut low = 0;
-    let mut width = starts.count();
+    let _ = starts.count(); // it says that the starts rise
+    let mut low = first;
+    let mut width = behind - first;
     'halving: while width > 1 {
         let half = width / 2;
         let middle = low + half;
@@ -81,8 +86,8 @@ fn last_of_many<P: Place, A: Allocator>(
     low
 }
 
-/// Returns the last partition that starts at `place` or before it, which is one of those from `first` up to `behind`. Each start that it
-/// reads is counted in `probes`.
+/// Returns the last partition that starts at `place` or before it, which is one of those from `first` to before `behind`. Each start that
+/// it reads is counted in `probes`.
 pub(crate) fn last_between<P: Place, A: Allocator>(
     starts: &CountedStarts<'_, P, A>,
     place: usize,
@@ -96,17 +101,8 @@ pub(crate) fn last_between<P: Place, A: Allocator>(
     ensures last { IsLastAtMost starts.now.starts place result }
     ensures counted { probes.old ≤ probes.new }
     ensures few { (k : ℕ) → IsFloorLog k (behind - first) → probes.new ≤ probes.old + (1 + k) }
+    ensures many { (k : ℕ) → IsFloorLog k (behind - first) → counted probes.old k ≤ probes.new }
 {
     let wanted = P::from_usize(place.min(starts.length()));
-    let mut low = first;
-    let mut width = behind - first;
-    'halving: while width > 1 {
-        let half = width / 2;
-        let middle = low + half;
-        width -= half;
-        if starts.is_at_most(middle, wanted, probes) {
-            low = middle;
-        }
-    }
-    low
+    last_among(starts, wanted, first, behind, probes)
 }

@@ -156,7 +156,7 @@ impl<P: Place, A: Allocator> Partitioning<P, A> {
         last_at_most(&CountedStarts::of(self), place, probes)
     }
 
-    /// Returns the same partition where it is known to be one of those from `first` up to `behind`. Each start that it reads is counted
+    /// Returns the same partition where it is known to be one of those from `first` to before `behind`. Each start that it reads is counted
     /// in `probes`.
     pub fn partition_between(
         &self,
@@ -171,6 +171,7 @@ impl<P: Place, A: Allocator> Partitioning<P, A> {
         ensures last { IsLastAtMost self.now.starts place result }
         ensures counted { probes.old ≤ probes.new }
         ensures few { (k : ℕ) → IsFloorLog k (behind - first) → probes.new ≤ probes.old + (1 + k) }
+        ensures many { (k : ℕ) → IsFloorLog k (behind - first) → counted probes.old k ≤ probes.new }
     {
         last_between(&CountedStarts::of(self), place, first, behind, probes)
     }
