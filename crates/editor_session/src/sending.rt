@@ -19,11 +19,11 @@ use crate::frequent::{change_and_tell, change_quickly, find_change, settle};
 use crate::left::{answer, keep, keep_made, whole};
 use crate::reading::read;
 use crate::short_way::{do_apart, do_shortly};
-use crate::target::{is_about_target, turn_target};
+use crate::target::turn_target;
 use document::Document;
 use ed_model::{Plan, plans_are_fit};
 use ed_types::{Bytes, Kind, Refusal, Reply};
-use message_plans::{frequent_change_of, frequent_plan_of, text_question_of};
+use message_plans::{frequent_change_of, frequent_plan_of, target_message_of, text_question_of};
 use message_requests::{Request, SessionState};
 use std::alloc::Global;
 
@@ -199,7 +199,7 @@ fn settle_at_once(
     ensures same { IfNone result (session_in state.new ≡ session_in state.old) }
     ensures kept { IsKept state.new }
 {
-    if is_about_target(number) {
+    if let Some(_) = target_message_of(number) {
         return turn_target(state, view, number, w, l, text);
     }
     settle(alloc, state, view, number, w, l)

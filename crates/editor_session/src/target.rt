@@ -14,13 +14,6 @@ use ed_model::{Plan, plans_are_fit};
 use message_plans::target_plan_of;
 use message_requests::SessionState;
 
-/// Whether the message with this number is one of them: SETTARGETSTART, SETTARGETEND, SEARCHINTARGET and SETTARGETRANGE. Whatever is
-/// answered here, the message is answered the same.
-#[inline(always)]
-pub(crate) fn is_about_target(number: u32) -> bool {
-    matches!(number, 2190 | 2192 | 2197 | 2686)
-}
-
 /// Does what such a message to the view of an id asks for, and returns the value that is answered. Of what the table refuses, and of all
 /// other messages, it does nothing, and where the view records. It stands apart, so that other messages set up nothing of it.
 #[inline(never)]

@@ -53,8 +53,12 @@ is_performed other planned = false
 abbrev pub target_messages : List Kind
 target_messages = kinds.SetTargetStart ∷ kinds.SetTargetEnd ∷ kinds.SearchInTarget ∷ kinds.SetTargetRange ∷ []
 
+-- the one that has the number
+abbrev pub target_message_of : ℕ → Option Kind
+target_message_of number = kind_among target_messages number
+
 abbrev pub is_target_message : Kind → Bool
-is_target_message kind = is_some (kind_among target_messages (number_of kind))
+is_target_message kind = is_some (target_message_of (number_of kind))
 
 -- the plan of such a message; none for all others
 abbrev pub target_plan_of : Kind → Request → Option Planned

@@ -3,7 +3,7 @@
 ghost use Rattle.std.specs.Prelude.{◌≡◌};
 ghost use Rattle.ed_model.specs.PlansFit.{IsSoundRequest};
 ghost use Rattle.ed_model.specs.Table.{plan_of};
-ghost use Rattle.message_plans.specs.Frequent.{frequent_change_of, change_asked, transaction_of, is_performed, target_plan_of};
+ghost use Rattle.message_plans.specs.Frequent.{frequent_change_of, change_asked, transaction_of, is_performed, target_message_of, target_plan_of};
 
 use crate::plan::plan_of;
 use ed_model::{DocumentChange, Plan, Planned};
@@ -110,6 +110,20 @@ pub fn is_performed(kind: Kind, r: &Request) -> bool
             _ => false,
         },
         _ => false,
+    }
+}
+
+/// SETTARGETSTART, SETTARGETEND, SEARCHINTARGET or SETTARGETRANGE, if the message with this number is one of them.
+#[inline(always)]
+pub fn target_message_of(number: u32) -> Option<Kind>
+    ensures { result ≡ target_message_of number }
+{
+    match number {
+        2190 => Some(Kind::SetTargetStart),
+        2192 => Some(Kind::SetTargetEnd),
+        2197 => Some(Kind::SearchInTarget),
+        2686 => Some(Kind::SetTargetRange),
+        _ => None,
     }
 }
 

@@ -11,6 +11,7 @@ mod plan;
 
 pub use asking::{handed_of, question_of, text_question_of, value_of};
 pub use frequent::{
-    change_of, frequent_change_of, frequent_plan_of, is_performed, target_plan_of, transaction_of,
+    change_of, frequent_change_of, frequent_plan_of, is_performed, target_message_of,
+    target_plan_of, transaction_of,
 };
 pub use plan::plan_of;
