@@ -4,6 +4,7 @@ use Rattle.std.specs.Prelude.{Result, IsOk}
 use Rattle.ed_types.specs.declared.refusal.Refusal.{Refusal}
 use Rattle.ed_types.specs.Notices.{Response}
 use Rattle.ed_model.specs.Performing.{quiet}
+use Rattle.ed_model.specs.Session.{Session}
 use Rattle.editor_session.specs.Left.{told, is_value_alone, IsLeft}
 
 -- what holds of a refusal that was made holds of what is told
@@ -14,6 +15,14 @@ err_told P (Err refusal) left made is h = subst (λ t. IfErr t P) (sym is) h
 pub ok_told : (r : Result ℤ Refusal) (left : Response) (made : Result Response Refusal) → told r left ≡ made → IsOk made → IsOk r
 ok_told (Ok value) left made is h = refl
 ok_told (Err refusal) left made is h = subst IsOk (sym is) h
+
+pub refused_told : (says : Result (Session × Response) Refusal) (r : Result ℤ Refusal) (left : Response) (made : Result Response Refusal) → told r left ≡ made
+    → IfErr says (λ refusal. made ≡ Err refusal) → IfErr says (λ refusal. r ≡ Err refusal)
+refused_told (Ok x) r left made is h = tt
+refused_told (Err refusal) (Ok value) left made is h = absurd (cc)
+refused_told (Err refusal) (Err other) left made is h =
+    let same : other ≡ refusal = cc in
+    ap (λ e. Err e) same
 
 -- what was left in the place of a value alone is the whole reply, or is a value alone too
 pub left_of_quiet : (value start : ℤ) (left : Response) → IsLeft (Ok value) (quiet start) left → (left.value ≡ value) ⊎ (left ≡ quiet left.value)

@@ -29,7 +29,7 @@ use ed_model::{DocumentChange, plans_are_fit, soundness_is_kept};
 use ed_types::{Bytes, Kind, Refusal, Reply, kinds_and_numbers};
 use ed_view::View;
 use id_table::IdTable;
-use message_plans::{change_of, is_performed, transaction_of};
+use message_plans::{change_of, frequent_change_of, is_performed, transaction_of};
 use message_requests::{Request, SentMessage, SessionState};
 use notify::NoteList;
 use std::alloc::Global;
@@ -44,8 +44,20 @@ pub(crate) struct FrequentChange {
     pub document: u32,
     pub change: DocumentChange,
     pub value: i64,
-    /// Whether the view hears of such changes.
-    pub is_heard: bool,
+}
+
+/// The message with this number, if it asks for a frequent change and the view of an id hears of such changes. That view is told of it,
+/// mostly: so it goes the longer way at once.
+#[inline(always)]
+pub(crate) fn heard_change_of(state: &SessionState, view: u32, number: u32) -> Option<Kind>
+    ensures { IfSome result (λ kind. frequent_change_of number ≡ Some kind) }
+{
+    let kind = frequent_change_of(number)?;
+    let view = state.views.get(view)?;
+    if view.mask() & FREQUENT_CHANGES == 0 {
+        return None;
+    }
+    Some(kind)
 }
 
 /// Finds what this message to the view of an id changes. `None` where the table refuses it or it changes nothing.
@@ -88,7 +100,6 @@ pub(crate) fn find_change(
         document: found.document.id(),
         change,
         value,
-        is_heard: found.view.mask() & FREQUENT_CHANGES != 0,
     })
 }
 
@@ -117,7 +128,7 @@ fn change_quickly_in(
 
 /// The same for the view of an id, whatever value is answered.
 #[inline(always)]
-pub(crate) fn change_quickly(
+fn change_quickly(
     state: &mut SessionState,
     document: u32,
     view: u32,
@@ -139,13 +150,40 @@ pub(crate) fn change_quickly(
     change_quickly_in(documents, views, document, change)
 }
 
+/// Does what this message to the view of an id asks for, and returns the value that is answered, if that takes no more than a change of
+/// the document of which nobody hears. It stands apart, so that other messages set up nothing of it.
+#[inline(never)]
+fn settle_as(
+    state: &mut SessionState,
+    view: u32,
+    kind: Kind,
+    number: u32,
+    w: i64,
+    l: i64,
+) -> Option<i64>
+    requires kept { IsKept state.old }
+    requires frequent { frequent_change_of number ≡ Some kind }
+    ensures answer { IfSome result (λ value. (text : List ℕ) → table (session_in state.old) view (message_with number w l text) ≡ Ok (session_in state.new, quiet value)) }
+    ensures same { IfNone result (session_in state.new ≡ session_in state.old) }
+    ensures kept { IsKept state.new }
+{
+    let Some(found) = find_change(state, view, kind, number, w, l) else {
+        return None;
+    };
+    if change_quickly(state, found.document, view, found.change) {
+        Some(found.value)
+    } else {
+        None
+    }
+}
+
 /// Makes a change of the document of an id that a message to the view of an id asks for, and answers a value with the notes of it. It takes
-/// memory for the change and its notes alone. It stands apart, so that changes of which nobody hears set up no notes.
+/// memory for the change and its notes alone.
 ///
 /// # Errors
 ///
 /// `OutOfMemory` where memory is refused. The session is as it was, here too.
-#[inline(never)]
+#[inline(always)]
 pub(crate) fn change_and_tell(
     alloc: Global,
     state: &mut SessionState,
@@ -227,7 +265,7 @@ fn direction_of(kind: Kind) -> Direction
 }
 
 /// Undoes or redoes a transaction of which nobody hears, by a message to the view of an id, and returns the value that is answered. It
-/// stands apart, so that other messages set up nothing of it.
+/// stands apart, as `settle_as` does.
 #[inline(never)]
 fn go_as(
     alloc: Global,
@@ -254,8 +292,8 @@ fn go_as(
     }
 }
 
-/// Does what a message to the view of an id asks for, and returns the value that is answered, if it is undo or redo of a transaction, nobody
-/// hears of it, and there is memory for it. Of all others it does nothing.
+/// Does what a message to the view of an id asks for, and returns the value that is answered, if it is one of the frequent changes of a
+/// document, the table does not refuse it, nobody hears of it, and there is memory for it. Of all others it does nothing.
 #[inline(always)]
 pub(crate) fn settle(
     alloc: Global,
@@ -270,6 +308,9 @@ pub(crate) fn settle(
     ensures same { IfNone result (session_in state.new ≡ session_in state.old) }
     ensures kept { IsKept state.new }
 {
+    if let Some(kind) = frequent_change_of(number) {
+        return settle_as(state, view, kind, number, w, l);
+    }
     match transaction_of(number) {
         Some(kind) => go_as(alloc, state, view, kind, number, w, l),
         None => None,

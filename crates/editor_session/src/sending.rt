@@ -15,7 +15,7 @@ ghost use Rattle.editor_session.specs.Plans.{is_free};
 
 use crate::asking::ask;
 use crate::find::find;
-use crate::frequent::{change_and_tell, change_quickly, find_change, settle};
+use crate::frequent::{change_and_tell, find_change, heard_change_of, settle};
 use crate::left::{answer, keep, keep_made, whole};
 use crate::reading::read;
 use crate::short_way::{do_apart, do_shortly};
@@ -23,7 +23,7 @@ use crate::target::turn_target;
 use document::Document;
 use ed_model::{Plan, plans_are_fit};
 use ed_types::{Bytes, Kind, Refusal, Reply};
-use message_plans::{frequent_change_of, frequent_plan_of, target_message_of, text_question_of};
+use message_plans::{frequent_plan_of, target_message_of, text_question_of};
 use message_requests::{Request, SessionState};
 use std::alloc::Global;
 
@@ -135,53 +135,6 @@ fn answer_into_by_plan(
     }
 }
 
-/// Answers a message to the view of an id that asks for a frequent change: the value is returned, and the notes of its reply take the place
-/// of another's. What changes nothing, and what is refused, goes by its plan.
-///
-/// # Errors
-///
-/// The refusal of the message table; `OutOfMemory` where memory is refused. The session and the place are then as they were.
-#[inline(never)]
-fn answer_change_into(
-    alloc: Global,
-    state: &mut SessionState,
-    view: u32,
-    kind: Kind,
-    number: u32,
-    w: i64,
-    l: i64,
-    text: &[u8],
-    reply: &mut Reply,
-) -> Result<i64, Refusal>
-    requires kept { IsKept state.old }
-    requires frequent { frequent_change_of number ≡ Some kind }
-    ensures answer { AnswersBy (table (session_in state.old) view (message_with number w l text.now)) (session_in state.old) (session_in state.new) (told result reply.new) }
-    ensures refused { IfErr (table (session_in state.old) view (message_with number w l text.now)) (λ refusal. result ≡ Err refusal) }
-    ensures place { IsLeft result reply.old reply.new }
-    ensures kept { IsKept state.new }
-    ensures free { is_free (session_in state.old) view (message_with number w l text.now) ≡ true → IfErr result (λ refusal. refusal ≢ OutOfMemory) }
-{
-    let Some(found) = find_change(state, view, kind, number, w, l) else {
-        return answer_into_by_plan(alloc, state, view, number, w, l, text, reply);
-    };
-    if found.is_heard {
-        let made = change_and_tell(
-            alloc,
-            state,
-            found.document,
-            view,
-            text,
-            found.change,
-            found.value,
-        );
-        return keep_made(reply, made);
-    }
-    if change_quickly(state, found.document, view, found.change) {
-        return Ok(keep(reply, answer(alloc, found.value)));
-    }
-    answer_into_by_plan(alloc, state, view, number, w, l, text, reply)
-}
-
 /// Does what a message to the view of an id asks for, and returns the value that is answered, if that takes no notes and no plan, or no
 /// more than the view's target. Of all others it does nothing.
 #[inline(always)]
@@ -229,8 +182,9 @@ pub(crate) fn answer_into(
     ensures kept { IsKept state.new }
     ensures free { is_free (session_in state.old) view (message_with number w l text.now) ≡ true → IfErr result (λ refusal. refusal ≢ OutOfMemory) }
 {
-    if let Some(kind) = frequent_change_of(number) {
-        return answer_change_into(alloc, state, view, kind, number, w, l, text, reply);
+    if let Some(kind) = heard_change_of(state, view, number) {
+        let made = answer_heard_change(alloc, state, view, kind, number, w, l, text);
+        return keep_made(reply, made);
     }
     match settle_at_once(alloc, state, view, number, w, l, text) {
         Some(value) => Ok(keep(reply, answer(alloc, value))),
@@ -266,14 +220,14 @@ fn answer_by_plan(
     }
 }
 
-/// Answers a message to the view of an id that asks for a frequent change. What changes nothing, and what is refused, goes by its plan. It
-/// stands apart, so that other messages set up nothing of it.
+/// Answers a message to the view of an id that asks for a frequent change of which it hears. What changes nothing, and what is refused,
+/// goes by its plan. It stands apart, so that changes of which nobody hears set up no notes.
 ///
 /// # Errors
 ///
 /// The refusal of the message table; `OutOfMemory` where memory is refused. The session is then as it was.
 #[inline(never)]
-fn answer_change(
+fn answer_heard_change(
     alloc: Global,
     state: &mut SessionState,
     view: u32,
@@ -293,21 +247,15 @@ fn answer_change(
     let Some(found) = find_change(state, view, kind, number, w, l) else {
         return answer_by_plan(alloc, state, view, number, w, l, text);
     };
-    if found.is_heard {
-        return change_and_tell(
-            alloc,
-            state,
-            found.document,
-            view,
-            text,
-            found.change,
-            found.value,
-        );
-    }
-    if change_quickly(state, found.document, view, found.change) {
-        return Ok(answer(alloc, found.value));
-    }
-    answer_by_plan(alloc, state, view, number, w, l, text)
+    change_and_tell(
+        alloc,
+        state,
+        found.document,
+        view,
+        text,
+        found.change,
+        found.value,
+    )
 }
 
 /// Answers a message that hands out bytes of the document: they are read into memory that becomes the reply's. Where nothing is read, it
@@ -365,8 +313,8 @@ pub(crate) fn answer_message(
     if let Some(_) = text_question_of(number) {
         return answer_text_question(alloc, state, view, number, w, l, text);
     }
-    if let Some(kind) = frequent_change_of(number) {
-        return answer_change(alloc, state, view, kind, number, w, l, text);
+    if let Some(kind) = heard_change_of(state, view, number) {
+        return answer_heard_change(alloc, state, view, kind, number, w, l, text);
     }
     if let Some(value) = settle_at_once(alloc, state, view, number, w, l, text) {
         return Ok(answer(alloc, value));

@@ -41,19 +41,19 @@ returns-in-Some-text_question_of-clause-free c =
     let same : message_with a.number (to_z w64 (of_z w64 a.w)) (to_z w64 (of_z w64 a.l)) a.text.now ≡ message_with a.number a.w a.l a.text.now = search rules in
     subst (λ x. is_free s a.view x ≡ true → IfErr c.answer_text_question.result (λ refusal. refusal ≢ OutOfMemory)) same c.answer_text_question.ensures.free
 
-pub returns-in-Some-frequent_change_of-clause-answer : goal.returns-in-Some-frequent_change_of-clause-answer
-returns-in-Some-frequent_change_of-clause-answer c =
+pub returns-in-Some-heard_change_of-clause-answer : goal.returns-in-Some-heard_change_of-clause-answer
+returns-in-Some-heard_change_of-clause-answer c =
     let a = c.args in
     let s = session_in a.state.now in
     let same : message_with a.number (to_z w64 (of_z w64 a.w)) (to_z w64 (of_z w64 a.l)) a.text.now ≡ message_with a.number a.w a.l a.text.now = search rules in
-    subst (λ x. AnswersBy (table s a.view x) s (session_in c.answer_change.new.state) c.answer_change.result) same c.answer_change.ensures.answer
+    subst (λ x. AnswersBy (table s a.view x) s (session_in c.answer_heard_change.new.state) c.answer_heard_change.result) same c.answer_heard_change.ensures.answer
 
-pub returns-in-Some-frequent_change_of-clause-refused : goal.returns-in-Some-frequent_change_of-clause-refused
-returns-in-Some-frequent_change_of-clause-refused c =
+pub returns-in-Some-heard_change_of-clause-refused : goal.returns-in-Some-heard_change_of-clause-refused
+returns-in-Some-heard_change_of-clause-refused c =
     let a = c.args in
     let s = session_in a.state.now in
     let same : message_with a.number (to_z w64 (of_z w64 a.w)) (to_z w64 (of_z w64 a.l)) a.text.now ≡ message_with a.number a.w a.l a.text.now = search rules in
-    subst (λ x. IfErr (table s a.view x) (λ refusal. c.answer_change.result ≡ Err refusal)) same c.answer_change.ensures.refused
+    subst (λ x. IfErr (table s a.view x) (λ refusal. c.answer_heard_change.result ≡ Err refusal)) same c.answer_heard_change.ensures.refused
 
 pub returns-in-Some-settle_at_once-clause-answer : goal.returns-in-Some-settle_at_once-clause-answer
 returns-in-Some-settle_at_once-clause-answer c =
