@@ -42,53 +42,68 @@ fn reaches<P: Place>(starts: &Partitioning<P>, line: usize, place: usize) -> boo
     line + 1 == count || place < starts.start_of(line + 1)
 }
 
-// Whether this line holds the place.
-fn holds<P: Place>(starts: &Partitioning<P>, line: usize, place: usize) -> bool
-    ensures { IsTrue result → IsLastAtMost starts.now.starts place line }
-{
-    line < starts.count() && starts.start_of(line) <= place && reaches(starts, line, place)
-}
-
-// Up to so many lines before a likely one, and fewer than so many behind it, are searched before all lines are: what is changed all over
-// lies a few lines from the last change. A line that is farther off costs two more starts read.
+// So many lines in front of a likely one, and as many from the second behind it on, are searched before all are: what is changed all
+// over lies a few lines from the last change. One start tells whether the line is among them, and five more at most tell which it is.
 const ABOUT: usize = 32;
 
-// The line that holds the place: one of those about the likely one, which are so few that five of their starts are read at most, or any.
-// It stands apart, since mostly the likely line holds the place, or the next one does.
+// Among no more lines than these, a look-up among all reads hardly more starts, and none in vain.
+const FEW: usize = 2 * ABOUT;
+
+// The line that holds the place, where the likely line, if it is there, starts behind the place. It stands out of line, since mostly
+// the likely line holds the place, or the next one does.
 #[inline(never)]
-fn line_about<P: Place>(starts: &Partitioning<P>, place: usize, likely: usize) -> usize
+fn line_in_front<P: Place>(starts: &Partitioning<P>, place: usize, likely: usize) -> usize
+    requires { likely < length starts.now.starts → place < slice_index starts.now.starts likely }
     ensures { IsLastAtMost starts.now.starts place result }
 {
     let count = starts.count();
     let mut probes = Probes::new();
-    if likely < count {
-        if place < starts.start_of(likely) {
-            let first = likely.saturating_sub(ABOUT);
-            if starts.start_of(first) <= place {
-                return starts.partition_between(place, first, likely, &mut probes);
-            }
-        } else {
-            let behind = likely.saturating_add(ABOUT).min(count - 1);
-            if likely < behind && place < starts.start_of(behind) {
-                return starts.partition_between(place, likely, behind, &mut probes);
-            }
+    if count > FEW && likely < count {
+        let first = likely.saturating_sub(ABOUT);
+        if starts.start_of(first) <= place {
+            return starts.partition_between(place, first, likely, &mut probes);
         }
     }
     starts.partition_of(place, &mut probes)
 }
 
-// The line that holds the place. It is looked up only where it is neither the line that is likely nor the next one.
+// The line that holds the place, where this line starts at the place or before it. Where no more than so many lines are behind it, the
+// start that tells whether the line is among these is that of the last line of all. It stands out of line, as above.
+#[inline(never)]
+fn line_behind<P: Place>(starts: &Partitioning<P>, place: usize, line: usize) -> usize
+    requires { (line < length starts.now.starts) × (slice_index starts.now.starts line ≤ place) }
+    ensures { IsLastAtMost starts.now.starts place result }
+{
+    let count = starts.count();
+    let mut probes = Probes::new();
+    if count > FEW {
+        let behind = (line + ABOUT).min(count - 1);
+        if place < starts.start_of(behind) {
+            return starts.partition_between(place, line, behind, &mut probes);
+        }
+        if behind + 1 == count {
+            return behind;
+        }
+    }
+    starts.partition_of(place, &mut probes)
+}
+
+// The line that holds the place. It is looked up only where it is neither the line that is likely nor the next one. To tell this, no
+// start is read twice.
 fn line_from<P: Place>(starts: &Partitioning<P>, place: usize, likely: usize) -> usize
     ensures { IsLastAtMost starts.now.starts place result }
 {
-    if holds(starts, likely, place) {
+    if likely >= starts.count() || place < starts.start_of(likely) {
+        return line_in_front(starts, place, likely);
+    }
+    if reaches(starts, likely, place) {
         return likely;
     }
-    let next = likely.saturating_add(1);
-    if holds(starts, next, place) {
+    let next = likely + 1;
+    if reaches(starts, next, place) {
         return next;
     }
-    line_about(starts, place, likely)
+    line_behind(starts, place, next + 1)
 }
 
 // The line that holds the place, which is likely this line or the next.

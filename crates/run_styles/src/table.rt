@@ -1,7 +1,7 @@
 //! The steps that the calls of `RunStyles` consist of, over its two fields: the starts of the runs, and their values.
 //! Between the steps two neighbouring runs may have one value. No step takes memory: the cells of a block, those in use and
 //! the others, stay as many (`start_cells`, `value_cells`).
-ghost use Rattle.std.specs.Prelude.{ℕ, ◌≡◌, ◌≢◌, true, ◌⊎◌, ◌≤◌, ◌<◌, ◌+◌, ◌-◌, ◌^◌, [], ◌∷◌, ◌++◌, Some, length, take, drop, map, slice_get, slice_index, slice_index_or, insert, remove, IfNone, IfSome};
+ghost use Rattle.std.specs.Prelude.{ℕ, ◌≡◌, ◌≢◌, ◌⊎◌, ◌≤◌, ◌<◌, ◌+◌, ◌-◌, ◌^◌, [], ◌∷◌, ◌++◌, Some, length, take, drop, map, slice_get, slice_index, slice_index_or, insert, remove, IfNone, IfSome};
 ghost use Rattle.run_styles.specs.Expansion.{expansion, IsTable, IsExact, NeighboursDiffer};
 ghost use Rattle.run_styles.specs.Runs.{filled, deleted, inserted};
 ghost use Rattle.run_styles.specs.Changes.{IsTrimmed};
@@ -56,35 +56,32 @@ pub(crate) fn run_near<P: Place, A: Allocator>(
     run_of(starts, place)
 }
 
-/// Whether a run holds a place. A run that is not there holds none.
-#[inline]
-fn holds<P: Place, A: Allocator>(starts: &Partitioning<P, A>, run: usize, place: usize) -> bool
-    ensures held { result ≡ true → (run < length starts.now.starts) × (slice_index starts.now.starts run ≤ place) × (place < slice_index_or starts.now.starts (run + 1) starts.now.length) }
-{
-    run < starts.count() && starts.start_of(run) <= place && place < end_of(starts, run)
-}
-
 /// Returns the run that holds a place, which is likely the one where text last came or went, or a neighbour of it: edits come one
-/// behind the other, and undo goes back through them. It is looked up only where it is none of these.
+/// behind the other, and undo goes back through them. It is looked up only where it is none of these, for which three starts are read
+/// at most, each once: that of the likely run, and then that of the run before it or those of the two behind it.
 pub(crate) fn run_about<P: Place, A: Allocator>(starts: &Partitioning<P, A>, place: usize) -> usize
     requires { place < starts.now.length }
     ensures within { (result < length starts.now.starts) × (length starts.now.starts < 2 ^ 63) }
     ensures from { slice_index starts.now.starts result ≤ place }
     ensures to { place < slice_index_or starts.now.starts (result + 1) starts.now.length }
 {
-    // The count bounds each index, so that one more than an index is a `usize`.
-    let _count = starts.count();
     let last = starts.step_at();
-    if holds(starts, last, place) {
-        return last;
-    }
-    let next = last.saturating_add(1);
-    if holds(starts, next, place) {
-        return next;
-    }
-    let before = last.saturating_sub(1);
-    if holds(starts, before, place) {
-        return before;
+    if last < starts.count() {
+        if place < starts.start_of(last) {
+            // There is a run before it, since the first one starts at 0.
+            let before = last - 1;
+            if starts.start_of(before) <= place {
+                return before;
+            }
+        } else if place < end_of(starts, last) {
+            return last;
+        } else {
+            // There is a run behind it, since the last one ends at the length.
+            let next = last + 1;
+            if place < end_of(starts, next) {
+                return next;
+            }
+        }
     }
     run_of(starts, place)
 }
