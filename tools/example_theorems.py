@@ -13,10 +13,11 @@ MODEL = os.path.join(TOP, "crates", "ed_model")
 
 GROUPS = {
     "text": ["expects", "hello", "refusals", "line_queries", "mixed_line_ends", "new_view", "load_files", "script_spelling",
-             "expect_at_the_start", "text_length_and_appending"],
+             "expect_at_the_start", "expects_of_every_command", "text_length_and_appending"],
     "undo": ["all_notes_of_an_insertion", "container_steps", "read_only_notes", "save_point_amid_typing", "save_point_in_a_group",
              "save_point_on_a_dropped_branch", "undo_collection", "which_deletions_join",
-             "container_step_first", "container_steps_alone", "container_steps_join", "groups_and_seals", "undo_queries"],
+             "container_step_first", "container_steps_alone", "container_steps_join", "groups_and_seals", "undo_queries",
+             "collection_off_ends_groups"],
     "markers": ["deletion_joins_crlf", "deletion_joins_markers", "insertion_splits_crlf", "marker_and_level_queries",
                 "undo_brings_no_marker_back", "convert_line_ends_keeps_markers",
                 "line_states", "markers_meet_and_part", "markers_on_a_line_start"],
@@ -24,7 +25,8 @@ GROUPS = {
                "indicator_grows_at_4", "styles_and_indicators", "indicator_current_and_value", "styled_text"],
     "selection": ["character_cuts", "clear_over_crlf", "clipboard", "cut_of_nothing", "newline_and_delete_back", "paste_as_it_is",
                   "paste_converts_line_ends", "search_backwards_empty_missing", "search_case_and_replace", "search_whole_word",
-                  "caret_keys", "line_end_mode", "search_without_case", "selection_queries", "target_queries"],
+                  "caret_keys", "line_end_mode", "search_without_case", "selection_queries", "target_queries",
+                  "adding_nothing", "copying_nothing", "cut_when_read_only", "deletion_inside_a_character", "paste_of_nothing"],
     "documents": ["document_references", "order_of_attaching", "read_only_tells_each_view", "read_only_undo", "two_views_move_and_hear",
                   "undo_of_a_group_to_two_views", "document_options", "unicode_line_ends",
                   "masks", "options_and_line_end_types", "own_document_again"],

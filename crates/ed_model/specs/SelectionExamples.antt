@@ -796,3 +796,226 @@ TargetQueries = Prints ([])
     codes "! 6" ∷
     codes "= 9 \"xone two \"" ∷
     []))
+
+abbrev pub AddingNothing : Type 0
+AddingNothing = Prints ([])
+    (joined_lines (
+    codes "sci 1" ∷
+    codes "open" ∷
+    codes "send 1 2003 0 0 \"abcd\"" ∷
+    codes "send 1 2160 1 3 \"\"" ∷
+    codes "send 1 2001 0 0 \"xy\"" ∷
+    codes "send 1 2009 0 0 \"\"" ∷
+    codes "send 1 2008 0 0 \"\"" ∷
+    codes "send 1 2160 3 1 \"\"" ∷
+    codes "send 1 2001 0 0 \"\"" ∷
+    codes "send 1 2009 0 0 \"\"" ∷
+    codes "send 1 2171 1 0 \"\"" ∷
+    codes "send 1 2160 0 2 \"\"" ∷
+    codes "send 1 2001 0 0 \"\"" ∷
+    codes "send 1 2009 0 0 \"\"" ∷
+    codes "send 1 2182 0 0 \"\"" ∷
+    []))
+    (joined_lines (
+    codes "= 1 \"\"" ∷
+    codes "= 0 \"\"" ∷
+    codes "@ 1 2008 1040 0 4 0 0 0 0 0 0 0 0 \"abcd\"" ∷
+    codes "@ 1 2003 0 0 0 0 0 0 0 0 0 0 0 \"\"" ∷
+    codes "@ 1 2008 8209 0 4 0 0 0 0 0 0 0 0 \"abcd\"" ∷
+    codes "= 0 \"\"" ∷
+    codes "= 0 \"\"" ∷
+    codes "= 3 \"\"" ∷
+    codes "= 3 \"\"" ∷
+    codes "= 0 \"\"" ∷
+    codes "= 0 \"\"" ∷
+    codes "= 1 \"\"" ∷
+    codes "= 0 \"\"" ∷
+    codes "= 0 \"\"" ∷
+    codes "= 0 \"\"" ∷
+    codes "= 2 \"\"" ∷
+    codes "= 4 \"abcd\"" ∷
+    []))
+
+abbrev pub CopyingNothing : Type 0
+CopyingNothing = Prints ([])
+    (joined_lines (
+    codes "sci 1" ∷
+    codes "open" ∷
+    codes "send 1 2420 2 0 \"xy\"" ∷
+    codes "send 1 2178 0 0 \"\"" ∷
+    codes "send 1 2179 0 0 \"\"" ∷
+    codes "send 1 2182 0 0 \"\"" ∷
+    codes "send 1 2420 0 0 \"abc\"" ∷
+    codes "send 1 2179 0 0 \"\"" ∷
+    codes "send 1 2182 0 0 \"\"" ∷
+    codes "send 1 2419 0 2 \"\"" ∷
+    codes "send 1 2179 0 0 \"\"" ∷
+    codes "send 1 2182 0 0 \"\"" ∷
+    codes "send 1 2419 1 1 \"\"" ∷
+    codes "send 1 2179 0 0 \"\"" ∷
+    codes "send 1 2182 0 0 \"\"" ∷
+    []))
+    (joined_lines (
+    codes "= 1 \"\"" ∷
+    codes "= 0 \"\"" ∷
+    codes "= 0 \"\"" ∷
+    codes "= 0 \"\"" ∷
+    codes "@ 1 2008 1040 0 2 0 0 0 0 0 0 0 0 \"xy\"" ∷
+    codes "@ 1 2003 0 0 0 0 0 0 0 0 0 0 0 \"\"" ∷
+    codes "@ 1 2008 8209 0 2 0 0 0 0 0 0 0 0 \"xy\"" ∷
+    codes "= 2 \"xy\"" ∷
+    codes "= 0 \"\"" ∷
+    codes "= 0 \"\"" ∷
+    codes "= 2 \"xy\"" ∷
+    codes "= 0 \"\"" ∷
+    codes "= 0 \"\"" ∷
+    codes "@ 1 2008 1040 2 2 0 0 0 0 0 0 0 0 \"xy\"" ∷
+    codes "@ 1 2008 17 2 2 0 0 0 0 0 0 0 0 \"xy\"" ∷
+    codes "= 4 \"xyxy\"" ∷
+    codes "= 0 \"\"" ∷
+    codes "= 0 \"\"" ∷
+    codes "= 4 \"xyxy\"" ∷
+    []))
+
+abbrev pub CutWhenReadOnly : Type 0
+CutWhenReadOnly = Prints ([])
+    (joined_lines (
+    codes "sci 1" ∷
+    codes "open" ∷
+    codes "send 1 2420 2 0 \"xy\"" ∷
+    codes "send 1 2003 0 0 \"abcd\"" ∷
+    codes "send 1 2160 1 3 \"\"" ∷
+    codes "send 1 2171 1 0 \"\"" ∷
+    codes "send 1 2177 0 0 \"\"" ∷
+    codes "send 1 2009 0 0 \"\"" ∷
+    codes "send 1 2008 0 0 \"\"" ∷
+    codes "send 1 2160 2 2 \"\"" ∷
+    codes "send 1 2177 0 0 \"\"" ∷
+    codes "send 1 2171 0 0 \"\"" ∷
+    codes "send 1 2025 0 0 \"\"" ∷
+    codes "send 1 2179 0 0 \"\"" ∷
+    codes "send 1 2182 0 0 \"\"" ∷
+    []))
+    (joined_lines (
+    codes "= 1 \"\"" ∷
+    codes "= 0 \"\"" ∷
+    codes "= 0 \"\"" ∷
+    codes "@ 1 2008 1040 0 4 0 0 0 0 0 0 0 0 \"abcd\"" ∷
+    codes "@ 1 2003 0 0 0 0 0 0 0 0 0 0 0 \"\"" ∷
+    codes "@ 1 2008 8209 0 4 0 0 0 0 0 0 0 0 \"abcd\"" ∷
+    codes "= 0 \"\"" ∷
+    codes "= 0 \"\"" ∷
+    codes "= 0 \"\"" ∷
+    codes "@ 1 2004 0 0 0 0 0 0 0 0 0 0 0 \"\"" ∷
+    codes "= 1 \"\"" ∷
+    codes "= 3 \"\"" ∷
+    codes "= 0 \"\"" ∷
+    codes "= 0 \"\"" ∷
+    codes "= 0 \"\"" ∷
+    codes "= 0 \"\"" ∷
+    codes "= 0 \"\"" ∷
+    codes "@ 1 2008 1040 0 2 0 0 0 0 0 0 0 0 \"xy\"" ∷
+    codes "@ 1 2008 8209 0 2 0 0 0 0 0 0 0 0 \"xy\"" ∷
+    codes "= 6 \"xyabcd\"" ∷
+    []))
+
+abbrev pub DeletionInsideACharacter : Type 0
+DeletionInsideACharacter = Prints ([])
+    (joined_lines (
+    codes "sci 1" ∷
+    codes "open" ∷
+    codes "send 1 2003 0 0 \"a\\xe2\\x82\\xacb\"" ∷
+    codes "send 1 2025 2 0 \"\"" ∷
+    codes "send 1 2180 0 0 \"\"" ∷
+    codes "send 1 2182 0 0 \"\"" ∷
+    codes "send 1 2008 0 0 \"\"" ∷
+    codes "send 1 2176 0 0 \"\"" ∷
+    codes "send 1 2008 0 0 \"\"" ∷
+    codes "send 1 2025 3 0 \"\"" ∷
+    codes "send 1 2326 0 0 \"\"" ∷
+    codes "send 1 2182 0 0 \"\"" ∷
+    codes "send 1 2008 0 0 \"\"" ∷
+    codes "open" ∷
+    codes "send 2 2003 0 0 \"x\\x0d\\x0ay\"" ∷
+    codes "send 2 2025 2 0 \"\"" ∷
+    codes "send 2 2180 0 0 \"\"" ∷
+    codes "send 2 2182 0 0 \"\"" ∷
+    codes "send 2 2176 0 0 \"\"" ∷
+    codes "send 2 2025 2 0 \"\"" ∷
+    codes "send 2 2326 0 0 \"\"" ∷
+    codes "send 2 2182 0 0 \"\"" ∷
+    codes "send 2 2008 0 0 \"\"" ∷
+    []))
+    (joined_lines (
+    codes "= 1 \"\"" ∷
+    codes "= 0 \"\"" ∷
+    codes "@ 1 2008 1040 0 5 0 0 0 0 0 0 0 0 \"a\\xe2\\x82\\xacb\"" ∷
+    codes "@ 1 2003 0 0 0 0 0 0 0 0 0 0 0 \"\"" ∷
+    codes "@ 1 2008 8209 0 5 0 0 0 0 0 0 0 0 \"a\\xe2\\x82\\xacb\"" ∷
+    codes "= 0 \"\"" ∷
+    codes "= 0 \"\"" ∷
+    codes "@ 1 2008 2064 2 2 0 0 0 0 0 0 0 0 \"\"" ∷
+    codes "@ 1 2008 8210 2 2 0 0 0 0 0 0 0 0 \"\\x82\\xac\"" ∷
+    codes "= 3 \"a\\xe2b\"" ∷
+    codes "= 2 \"\"" ∷
+    codes "= 0 \"\"" ∷
+    codes "@ 1 2008 1056 2 2 0 0 0 0 0 0 0 0 \"\\x82\\xac\"" ∷
+    codes "@ 1 2008 289 2 2 0 0 0 0 0 0 0 0 \"\\x82\\xac\"" ∷
+    codes "= 4 \"\"" ∷
+    codes "= 0 \"\"" ∷
+    codes "= 0 \"\"" ∷
+    codes "@ 1 2008 2064 1 2 0 0 0 0 0 0 0 0 \"\"" ∷
+    codes "@ 1 2008 8210 1 2 0 0 0 0 0 0 0 0 \"\\xe2\\x82\"" ∷
+    codes "= 3 \"a\\xacb\"" ∷
+    codes "= 1 \"\"" ∷
+    codes "= 2 \"\"" ∷
+    codes "= 0 \"\"" ∷
+    codes "@ 2 2008 1040 0 4 0 0 0 0 0 0 0 0 \"x\\x0d\\x0ay\"" ∷
+    codes "@ 2 2003 0 0 0 0 0 0 0 0 0 0 0 \"\"" ∷
+    codes "@ 2 2008 8209 0 4 1 0 0 0 0 0 0 0 \"x\\x0d\\x0ay\"" ∷
+    codes "= 0 \"\"" ∷
+    codes "= 0 \"\"" ∷
+    codes "@ 2 2008 2064 2 1 0 0 0 0 0 0 0 0 \"\"" ∷
+    codes "@ 2 2008 8210 2 1 0 0 0 0 0 0 0 0 \"\\x0a\"" ∷
+    codes "= 3 \"x\\x0dy\"" ∷
+    codes "= 0 \"\"" ∷
+    codes "@ 2 2008 1056 2 1 0 0 0 0 0 0 0 0 \"\\x0a\"" ∷
+    codes "@ 2 2008 289 2 1 0 0 0 0 0 0 0 0 \"\\x0a\"" ∷
+    codes "= 0 \"\"" ∷
+    codes "= 0 \"\"" ∷
+    codes "@ 2 2008 2064 1 1 0 0 0 0 0 0 0 0 \"\"" ∷
+    codes "@ 2 2008 8210 1 1 0 0 0 0 0 0 0 0 \"\\x0d\"" ∷
+    codes "= 3 \"x\\x0ay\"" ∷
+    codes "= 1 \"\"" ∷
+    []))
+
+abbrev pub PasteOfNothing : Type 0
+PasteOfNothing = Prints ([])
+    (joined_lines (
+    codes "sci 1" ∷
+    codes "open" ∷
+    codes "send 1 2003 0 0 \"abcd\"" ∷
+    codes "send 1 2160 1 3 \"\"" ∷
+    codes "send 1 2179 0 0 \"\"" ∷
+    codes "send 1 2009 0 0 \"\"" ∷
+    codes "send 1 2008 0 0 \"\"" ∷
+    codes "send 1 2171 1 0 \"\"" ∷
+    codes "send 1 2179 0 0 \"\"" ∷
+    codes "send 1 2161 0 0 \"\"" ∷
+    codes "send 1 2182 0 0 \"\"" ∷
+    []))
+    (joined_lines (
+    codes "= 1 \"\"" ∷
+    codes "= 0 \"\"" ∷
+    codes "@ 1 2008 1040 0 4 0 0 0 0 0 0 0 0 \"abcd\"" ∷
+    codes "@ 1 2003 0 0 0 0 0 0 0 0 0 0 0 \"\"" ∷
+    codes "@ 1 2008 8209 0 4 0 0 0 0 0 0 0 0 \"abcd\"" ∷
+    codes "= 0 \"\"" ∷
+    codes "= 0 \"\"" ∷
+    codes "= 1 \"\"" ∷
+    codes "= 3 \"\"" ∷
+    codes "= 0 \"\"" ∷
+    codes "= 0 \"\"" ∷
+    codes "= 2 \"bc\"" ∷
+    codes "= 4 \"abcd\"" ∷
+    []))

@@ -218,6 +218,53 @@ ExpectAtTheStart = Prints ([])
     codes "- 0" ∷
     []))
 
+abbrev pub ExpectsOfEveryCommand : Type 0
+ExpectsOfEveryCommand = Prints ((codes "hi") ∷ [])
+    (joined_lines (
+    codes "sci 2" ∷
+    codes "expect 0" ∷
+    codes "open" ∷
+    codes "expect 1" ∷
+    codes "expect 1" ∷
+    codes "load 1 1" ∷
+    codes "expect 0" ∷
+    codes "send 1 2006 0 0 \"\"" ∷
+    codes "expect 3" ∷
+    codes "expect 2" ∷
+    codes "send 1 2167 9 0 \"\"" ∷
+    codes "expect -1" ∷
+    codes "load 1 2" ∷
+    codes "expect 0" ∷
+    codes "send 9 2006 0 0 \"\"" ∷
+    codes "expect 2" ∷
+    codes "close 1" ∷
+    codes "expect 0" ∷
+    codes "expect 1" ∷
+    []))
+    (joined_lines (
+    codes "- 0" ∷
+    codes "= 1 \"\"" ∷
+    codes "+ 1" ∷
+    codes "+ 1" ∷
+    codes "= 0 \"\"" ∷
+    codes "@ 1 2008 1040 0 2 0 0 0 0 0 0 0 0 \"hi\"" ∷
+    codes "@ 1 2003 0 0 0 0 0 0 0 0 0 0 0 \"\"" ∷
+    codes "@ 1 2008 8209 0 2 0 0 0 0 0 0 0 0 \"hi\"" ∷
+    codes "+ 0" ∷
+    codes "= 2 \"\"" ∷
+    codes "- 3" ∷
+    codes "+ 2" ∷
+    codes "= -1 \"\"" ∷
+    codes "+ -1" ∷
+    codes "! 6" ∷
+    codes "- 0" ∷
+    codes "! 2" ∷
+    codes "- 2" ∷
+    codes "= 0 \"\"" ∷
+    codes "+ 0" ∷
+    codes "- 1" ∷
+    []))
+
 abbrev pub TextLengthAndAppending : Type 0
 TextLengthAndAppending = Prints ([])
     (joined_lines (

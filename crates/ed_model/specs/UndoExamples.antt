@@ -553,3 +553,49 @@ UndoQueries = Prints ([])
     codes "@ 1 2002 0 0 0 0 0 0 0 0 0 0 0 \"\"" ∷
     codes "= 0 \"\"" ∷
     []))
+
+abbrev pub CollectionOffEndsGroups : Type 0
+CollectionOffEndsGroups = Prints ([])
+    (joined_lines (
+    codes "sci 1" ∷
+    codes "open" ∷
+    codes "send 1 2012 0 0 \"\"" ∷
+    codes "send 1 2078 0 0 \"\"" ∷
+    codes "send 1 2012 0 0 \"\"" ∷
+    codes "send 1 2012 1 0 \"\"" ∷
+    codes "send 1 2003 0 0 \"a\"" ∷
+    codes "send 1 2174 0 0 \"\"" ∷
+    codes "open" ∷
+    codes "send 2 2012 0 0 \"\"" ∷
+    codes "send 2 2078 0 0 \"\"" ∷
+    codes "send 2 2012 1 0 \"\"" ∷
+    codes "send 2 2003 0 0 \"a\"" ∷
+    codes "send 2 2012 1 0 \"\"" ∷
+    codes "send 2 2174 0 0 \"\"" ∷
+    codes "send 2 2079 0 0 \"\"" ∷
+    codes "send 2 2174 0 0 \"\"" ∷
+    []))
+    (joined_lines (
+    codes "= 1 \"\"" ∷
+    codes "= 0 \"\"" ∷
+    codes "= 0 \"\"" ∷
+    codes "= 0 \"\"" ∷
+    codes "= 0 \"\"" ∷
+    codes "= 0 \"\"" ∷
+    codes "@ 1 2008 1040 0 1 0 0 0 0 0 0 0 0 \"a\"" ∷
+    codes "@ 1 2003 0 0 0 0 0 0 0 0 0 0 0 \"\"" ∷
+    codes "@ 1 2008 8209 0 1 0 0 0 0 0 0 0 0 \"a\"" ∷
+    codes "= 1 \"\"" ∷
+    codes "= 2 \"\"" ∷
+    codes "= 0 \"\"" ∷
+    codes "= 0 \"\"" ∷
+    codes "= 0 \"\"" ∷
+    codes "= 0 \"\"" ∷
+    codes "@ 2 2008 1040 0 1 0 0 0 0 0 0 0 0 \"a\"" ∷
+    codes "@ 2 2003 0 0 0 0 0 0 0 0 0 0 0 \"\"" ∷
+    codes "@ 2 2008 8209 0 1 0 0 0 0 0 0 0 0 \"a\"" ∷
+    codes "= 0 \"\"" ∷
+    codes "= 0 \"\"" ∷
+    codes "= 0 \"\"" ∷
+    codes "= 1 \"\"" ∷
+    []))

@@ -1,10 +1,10 @@
 //! Each example of `examples/`, as a theorem: what its script prints is computed from the definitions.
 
-ghost use Rattle.ed_model.specs.TextExamples.{Expects, Hello, Refusals, LineQueries, MixedLineEnds, NewView, LoadFiles, ScriptSpelling, ExpectAtTheStart, TextLengthAndAppending};
-ghost use Rattle.ed_model.specs.UndoExamples.{AllNotesOfAnInsertion, ContainerSteps, ReadOnlyNotes, SavePointAmidTyping, SavePointInAGroup, SavePointOnADroppedBranch, UndoCollection, WhichDeletionsJoin, ContainerStepFirst, ContainerStepsAlone, ContainerStepsJoin, GroupsAndSeals, UndoQueries};
+ghost use Rattle.ed_model.specs.TextExamples.{Expects, Hello, Refusals, LineQueries, MixedLineEnds, NewView, LoadFiles, ScriptSpelling, ExpectAtTheStart, ExpectsOfEveryCommand, TextLengthAndAppending};
+ghost use Rattle.ed_model.specs.UndoExamples.{AllNotesOfAnInsertion, ContainerSteps, ReadOnlyNotes, SavePointAmidTyping, SavePointInAGroup, SavePointOnADroppedBranch, UndoCollection, WhichDeletionsJoin, ContainerStepFirst, ContainerStepsAlone, ContainerStepsJoin, GroupsAndSeals, UndoQueries, CollectionOffEndsGroups};
 ghost use Rattle.ed_model.specs.MarkersExamples.{DeletionJoinsCrlf, DeletionJoinsMarkers, InsertionSplitsCrlf, MarkerAndLevelQueries, UndoBringsNoMarkerBack, ConvertLineEndsKeepsMarkers, LineStates, MarkersMeetAndPart, MarkersOnALineStart};
 ghost use Rattle.ed_model.specs.StylesExamples.{EndStyled, IndicatorGrowsAt0, IndicatorGrowsAt1, IndicatorGrowsAt2, IndicatorGrowsAt3, IndicatorGrowsAt4, StylesAndIndicators, IndicatorCurrentAndValue, StyledText};
-ghost use Rattle.ed_model.specs.SelectionExamples.{CharacterCuts, ClearOverCrlf, Clipboard, CutOfNothing, NewlineAndDeleteBack, PasteAsItIs, PasteConvertsLineEnds, SearchBackwardsEmptyMissing, SearchCaseAndReplace, SearchWholeWord, CaretKeys, LineEndMode, SearchWithoutCase, SelectionQueries, TargetQueries};
+ghost use Rattle.ed_model.specs.SelectionExamples.{CharacterCuts, ClearOverCrlf, Clipboard, CutOfNothing, NewlineAndDeleteBack, PasteAsItIs, PasteConvertsLineEnds, SearchBackwardsEmptyMissing, SearchCaseAndReplace, SearchWholeWord, CaretKeys, LineEndMode, SearchWithoutCase, SelectionQueries, TargetQueries, AddingNothing, CopyingNothing, CutWhenReadOnly, DeletionInsideACharacter, PasteOfNothing};
 ghost use Rattle.ed_model.specs.DocumentsExamples.{DocumentReferences, OrderOfAttaching, ReadOnlyTellsEachView, ReadOnlyUndo, TwoViewsMoveAndHear, UndoOfAGroupToTwoViews, DocumentOptions, UnicodeLineEnds, Masks, OptionsAndLineEndTypes, OwnDocumentAgain};
 ghost use Rattle.ed_model.specs.FoldingExamples.{Folding, HiddenLines, HiddenLinesInRange, FoldStructure, FoldingOfTwoViews};
 ghost use Rattle.ed_model.specs.RecordingExamples.{ALongWalk, ALongWalkWithGotopos, MacroRecording, RecordingWhenReadOnly, RecordingKeys};
@@ -19,6 +19,7 @@ pub fn examples_of_text()
     ensures load_files { LoadFiles }
     ensures script_spelling { ScriptSpelling }
     ensures expect_at_the_start { ExpectAtTheStart }
+    ensures expects_of_every_command { ExpectsOfEveryCommand }
     ensures text_length_and_appending { TextLengthAndAppending }
 {}
 
@@ -36,6 +37,7 @@ pub fn examples_of_undo()
     ensures container_steps_join { ContainerStepsJoin }
     ensures groups_and_seals { GroupsAndSeals }
     ensures undo_queries { UndoQueries }
+    ensures collection_off_ends_groups { CollectionOffEndsGroups }
 {}
 
 pub fn examples_of_markers()
@@ -78,6 +80,11 @@ pub fn examples_of_selection()
     ensures search_without_case { SearchWithoutCase }
     ensures selection_queries { SelectionQueries }
     ensures target_queries { TargetQueries }
+    ensures adding_nothing { AddingNothing }
+    ensures copying_nothing { CopyingNothing }
+    ensures cut_when_read_only { CutWhenReadOnly }
+    ensures deletion_inside_a_character { DeletionInsideACharacter }
+    ensures paste_of_nothing { PasteOfNothing }
 {}
 
 pub fn examples_of_documents()

@@ -1,0 +1,15 @@
+sci 1
+open
+send 1 2420 2 0 "xy"
+send 1 2178 0 0 ""
+send 1 2179 0 0 ""
+send 1 2182 0 0 ""
+send 1 2420 0 0 "abc"
+send 1 2179 0 0 ""
+send 1 2182 0 0 ""
+send 1 2419 0 2 ""
+send 1 2179 0 0 ""
+send 1 2182 0 0 ""
+send 1 2419 1 1 ""
+send 1 2179 0 0 ""
+send 1 2182 0 0 ""

@@ -1,0 +1,23 @@
+sci 1
+open
+send 1 2003 0 0 "a\xe2\x82\xacb"
+send 1 2025 2 0 ""
+send 1 2180 0 0 ""
+send 1 2182 0 0 ""
+send 1 2008 0 0 ""
+send 1 2176 0 0 ""
+send 1 2008 0 0 ""
+send 1 2025 3 0 ""
+send 1 2326 0 0 ""
+send 1 2182 0 0 ""
+send 1 2008 0 0 ""
+open
+send 2 2003 0 0 "x\x0d\x0ay"
+send 2 2025 2 0 ""
+send 2 2180 0 0 ""
+send 2 2182 0 0 ""
+send 2 2176 0 0 ""
+send 2 2025 2 0 ""
+send 2 2326 0 0 ""
+send 2 2182 0 0 ""
+send 2 2008 0 0 ""
