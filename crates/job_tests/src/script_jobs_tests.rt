@@ -132,6 +132,25 @@ fn stops_at_each_failed_read(rt: HostRuntime) -> Result<(), Fail> {
     Ok(())
 }
 
+/// Where writes of 10 bytes fail after `good` of them, the answer is that fault, and the front of the text was written.
+fn assert_stopped(
+    rt: &impl Abort,
+    answer: &Result<u64, RunFault>,
+    sink: &MemorySink,
+    text: &[u8],
+    good: usize,
+) {
+    if good < text.len().div_ceil(10) {
+        assert!(rt; *answer == Err(RunFault::Write));
+        assert_eq!(rt; sink.bytes().len(), good.saturating_mul(10));
+        assert!(rt; text.starts_with(sink.bytes()));
+        assert_eq!(rt; status_of(answer), 3);
+    } else {
+        assert!(rt; *answer == Ok(0));
+        assert!(rt; sink.bytes() == text);
+    }
+}
+
 /// A job of HELLO whose writes of 10 bytes fail after `good` of them, or take nothing where the sink stalls.
 fn stops_at_write(
     rt: &impl Abort,
@@ -143,15 +162,7 @@ fn stops_at_write(
 ) -> Result<(), Fail> {
     let mut sink = MemorySink::new(alloc, 10, good, stalls);
     let answer = do_hello(alloc, verb, 1000, &mut sink)?;
-    if good < text.len().div_ceil(10) {
-        assert!(rt; answer == Err(RunFault::Write));
-        assert_eq!(rt; sink.bytes().len(), good.saturating_mul(10));
-        assert!(rt; text.starts_with(sink.bytes()));
-        assert_eq!(rt; status_of(&answer), 3);
-    } else {
-        assert!(rt; answer == Ok(0));
-        assert!(rt; sink.bytes() == text);
-    }
+    assert_stopped(rt, &answer, &sink, text, good);
     Ok(())
 }
 
@@ -164,6 +175,28 @@ fn stops_at_each_failed_write(rt: HostRuntime) -> Result<(), Fail> {
         }
     }
     Ok(())
+}
+
+/// The script `examples/all_notes_of_an_insertion.sci`, and what it prints.
+const NOTES: &[u8] =
+    b"sci 1\nopen\nsend 1 2003 0 0 \"ab\\x0a\"\nsend 1 2182 0 0 \"\"\nsend 1 2003 9 0 \"z\"\nsend 1 2007 -1 0 \"\"\n";
+
+const NOTES_PRINTED: &[u8] =
+    b"= 1 \"\"\n= 0 \"\"\n@ 1 2008 1040 0 3 0 0 0 0 0 0 0 0 \"ab\\x0a\"\n@ 1 2003 0 0 0 0 0 0 0 0 0 0 0 \"\"\n@ 1 2008 8209 0 3 1 0 0 0 0 0 0 0 \"ab\\x0a\"\n= 3 \"ab\\x0a\"\n! 6\n= 0 \"\"\n";
+
+/// A run of NOTES whose writes of 10 bytes fail after `good` of them, or take nothing where the sink stalls.
+fn stops_amid_notes(rt: &impl Abort, alloc: Global, good: usize, stalls: bool) {
+    let mut sink = MemorySink::new(alloc, 10, good, stalls);
+    let answer = run(alloc, NOTES, 1000, &mut sink);
+    assert_stopped(rt, &answer, &sink, NOTES_PRINTED, good);
+}
+
+#[test]
+fn stops_at_each_failed_write_of_notes(rt: HostRuntime) {
+    for good in 0..=NOTES_PRINTED.len().div_ceil(10) {
+        stops_amid_notes(&rt, rt.alloc(), good, false);
+        stops_amid_notes(&rt, rt.alloc(), good, true);
+    }
 }
 
 #[test]

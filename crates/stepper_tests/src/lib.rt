@@ -1,5 +1,9 @@
-//! Tests of scripts that are done step by step, over the stepper's public calls.
+//! Tests of scripts that are done step by step, and of what is recorded, over public calls.
 #![tactic(auto)]
 
 #[cfg(test)]
+mod recorder_tests;
+#[cfg(test)]
 mod script_stepper_tests;
+#[cfg(test)]
+mod whole_session_tests;

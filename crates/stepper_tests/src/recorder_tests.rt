@@ -1,0 +1,116 @@
+//! What a view records: a script of it, which does the same in a new session.
+
+use ed_types::{Bytes, Command, Kind, Message, Outcome};
+use editor_session::{Run, Session};
+use macro_script::{Recorder, Script, assemble, list};
+use std::alloc::Global;
+use std::process::Abort;
+
+/// A view that records is sent three letters, a question, the caret a character to the left, and a deletion of what lies before it.
+/// What it is sent before and after is not recorded.
+const MACRO: &[u8] =
+    b"sci 1\nopen\nsend 1 2006 0 0 \"\"\nsend 1 3001 0 0 \"\"\nsend 1 2001 3 0 \"abc\"\nsend 1 2006 0 0 \"\"\nsend 1 2304 0 0 \"\"\nsend 1 2326 0 0 \"\"\nsend 1 3002 0 0 \"\"\nsend 1 2318 0 0 \"\"\n";
+
+/// The listing of what it records: ADDTEXT, CHARLEFT and DELETEBACK, as they were sent.
+const MACRO_LISTING: &[u8] =
+    b"sci 2\nsend 1 2001 3 0 \"abc\"\nsend 1 2304 0 0 \"\"\nsend 1 2326 0 0 \"\"\n";
+
+/// Two views of a document record, each what it is sent itself, and nothing of what is refused.
+const TWO_VIEWS: &[u8] =
+    b"sci 1\nopen\nopen\nsend 2 2358 0 1 \"\"\nsend 1 3001 0 0 \"\"\nsend 2 3001 0 0 \"\"\nsend 1 2001 1 0 \"ab\"\nsend 1 2001 9 0 \"ab\"\nsend 2 2329 0 0 \"\"\nsend 1 2178 0 0 \"\"\n";
+
+/// The listings of what the first and the second of them record. The text is recorded whole, though its first byte alone goes in.
+const FIRST_LISTING: &[u8] = b"sci 2\nsend 1 2001 1 0 \"ab\"\nsend 1 2178 0 0 \"\"\n";
+
+const SECOND_LISTING: &[u8] = b"sci 2\nsend 2 2329 0 0 \"\"\n";
+
+/// Does commands, and feeds what is replied to a recorder.
+fn feed_replies(rt: &impl Abort, run: &mut Run, commands: &[Command], recorder: &mut Recorder) {
+    for command in commands {
+        let outcome = run.step(&[], command).expect(rt, "memory");
+        if let Outcome::Replied(reply) = &outcome {
+            recorder.feed(reply).expect(rt, "a reply is fed");
+        }
+    }
+}
+
+/// What a view records where commands are done in a new session.
+fn recorded(rt: &impl Abort, alloc: Global, commands: &[Command], view: u32) -> Script {
+    let mut run = Run::new(Session::new(alloc));
+    let mut recorder = Recorder::new(alloc, view);
+    feed_replies(rt, &mut run, commands, &mut recorder);
+    recorder.finish()
+}
+
+/// What a view records has this listing.
+fn assert_recorded(rt: &impl Abort, alloc: Global, script: &[u8], view: u32, wanted: &[u8]) {
+    let script = assemble(alloc, script).expect(rt, "a script");
+    let recorded = recorded(rt, alloc, script.commands(), view);
+    let listing = list(alloc, &recorded).expect(rt, "memory");
+    assert!(rt; listing.as_slice() == wanted);
+}
+
+#[test]
+fn a_recorder_takes_what_its_view_records(rt: HostRuntime) {
+    assert_recorded(&rt, rt.alloc(), MACRO, 1, MACRO_LISTING);
+    assert_recorded(&rt, rt.alloc(), MACRO, 2, b"sci 2\n");
+    assert_recorded(&rt, rt.alloc(), TWO_VIEWS, 1, FIRST_LISTING);
+    assert_recorded(&rt, rt.alloc(), TWO_VIEWS, 2, SECOND_LISTING);
+}
+
+/// A message without arguments or text to view 1.
+fn plain(alloc: Global, kind: Kind) -> Command {
+    let message = Message {
+        number: kind.number(),
+        w: 0,
+        l: 0,
+        text: Bytes::empty(alloc),
+    };
+    Command::SendMessage { view: 1, message }
+}
+
+/// Does a command, which is not refused.
+fn do_command(rt: &impl Abort, run: &mut Run, command: &Command) {
+    let outcome = run.step(&[], command).expect(rt, "memory");
+    assert!(rt; !matches!(&outcome, Outcome::Refused(_)));
+}
+
+/// View 1 answers a plain question without arguments by this value.
+fn assert_answered(rt: &impl Abort, session: &Session, kind: Kind, value: i64) {
+    assert_eq!(rt; session.ask(1, kind.number(), 0, 0), Some(value));
+}
+
+/// The text of view 1's document is this.
+fn assert_text(rt: &impl Abort, alloc: Global, session: &Session, text: &[u8]) {
+    let mut bytes = Vec::new(alloc);
+    let value = session.read(1, Kind::GetText.number(), 0, 0, &mut bytes);
+    assert!(rt; value.is_some());
+    assert!(rt; bytes.as_slice() == text);
+}
+
+/// The macro leaves `ac`, with the caret behind the a, and two transactions: the letters, and the deletion.
+fn assert_replayed(rt: &impl Abort, alloc: Global, run: &mut Run, commands: &[Command]) {
+    do_command(rt, run, &Command::OpenView);
+    for command in commands {
+        do_command(rt, run, command);
+    }
+    assert_text(rt, alloc, run.session(), b"ac");
+    assert_answered(rt, run.session(), Kind::GetCurrentPos, 1);
+    assert_answered(rt, run.session(), Kind::GetAnchor, 1);
+    let undo = plain(alloc, Kind::Undo);
+    for text in [b"abc".as_slice(), b"".as_slice()] {
+        assert_answered(rt, run.session(), Kind::CanUndo, 1);
+        do_command(rt, run, &undo);
+        assert_text(rt, alloc, run.session(), text);
+    }
+    assert_answered(rt, run.session(), Kind::CanUndo, 0);
+    assert_answered(rt, run.session(), Kind::GetModify, 0);
+}
+
+#[test]
+fn a_recorded_macro_is_replayed(rt: HostRuntime) {
+    let script = assemble(rt.alloc(), MACRO).expect(&rt, "a script");
+    let recorded = recorded(&rt, rt.alloc(), script.commands(), 1);
+    let mut run = Run::new(Session::new(rt.alloc()));
+    assert_replayed(&rt, rt.alloc(), &mut run, recorded.commands());
+}
