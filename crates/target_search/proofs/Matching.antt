@@ -132,19 +132,6 @@ module _ (flags : ℕ) (text pattern : List ℕ) where
         (λ equal.
         other index (omega arith) (omega arith) (eq-eqb _ _ (read_part sub (start + rare) end index (omega arith) ∙ ap (λ p. get_or sub p 0) place ∙ equal))))
 
-    -- nor behind where it is found, up to a place
-    pub none_without_byte_behind :
-        (rare end n : ℕ) → rare < length pattern → end + length pattern ≤ length sub + 1
-        → ((k : ℕ) → n ≤ k → k < length (slice_range sub rare (end + rare)) → eqb (get_or (slice_range sub rare (end + rare)) k 0) (get_or pattern rare 0) ≡ true → ⊥)
-        → NonePasses (is_match flags text pattern) (offset + n) (offset + end)
-    none_without_byte_behind rare end n w small other k a b =
-        let size = length_part sub rare (end + rare) (omega arith) (omega arith) in
-        let at = k - offset in
-        let place : rare + at ≡ at + rare = omega arith in
-        subst (λ p. is_match flags text pattern p ≡ false) (let same : offset + at ≡ k = omega arith in same)
-        (not_without_byte rare at w (omega arith)
-        (λ equal. other at (omega arith) (omega arith) (eq-eqb _ _ (read_part sub rare (end + rare) at (omega arith) ∙ ap (λ p. get_or sub p 0) place ∙ equal))))
-
   -- where a byte of the part is not that of the pattern, in either case
   pub not_where_other_byte :
       (rare : RareByte) (part : List ℕ) (offset at : ℕ) → IsRareOf rare pattern → IsPart text part offset → at + rare.place < length part

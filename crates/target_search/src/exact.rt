@@ -1,5 +1,5 @@
-//! A search in a part of the text where case counts and words do not, by `memchr`: for the rarest byte of the pattern, as long as
-//! that seldom leads astray, and for the pattern.
+//! A search in a part of the text where case counts and words do not, by `memchr`: forwards for the rarest byte of the pattern, as
+//! long as that seldom leads astray, and then for the pattern; backwards for the pattern at once.
 
 ghost use Rattle.std.specs.Prelude.{◌≡◌, ◌+◌, ◌-◌, ◌≤◌, ◌<◌, ◌^◌, ◌||◌, true, false, length};
 ghost use Rattle.ed_model.specs.Numbers.{meets};
@@ -9,7 +9,7 @@ ghost use Rattle.target_search.specs.Searches.{text_of, size_of, is_match_of};
 
 use crate::search::Search;
 use memchr::arch::all::packedpair::Pair;
-use memchr::{memchr, memmem, memrchr};
+use memchr::{memchr, memmem};
 
 /// How many places that have the rarest byte may turn out to be no match, before the whole pattern is searched for. A search for one
 /// byte reads 128 of them at once, but starts anew behind each.
@@ -66,8 +66,9 @@ impl<'a> Search<'a> {
         self.first_from(part, offset, start)
     }
 
-    // The last match in a part of the text, which begins at `offset`, by a search for the whole pattern.
-    fn last_whole(&self, part: &[u8], offset: usize) -> Option<usize>
+    /// The last one. Looking for the rarest byte first, as forwards, gains only where that byte seldom stands outside of a match, and
+    /// costs more elsewhere.
+    pub(crate) fn last_exact(&self, part: &[u8], offset: usize) -> Option<usize>
         requires case { meets self.now.flags match_case ≡ true }
         requires words { (meets self.now.flags whole_word || meets self.now.flags word_start) ≡ false }
         requires part { IsPart (text_of self.now) part.now offset }
@@ -77,33 +78,5 @@ impl<'a> Search<'a> {
     {
         let found = memmem::rfind(part, self.pattern)?;
         Some(offset + found)
-    }
-
-    /// The last one.
-    pub(crate) fn last_exact(&self, part: &[u8], offset: usize) -> Option<usize>
-        requires case { meets self.now.flags match_case ≡ true }
-        requires words { (meets self.now.flags whole_word || meets self.now.flags word_start) ≡ false }
-        requires part { IsPart (text_of self.now) part.now offset }
-        requires small { offset + length part.now < 2 ^ 64 }
-        requires some { 0 < size_of self.now }
-        ensures { FindsLast (is_match_of self.now) offset (offset + length part.now + 1 - size_of self.now) result }
-    {
-        let rare = rarest(self.pattern);
-        let others = self.pattern.len() - 1;
-        // No match begins from here on.
-        let mut end = part.len().saturating_sub(others);
-        let mut passed = 0;
-        'passing: while passed < MOST_PASSED && end > 0 {
-            let bytes = &part[rare..end + rare];
-            end = memrchr(self.pattern[rare], bytes)?;
-            if self.is_match_in(part, offset, end) {
-                return Some(offset + end);
-            }
-            passed += 1;
-        }
-        if end == 0 {
-            return None;
-        }
-        self.last_whole(&part[..end + others], offset)
     }
 }

@@ -5,11 +5,11 @@
 //! range     0             8        first place to last place forwards, last to first backwards
 //! ```
 //!
-//! Where case counts and words do not, matches are found by `memchr`: by its search of a byte, the rarest of the pattern, and
-//! once that has led astray a few times by its search of a substring. Else two rare bytes of the pattern, in both cases, tell
-//! of 64 places at once where it may stand; each of these is tested for the words about it and compared. Matches over the
-//! seam of the two slices are compared byte by byte. What a match is, and which one is answered, is said by `ed_model`:
-//! `match_in`.
+//! Where case counts and words do not, matches are found by `memchr`: forwards by its search of a byte, the rarest of the
+//! pattern, and once that has led astray a few times by its search of a substring; backwards by the latter alone. Else two
+//! rare bytes of the pattern, in both cases, tell of 64 places at once where it may stand; each of these is tested for the
+//! words about it and compared. Matches over the seam of the two slices are compared byte by byte. What a match is, and which
+//! one is answered, is said by `ed_model`: `match_in`.
 #![tactic(auto)]
 
 ghost use Rattle.std.specs.Prelude.{◌≡◌, ◌+◌, ◌≤◌, ◌++◌, length};
