@@ -2,10 +2,17 @@
 //!
 //! A message goes one way. Its view and document are found and its number is decoded; a plan is made, which carries every
 //! refusal but want of memory; what the plan needs is told, and reserved in one pass; and then the plan is performed, which
-//! cannot fail. A plain question or a text question is answered before a plan is made, and so are undo and redo of which nobody hears;
-//! frequent changes of a document are made once they are found, and told where a view hears of them; the messages by which a search goes
-//! from match to match are answered by their plan alone; and what is not recorded is done at once, without a task, where it is a plain
-//! replacement of bytes, undo or redo, a change of a document that is no edit, or one of a view that takes no memory.
+//! cannot fail. These have a shorter way:
+//!
+//! - A plain question or a text question is answered before a plan is made.
+//! - A frequent change of a document (SETSTYLING, MARKERADD, SETFOLDLEVEL) is made as soon as it is found: with its notes where the view
+//!   that it is sent to hears of such changes, and without any where nobody hears of it. Where other views alone hear of it, it goes by
+//!   its plan, as it does where it is refused or changes nothing.
+//! - Undo and redo of which nobody hears are performed before a plan is made.
+//! - A message by which a search goes from match to match (SETTARGETSTART, SETTARGETEND, SETTARGETRANGE, SEARCHINTARGET) is answered by
+//!   its plan alone, unless it is refused or the view records.
+//! - What is not recorded is done at once, without a task, where it is a plain replacement of bytes, undo or redo, a change of a
+//!   document that is no edit, or one of a view that takes no memory.
 #![tactic(auto)]
 
 mod asking;

@@ -1,4 +1,7 @@
-//! A message on its way through a session: found, planned, and answered at once or carried out.
+//! A message on its way through a session. A question is answered first; a frequent change is made with its notes where the view that it
+//! is sent to hears of such changes, and without any where nobody hears of it; so is undo or redo of which nobody hears; and a message
+//! by which a search goes from match to match is answered by its plan alone where the view does not record. All else, and what of these
+//! is refused, is found and planned, and answered at once or carried out.
 
 ghost use Rattle.std.specs.Prelude.{◌≡◌, ◌≢◌, ◌&&◌, ◌≤◌, ◌+◌, [], length, slice_range, true, IfOk, IfErr, IfSome, IfNone, IsOk, Ok, Err, Some};
 ghost use Rattle.ed_types.specs.declared.refusal.Refusal.TheVariants.{OutOfMemory};
@@ -220,8 +223,9 @@ fn answer_by_plan(
     }
 }
 
-/// Answers a message to the view of an id that asks for a frequent change of which it hears. What changes nothing, and what is refused,
-/// goes by its plan. It stands apart, so that changes of which nobody hears set up no notes.
+/// Answers a message that asks for a frequent change, to the view of an id that hears of such changes: it is made with the notes for all
+/// views that hear of it. What changes nothing, and what is refused, goes by its plan. It stands apart, so that changes of which nobody
+/// hears set up no notes.
 ///
 /// # Errors
 ///
