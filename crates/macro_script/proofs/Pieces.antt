@@ -148,6 +148,10 @@ tail_length text at = ap length (take_rest text at) ∙ length-drop at text
 pub byte_stopped : (text bytes old new : List ℕ) → 0 < length text → bytes ≡ spelled_byte (get_or text 0 0) → AppendsPart old new bytes → AppendsPart old new (spelled_bytes text)
 byte_stopped text bytes old new h is some = part_of_front 1 text old new (subst (AppendsPart old new) (is ∙ sym (byte_at_front text h)) some)
 
+-- .. where memory runs out at it
+pub byte_refused : (text old new : List ℕ) (r : Result ℕ AllocError) → IsErr r → 0 < length text → AppendsPart old new (spelled_byte (get_or text 0 0)) → AppendsSome text old new r
+byte_refused text old new r refused h some = stopped_some text old new r refused (byte_stopped text (spelled_byte (get_or text 0 0)) old new h refl some)
+
 -- Pieces of a list's items, one after another.
 take_item : {X : Type 0} (xs : List X) (i : ℕ) (x : X) → slice_get xs i ≡ Some x → (take (i + 1) xs ≡ take i xs ++ x ∷ []) × (drop i xs ≡ x ∷ drop (i + 1) xs)
 take_item [] i x h = cc

@@ -139,6 +139,7 @@ fn append_byte(out: &mut Vec<u8>, byte: u8) -> Result<(), AllocError>
 }
 
 /// Appends the spelling of the first bytes, and says of how many, one at least.
+#[tactic(auto, using(crate::proofs::Pieces::byte_refused))]
 fn append_some(out: &mut Vec<u8>, text: &[u8]) -> Result<usize, AllocError>
     requires { 0 < length text.now }
     ensures { AppendsSome text.now out.old.items out.new.items result }
