@@ -71,7 +71,7 @@ whole "GETTEXT of 16 MiB" "the whole text handed out" ""
 ratio "GETTEXT of 16 MiB, beside a copy" "the whole text handed out" "as many bytes copied" 1 1.1
 
 # The most bytes held while a text is loaded, but for the text that is lent, beside those of the text and of 4 for each line's start.
-compiler=$(command -v cc || command -v gcc || command -v clang || echo /opt/rattle/toolchain/bin/clang)
+compiler=$(command -v cc || command -v gcc || command -v clang)
 if "$compiler" -shared -fPIC -O2 -o "$work/heap_count.so" "$top/tools/heap_count.c"; then
     HEAP_REPORT=$work/report LD_PRELOAD=$work/heap_count.so "$program" load $sixteen >/dev/null 2>&1
     held=$(awk -v lines=$sixteen '{ printf "- %.3f -", ($8 - lines * 40) / (lines * 40 + lines * 4) }' "$work/report")

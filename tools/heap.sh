@@ -8,7 +8,7 @@ program=$top/crates/sci_console/out/sci_console
 [ -x "$program" ] || { echo "sci_console was not built"; exit 2; }
 work=$(mktemp -d)
 trap 'rm -rf "$work"' EXIT
-compiler=$(command -v cc || command -v gcc || command -v clang || echo /opt/rattle/toolchain/bin/clang)
+compiler=$(command -v cc || command -v gcc || command -v clang)
 "$compiler" -shared -fPIC -O2 -o "$work/heap_count.so" "$top/tools/heap_count.c" || exit 2
 passed=0
 failed=0
