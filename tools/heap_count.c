@@ -1,6 +1,7 @@
 /* Counts the blocks that a program takes of the heap and gives back. Preloaded (LD_PRELOAD), it writes at the end one line into the file that HEAP_REPORT
- * names: how many were taken, how many of them were not given back, the largest one's size in bytes, and the most bytes that all blocks held together had at
- * any time. Where HEAP_MOST is set, a block of more bytes is refused; where HEAP_PEAK is set, a block with which all would have more bytes. */
+ * names: how many were taken, how many of them were not given back, the largest one's size in bytes, the most bytes that all blocks held together had at any
+ * time, and how often a block, or a larger one, was asked for. Where HEAP_MOST is set, a block of more bytes is refused; where HEAP_PEAK is set, a block with
+ * which all would have more bytes; where HEAP_REFUSED is set, what is asked for at that time, counted from 1. */
 #include <errno.h>
 #include <fcntl.h>
 #include <malloc.h>
@@ -15,7 +16,7 @@ void *__libc_realloc(void *block, size_t size);
 void *__libc_memalign(size_t alignment, size_t size);
 void __libc_free(void *block);
 
-static unsigned long taken, given, largest, held, peak, most = SIZE_MAX, peak_limit = SIZE_MAX;
+static unsigned long taken, given, largest, held, peak, asked, most = SIZE_MAX, peak_limit = SIZE_MAX, refused_at = SIZE_MAX;
 
 static unsigned long limit_of(const char *name) {
   const char *limit = getenv(name);
@@ -25,11 +26,13 @@ static unsigned long limit_of(const char *name) {
 __attribute__((constructor)) static void begin(void) {
   most = limit_of("HEAP_MOST");
   peak_limit = limit_of("HEAP_PEAK");
+  refused_at = limit_of("HEAP_REFUSED");
 }
 
 /* Whether a block of this size is refused, with which all hold `more` bytes more than now. */
 static int refused_growth(size_t size, size_t more) {
-  if (size <= most && more <= peak_limit && held <= peak_limit - more) return 0;
+  asked++;
+  if (asked != refused_at && size <= most && more <= peak_limit && held <= peak_limit - more) return 0;
   errno = ENOMEM;
   return 1;
 }
@@ -84,9 +87,9 @@ void free(void *block) {
 
 __attribute__((destructor)) static void end(void) {
   const char *place = getenv("HEAP_REPORT");
-  char line[128];
+  char line[160];
   if (!place) return;
   int file = open(place, O_WRONLY | O_CREAT | O_TRUNC, 0644);
-  int length = snprintf(line, sizeof line, "taken %lu kept %lu largest %lu peak %lu\n", taken, taken - given, largest, peak);
+  int length = snprintf(line, sizeof line, "taken %lu kept %lu largest %lu peak %lu asked %lu\n", taken, taken - given, largest, peak, asked);
   if (file >= 0 && write(file, line, (size_t)length) == length) close(file);
 }
