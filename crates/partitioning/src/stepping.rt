@@ -7,7 +7,6 @@ use crate::places::Place;
 use crate::table::Partitioning;
 use split_vector::SplitVector;
 use std::alloc::Allocator;
-use std::mem::size_of_val;
 
 // Returns how many of the starts are stored as they are, with the step at a partition.
 fn near_starts(step: usize, count: usize) -> usize
@@ -16,60 +15,16 @@ fn near_starts(step: usize, count: usize) -> usize
     if step < count { step + 1 } else { count }
 }
 
-// So many starts are turned at once: they stand side by side, and the processor works on several of them at a time.
-const AT_ONCE: usize = 64;
-
-// Fewer starts are turned one by one.
-const FEW: usize = 16;
-
-// A part of wider places would take too much of the stack. Those of this crate have 4 bytes or 8.
-const WIDEST: usize = 16;
-
-// Replaces each of the numbers by its distance to the end.
-fn turn_all<P: Place>(places: &mut [P], end: P)
-    requires within { AreWithin (P.number end) (map P.number places.old) }
-    ensures turned { IsTurned (P.number end) 0 (length places.old) (map P.number places.old) (map P.number places.new) }
-{
-    for index in 0..places.len() {
-        places[index] = end.minus(places[index]);
-    }
-}
-
-// The same for the starts from `index` on, as many as there are places, which serve as memory.
+// Replaces the start at `index` by its distance to the end, or the distance by the start.
 #[inline]
-fn turn_part<P: Place, A: Allocator>(
-    body: &mut SplitVector<P, A>,
-    index: usize,
-    places: &mut [P],
-    end: P,
-)
-    requires range { index + length places.old ≤ length body.old.items }
+fn turn_one<P: Place, A: Allocator>(body: &mut SplitVector<P, A>, index: usize, end: P)
+    requires index { index < length body.old.items }
     requires within { AreWithin (P.number end) (map P.number body.old.items) }
-    ensures turned { IsTurned (P.number end) index (index + length places.old) (map P.number body.old.items) (map P.number body.new.items) }
+    ensures turned { IsTurned (P.number end) index (index + 1) (map P.number body.old.items) (map P.number body.new.items) }
     ensures spare { body.new.spare ≡ body.old.spare }
 {
-    body.copy_out(index, places);
-    turn_all(places, end);
-    body.overwrite(index, places);
-}
-
-// The same for the starts from `low` up to `high`, one by one: for few of them, and for places that are too wide for a part to stand on
-// the stack.
-fn turn_singly<P: Place, A: Allocator>(
-    body: &mut SplitVector<P, A>,
-    low: usize,
-    high: usize,
-    end: P,
-)
-    requires range { (low ≤ high) × (high ≤ length body.old.items) }
-    requires within { AreWithin (P.number end) (map P.number body.old.items) }
-    ensures turned { IsTurned (P.number end) low high (map P.number body.old.items) (map P.number body.new.items) }
-    ensures spare { body.new.spare ≡ body.old.spare }
-{
-    for index in low..high {
-        let distance = end.minus(body.get(index));
-        body.set(index, distance);
-    }
+    let distance = end.minus(body.get(index));
+    body.set(index, distance);
 }
 
 // Replaces each start from `low` up to `high` by its distance to the end, and each distance by the start.
@@ -79,16 +34,7 @@ fn turn<P: Place, A: Allocator>(body: &mut SplitVector<P, A>, low: usize, high: 
     ensures turned { IsTurned (P.number end) low high (map P.number body.old.items) (map P.number body.new.items) }
     ensures spare { body.new.spare ≡ body.old.spare }
 {
-    if high - low < FEW || size_of_val(&end) > WIDEST {
-        return turn_singly(body, low, high, end);
-    }
-    let mut places = [P::zero(); AT_ONCE];
-    let mut index = low;
-    'turning: while index < high {
-        let count = (high - index).min(AT_ONCE);
-        turn_part(body, index, &mut places[..count], end);
-        index += count;
-    }
+    body.update(low, high, |stored| end.minus(stored));
 }
 
 impl<P: Place, A: Allocator> Partitioning<P, A> {
@@ -103,7 +49,7 @@ impl<P: Place, A: Allocator> Partitioning<P, A> {
     {
         let _ = self.count(); // it says that the number of starts is small
         let index = self.step_at + 1;
-        turn_singly(&mut self.body, index, index + 1, self.end);
+        turn_one(&mut self.body, index, self.end);
         self.step_at = index;
         self.stepped = self.stepped.saturating_add(1);
     }

@@ -3,4 +3,5 @@ pub mod Memory
 pub mod Overwriting
 pub mod Sharing
 pub mod Splits
+pub mod Updating
 pub mod Whole

@@ -1,5 +1,5 @@
 -- What a contract sees of a `SplitVector`.
-use Rattle.std.specs.Prelude.{ℕ, ◌+◌, ◌-◌, ◌/◌, ◌^◌, ◌==◌, nat_lt, nat_le, ◌&&◌, if◌then◌else◌, min, max, ◌*◌, List, length, take, drop, ◌++◌, refl}
+use Rattle.std.specs.Prelude.{◌≡◌, ℕ, ◌+◌, ◌-◌, ◌/◌, ◌^◌, ◌<◌, ◌≤◌, ◌==◌, nat_lt, nat_le, ◌&&◌, if◌then◌else◌, min, max, ◌*◌, List, length, take, drop, ◌++◌, slice_index_or, refl}
 use Rattle.std.specs.Coded.{Coded, code_by, coded×, coded_list, coded_ℕ}
 
 -- the items, how many more fit into the block, how many items lie before the gap, and how many were moved or written so far
@@ -27,6 +27,17 @@ module _ {X : Type 0} where
   -- xs with the items new in place of those from the place on
   abbrev pub overwritten : List X → ℕ → List X → List X
   overwritten xs place new = take place xs ++ new ++ drop (place + length new) xs
+
+  -- P holds of each item from low up to high
+  abbrev pub EachBetween : (X → Type 0) → ℕ → ℕ → List X → Type 0
+  EachBetween P low high xs = (k : ℕ) (d : X) → low ≤ k → k < high → P (slice_index_or xs k d)
+
+  -- new is old, with an item that R relates to the old one in place of each from low up to high
+  pub record IsUpdated (R : X → X → Type 0) (low high : ℕ) (old new : List X) : Type 0 where
+    pub same_length : length new ≡ length old
+    pub updated : (k : ℕ) (d : X) → low ≤ k → k < high → R (slice_index_or old k d) (slice_index_or new k d)
+    pub kept_below : (k : ℕ) (d : X) → k < low → slice_index_or new k d ≡ slice_index_or old k d
+    pub kept_above : (k : ℕ) (d : X) → high ≤ k → slice_index_or new k d ≡ slice_index_or old k d
 
 -- a counter that stays at the greatest `u64`
 abbrev pub counted : ℕ → ℕ → ℕ

@@ -3,7 +3,7 @@ ghost use Rattle.std.specs.Prelude.{◌≡◌, ◌≤◌, ◌<◌, ◌+◌, ◌-
 ghost use Rattle.std.specs.Vec.Ownership.{FitsInBlock};
 ghost use Rattle.std.specs.Mem.{type_size};
 ghost use Rattle.split_vector.specs.Cells.{IsRun};
-ghost use Rattle.split_vector.specs.Split.{counted, apart, outside, overwritten};
+ghost use Rattle.split_vector.specs.Split.{counted, apart, outside, overwritten, EachBetween, IsUpdated};
 ghost use Rattle.split_vector.specs.Block.{IsBlock, Has, block_items, block_cells};
 
 use crate::cells::{Base, Cells, Deed, allocate, deallocate, discard, enlarge, no_cells};
@@ -11,8 +11,9 @@ use std::alloc::{AllocError, Allocator};
 use std::mem::{self, size_of_val};
 use std_alloc::room::may_hold;
 
-/// So many items are carried over the gap at once, where it moves far: a copy of them that is written on the other side is one move of
-/// memory, by the widest registers that the processor has.
+/// So many items are carried over the gap at once, where it moves far. `raise_part` and `lower_part` copy them to the stack and write them
+/// on the other side, but clang makes one move of memory of it: in `objdump -d` of a proved program a part is one call of `memmove`, of
+/// 32,768 bytes for items of 8, straight from where they lie to where they go. So each item is written once, as it is counted.
 const PART: usize = 4096;
 
 /// A part of more bytes is not copied to the stack.
@@ -356,6 +357,31 @@ impl<T, A: Allocator> Block<T, A> {
             self.cells.overwrite_left(self.base, place, left);
             self.cells.overwrite_right(self.base, 0, behind, right);
         }
+    }
+
+    /// Writes what `change` returns for it over each item from `low` up to `high`: those before the gap, then those behind it.
+    #[inline]
+    pub(crate) fn update<F: Fn(T) -> T>(&mut self, low: usize, high: usize, change: &F)
+    where
+        T: Copy,
+        requires range { IsBlock self.old × (low ≤ high) × (high ≤ self.old.len) }
+        requires callable { EachBetween (F.pre change.now) low high (block_items self.old) }
+        ensures fields { IsBlock self.new × (self.new.spare ≡ self.old.spare) × (self.new.gap ≡ self.old.gap) × (self.new.moved ≡ self.old.moved) }
+        ensures items { IsUpdated (F.post change.now) low high (block_items self.old) (block_items self.new) }
+    {
+        let gap = self.gap;
+        let first = gap + self.spare;
+        let right = self.len - gap;
+        self.cells
+            .update_left(self.base, gap, low.min(gap), high.min(gap), change);
+        self.cells.update_right(
+            self.base,
+            first,
+            right,
+            low.max(gap) - gap,
+            high.max(gap) - gap,
+            change,
+        );
     }
 
     // Has the allocator make the block one of `size` cells: no item lies behind the gap.

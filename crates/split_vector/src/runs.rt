@@ -1,6 +1,6 @@
 //! Safe steps over runs of cells.
 ghost use Rattle.std.specs.Prelude.{◌≡◌, ◌+◌, ◌-◌, ◌≤◌, ◌^◌, ◌<◌, ◌++◌, length, replicate};
-ghost use Rattle.split_vector.specs.Split.{overwritten};
+ghost use Rattle.split_vector.specs.Split.{overwritten, EachBetween, IsUpdated};
 
 use crate::cells::{Base, Cells};
 
@@ -56,6 +56,55 @@ impl<T> Cells<T> {
     {
         for i in 0..source.len() {
             self.replace_right(base, cell + i, source[i]);
+        }
+    }
+
+    /// Writes what `change` returns for it over each item from `low` up to `high`, on the left.
+    #[inline(always)]
+    pub(crate) fn update_left<F: Fn(T) -> T>(
+        &mut self,
+        base: Base<T>,
+        gap: usize,
+        low: usize,
+        high: usize,
+        change: &F,
+    )
+    where
+        T: Copy,
+        requires cells { (base.ptr ≡ self.old.at) × (gap ≡ length self.old.left) }
+        requires range { (low ≤ high) × (high ≤ gap) }
+        requires callable { EachBetween (F.pre change.now) low high self.old.left }
+        ensures others { (self.new.at ≡ self.old.at) × (self.new.spare ≡ self.old.spare) × (self.new.right ≡ self.old.right) }
+        ensures items { IsUpdated (F.post change.now) low high self.old.left self.new.left }
+    {
+        for index in low..high {
+            let item = self.left(base, gap)[index];
+            self.replace_left(base, index, change(item));
+        }
+    }
+
+    /// The same on the right, whose `len` items stand in the cells from `first` on.
+    #[inline(always)]
+    pub(crate) fn update_right<F: Fn(T) -> T>(
+        &mut self,
+        base: Base<T>,
+        first: usize,
+        len: usize,
+        low: usize,
+        high: usize,
+        change: &F,
+    )
+    where
+        T: Copy,
+        requires cells { (base.ptr ≡ self.old.at) × (first ≡ length self.old.left + self.old.spare) × (len ≡ length self.old.right) × (first + len < 2 ^ 63) }
+        requires range { (low ≤ high) × (high ≤ len) }
+        requires callable { EachBetween (F.pre change.now) low high self.old.right }
+        ensures others { (self.new.at ≡ self.old.at) × (self.new.left ≡ self.old.left) × (self.new.spare ≡ self.old.spare) }
+        ensures items { IsUpdated (F.post change.now) low high self.old.right self.new.right }
+    {
+        for index in low..high {
+            let item = self.right(base, first, len)[index];
+            self.replace_right(base, first + index, change(item));
         }
     }
 

@@ -1,7 +1,7 @@
 //! `SplitVector` and its calls. A clause sees a vector as its `items`, `spare`, `gap` and `moved`.
 ghost use Rattle.std.specs.Prelude.{◌≡◌, ◌≤◌, ◌<◌, ◌+◌, ◌*◌, ◌^◌, ◌==◌, ◌⊎◌, [], ◌∷◌, ◌++◌, length, replicate, slice_index_or, slice_set, slice_range, OnOk, OnErr, IsOk};
 ghost use Rattle.std.specs.Borrow.{sem};
-ghost use Rattle.split_vector.specs.Split.{split, inserted, deleted, overwritten, gap_after, moved_after, gap_closed, moved_closed, most_room, part_larger};
+ghost use Rattle.split_vector.specs.Split.{split, inserted, deleted, overwritten, EachBetween, IsUpdated, gap_after, moved_after, gap_closed, moved_closed, most_room, part_larger};
 
 use crate::block::Block;
 use std::alloc::{AllocError, Allocator, Global};
@@ -109,6 +109,19 @@ impl<T: Copy, A: Allocator> SplitVector<T, A> {
         ensures moved { self.new.moved ≡ self.old.moved }
     {
         self.block.overwrite(place, source);
+    }
+
+    /// Replaces each item from `low` up to `high` by what `change` returns for it. Nothing moves.
+    #[inline]
+    pub fn update<F: Fn(T) -> T>(&mut self, low: usize, high: usize, change: F)
+        requires range { (low ≤ high) × (high ≤ length self.old.items) }
+        requires callable { EachBetween (F.pre change) low high self.old.items }
+        ensures items { IsUpdated (F.post change) low high self.old.items self.new.items }
+        ensures spare { self.new.spare ≡ self.old.spare }
+        ensures gap { self.new.gap ≡ self.old.gap }
+        ensures moved { self.new.moved ≡ self.old.moved }
+    {
+        self.block.update(low, high, &change);
     }
 
     /// Makes room for `count` more items, in a block of at least twice the size where the room is too small, so that a

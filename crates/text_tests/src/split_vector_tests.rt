@@ -161,3 +161,35 @@ fn marks_are_copied(rt: HostRuntime) {
     let mut v: SplitVector<Mark> = SplitVector::new(rt.alloc());
     copy_marks(&rt, &mut v);
 }
+
+fn divide_over_the_gap(rt: &impl Abort, v: &mut SplitVector<u32>) {
+    v.reserve(6).expect(rt, "memory");
+    v.insert_slice_reserved(0, &[10, 20, 30, 40, 50]);
+    v.insert_reserved(2, 25);
+    assert!(rt; v.gap() == 3 && v.len() == 6);
+    let moved = v.moved();
+    v.update(1, 5, |item| item / 5);
+    let mut all = [0; 6];
+    v.copy_out(0, &mut all);
+    assert_eq!(rt; all.as_slice(), [10, 4, 5, 6, 8, 50].as_slice());
+    assert_eq!(rt; v.gap(), 3);
+    assert_eq!(rt; v.moved(), moved);
+}
+
+fn update_beside_the_gap(rt: &impl Abort, v: &mut SplitVector<u32>) {
+    assert!(rt; v.gap() == 3 && v.len() == 6);
+    let mask = 1;
+    v.update(4, 6, |item| item ^ mask);
+    v.update(0, 3, |item| item / 2);
+    v.update(3, 3, |item| item / 2);
+    let mut all = [0; 6];
+    v.copy_out(0, &mut all);
+    assert_eq!(rt; all.as_slice(), [5, 2, 2, 6, 9, 51].as_slice());
+}
+
+#[test]
+fn items_are_updated_where_they_lie(rt: HostRuntime) {
+    let mut v: SplitVector<u32> = SplitVector::new(rt.alloc());
+    divide_over_the_gap(&rt, &mut v);
+    update_beside_the_gap(&rt, &mut v);
+}

@@ -9,8 +9,8 @@ invariant_of-self g c =
     let e = f c.self.inside.end in
     let h : c.self.inside.step_at + 1 < length xs = omega (arith, c.requires, length-starts_of e c.self.inside.step_at xs, ap (λ p. length p.starts) c.self.view_is, ap (λ p. p.step_at) c.self.view_is) in
     (step_taken g.P.Place.GREATEST e c.self.inside.step_at (c.self.inside.step_at + 1) (length xs) (c.self.inside.step_at + 1) (c.self.inside.step_at + 1 + 1)
-    (c.self.inside.step_at + 1) (c.self.inside.step_at + 1 + 1) xs (map f c.turn_singly.new.body.items)
-    refl (omega arith) (omega arith) (omega arith) (omega arith) c.turn_singly.ensures.turned c.self.invariant (omega arith)).0
+    (c.self.inside.step_at + 1) (c.self.inside.step_at + 1 + 1) xs (map f c.turn_one.new.body.items)
+    refl (omega arith) (omega arith) (omega arith) (omega arith) c.turn_one.ensures.turned c.self.invariant (omega arith)).0
 
 pub returns-clause-starts : goal.returns-clause-starts
 returns-clause-starts g c =
@@ -20,5 +20,5 @@ returns-clause-starts g c =
     let h : c.self.inside.step_at + 1 < length xs = omega (arith, c.requires, length-starts_of e c.self.inside.step_at xs, ap (λ p. length p.starts) c.self.view_is, ap (λ p. p.step_at) c.self.view_is) in
     rw (← c.self.view_is)
     (step_taken g.P.Place.GREATEST e c.self.inside.step_at (c.self.inside.step_at + 1) (length xs) (c.self.inside.step_at + 1) (c.self.inside.step_at + 1 + 1)
-    (c.self.inside.step_at + 1) (c.self.inside.step_at + 1 + 1) xs (map f c.turn_singly.new.body.items)
-    refl (omega arith) (omega arith) (omega arith) (omega arith) c.turn_singly.ensures.turned c.self.invariant (omega arith)).1
+    (c.self.inside.step_at + 1) (c.self.inside.step_at + 1 + 1) xs (map f c.turn_one.new.body.items)
+    refl (omega arith) (omega arith) (omega arith) (omega arith) c.turn_one.ensures.turned c.self.invariant (omega arith)).1

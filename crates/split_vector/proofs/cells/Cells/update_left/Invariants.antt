@@ -1,0 +1,11 @@
+use Rattle.std.proofs.Common.{◌≡◌}
+use Rattle.split_vector.specs.Split.{IsUpdated}
+use Rattle.split_vector.proofs.cells.Cells.update_left.Given as goal
+
+-- the items before `index` are replaced
+abbrev pub invariant-loop-index : goal.invariant-loop-index
+invariant-loop-index g l =
+    record {
+      others : (l.self.at ≡ l.initial.self.at) × (l.self.spare ≡ l.initial.self.spare) × (l.self.right ≡ l.initial.self.right);
+      items : IsUpdated (goal.F-post g l.change) l.low l.index l.initial.self.left l.self.left;
+    }

@@ -1,0 +1,11 @@
+use Rattle.std.proofs.Common.{◌≡◌}
+use Rattle.split_vector.specs.Split.{IsUpdated}
+use Rattle.split_vector.proofs.cells.Cells.update_right.Given as goal
+
+-- the items before `index` are replaced
+abbrev pub invariant-loop-index : goal.invariant-loop-index
+invariant-loop-index g l =
+    record {
+      others : (l.self.at ≡ l.initial.self.at) × (l.self.left ≡ l.initial.self.left) × (l.self.spare ≡ l.initial.self.spare);
+      items : IsUpdated (goal.F-post g l.change) l.low l.index l.initial.self.right l.self.right;
+    }
