@@ -46,9 +46,8 @@ pub(crate) struct FrequentChange {
     pub value: i64,
 }
 
-/// The kind of the message with this number, if it asks for a frequent change and the view of an id hears of one of the three kinds of
-/// them. Such a view is mostly told of this one too, so the change is made with its notes at once, and is not tried without them first.
-/// `None` where that view hears of none of the three, though others may: whether anybody hears of it is then asked where it is made.
+/// The kind of message `number`, if it is a frequent change and `view` listens for changes of any of the three kinds. Such a view is
+/// usually notified, so the message takes the notifying path directly. `None` otherwise, even where other views listen.
 #[inline(always)]
 pub(crate) fn heard_change_of(state: &SessionState, view: u32, number: u32) -> Option<Kind>
     ensures { IfSome result (λ kind. frequent_change_of number ≡ Some kind) }

@@ -1,7 +1,8 @@
-//! A message on its way through a session. A question is answered first; a frequent change is made with its notes where the view that it
-//! is sent to hears of such changes, and without any where nobody hears of it; so is undo or redo of which nobody hears; and a message
-//! by which a search goes from match to match is answered by its plan alone where the view does not record. All else, and what of these
-//! is refused, is found and planned, and answered at once or carried out.
+//! A message on its way through a session. `answer_message` answers a question first; `answer_into` does not, and plans it as others. Then
+//! both try the short ways. A frequent change is made with its notes where the view that it is sent to listens for such changes, and
+//! without notes where no view listens. Undo and redo are performed at once where no view listens. A message by which a search goes from
+//! match to match is answered by its plan alone where the view does not record. All else, and what is refused, is planned, and then
+//! answered at once or carried out.
 
 ghost use Rattle.std.specs.Prelude.{◌≡◌, ◌≢◌, ◌&&◌, ◌≤◌, ◌+◌, [], length, slice_range, true, IfOk, IfErr, IfSome, IfNone, IsOk, Ok, Err, Some};
 ghost use Rattle.ed_types.specs.declared.refusal.Refusal.TheVariants.{OutOfMemory};
