@@ -67,9 +67,8 @@ fn is_alike_everywhere(
     view: u32,
     number: u32,
 ) -> bool {
-    for w in 0..13 {
-        for l in 0..13 {
-            let (w, l) = (w - 1, l - 1);
+    for w in -1..12 {
+        for l in -1..12 {
             let asked = Asked { view, number, w, l };
             if !is_answered_alike(alloc, one, other, asked) {
                 return false;
