@@ -5,6 +5,7 @@ pub mod FoldLines
 pub mod Headings
 pub mod InAll
 pub mod Kept
+pub mod Least
 pub mod LineSets
 pub mod Nesting
 pub mod Outside

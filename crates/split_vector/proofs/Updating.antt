@@ -5,37 +5,6 @@ use Rattle.std.proofs.lemmas.List.{length-append, length-set, get_or-set_same, g
 use Rattle.split_vector.specs.Split.{EachBetween, IsUpdated}
 
 module _ {X : Type 0} (R : X → X → Type 0) where
-  -- no item replaced
-  pub updated_none : (low high : ℕ) (xs : List X) → high ≤ low → IsUpdated R low high xs xs
-  updated_none low high xs h =
-      record {
-        same_length = refl;
-        updated = λ k d a b. absurd (omega arith);
-        kept_below = λ k d a. refl;
-        kept_above = λ k d a. refl;
-      }
-
-  updated_at :
-      (low i : ℕ) (old new : List X) (x y : X) (k : ℕ) (d : X) → IsUpdated R low i old new → i < length new → x ≡ get_or new i x → R x y
-      → low ≤ k → k < i + 1 → (k ≡ i) ⊎ (k ≢ i) → R (get_or old k d) (get_or (set new i y) k d)
-  updated_at low i old new x y k d u l e r a b (inl q) =
-      let was : get_or old i d ≡ x = sym (u.kept_above i d (omega arith)) ∙ get_or_default new i d x l ∙ sym e in
-      rw (q, was, get_or-set_same new i y d l) r
-  updated_at low i old new x y k d u l e r a b (inr ne) =
-      rw (get_or-set_other new i k y d ne) (u.updated k d a (omega arith))
-
-  -- one more item replaced
-  pub updated_more :
-      (low i : ℕ) (old new : List X) (x y : X) → IsUpdated R low i old new → low ≤ i → i < length new → x ≡ get_or new i x → R x y
-      → IsUpdated R low (i + 1) old (set new i y)
-  updated_more low i old new x y u h l e r =
-      record {
-        same_length = length-set new i y ∙ u.same_length;
-        updated = λ k d a b. updated_at low i old new x y k d u l e r a b (cases_eq k i);
-        kept_below = λ k d a. let ne : k ≢ i = omega arith in get_or-set_other new i k y d ne ∙ u.kept_below k d a;
-        kept_above = λ k d a. let ne : k ≢ i = omega arith in get_or-set_other new i k y d ne ∙ u.kept_above k d (omega arith);
-      }
-
   -- the items of the range that lie in the first of two lists replaced, and those that lie in the second
   module _ (low high n a b p q : ℕ) (xs ys xs' ys' : List X) (m : n ≡ length xs)
       (low_left : a ≡ min low n) (high_left : b ≡ min high n) (low_right : p ≡ max low n) (high_right : q ≡ max high n)

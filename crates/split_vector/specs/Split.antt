@@ -24,10 +24,6 @@ module _ {X : Type 0} where
   abbrev pub deleted : List X → ℕ → ℕ → List X
   deleted xs place count = take place xs ++ drop (place + count) xs
 
-  -- xs with the items new in place of those from the place on
-  abbrev pub overwritten : List X → ℕ → List X → List X
-  overwritten xs place new = take place xs ++ new ++ drop (place + length new) xs
-
   -- P holds of each item from low up to high
   abbrev pub EachBetween : (X → Type 0) → ℕ → ℕ → List X → Type 0
   EachBetween P low high xs = (k : ℕ) (d : X) → low ≤ k → k < high → P (slice_index_or xs k d)

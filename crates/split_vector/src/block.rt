@@ -3,7 +3,7 @@ ghost use Rattle.std.specs.Prelude.{◌≡◌, ◌≤◌, ◌<◌, ◌+◌, ◌-
 ghost use Rattle.std.specs.Vec.Ownership.{FitsInBlock};
 ghost use Rattle.std.specs.Mem.{type_size};
 ghost use Rattle.split_vector.specs.Cells.{IsRun};
-ghost use Rattle.split_vector.specs.Split.{counted, apart, outside, overwritten, EachBetween, IsUpdated};
+ghost use Rattle.split_vector.specs.Split.{counted, apart, outside, EachBetween, IsUpdated};
 ghost use Rattle.split_vector.specs.Block.{IsBlock, Has, block_items, block_cells};
 
 use crate::cells::{Base, Cells, Deed, allocate, deallocate, discard, enlarge, no_cells};
@@ -333,29 +333,6 @@ impl<T, A: Allocator> Block<T, A> {
         } else {
             self.cells
                 .replace_right(self.base, index + self.spare, item);
-        }
-    }
-
-    /// Writes the items of `source` over those from `place` on.
-    pub(crate) fn overwrite(&mut self, place: usize, source: &[T])
-    where
-        T: Copy,
-        requires { IsBlock self.old × (place + length source.now ≤ self.old.len) }
-        ensures fields { IsBlock self.new × (self.new.spare ≡ self.old.spare) × (self.new.gap ≡ self.old.gap) × (self.new.moved ≡ self.old.moved) }
-        ensures items { block_items self.new ≡ overwritten (block_items self.old) place source.now }
-    {
-        let gap = self.gap;
-        let behind = gap + self.spare;
-        if place + source.len() <= gap {
-            self.cells.overwrite_left(self.base, place, source);
-        } else if gap <= place {
-            let cell = place + self.spare;
-            self.cells
-                .overwrite_right(self.base, place - gap, cell, source);
-        } else {
-            let (left, right) = source.split_at(gap - place);
-            self.cells.overwrite_left(self.base, place, left);
-            self.cells.overwrite_right(self.base, 0, behind, right);
         }
     }
 

@@ -1,6 +1,6 @@
 //! Safe steps over runs of cells.
 ghost use Rattle.std.specs.Prelude.{◌≡◌, ◌+◌, ◌-◌, ◌≤◌, ◌^◌, ◌<◌, ◌++◌, length, replicate};
-ghost use Rattle.split_vector.specs.Split.{overwritten, EachBetween, IsUpdated};
+ghost use Rattle.split_vector.specs.Split.{EachBetween, IsUpdated};
 
 use crate::cells::{Base, Cells};
 
@@ -31,31 +31,6 @@ impl<T> Cells<T> {
     {
         for i in 0..source.len() {
             self.push(base, gap + i, source[i]);
-        }
-    }
-
-    /// Writes the items of `source` over those from `place` on, on the left. The old items are forgotten.
-    pub(crate) fn overwrite_left(&mut self, base: Base<T>, place: usize, source: &[T])
-    where
-        T: Copy,
-        requires { (base.ptr ≡ self.old.at) × (place + length source.now ≤ length self.old.left) × (length self.old.left < 2 ^ 63) }
-        ensures { (self.new.at ≡ self.old.at) × (self.new.left ≡ overwritten self.old.left place source.now) × (self.new.spare ≡ self.old.spare) × (self.new.right ≡ self.old.right) }
-    {
-        for i in 0..source.len() {
-            self.replace_left(base, place + i, source[i]);
-        }
-    }
-
-    /// Writes the items of `source` over those from the one at `place` of the right on, which stand in the cells from `cell` on. The
-    /// old items are forgotten.
-    pub(crate) fn overwrite_right(&mut self, base: Base<T>, place: usize, cell: usize, source: &[T])
-    where
-        T: Copy,
-        requires { (base.ptr ≡ self.old.at) × (cell ≡ length self.old.left + self.old.spare + place) × (place + length source.now ≤ length self.old.right) × (cell + length source.now < 2 ^ 63) }
-        ensures { (self.new.at ≡ self.old.at) × (self.new.left ≡ self.old.left) × (self.new.spare ≡ self.old.spare) × (self.new.right ≡ overwritten self.old.right place source.now) }
-    {
-        for i in 0..source.len() {
-            self.replace_right(base, cell + i, source[i]);
         }
     }
 

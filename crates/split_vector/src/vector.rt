@@ -1,7 +1,7 @@
 //! `SplitVector` and its calls. A clause sees a vector as its `items`, `spare`, `gap` and `moved`.
 ghost use Rattle.std.specs.Prelude.{◌≡◌, ◌≤◌, ◌<◌, ◌+◌, ◌*◌, ◌^◌, ◌==◌, ◌⊎◌, [], ◌∷◌, ◌++◌, length, replicate, slice_index_or, slice_set, slice_range, OnOk, OnErr, IsOk};
 ghost use Rattle.std.specs.Borrow.{sem};
-ghost use Rattle.split_vector.specs.Split.{split, inserted, deleted, overwritten, EachBetween, IsUpdated, gap_after, moved_after, gap_closed, moved_closed, most_room, part_larger};
+ghost use Rattle.split_vector.specs.Split.{split, inserted, deleted, EachBetween, IsUpdated, gap_after, moved_after, gap_closed, moved_closed, most_room, part_larger};
 
 use crate::block::Block;
 use std::alloc::{AllocError, Allocator, Global};
@@ -98,17 +98,6 @@ impl<T: Copy, A: Allocator> SplitVector<T, A> {
         ensures moved { self.new.moved ≡ self.old.moved }
     {
         self.block.replace(index, item);
-    }
-
-    /// Puts the items of `source` in place of those from `place` on. Nothing moves.
-    pub fn overwrite(&mut self, place: usize, source: &[T])
-        requires { place + length source.now ≤ length self.old.items }
-        ensures items { self.new.items ≡ overwritten self.old.items place source.now }
-        ensures spare { self.new.spare ≡ self.old.spare }
-        ensures gap { self.new.gap ≡ self.old.gap }
-        ensures moved { self.new.moved ≡ self.old.moved }
-    {
-        self.block.overwrite(place, source);
     }
 
     /// Replaces each item from `low` up to `high` by what `change` returns for it. Nothing moves.

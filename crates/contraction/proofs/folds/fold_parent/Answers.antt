@@ -1,4 +1,4 @@
-use Rattle.std.proofs.Common.{◌≡◌, length, sym, ap, ◌∙◌, arith}
+use Rattle.std.proofs.Common.{◌≡◌, ◌≤◌, length, sym, ap, ◌∙◌, arith, rules}
 use Rattle.contraction.specs.Headings.{last_heading}
 use Rattle.contraction.proofs.Headings.{heading_of_parts, in_part, none_from}
 use Rattle.contraction.proofs.folds.fold_parent.Goals as goal
@@ -22,6 +22,6 @@ returns-clause-parent c =
 
 pub returns-then-number-least-clause-parent : goal.returns-then-number-least-clause-parent
 returns-then-number-least-clause-parent c =
-    let a = c.args in
-    sym (none_from c.number_at-number.result c.least.result a.line a.levels.now (omega (arith, c.requires)) c.if-number-least.true c.least.ensures)
+    let a = c.args in let none : c.number_at-number.result ≤ c.least.result = search rules in
+    sym (none_from c.number_at-number.result c.least.result a.line a.levels.now (omega (arith, c.requires)) none c.least.ensures)
     ∙ ap (λ m. last_heading m a.levels.now a.line) c.number_at-number.ensures

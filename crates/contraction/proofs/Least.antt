@@ -1,4 +1,4 @@
--- Numbers that no header's number is smaller than. Cited by the proofs of `fold_parent`, in proofs/Headings.antt of this crate alone.
+-- Numbers that no header's number is smaller than.
 use Rattle.std.proofs.Common.{◌≡◌, ℕ, ◌≤◌, ◌&&◌, Bool, true, false, nat_lt, refl, arith}
 use Rattle.std.proofs.lemmas.Bool.{ltb-false, le-ltb}
 use Rattle.ed_model.specs.Folding.{level_number, is_header_level}
