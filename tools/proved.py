@@ -48,7 +48,7 @@ def faults_of_picture(lines, uses):
     yield from (f"the picture has {name} {order.count(name)} times" for name in uses if order.count(name) != 1)
     height = {name: at for at, line in enumerate(lines) for name in line}
     for name, used in uses.items():
-        yield from (f"the picture has not {name} above {other}" for other in used if height.get(other, -1) >= height.get(name, 0))
+        yield from (f"the picture does not have {name} above {other}" for other in used if height.get(other, -1) >= height.get(name, 0))
 
 
 def parts_of(name):
@@ -59,9 +59,13 @@ def parts_of(name):
 
 
 def faults_of_shape(name):
+    path = f"crates/{name}/README.md"
+    if not os.path.exists(os.path.join(TOP, path)):
+        yield f"{path}: there is none"
+        return
     sections = [title for title, _ in parts_of(name)[1]]
     if sections not in SHAPES:
-        yield f"crates/{name}/README.md has other sections: {', '.join(sections)}"
+        yield f"{path} has other sections: {', '.join(sections)}"
 
 
 def told(title, text):
