@@ -68,12 +68,18 @@ def faults_of_shape(name):
         yield f"{path} has other sections: {', '.join(sections)}"
 
 
+def filled(paragraph):
+    """The paragraph at the page's width; what stands between backticks stays on one line."""
+    held = re.sub(r"`[^`]*`", lambda code: " ".join(code[0].split()).replace(" ", "\0"), paragraph)
+    return textwrap.fill(held, WIDTH, break_long_words=False, break_on_hyphens=False).replace("\0", " ")
+
+
 def told(title, text):
     """A section of the page: its first paragraph goes on behind its title, and a list stands below it."""
     if text.startswith("- "):
         return f"**{title}.**\n\n{text}\n"
     first, *rest = text.split("\n\n", 1)
-    return "\n\n".join([textwrap.fill(f"**{title}.** {first}", WIDTH, break_on_hyphens=False), *rest]) + "\n"
+    return "\n\n".join([filled(f"**{title}.** {first}"), *rest]) + "\n"
 
 
 def entry(name):
