@@ -155,7 +155,37 @@ fn a_refused_growth_changes_nothing(rt: HostRuntime) {
     assert_refused(&rt, &mut cells);
 }
 
+// One byte more at the end, and a style for it.
+fn append_styled(rt: &impl Abort, cells: &mut Cells) {
+    let len = cells.len();
+    assert!(rt; cells.room() > 0 && cells.keeps_styles());
+    cells.insert_reserved(len, b".");
+    cells.set_styles(len, &[1]);
+}
+
 fn assert_moves(rt: &impl Abort, cells: &mut Cells) {
+    cells.keep_styles().expect(rt, "memory");
+    cells.reserve(1001).expect(rt, "memory");
+    let (bytes_before, styles_before) = cells.moved();
+    for _ in 0..1000 {
+        append_styled(rt, cells);
+    }
+    assert!(rt; cells.room() > 0);
+    cells.insert_reserved(0, b"^");
+    let (bytes, styles) = cells.moved();
+    assert!(rt; bytes >= bytes_before && bytes - bytes_before >= 2000);
+    assert!(rt; styles >= styles_before && styles - styles_before >= 2000);
+    assert_eq!(rt; cells.gaps(), (1, 1));
+}
+
+// A thousand bytes one by one at the end, of which the last always has a style, and then one at the start.
+#[test]
+fn moves_are_counted(rt: HostRuntime) {
+    let mut cells = Cells::new(rt.alloc());
+    assert_moves(&rt, &mut cells);
+}
+
+fn assert_moves_before_the_last(rt: &impl Abort, cells: &mut Cells) {
     cells.keep_styles().expect(rt, "memory");
     cells.reserve(1003).expect(rt, "memory");
     cells.insert_reserved(0, b"ab");
@@ -174,10 +204,11 @@ fn assert_moves(rt: &impl Abort, cells: &mut Cells) {
     assert_eq!(rt; cells.gaps(), (1, 1));
 }
 
+// The same in front of a cell whose style is stored, so that those of the new ones are stored with them.
 #[test]
-fn moves_are_counted(rt: HostRuntime) {
+fn moves_before_a_styled_cell_are_counted(rt: HostRuntime) {
     let mut cells = Cells::new(rt.alloc());
-    assert_moves(&rt, &mut cells);
+    assert_moves_before_the_last(&rt, &mut cells);
 }
 
 fn assert_no_moves_of_styles(rt: &impl Abort, cells: &mut Cells) {
