@@ -16,3 +16,8 @@ pub mod SavePointLemmas
 pub mod Invariants
 pub mod StyleLemmas
 pub mod HandleLemmas
+pub mod LineEndLemmas
+pub mod LineEndKinds
+pub mod LineEndCounts
+pub mod LineEndMessages
+pub mod FoldLemmas

@@ -10,3 +10,5 @@ pub mod MacroLaws
 pub mod StyleLaws
 pub mod HandleRunLaws
 pub mod IdLaws
+pub mod LineEndLaws
+pub mod FoldLaws

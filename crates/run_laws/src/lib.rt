@@ -1,16 +1,21 @@
-//! The laws of whole runs: what holds over lists of commands, from every session that a run reaches. Each is a public function
-//! whose contract says it, and whose body does nothing but name the laws of `ed_model` that it rests on.
+//! The laws of whole runs: what holds over lists of commands, from every session that a run reaches; and laws of single definitions,
+//! on line ends, fold parents and display lines. Each is a public function whose contract says it, and whose body does nothing but
+//! name the laws of `ed_model` that it rests on.
 #![tactic(auto)]
 
+mod fold_laws;
 mod id_laws;
 mod isolation_laws;
+mod line_end_laws;
 mod macro_laws;
 mod save_point_laws;
 mod small_laws;
 mod undo_run_laws;
 
+pub use fold_laws::{display_lines_count_visible_lines, fold_parents_are_a_chain};
 pub use id_laws::{handles_never_come_back, ids_never_come_back, opened_views_have_rising_ids};
 pub use isolation_laws::documents_are_apart;
+pub use line_end_laws::{conversions_leave_one_kind, convert_eols_converts_the_text};
 pub use macro_laws::recordings_can_be_replayed;
 pub use save_point_laws::an_unmodified_document_has_its_saved_text;
 pub use small_laws::{

@@ -1,0 +1,244 @@
+-- What the steps of a conversion leave: first the text with what was missing, then that without what is unwanted.
+use Rattle.std.proofs.Common.{◌≡◌, ℕ, zero, suc, ◌+◌, Bool, true, false, cond, ◌==◌, ◌||◌, ◌&&◌, List, [], ◌∷◌, ◌++◌, length, take, drop, refl, ap, subst, ◌∙◌, sym, arith, append_assoc, length-append}
+use Rattle.std.specs.Prelude.{not}
+use Rattle.std.proofs.lemmas.Bool.{true≢false, or_from, and_right, eqb-true}
+use Rattle.std.proofs.lemmas.List.{take_at, drop_at}
+use Rattle.std.proofs.lemmas.List.Sums.{fold-append}
+use Rattle.ed_model.specs.declared.plan.LineEnd.{LineEnd}
+use Rattle.ed_model.specs.declared.plan.LineEnd.TheVariants.{CrLf, Cr, Lf}
+use Rattle.ed_model.specs.Steps.{Step, edited}
+use Rattle.ed_model.specs.LineEnds.{line_end_bytes, begins_with_line_feed, converted_after, converted, is_feed_foreign, is_return_foreign, is_feed_unwanted, is_return_unwanted, lacks_return, lacks_feed, missing_at, missing_from, is_unwanted, unwanted_at, place_after, unwanted_from, after_steps, conversion_steps}
+use Rattle.ed_model.specs.proved.Lists.{inserted_between}
+use Rattle.run_laws.specs.LineEndLaws.{StepsConvert}
+
+-- The insertions: the text with what is missing, byte by byte.
+
+abbrev put : Bool → Bool → ℕ → List ℕ → List ℕ
+put true y b rest = 13 ∷ b ∷ rest
+put false true b rest = b ∷ 10 ∷ rest
+put false false b rest = b ∷ rest
+
+abbrev filled : Bool → LineEnd → List ℕ → List ℕ
+filled f to [] = []
+filled f to (b ∷ bs) = put (lacks_return f to b) (lacks_feed to b bs) b (filled (b == 13) to bs)
+
+fills : (to : LineEnd) (rest : List ℕ) (f : Bool) (p : ℕ) (front : List ℕ) → length front ≡ p
+    → after_steps (missing_from p f to rest) (front ++ rest) ≡ front ++ filled f to rest
+fills to [] f p front e = refl
+fills to (b ∷ bs) f p front e = go (lacks_return f to b) (lacks_feed to b bs) (λ q start h. fills to bs (b == 13) q start h)
+  where
+    go : (x y : Bool) → ((q : ℕ) (start : List ℕ) → length start ≡ q → after_steps (missing_from q (b == 13) to bs) (start ++ bs) ≡ start ++ filled (b == 13) to bs)
+        → after_steps (missing_at p x y ++ missing_from (p + 1 + length (missing_at p x y)) (b == 13) to bs) (front ++ b ∷ bs) ≡ front ++ put x y b (filled (b == 13) to bs)
+    go true y rest =
+        ap (after_steps (missing_from (p + 1 + 1) (b == 13) to bs)) (inserted_between p front (13 ∷ []) (b ∷ bs) e ∙ sym (append_assoc front (13 ∷ b ∷ []) bs))
+        ∙ rest (p + 1 + 1) (front ++ 13 ∷ b ∷ []) (simp length-append (omega arith))
+        ∙ append_assoc front (13 ∷ b ∷ []) (filled (b == 13) to bs)
+    go false true rest =
+        ap (after_steps (missing_from (p + 1 + 1) (b == 13) to bs))
+        (ap (λ t. take (p + 1) t ++ (10 ∷ []) ++ drop (p + 1) t) (sym (append_assoc front (b ∷ []) bs))
+        ∙ inserted_between (p + 1) (front ++ b ∷ []) (10 ∷ []) bs (simp length-append (omega arith))
+        ∙ append_assoc front (b ∷ []) (10 ∷ bs) ∙ sym (append_assoc front (b ∷ 10 ∷ []) bs))
+        ∙ rest (p + 1 + 1) (front ++ b ∷ 10 ∷ []) (simp length-append (omega arith))
+        ∙ append_assoc front (b ∷ 10 ∷ []) (filled (b == 13) to bs)
+    go false false rest =
+        ap (after_steps (missing_from (p + 1 + 0) (b == 13) to bs)) (sym (append_assoc front (b ∷ []) bs))
+        ∙ rest (p + 1 + 0) (front ++ b ∷ []) (simp length-append (omega arith))
+        ∙ append_assoc front (b ∷ []) (filled (b == 13) to bs)
+
+-- The deletions: the text without what is unwanted, byte by byte.
+
+abbrev left : Bool → ℕ → List ℕ → List ℕ
+left true b rest = rest
+left false b rest = b ∷ rest
+
+abbrev kept : Bool → LineEnd → List ℕ → List ℕ
+kept f to [] = []
+kept f to (b ∷ bs) = left (is_unwanted f to b bs) b (kept (b == 13) to bs)
+
+-- a byte that is deleted behind a front
+deleted_between : (p : ℕ) (front : List ℕ) (b : ℕ) (rest : List ℕ) → length front ≡ p → take p (front ++ b ∷ rest) ++ drop (p + 1) (front ++ b ∷ rest) ≡ front ++ rest
+deleted_between p front b rest e =
+    let before : take p (front ++ b ∷ rest) ≡ front = take_at front (b ∷ rest) p e in
+    let behind : drop (p + 1) (front ++ b ∷ rest) ≡ rest =
+    ap (drop (p + 1)) (sym (append_assoc front (b ∷ []) rest)) ∙ drop_at (front ++ b ∷ []) rest (p + 1) (simp length-append (omega arith)) in
+    ap (λ l. l ++ drop (p + 1) (front ++ b ∷ rest)) before ∙ ap (λ l. front ++ l) behind
+
+keeps : (to : LineEnd) (rest : List ℕ) (f : Bool) (p : ℕ) (front : List ℕ) → length front ≡ p
+    → after_steps (unwanted_from p f to rest) (front ++ rest) ≡ front ++ kept f to rest
+keeps to [] f p front e = refl
+keeps to (b ∷ bs) f p front e = go (is_unwanted f to b bs) (λ q start h. keeps to bs (b == 13) q start h)
+  where
+    go : (u : Bool) → ((q : ℕ) (start : List ℕ) → length start ≡ q → after_steps (unwanted_from q (b == 13) to bs) (start ++ bs) ≡ start ++ kept (b == 13) to bs)
+        → after_steps (unwanted_at p b u ++ unwanted_from (place_after p u) (b == 13) to bs) (front ++ b ∷ bs) ≡ front ++ left u b (kept (b == 13) to bs)
+    go true rest = ap (after_steps (unwanted_from p (b == 13) to bs)) (deleted_between p front b bs e) ∙ rest p front e
+    go false rest =
+        ap (after_steps (unwanted_from (p + 1) (b == 13) to bs)) (sym (append_assoc front (b ∷ []) bs))
+        ∙ rest (p + 1) (front ++ b ∷ []) (simp length-append (omega arith))
+        ∙ append_assoc front (b ∷ []) (kept (b == 13) to bs)
+
+-- Both, one after the other: an LF, a CR, and any other byte.
+
+by_byte : (P : ℕ → Type 0) (b : ℕ) → P 10 → P 13 → ((b == 10) ≡ false → (b == 13) ≡ false → P b) → P b
+by_byte P b feed return other = go (b == 10) (b == 13) refl refl
+  where
+    go : (x y : Bool) → (b == 10) ≡ x → (b == 13) ≡ y → P b
+    go true y e n = subst P (sym (eqb-true b 10 e)) feed
+    go false true e n = subst P (sym (eqb-true b 13 n)) return
+    go false false e n = other e n
+
+other_filled : (f : Bool) (to : LineEnd) (b : ℕ) (bs : List ℕ) → (b == 10) ≡ false → (b == 13) ≡ false → filled f to (b ∷ bs) ≡ b ∷ filled false to bs
+other_filled f to b bs e n = go (b == 10) (b == 13) e n
+  where
+    go : (x y : Bool) → x ≡ false → y ≡ false
+        → put (x && not f && is_feed_foreign to) (y && not (begins_with_line_feed bs) && is_return_foreign to) b (filled y to bs) ≡ b ∷ filled false to bs
+    go true y e n = absurd (true≢false e)
+    go false true e n = absurd (true≢false n)
+    go false false e n = refl
+
+other_kept : (f : Bool) (to : LineEnd) (b : ℕ) (bs : List ℕ) → (b == 10) ≡ false → (b == 13) ≡ false → kept f to (b ∷ bs) ≡ b ∷ kept false to bs
+other_kept f to b bs e n = go (b == 10) (b == 13) e n
+  where
+    go : (x y : Bool) → x ≡ false → y ≡ false
+        → left ((y && begins_with_line_feed bs && is_return_unwanted to) || (x && f && is_feed_unwanted to)) b (kept y to bs) ≡ b ∷ kept false to bs
+    go true y e n = absurd (true≢false e)
+    go false true e n = absurd (true≢false n)
+    go false false e n = refl
+
+pub other_converted : (f : Bool) (to : LineEnd) (b : ℕ) (bs : List ℕ) → (b == 10) ≡ false → (b == 13) ≡ false → converted_after f to (b ∷ bs) ≡ b ∷ converted_after false to bs
+other_converted f to b bs e n = go (b == 10) (b == 13) e n
+  where
+    go : (x y : Bool) → x ≡ false → y ≡ false
+        → cond (x && f) (converted_after false to bs) (cond (x || y) (line_end_bytes to ++ converted_after y to bs) (b ∷ converted_after false to bs)) ≡ b ∷ converted_after false to bs
+    go true y e n = absurd (true≢false e)
+    go false true e n = absurd (true≢false n)
+    go false false e n = refl
+
+other_both : (f g : Bool) (to : LineEnd) (b : ℕ) (bs : List ℕ) → (b == 10) ≡ false → (b == 13) ≡ false → kept g to (filled f to (b ∷ bs)) ≡ b ∷ kept false to (filled false to bs)
+other_both f g to b bs e n = ap (kept g to) (other_filled f to b bs e n) ∙ other_kept g to b (filled false to bs) e n
+
+-- The LF that still comes, where a CR stands before and an LF behind: the CR was the line end.
+
+abbrev pending : Bool → Bool → List ℕ
+pending true true = 10 ∷ []
+pending true false = []
+pending false y = []
+
+none_pending : (f y : Bool) → y ≡ false → pending f y ≡ []
+none_pending true true e = absurd (true≢false e)
+none_pending true false e = refl
+none_pending false y e = refl
+
+-- CRLF: nothing is deleted.
+
+all_kept : (bs : List ℕ) (f : Bool) → kept f CrLf bs ≡ bs
+all_kept [] f = refl
+all_kept (b ∷ bs) f =
+    let none : is_unwanted f CrLf b bs ≡ false =
+    or_from ((b == 13) && begins_with_line_feed bs && false) ((b == 10) && f && false) (and_right ((b == 13) && begins_with_line_feed bs) false refl) (and_right ((b == 10) && f) false refl) in
+    ap (λ u. left u b (kept (b == 13) CrLf bs)) none ∙ ap (λ l. b ∷ l) (all_kept bs (b == 13))
+
+abbrev FilledTo : List ℕ → Bool → Type 0
+FilledTo bs f = filled f CrLf bs ≡ pending f (begins_with_line_feed bs) ++ converted_after f CrLf bs
+
+to_both : (bs : List ℕ) (f : Bool) → FilledTo bs f
+to_both [] true = refl
+to_both [] false = refl
+to_both (b ∷ bs) f = by_byte (λ c. FilledTo (c ∷ bs) f) b (feed f (to_both bs false)) (return (to_both bs true)) (λ e n. other e n (to_both bs false))
+  where
+    feed : (f : Bool) → FilledTo bs false → FilledTo (10 ∷ bs) f
+    feed true h = ap (λ l. 10 ∷ l) h
+    feed false h = ap (λ l. 13 ∷ 10 ∷ l) h
+
+    behind : (y : Bool) → filled true CrLf bs ≡ pending true y ++ converted_after true CrLf bs
+        → put false (not y && true) 13 (filled true CrLf bs) ≡ 13 ∷ 10 ∷ converted_after true CrLf bs
+    behind true h = ap (λ l. 13 ∷ l) h
+    behind false h = ap (λ l. 13 ∷ 10 ∷ l) h
+
+    return : FilledTo bs true → FilledTo (13 ∷ bs) f
+    return h =
+        behind (begins_with_line_feed bs) h ∙ sym (ap (λ l. l ++ 13 ∷ 10 ∷ converted_after true CrLf bs) (none_pending f false refl))
+
+    other : (b == 10) ≡ false → (b == 13) ≡ false → FilledTo bs false → FilledTo (b ∷ bs) f
+    other e n h =
+        other_filled f CrLf b bs e n ∙ ap (λ l. b ∷ l) h
+        ∙ sym (ap (λ l. l ++ converted_after f CrLf (b ∷ bs)) (none_pending f (b == 10) e) ∙ other_converted f CrLf b bs e n)
+
+-- LF: each CR is deleted.
+
+-- what comes first stays first
+still_feed : (bs : List ℕ) (f : Bool) → begins_with_line_feed bs ≡ true → begins_with_line_feed (filled f Lf bs) ≡ true
+still_feed [] f e = absurd (true≢false (sym e))
+still_feed (b ∷ bs) f e =
+    let ten : b ≡ 10 = eqb-true b 10 e in
+    let no_return : lacks_return f Lf b ≡ false = and_right ((b == 10) && not f) false refl in
+    let no_feed : lacks_feed Lf b bs ≡ false = ap (λ c. (c == 13) && not (begins_with_line_feed bs) && true) ten in
+    ap (λ x. begins_with_line_feed (put x (lacks_feed Lf b bs) b (filled (b == 13) Lf bs))) no_return
+    ∙ ap (λ y. begins_with_line_feed (put false y b (filled (b == 13) Lf bs))) no_feed ∙ e
+
+abbrev TurnedToFeeds : List ℕ → Bool → Bool → Type 0
+TurnedToFeeds bs f g = kept g Lf (filled f Lf bs) ≡ pending f (begins_with_line_feed bs) ++ converted_after f Lf bs
+
+to_feeds : (bs : List ℕ) (f g : Bool) → TurnedToFeeds bs f g
+to_feeds [] true g = refl
+to_feeds [] false g = refl
+to_feeds (b ∷ bs) f g =
+    by_byte (λ c. TurnedToFeeds (c ∷ bs) f g) b (feed f g (to_feeds bs false false)) (return (λ h. to_feeds bs true h)) (λ e n. other e n (to_feeds bs false false))
+  where
+    feed : (f g : Bool) → TurnedToFeeds bs false false → TurnedToFeeds (10 ∷ bs) f g
+    feed true true h = ap (λ l. 10 ∷ l) h
+    feed true false h = ap (λ l. 10 ∷ l) h
+    feed false true h = ap (λ l. 10 ∷ l) h
+    feed false false h = ap (λ l. 10 ∷ l) h
+
+    behind : (y : Bool) → begins_with_line_feed bs ≡ y
+        → ((h : Bool) → kept h Lf (filled true Lf bs) ≡ pending true y ++ converted_after true Lf bs)
+        → kept g Lf (put false (not y && true) 13 (filled true Lf bs)) ≡ 10 ∷ converted_after true Lf bs
+    behind true e h = ap (λ z. left ((z && true) || false) 13 (kept true Lf (filled true Lf bs))) (still_feed bs true e) ∙ h true
+    behind false e h = ap (λ l. 10 ∷ l) (h false)
+
+    return : ((h : Bool) → TurnedToFeeds bs true h) → TurnedToFeeds (13 ∷ bs) f g
+    return h =
+        behind (begins_with_line_feed bs) refl h ∙ sym (ap (λ l. l ++ 10 ∷ converted_after true Lf bs) (none_pending f false refl))
+
+    other : (b == 10) ≡ false → (b == 13) ≡ false → TurnedToFeeds bs false false → TurnedToFeeds (b ∷ bs) f g
+    other e n h =
+        other_both f g Lf b bs e n ∙ ap (λ l. b ∷ l) h
+        ∙ sym (ap (λ l. l ++ converted_after f Lf (b ∷ bs)) (none_pending f (b == 10) e) ∙ other_converted f Lf b bs e n)
+
+-- CR: each LF is deleted.
+
+abbrev TurnedToReturns : List ℕ → Bool → Type 0
+TurnedToReturns bs f = kept f Cr (filled f Cr bs) ≡ converted_after f Cr bs
+
+to_returns : (bs : List ℕ) (f : Bool) → TurnedToReturns bs f
+to_returns [] f = refl
+to_returns (b ∷ bs) f =
+    by_byte (λ c. TurnedToReturns (c ∷ bs) f) b (feed f (to_returns bs false)) (return (to_returns bs true)) (λ e n. other e n (to_returns bs false))
+  where
+    feed : (f : Bool) → TurnedToReturns bs false → TurnedToReturns (10 ∷ bs) f
+    feed true h = h
+    feed false h = ap (λ l. 13 ∷ l) h
+
+    return : TurnedToReturns bs true → TurnedToReturns (13 ∷ bs) f
+    return h =
+        ap (λ y. kept f Cr (put false y 13 (filled true Cr bs))) (and_right (not (begins_with_line_feed bs)) false refl)
+        ∙ ap (λ z. left (z || false) 13 (kept true Cr (filled true Cr bs))) (and_right (begins_with_line_feed (filled true Cr bs)) false refl)
+        ∙ ap (λ l. 13 ∷ l) h
+
+    other : (b == 10) ≡ false → (b == 13) ≡ false → TurnedToReturns bs false → TurnedToReturns (b ∷ bs) f
+    other e n h = other_both f f Cr b bs e n ∙ ap (λ l. b ∷ l) h ∙ sym (other_converted f Cr b bs e n)
+
+-- So all steps leave the converted text.
+
+turned : (to : LineEnd) (text : List ℕ) → kept false to (filled false to text) ≡ converted to text
+turned CrLf text = all_kept (filled false CrLf text) false ∙ to_both text false
+turned Cr text = to_returns text false
+turned Lf text = to_feeds text false false
+
+pub steps_convert : StepsConvert
+steps_convert to text =
+    let missing = missing_from 0 false to text in
+    fold-append (λ (t : List ℕ) (s : Step). edited s t) text missing (unwanted_from 0 false to (after_steps missing text))
+    ∙ ap (λ t. after_steps (unwanted_from 0 false to t) t) (fills to text false 0 [] refl)
+    ∙ keeps to (filled false to text) false 0 [] refl
+    ∙ turned to text

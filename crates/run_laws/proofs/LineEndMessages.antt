@@ -1,0 +1,90 @@
+-- What CONVERTEOLS leaves of a document.
+use Rattle.std.proofs.Common.{◌≡◌, ℕ, Bool, true, false, cond, ◌&&◌, List, [], ◌∷◌, nat_lt, refl, ap, subst, ◌∙◌, sym, ℤ, pos, Option, Some, None, Ok, Err}
+use Rattle.std.specs.Prelude.{option_map, nat_le, length}
+use Rattle.std.proofs.lemmas.Bool.{true≢false, and_parts, cond_both}
+use Rattle.ed_types.specs.declared.kind.Kind.{Kind}
+use Rattle.ed_types.specs.declared.kind.Kind.TheVariants.{ConvertEols}
+use Rattle.ed_types.specs.declared.refusal.Refusal.TheVariants.{TooLong}
+use Rattle.ed_types.specs.Notices.{Response}
+use Rattle.ed_model.specs.declared.plan.LineEnd.{LineEnd}
+use Rattle.ed_model.specs.declared.plan.Edit.TheVariants as edit
+use Rattle.ed_model.specs.declared.plan.Follow.TheVariants as follow
+use Rattle.ed_model.specs.declared.plan.Plan.{Plan}
+use Rattle.ed_model.specs.declared.plan.Plan.TheVariants as plan
+use Rattle.ed_model.specs.Steps.{Step, edited}
+use Rattle.ed_model.specs.LineEnds.{converted, conversion_steps, after_steps}
+use Rattle.ed_model.specs.LinePlans.{line_end_kind, convert_eols}
+use Rattle.ed_model.specs.Session.{Session, View, Document, view_at, document_at, with_document, text_of, limit_of}
+use Rattle.ed_model.specs.Requests.{Request, Planned, text, size, with_argument, argument}
+use Rattle.ed_model.specs.Edits.{has_steps, stays_within, edit_plan}
+use Rattle.ed_model.specs.Performing.{Scene, scene_of, step_made, steps_made, sealed_scene, edit_made}
+use Rattle.ed_model.specs.Table.{table, answered, plan_of, performed, with_recording, request}
+use Rattle.ed_model.specs.proved.Steps.{bytes_of_edited_cells}
+use Rattle.run_laws.specs.LineEndLaws.{ConvertEolsConverts}
+use Rattle.run_laws.proofs.Finding.{either, document_id, replaced_found}
+use Rattle.run_laws.proofs.Going.{edit_made_id}
+use Rattle.run_laws.proofs.LineEndLemmas.{steps_convert}
+use Rattle.run_laws.proofs.TableWays.{table_at}
+
+-- Steps leave the text that they make, whichever notes are told and whatever the history keeps.
+
+steps_text : (later : Bool) (steps : List Step) (scene : Scene) → text_of (steps_made later steps scene).document ≡ after_steps steps (text_of scene.document)
+steps_text later [] scene = refl
+steps_text later (step ∷ steps) scene =
+    steps_text true steps (step_made later step scene) ∙ ap (after_steps steps) (bytes_of_edited_cells step scene.document.cells)
+
+edit_text : (steps : List Step) (scene : Scene) → text_of (edit_made steps scene).document ≡ after_steps steps (text_of scene.document)
+edit_text steps scene =
+    either (λ (x : Scene). text_of x.document ≡ after_steps steps (text_of scene.document)) (nat_lt 1 (length steps))
+    (sealed_scene (steps_made false steps (sealed_scene scene))) (steps_made false steps scene)
+    (steps_text false steps (sealed_scene scene)) (steps_text false steps scene)
+
+-- the request's document then has this text, if the plan is one
+abbrev Leaves : Request → List ℕ → Planned → Type 0
+Leaves r new (Err refusal) = Unit {0}
+Leaves r new (Ok what) = option_map text_of (document_at (performed r what).0.documents r.view.document) ≡ Some new
+
+-- the request's document is that of its view
+abbrev IsFound : Request → Type 0
+IsFound r = document_at r.session.documents r.view.document ≡ Some r.document
+
+edit_leaves : (r : Request) (to : LineEnd) → IsFound r → Leaves r (converted to (text r)) (Ok (plan.Edit (edit.ConvertLineEnds to) (pos 0) follow.Nothing))
+edit_leaves r to found =
+    let steps = conversion_steps to (text r) in
+    let new : Document = (edit_made steps (scene_of r)).document in
+    let own : r.document.id ≡ r.view.document = document_id r.session.documents r.view.document r.document found in
+    let id : new.id ≡ r.view.document = edit_made_id steps (scene_of r) ∙ own in
+    let there : document_at (with_document new r.session.documents) r.view.document ≡ Some new =
+    ap (document_at (with_document new r.session.documents)) (sym id) ∙ replaced_found r.session.documents r.document new (ap (document_at r.session.documents) id ∙ found) in
+    ap (option_map text_of) there ∙ ap Some (edit_text steps (scene_of r) ∙ steps_convert to (text r))
+
+mode_leaves : (r : Request) (to : LineEnd) → IsFound r → r.document.read_only ≡ false
+    → Leaves r (converted to (text r)) (edit_plan r (edit.ConvertLineEnds to) (pos 0) follow.Nothing)
+mode_leaves r to found writable =
+    let steps = conversion_steps to (text r) in
+    let done : Plan = plan.Edit (edit.ConvertLineEnds to) (pos 0) follow.Nothing in
+    let within : Planned = cond (stays_within (limit_of r.session.limits r.document) (size r) steps) (Ok done) (Err TooLong) in
+    cond_both (r.document.read_only && has_steps steps) (Ok plan.Attempt) within (Leaves r (converted to (text r)))
+    (λ t. absurd (true≢false (sym (and_parts r.document.read_only (has_steps steps) t).0 ∙ writable)))
+    (λ _. either (Leaves r (converted to (text r))) (stays_within (limit_of r.session.limits r.document) (size r) steps) (Ok done) (Err TooLong) (edit_leaves r to found) tt)
+
+plan_leaves : (r : Request) (mode : ℕ) → r.message.w ≡ pos mode → IsFound r → r.document.read_only ≡ false
+    → Leaves r (converted (line_end_kind mode) (text r)) (convert_eols r)
+plan_leaves r mode w found writable =
+    let f : ℕ → Planned = λ n. edit_plan r (edit.ConvertLineEnds (line_end_kind n)) (pos 0) follow.Nothing in
+    subst (λ (x : ℤ). Leaves r (converted (line_end_kind mode) (text r)) (argument 0 2 x f)) (sym w)
+    (either (λ (o : Option ℕ). Leaves r (converted (line_end_kind mode) (text r)) (with_argument o f)) (nat_le 0 mode && nat_le mode 2) (Some mode) None
+    (mode_leaves r (line_end_kind mode) found writable) tt)
+
+answer_leaves : (kind : Kind) (r : Request) (new : List ℕ) (p : Planned) → Leaves r new p → (done : Session × Response) → answered kind r p ≡ Ok done
+    → option_map text_of (document_at done.0.documents r.view.document) ≡ Some new
+answer_leaves kind r new (Err refusal) h done e = absurd (cc)
+answer_leaves kind r new (Ok what) h done e =
+    let same : ((performed r what).0, with_recording kind r (performed r what).1) ≡ done = cc in
+    sym (ap (λ (x : Session × Response). option_map text_of (document_at x.0.documents r.view.document)) same) ∙ h
+
+pub convert_eols_converts : ConvertEolsConverts
+convert_eols_converts s view m v d mode done is w sees finds writable e =
+    let r : Request = request s v d m in
+    let here : table s view m ≡ answered ConvertEols r (plan_of ConvertEols r) = table_at s view m v ConvertEols d sees is finds in
+    answer_leaves ConvertEols r (converted (line_end_kind mode) (text_of d)) (plan_of ConvertEols r) (plan_leaves r mode w finds writable) done (sym here ∙ e)
