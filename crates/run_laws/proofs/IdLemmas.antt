@@ -42,7 +42,7 @@ use Rattle.run_laws.proofs.Going.{AllFrom, From, AnsweredFrom, OpenedFrom, Close
 
 -- Documents: any change goes.
 
-abbrev Any : Document → Document → Type 0
+abbrev pub Any : Document → Document → Type 0
 Any d e = Unit {0}
 
 abbrev GoOn : Session → Session → Type 0

@@ -1,9 +1,8 @@
 -- What a message that is not about documents leaves of the views and documents that are not its own.
 use Rattle.std.proofs.Common.{◌≡◌, ℕ, ◌==◌, nat_lt, cond, Bool, true, false, List, [], ◌∷◌, length, map, refl, ap, ◌∙◌, sym, subst, Option, Some, None}
-use Rattle.std.specs.Prelude.{reverse, pos}
+use Rattle.std.specs.Prelude.{reverse}
 use Rattle.std.specs.List.{AllByRecursion}
-use Rattle.std.proofs.lemmas.Bool.{eqb-true}
-use Rattle.ed_model.specs.declared.plan.Edit.{Edit}
+use Rattle.std.proofs.lemmas.Bool.{eqb-true, and_parts}
 use Rattle.ed_model.specs.declared.plan.Follow.{Follow}
 use Rattle.ed_model.specs.declared.plan.Follow.TheVariants as follow
 use Rattle.ed_model.specs.declared.plan.DocumentChange.{DocumentChange}
@@ -26,7 +25,7 @@ use Rattle.ed_model.specs.Table.{performed}
 use Rattle.run_laws.proofs.Finding.{either, replaced_other}
 use Rattle.run_laws.proofs.Going.{own_after, own_id}
 use Rattle.run_laws.proofs.IdLemmas.{view_change_ids}
-use Rattle.run_laws.proofs.PlanShapes.{Leave, KeepsTo}
+use Rattle.run_laws.proofs.PlanShapes.{Leave, may_follow, KeepsTo}
 use Rattle.run_laws.proofs.Alike.{IsAlike, AreAlike, alike_same, all_alike, alike_through, alike_changed, kept_on}
 
 -- a view keeps its document
@@ -216,12 +215,12 @@ performed_leaves_document r (plan.ChangeSession (session_change.AddReference d) 
 performed_leaves_document r (plan.ChangeSession (session_change.Release d) value) l id barred keeps other = absurd (cc)
 
 -- and of the clipboard, if it takes nothing there
-followed_clipboard : (view : ℕ) (before : List ℕ) (after : Follow) (s : Session) (l : Leave) (edit : Edit) → l.copies ≡ false → KeepsTo l (plan.Edit edit (pos 0) after)
+followed_clipboard : (view : ℕ) (before : List ℕ) (after : Follow) (s : Session) (l : Leave) → l.copies ≡ false → may_follow l after ≡ true
     → (followed view before after s).clipboard ≡ s.clipboard
-followed_clipboard view before follow.Nothing s l edit barred keeps = refl
-followed_clipboard view before (follow.Caret place) s l edit barred keeps = refl
-followed_clipboard view before (follow.Target start past) s l edit barred keeps = refl
-followed_clipboard view before (follow.Clipboard start count) s l edit barred keeps = absurd (cc)
+followed_clipboard view before follow.Nothing s l barred keeps = refl
+followed_clipboard view before (follow.Caret place) s l barred keeps = refl
+followed_clipboard view before (follow.Target start past) s l barred keeps = refl
+followed_clipboard view before (follow.Clipboard start count) s l barred keeps = absurd (cc)
 
 followed_limits : (view : ℕ) (before : List ℕ) (after : Follow) (s : Session) → (followed view before after s).limits ≡ s.limits
 followed_limits view before follow.Nothing s = refl
@@ -235,13 +234,7 @@ performed_leaves_clipboard r (plan.HandOut value start count) l none barred keep
 performed_leaves_clipboard r (plan.HandOutStyled start count) l none barred keeps = refl
 performed_leaves_clipboard r plan.Attempt l none barred keeps = refl
 performed_leaves_clipboard r (plan.Edit change value after) l none barred keeps =
-    followed_clipboard r.view.id (text r) after (session_of r.session (edit_made (steps_of r change) (scene_of r))) l change barred (again after keeps)
-  where
-    again : (after : Follow) → KeepsTo l (plan.Edit change value after) → KeepsTo l (plan.Edit change (pos 0) after)
-    again follow.Nothing h = h
-    again (follow.Caret place) h = h
-    again (follow.Target start past) h = h
-    again (follow.Clipboard start count) h = h
+    followed_clipboard r.view.id (text r) after (session_of r.session (edit_made (steps_of r change) (scene_of r))) l barred (and_parts l.edits (may_follow l after) keeps).1
 performed_leaves_clipboard r plan.Undo l none barred keeps = refl
 performed_leaves_clipboard r plan.Redo l none barred keeps = refl
 performed_leaves_clipboard r (plan.ChangeDocument change value) l none barred keeps = refl

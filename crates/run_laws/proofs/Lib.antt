@@ -13,6 +13,8 @@ pub mod RecordingLemmas
 pub mod MacroLemmas
 pub mod UndoRunLemmas
 pub mod SavePointLemmas
+pub mod LastSavePointLemmas
+pub mod EditLemmas
 pub mod Invariants
 pub mod StyleLemmas
 pub mod HandleLemmas

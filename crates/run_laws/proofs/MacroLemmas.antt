@@ -1,9 +1,11 @@
 -- Recordings: a view that records goes on recording, hears of each message once, and what it recorded can be sent again.
-use Rattle.std.proofs.Common.{◌≡◌, ℕ, ◌==◌, nat_lt, cond, Bool, true, false, List, [], ◌∷◌, ◌++◌, length, map, refl, ap, ◌∙◌, sym, subst, inl, inr, Option, Some, None, Ok, Err}
+use Rattle.std.proofs.Common.{◌≡◌, ℕ, ◌==◌, nat_lt, cond, Bool, true, false, List, [], ◌∷◌, ◌++◌, length, map, refl, ap, ◌∙◌, sym, subst, arith, ◌≤◌, inl, inr, Option, Some, None, Result, Ok, Err}
 use Rattle.std.specs.Prelude.{◌⊎◌, IfOk, ℤ, ◌&&◌, filter, flat_map, reverse, option_map}
 use Rattle.std.specs.List.{AllByRecursion}
 use Rattle.std.proofs.lemmas.Bool.{eqb-true, eq-eqb, and_parts}
 use Rattle.ed_types.specs.declared.kind.Kind.TheVariants.{StartRecord, StopRecord}
+use Rattle.ed_types.specs.declared.script.Command.{Command}
+use Rattle.ed_types.specs.declared.script.Command.TheVariants.{OpenView, CloseView, LoadFile, SendMessage, Expect}
 use Rattle.ed_types.specs.declared.script.Outcome.{Outcome}
 use Rattle.ed_types.specs.Messages.{marks_of}
 use Rattle.ed_types.specs.declared.refusal.Refusal.TheVariants.{NoSuchView, UnknownMessage, NoSuchDocument}
@@ -30,7 +32,7 @@ use Rattle.ed_model.specs.Edits.{steps_of}
 use Rattle.ed_model.specs.FoldingPlans.{levels}
 use Rattle.ed_model.specs.Performing.{Scene, scene_of, session_of, moved_view, view_after, step_made, steps_made, sealed_scene, edit_made, followed, with_caret, caret_behind, change_performed, changes_performed, changes_lines, is_last, place_behind}
 use Rattle.ed_model.specs.Changes.{changed_lines, changed_view}
-use Rattle.ed_model.specs.Table.{table, answered, with_recording, plan_of, performed, request}
+use Rattle.ed_model.specs.Table.{table, answered, with_recording, plan_of, performed, request, opened, closed}
 use Rattle.ed_model.specs.TableLaws.{Answered}
 use Rattle.ed_model.specs.SoundLaws.{IsSound}
 use Rattle.ed_model.specs.Session.{attached_to, new_document}
@@ -38,10 +40,10 @@ use Rattle.ed_model.specs.Changes.{with_attached, with_new_document}
 use Rattle.ed_model.specs.Recording.{told_message, recorded_messages, replies_in}
 use Rattle.ed_model.specs.Table.{record_note}
 use Rattle.ed_model.specs.TableLaws.{LeavesSession, QueriesLeaveTheSession}
-use Rattle.ed_model.specs.Run.{Running, starting, after_command, after_message, outcomes, run_to}
+use Rattle.ed_model.specs.Run.{Running, starting, after_command, after_opening, after_closing, after_message, loaded, file_at, set_text_message, outcomes, run_to}
 use Rattle.ed_model.specs.SoundLaws.{MessageKeepsSound, IsSoundInEveryStateFrom}
 use Rattle.run_laws.specs.IsolationLaws.{Sending, sent}
-use Rattle.run_laws.specs.MacroLaws.{not_recording, without_recording, sent_to, CanStandBetween, RecordingsCanBeReplayed}
+use Rattle.run_laws.specs.MacroLaws.{not_recording, without_recording, sent_to, CanStandBetween, RecordingsCanBeReplayed, RecordsOneAtMost, RepliesRecordOneMessage, RunsRecordOneMessageAReply}
 use Rattle.run_laws.proofs.Finding.{either, view_id}
 use Rattle.run_laws.proofs.TableWays.{of_table, table_at}
 use Rattle.run_laws.proofs.PlanShapes.{Leave, KeepsTo, IsShaped, leave_of, plan_is_shaped, recorded_is_not_about_recording}
@@ -407,3 +409,62 @@ recordings_can_be_replayed leave keeps sound_runs s view start stop messages beg
     let unset = done_sets between view false (table between view stop) ended stops (stop_sets between view stop is_stop) in
     let replayed = messages_replayed leave view messages (starting begun.0) (starting s) may (begun_records s begun.0 view set) (begun_same s begun.0 view sound set) in
     ended_same between ended.0 _ view sound_between unset replayed
+
+-- A reply records one message at most for a view.
+
+one_at_most : (b : Bool) (m : Message) → length (if_recorded b m []) ≤ 1
+one_at_most true m = omega arith
+one_at_most false m = omega arith
+
+abbrev OneIfAnswered : ℕ → Answered → Type 0
+OneIfAnswered view (Ok done) = RecordsOneAtMost view done.1
+OneIfAnswered view (Err refusal) = Unit {0}
+
+answer_records_one : (view : ℕ) (kind : Kind) (r : Request) (p : Planned) → OneIfAnswered view (answered kind r p)
+answer_records_one view kind r (Err refusal) = tt
+answer_records_one view kind r (Ok p) =
+    subst (λ (ms : List Message). length ms ≤ 1) (sym (recorded_first view kind r (performed r p).1 [] (plans_tell_no_record r p)))
+    (one_at_most ((r.view.records && (marks_of kind).r) && (r.view.id == view)) r.message)
+
+table_records_one : (s : Session) (sender view : ℕ) (m : Message) → OneIfAnswered view (table s sender m)
+table_records_one s sender view m =
+    of_table (OneIfAnswered view) tt tt tt s m sender (λ v sees kind is d finds. answer_records_one view kind (request s v d m) (plan_of kind (request s v d m)))
+
+pub replies_record_one_message : RepliesRecordOneMessage
+replies_record_one_message s sender view m done e = subst (OneIfAnswered view) e (table_records_one s sender view m)
+
+abbrev OneEach : ℕ → List Outcome → Type 0
+OneEach view os = AllByRecursion (RecordsOneAtMost view) (replies_in os)
+
+one_after_message : (view : ℕ) (s : Session) (o : Answered) (os : List Outcome) → OneIfAnswered view o → OneEach view os → OneEach view ((after_message s o).1 ∷ os)
+one_after_message view s (Ok done) os h rest = (h, rest)
+one_after_message view s (Err refusal) os h rest = rest
+
+one_after_opening : (view : ℕ) (s : Session) (o : Result (Session × ℕ) Refusal) (os : List Outcome) → OneEach view os → OneEach view ((after_opening s o).1 ∷ os)
+one_after_opening view s (Ok done) os rest = rest
+one_after_opening view s (Err refusal) os rest = rest
+
+one_after_closing : (view : ℕ) (s : Session) (o : Result Session Refusal) (os : List Outcome) → OneEach view os → OneEach view ((after_closing s o).1 ∷ os)
+one_after_closing view s (Ok t) os rest = rest
+one_after_closing view s (Err refusal) os rest = rest
+
+load_records_one : (s : Session) (sender view : ℕ) (v : Option View) (file : Option (List ℕ)) → OneIfAnswered view (loaded s sender v file)
+load_records_one s sender view None file = tt
+load_records_one s sender view (Some v) None = tt
+load_records_one s sender view (Some v) (Some bytes) = table_records_one s sender view (set_text_message bytes)
+
+one_after_command : (files : List (List ℕ)) (c : Command) (s : Running) (view : ℕ) (os : List Outcome) → OneEach view os → OneEach view ((after_command files c s).1 ∷ os)
+one_after_command files OpenView s view os rest = one_after_opening view s.session (opened s.session) os rest
+one_after_command files (CloseView closing) s view os rest = one_after_closing view s.session (closed s.session closing) os rest
+one_after_command files (LoadFile sender file) s view os rest =
+    let o = loaded s.session sender (view_at s.session.views sender) (file_at files file) in
+    one_after_message view s.session o os (load_records_one s.session sender view (view_at s.session.views sender) (file_at files file)) rest
+one_after_command files (SendMessage sender message) s view os rest =
+    one_after_message view s.session (table s.session sender message) os (table_records_one s.session sender view message) rest
+one_after_command files (Expect value) s view os rest = rest
+
+pub runs_record_one_message_a_reply : RunsRecordOneMessageAReply
+runs_record_one_message_a_reply files [] s view = tt
+runs_record_one_message_a_reply files (c ∷ cs) s view =
+    let t = (after_command files c s).0 in
+    one_after_command files c s view (outcomes files cs t) (runs_record_one_message_a_reply files cs t view)

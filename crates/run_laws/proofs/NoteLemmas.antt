@@ -1,4 +1,4 @@
--- No plan tells of a recording: that note is the recorder's own.
+-- Which codes the notes of plans have: none tells of a recording, since that note is the recorder's own, and only an attempt tells of one.
 use Rattle.std.proofs.Common.{◌≡◌, ℕ, ◌==◌, nat_lt, cond, Bool, true, false, List, [], ◌∷◌, ◌++◌, length, refl, Option, Some, None}
 use Rattle.std.specs.Prelude.{ℤ, pos, negsuc, bit_or, filter, ◌&&◌, slice_index_or}
 use Rattle.std.specs.List.{AllByRecursion}
@@ -25,136 +25,149 @@ use Rattle.ed_model.specs.Performing.{last_bits, container_note}
 use Rattle.ed_model.specs.Changes.{line_note, marker_note, range_notes, line_with_handle, document_row, marker_count, is_same}
 use Rattle.run_laws.proofs.Finding.{either}
 
+-- What holds of the codes that plans tell, and of that of an attempt where the plan is one, holds of the codes of their notes.
+module _ (Code : ℕ → Type 0) (needed : Code notes.style_needed) (reached : Code notes.save_point_reached) (left : Code notes.save_point_left) (modified : Code notes.modified) where
+  abbrev pub HasCode : Notice → Type 0
+  HasCode n = Code n.code
+
+  abbrev pub HaveCodes : List Notice → Type 0
+  HaveCodes ns = AllByRecursion HasCode ns
+
+  codes_joined : (xs ys : List Notice) → HaveCodes xs → HaveCodes ys → HaveCodes (xs ++ ys)
+  codes_joined [] ys a b = b
+  codes_joined (x ∷ xs) ys a b = (a.0, codes_joined xs ys a.1 b)
+
+  codes_told : (views : List View) (n : Notice) → HasCode n → HaveCodes (notes.told views n)
+  codes_told [] n h = tt
+  codes_told (v ∷ vs) n h = (h, codes_told vs n h)
+
+  codes_heard : (views : List View) (n : Notice) → HasCode n → HaveCodes (notes.heard views n)
+  codes_heard views n h = codes_told (filter (λ (v : View). meets v.mask n.kind) views) n h
+
+  before_has_code : (bits : ℕ) (step : Step) → HasCode (notes.before_note bits step)
+  before_has_code bits (Insert p bytes) = modified
+  before_has_code bits (Delete p bytes) = modified
+
+  after_has_code : (bits : ℕ) (lines : ℤ) (step : Step) → HasCode (notes.after_note bits lines step)
+  after_has_code bits lines (Insert p bytes) = modified
+  after_has_code bits lines (Delete p bytes) = modified
+
+  codes_step : (before after : ℕ) (between : List Notice) (step : Step) (scene : Scene) → HaveCodes scene.notes → HaveCodes between → HaveCodes (step_heard before after between step scene).notes
+  codes_step before after between step scene h k =
+      let views = watching scene.views scene.document in
+      let b = notes.before_note before step in
+      let a = notes.after_note after (growth (lines_in scene.document) (lines_in (document_after step scene.document))) step in
+      codes_joined (scene.notes ++ notes.heard views b ++ between) (notes.heard views a)
+      (codes_joined (scene.notes ++ notes.heard views b) between (codes_joined scene.notes (notes.heard views b) h (codes_heard views b (before_has_code before step))) k)
+      (codes_heard views a (after_has_code after (growth (lines_in scene.document) (lines_in (document_after step scene.document))) step))
+
+  codes_leaving : (views : List View) (h : History) → HaveCodes (leaving views h)
+  codes_leaving views h = either HaveCodes (h.collecting && at_save_point h) (notes.told views (notes.blank notes.save_point_left)) [] (codes_told views (notes.blank notes.save_point_left) left) tt
+
+  codes_steps : (later : Bool) (steps : List Step) (scene : Scene) → HaveCodes scene.notes → HaveCodes (steps_made later steps scene).notes
+  codes_steps later [] scene h = h
+  codes_steps later (step ∷ steps) scene h =
+      codes_steps true steps (step_made later step scene)
+      (codes_step notes.performed_user (bit_or notes.performed_user (notes.bit_if (begins_transaction later (TextStep step) scene.document.history) notes.start_action))
+      (leaving (watching scene.views scene.document) scene.document.history) step scene h (codes_leaving (watching scene.views scene.document) scene.document.history))
+
+  codes_edit : (steps : List Step) (scene : Scene) → HaveCodes scene.notes → HaveCodes (edit_made steps scene).notes
+  codes_edit steps scene h =
+      either (λ (x : Scene). HaveCodes x.notes) (nat_lt 1 (length steps)) (sealed_scene (steps_made false steps (sealed_scene scene))) (steps_made false steps scene)
+      (codes_steps false steps (sealed_scene scene) h) (codes_steps false steps scene h)
+
+  codes_changes : (who several : ℕ) (lines_changed : Bool) (cs : List Change) (scene : Scene) → HaveCodes scene.notes → HaveCodes (changes_performed who several lines_changed cs scene).notes
+  codes_changes who several lines_changed [] scene h = h
+  codes_changes who several lines_changed (TextStep step ∷ cs) scene h =
+      let changed = cond lines_changed true (changes_lines (TextStep step) scene.document) in
+      codes_changes who several changed cs (change_performed who several (is_last cs) changed (TextStep step) scene)
+      (codes_step who (bit_or (bit_or who several) (last_bits (is_last cs) changed)) [] step scene h tt)
+  codes_changes who several lines_changed (ContainerStep token coalesce ∷ cs) scene h =
+      let changed = cond lines_changed true (changes_lines (ContainerStep token coalesce) scene.document) in
+      let n = container_note (bit_or (bit_or who several) (last_bits (is_last cs) changed)) token in
+      codes_changes who several changed cs (change_performed who several (is_last cs) changed (ContainerStep token coalesce) scene)
+      (codes_joined scene.notes (notes.heard (watching scene.views scene.document) n) h (codes_heard (watching scene.views scene.document) n modified))
+
+  codes_save_point : (views : List View) (a b : Bool) → HaveCodes (save_point_change views a b)
+  codes_save_point views true true = tt
+  codes_save_point views true false = codes_told views (notes.blank notes.save_point_left) left
+  codes_save_point views false true = codes_told views (notes.blank notes.save_point_reached) reached
+  codes_save_point views false false = tt
+
+  codes_history : (r : Request) (who : ℕ) (cs : List Change) (new : History) → HaveCodes (history_performed r who cs new).1.notes
+  codes_history r who cs new =
+      let done = changes_performed who (notes.bit_if (nat_lt 1 (length cs)) notes.multi_step) false cs (scene_of r) in
+      codes_joined done.notes (save_point_change (watching done.views done.document) (at_save_point r.document.history) (at_save_point new))
+      (codes_changes who (notes.bit_if (nat_lt 1 (length cs)) notes.multi_step) false cs (scene_of r) tt)
+      (codes_save_point (watching done.views done.document) (at_save_point r.document.history) (at_save_point new))
+
+  codes_if : (b : Bool) (ns : List Notice) → HaveCodes ns → HaveCodes (cond b [] ns)
+  codes_if true ns h = tt
+  codes_if false ns h = h
+
+  codes_range : (kind : ℕ) (range : Option (ℕ × ℕ)) (views : List View) → HaveCodes (range_notes kind range views)
+  codes_range kind None views = tt
+  codes_range kind (Some range) views = codes_heard views (notes.range_note (bit_or kind notes.performed_user) range.0 range.1) modified
+
+  codes_marker : (line : ℕ) (old new : Document) (views : List View) → HaveCodes (marker_note line old new views)
+  codes_marker line old new views =
+      let n = line_note notes.change_marker line in
+      let told : Notice = record n { position = pos (start_of_line old.line_end_types (text_of old) line) } in
+      codes_if (marker_count old.rows == marker_count new.rows) (notes.heard views told) (codes_heard views told modified)
+
+  codes_change : (sender : View) (views : List View) (old new : Document) (what : DocumentChange) → HaveCodes (change_told sender views old new what)
+  codes_change sender views old new (document_change.SetReadOnly on) = tt
+  codes_change sender views old new (document_change.SetLineEnd to) = tt
+  codes_change sender views old new document_change.SetSavePoint = codes_told views (notes.blank notes.save_point_reached) reached
+  codes_change sender views old new document_change.BeginGroup = tt
+  codes_change sender views old new document_change.EndGroup = tt
+  codes_change sender views old new document_change.ForgetHistory = tt
+  codes_change sender views old new (document_change.CollectUndo on) = tt
+  codes_change sender views old new (document_change.AppendContainer token coalesce) = codes_leaving views old.history
+  codes_change sender views old new (document_change.AddMarker line number) = codes_marker line old new views
+  codes_change sender views old new (document_change.AddMarkers line mask) = codes_marker line old new views
+  codes_change sender views old new (document_change.DeleteMarker line number) = codes_marker line old new views
+  codes_change sender views old new (document_change.DeleteMarkers number) =
+      let n = notes.change_note notes.change_marker in
+      let told : Notice = record n { line = negsuc 0 } in
+      codes_if (marker_count old.rows == marker_count new.rows) (notes.heard views told) (codes_heard views told modified)
+  codes_change sender views old new (document_change.DeleteHandle handle) = codes_marker (line_with_handle handle 0 old.rows) old new views
+  codes_change sender views old new (document_change.SetLevel line level) =
+      let n = line_note notes.change_fold line in
+      let told : Notice = record n { now = pos level; prev = pos (document_row old line).level } in
+      codes_if ((document_row old line).level == level) (notes.heard views told) (codes_heard views told modified)
+  codes_change sender views old new (document_change.SetState line state) =
+      let told = line_note notes.change_line_state line in
+      codes_if (is_same (document_row old line).state state) (notes.heard views told) (codes_heard views told modified)
+  codes_change sender views old new (document_change.SetEndStyled place) = tt
+  codes_change sender views old new (document_change.StyleRun count style) = codes_range notes.change_style (changed_range (styles_of old.cells) (styles_of new.cells)) views
+  codes_change sender views old new (document_change.StyleBytes count) = codes_range notes.change_style (changed_range (styles_of old.cells) (styles_of new.cells)) views
+  codes_change sender views old new (document_change.NeedStyle start past) =
+      let n = notes.blank notes.style_needed in
+      let told : Notice = record n { position = pos past } in
+      codes_told (sender ∷ []) told needed
+  codes_change sender views old new (document_change.FillIndicator indicator start count value) = codes_range notes.change_indicator (changed_range (slice_index_or old.indicators indicator []) (slice_index_or new.indicators indicator [])) views
+  codes_change sender views old new (document_change.SetLineEndTypes to) = tt
+
+  pub plans_have_codes : (r : Request) (p : Plan) → (p ≡ plan.Attempt → Code notes.modify_attempt) → HaveCodes (performed r p).1.notes
+  plans_have_codes r (plan.Answer value) attempt = tt
+  plans_have_codes r (plan.HandOut value start count) attempt = tt
+  plans_have_codes r (plan.HandOutStyled start count) attempt = tt
+  plans_have_codes r (plan.Edit change value after) attempt = codes_edit (steps_of r change) (scene_of r) tt
+  plans_have_codes r plan.Attempt attempt = codes_told (watching r.session.views r.document) (notes.blank notes.modify_attempt) (attempt refl)
+  plans_have_codes r plan.Undo attempt = codes_history r notes.performed_undo (undo_changes r.document.history) (undone r.document.history)
+  plans_have_codes r plan.Redo attempt = codes_history r notes.performed_redo (redo_changes r.document.history) (redone r.document.history)
+  plans_have_codes r (plan.ChangeDocument change value) attempt = codes_change r.view (watching r.session.views r.document) r.document (changed_document r.message.text change r.document) change
+  plans_have_codes r (plan.ChangeView change value) attempt = tt
+  plans_have_codes r (plan.ChangeSession change value) attempt = tt
+
+-- No note is one of recording.
+
 abbrev pub IsNoRecord : Notice → Type 0
 IsNoRecord n = (n.code == notes.macro_record) ≡ false
 
 abbrev pub NoRecords : List Notice → Type 0
 NoRecords ns = AllByRecursion IsNoRecord ns
 
-none_joined : (xs ys : List Notice) → NoRecords xs → NoRecords ys → NoRecords (xs ++ ys)
-none_joined [] ys a b = b
-none_joined (x ∷ xs) ys a b = (a.0, none_joined xs ys a.1 b)
-
-none_told : (views : List View) (n : Notice) → IsNoRecord n → NoRecords (notes.told views n)
-none_told [] n h = tt
-none_told (v ∷ vs) n h = (h, none_told vs n h)
-
-none_heard : (views : List View) (n : Notice) → IsNoRecord n → NoRecords (notes.heard views n)
-none_heard views n h = none_told (filter (λ (v : View). meets v.mask n.kind) views) n h
-
-before_is_none : (bits : ℕ) (step : Step) → IsNoRecord (notes.before_note bits step)
-before_is_none bits (Insert p bytes) = refl
-before_is_none bits (Delete p bytes) = refl
-
-after_is_none : (bits : ℕ) (lines : ℤ) (step : Step) → IsNoRecord (notes.after_note bits lines step)
-after_is_none bits lines (Insert p bytes) = refl
-after_is_none bits lines (Delete p bytes) = refl
-
-none_step : (before after : ℕ) (between : List Notice) (step : Step) (scene : Scene) → NoRecords scene.notes → NoRecords between → NoRecords (step_heard before after between step scene).notes
-none_step before after between step scene h k =
-    let views = watching scene.views scene.document in
-    let b = notes.before_note before step in
-    let a = notes.after_note after (growth (lines_in scene.document) (lines_in (document_after step scene.document))) step in
-    none_joined (scene.notes ++ notes.heard views b ++ between) (notes.heard views a)
-    (none_joined (scene.notes ++ notes.heard views b) between (none_joined scene.notes (notes.heard views b) h (none_heard views b (before_is_none before step))) k)
-    (none_heard views a (after_is_none after (growth (lines_in scene.document) (lines_in (document_after step scene.document))) step))
-
-none_leaving : (views : List View) (h : History) → NoRecords (leaving views h)
-none_leaving views h = either NoRecords (h.collecting && at_save_point h) (notes.told views (notes.blank notes.save_point_left)) [] (none_told views (notes.blank notes.save_point_left) refl) tt
-
-none_steps : (later : Bool) (steps : List Step) (scene : Scene) → NoRecords scene.notes → NoRecords (steps_made later steps scene).notes
-none_steps later [] scene h = h
-none_steps later (step ∷ steps) scene h =
-    none_steps true steps (step_made later step scene)
-    (none_step notes.performed_user (bit_or notes.performed_user (notes.bit_if (begins_transaction later (TextStep step) scene.document.history) notes.start_action))
-    (leaving (watching scene.views scene.document) scene.document.history) step scene h (none_leaving (watching scene.views scene.document) scene.document.history))
-
-none_edit : (steps : List Step) (scene : Scene) → NoRecords scene.notes → NoRecords (edit_made steps scene).notes
-none_edit steps scene h =
-    either (λ (x : Scene). NoRecords x.notes) (nat_lt 1 (length steps)) (sealed_scene (steps_made false steps (sealed_scene scene))) (steps_made false steps scene)
-    (none_steps false steps (sealed_scene scene) h) (none_steps false steps scene h)
-
-none_changes : (who several : ℕ) (lines_changed : Bool) (cs : List Change) (scene : Scene) → NoRecords scene.notes → NoRecords (changes_performed who several lines_changed cs scene).notes
-none_changes who several lines_changed [] scene h = h
-none_changes who several lines_changed (TextStep step ∷ cs) scene h =
-    let changed = cond lines_changed true (changes_lines (TextStep step) scene.document) in
-    none_changes who several changed cs (change_performed who several (is_last cs) changed (TextStep step) scene)
-    (none_step who (bit_or (bit_or who several) (last_bits (is_last cs) changed)) [] step scene h tt)
-none_changes who several lines_changed (ContainerStep token coalesce ∷ cs) scene h =
-    let changed = cond lines_changed true (changes_lines (ContainerStep token coalesce) scene.document) in
-    let n = container_note (bit_or (bit_or who several) (last_bits (is_last cs) changed)) token in
-    none_changes who several changed cs (change_performed who several (is_last cs) changed (ContainerStep token coalesce) scene)
-    (none_joined scene.notes (notes.heard (watching scene.views scene.document) n) h (none_heard (watching scene.views scene.document) n refl))
-
-none_save_point : (views : List View) (a b : Bool) → NoRecords (save_point_change views a b)
-none_save_point views true true = tt
-none_save_point views true false = none_told views (notes.blank notes.save_point_left) refl
-none_save_point views false true = none_told views (notes.blank notes.save_point_reached) refl
-none_save_point views false false = tt
-
-none_history : (r : Request) (who : ℕ) (cs : List Change) (new : History) → NoRecords (history_performed r who cs new).1.notes
-none_history r who cs new =
-    let done = changes_performed who (notes.bit_if (nat_lt 1 (length cs)) notes.multi_step) false cs (scene_of r) in
-    none_joined done.notes (save_point_change (watching done.views done.document) (at_save_point r.document.history) (at_save_point new))
-    (none_changes who (notes.bit_if (nat_lt 1 (length cs)) notes.multi_step) false cs (scene_of r) tt)
-    (none_save_point (watching done.views done.document) (at_save_point r.document.history) (at_save_point new))
-
-none_if : (b : Bool) (ns : List Notice) → NoRecords ns → NoRecords (cond b [] ns)
-none_if true ns h = tt
-none_if false ns h = h
-
-none_range : (kind : ℕ) (range : Option (ℕ × ℕ)) (views : List View) → NoRecords (range_notes kind range views)
-none_range kind None views = tt
-none_range kind (Some range) views = none_heard views (notes.range_note (bit_or kind notes.performed_user) range.0 range.1) refl
-
-none_marker : (line : ℕ) (old new : Document) (views : List View) → NoRecords (marker_note line old new views)
-none_marker line old new views =
-    let n = line_note notes.change_marker line in
-    let told : Notice = record n { position = pos (start_of_line old.line_end_types (text_of old) line) } in
-    none_if (marker_count old.rows == marker_count new.rows) (notes.heard views told) (none_heard views told refl)
-
-none_change : (sender : View) (views : List View) (old new : Document) (what : DocumentChange) → NoRecords (change_told sender views old new what)
-none_change sender views old new (document_change.SetReadOnly on) = tt
-none_change sender views old new (document_change.SetLineEnd to) = tt
-none_change sender views old new document_change.SetSavePoint = none_told views (notes.blank notes.save_point_reached) refl
-none_change sender views old new document_change.BeginGroup = tt
-none_change sender views old new document_change.EndGroup = tt
-none_change sender views old new document_change.ForgetHistory = tt
-none_change sender views old new (document_change.CollectUndo on) = tt
-none_change sender views old new (document_change.AppendContainer token coalesce) = none_leaving views old.history
-none_change sender views old new (document_change.AddMarker line number) = none_marker line old new views
-none_change sender views old new (document_change.AddMarkers line mask) = none_marker line old new views
-none_change sender views old new (document_change.DeleteMarker line number) = none_marker line old new views
-none_change sender views old new (document_change.DeleteMarkers number) =
-    let n = notes.change_note notes.change_marker in
-    let told : Notice = record n { line = negsuc 0 } in
-    none_if (marker_count old.rows == marker_count new.rows) (notes.heard views told) (none_heard views told refl)
-none_change sender views old new (document_change.DeleteHandle handle) = none_marker (line_with_handle handle 0 old.rows) old new views
-none_change sender views old new (document_change.SetLevel line level) =
-    let n = line_note notes.change_fold line in
-    let told : Notice = record n { now = pos level; prev = pos (document_row old line).level } in
-    none_if ((document_row old line).level == level) (notes.heard views told) (none_heard views told refl)
-none_change sender views old new (document_change.SetState line state) =
-    let told = line_note notes.change_line_state line in
-    none_if (is_same (document_row old line).state state) (notes.heard views told) (none_heard views told refl)
-none_change sender views old new (document_change.SetEndStyled place) = tt
-none_change sender views old new (document_change.StyleRun count style) = none_range notes.change_style (changed_range (styles_of old.cells) (styles_of new.cells)) views
-none_change sender views old new (document_change.StyleBytes count) = none_range notes.change_style (changed_range (styles_of old.cells) (styles_of new.cells)) views
-none_change sender views old new (document_change.NeedStyle start past) =
-    let n = notes.blank notes.style_needed in
-    let told : Notice = record n { position = pos past } in
-    none_told (sender ∷ []) told refl
-none_change sender views old new (document_change.FillIndicator indicator start count value) = none_range notes.change_indicator (changed_range (slice_index_or old.indicators indicator []) (slice_index_or new.indicators indicator [])) views
-none_change sender views old new (document_change.SetLineEndTypes to) = tt
-
 pub plans_tell_no_record : (r : Request) (p : Plan) → NoRecords (performed r p).1.notes
-plans_tell_no_record r (plan.Answer value) = tt
-plans_tell_no_record r (plan.HandOut value start count) = tt
-plans_tell_no_record r (plan.HandOutStyled start count) = tt
-plans_tell_no_record r (plan.Edit change value after) = none_edit (steps_of r change) (scene_of r) tt
-plans_tell_no_record r plan.Attempt = none_told (watching r.session.views r.document) (notes.blank notes.modify_attempt) refl
-plans_tell_no_record r plan.Undo = none_history r notes.performed_undo (undo_changes r.document.history) (undone r.document.history)
-plans_tell_no_record r plan.Redo = none_history r notes.performed_redo (redo_changes r.document.history) (redone r.document.history)
-plans_tell_no_record r (plan.ChangeDocument change value) = none_change r.view (watching r.session.views r.document) r.document (changed_document r.message.text change r.document) change
-plans_tell_no_record r (plan.ChangeView change value) = tt
-plans_tell_no_record r (plan.ChangeSession change value) = tt
+plans_tell_no_record r p = plans_have_codes (λ (code : ℕ). (code == notes.macro_record) ≡ false) refl refl refl refl r p (λ is. refl)

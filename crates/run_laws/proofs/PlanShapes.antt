@@ -1,9 +1,10 @@
 -- What the plan of each message may be, kind by kind, and what it hangs on.
 use Rattle.std.proofs.Common.{◌≡◌, ℕ, Bool, true, false, cond, List, refl, ap, Option, Some, None, Ok, Err}
-use Rattle.std.specs.Prelude.{nat_lt}
+use Rattle.std.specs.Prelude.{nat_lt, ◌&&◌}
 use Rattle.ed_types.specs.declared.kind.Kind.{Kind}
 use Rattle.ed_types.specs.declared.kind.Kind.TheVariants as kinds
 use Rattle.ed_types.specs.declared.refusal.Refusal.TheVariants.{OutOfMemory, NoSuchDocument, TooMany}
+use Rattle.ed_model.specs.declared.plan.Follow.{Follow}
 use Rattle.ed_model.specs.declared.plan.Follow.TheVariants as follow
 use Rattle.ed_model.specs.declared.plan.DocumentChange.TheVariants as document_change
 use Rattle.ed_model.specs.declared.plan.ViewChange.TheVariants as view_change
@@ -22,20 +23,35 @@ use Rattle.ed_model.specs.Edits.{converted_if}
 use Rattle.ed_model.specs.Table.{plan_of}
 use Rattle.run_laws.specs.MessageKinds.{is_copying, is_about_documents, is_about_recording, is_saving}
 
--- Whether a plan may take bytes to the clipboard, may make, attach, hold or release documents, may start or stop a recording, and may
--- set a save point.
+-- Whether a plan may edit the text, may take bytes to the clipboard, may make, attach, hold or release documents, may start or stop a
+-- recording, and may set a save point.
 pub record Leave : Type 0 where
+  pub edits : Bool
   pub copies : Bool
   pub documents : Bool
   pub recording : Bool
   pub saves : Bool
 
 abbrev pub leave_of : Kind → Leave
-leave_of kind = record { copies = is_copying kind; documents = is_about_documents kind; recording = is_about_recording kind; saves = is_saving kind }
+leave_of kind = record {
+  edits = (marks_of kind).e;
+  copies = is_copying kind;
+  documents = is_about_documents kind;
+  recording = is_about_recording kind;
+  saves = is_saving kind;
+}
+
+-- whether that may follow an edit
+abbrev pub may_follow : Leave → Follow → Bool
+may_follow l (follow.Clipboard start count) = l.copies
+may_follow l other = true
 
 -- the plan keeps to its leave
 abbrev pub KeepsTo : Leave → Plan → Type 0
-KeepsTo l (plan.Edit edit value (follow.Clipboard start count)) = l.copies ≡ true
+KeepsTo l (plan.Edit edit value after) = (l.edits && may_follow l after) ≡ true
+KeepsTo l plan.Attempt = l.edits ≡ true
+KeepsTo l plan.Undo = l.edits ≡ true
+KeepsTo l plan.Redo = l.edits ≡ true
 KeepsTo l (plan.ChangeSession (session_change.Copy start count) value) = l.copies ≡ true
 KeepsTo l (plan.ChangeSession (session_change.CopyText count) value) = l.copies ≡ true
 KeepsTo l (plan.ChangeSession (session_change.Attach document) value) = l.documents ≡ true

@@ -114,7 +114,7 @@ bytes_restyled_from zero styles cells = bytes_restyled styles cells
 bytes_restyled_from (suc n) styles [] = bytes_restyled styles []
 bytes_restyled_from (suc n) styles (c ∷ cells) = ap (λ rest. c.byte ∷ rest) (bytes_restyled_from n styles cells)
 
-text_styled : (new : List ℕ) (d : Document) → text_of (styled new d) ≡ text_of d
+pub text_styled : (new : List ℕ) (d : Document) → text_of (styled new d) ≡ text_of d
 text_styled new d =
     either (λ (cells : List Cell). bytes_of cells ≡ bytes_of d.cells) (keeps_no_styles d) d.cells (take d.end_styled d.cells ++ restyled new (drop d.end_styled d.cells)) refl
     (bytes_restyled_from d.end_styled new d.cells)

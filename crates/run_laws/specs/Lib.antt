@@ -5,8 +5,10 @@ pub mod RefusalLaws
 pub mod HeldLaws
 pub mod UndoRunLaws
 pub mod SavePointLaws
+pub mod LastSavePointLaws
 pub mod IsolationLaws
 pub mod MacroLaws
+pub mod EditLaws
 pub mod StyleLaws
 pub mod HandleRunLaws
 pub mod IdLaws

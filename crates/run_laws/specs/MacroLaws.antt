@@ -1,5 +1,5 @@
 -- Macros: what a view records, sent to it again from where it began, ends where it ended.
-use Rattle.std.specs.Prelude.{◌≡◌, ◌⊎◌, ℕ, ◌==◌, true, false, if◌then◌else◌, List, [], map, Some, Ok}
+use Rattle.std.specs.Prelude.{◌≡◌, ◌⊎◌, ◌≤◌, ℕ, ◌==◌, true, false, if◌then◌else◌, List, [], ◌∷◌, length, map, Some, Ok}
 use Rattle.std.specs.List.{AllByRecursion}
 use Rattle.ed_types.specs.declared.kind.Kind.{Kind}
 use Rattle.ed_types.specs.declared.kind.Kind.TheVariants.{StartRecord, StopRecord}
@@ -12,7 +12,7 @@ use Rattle.ed_model.specs.Session.{Session, View}
 use Rattle.ed_model.specs.Recording.{recorded_messages, replies_in}
 use Rattle.ed_model.specs.Table.{table}
 use Rattle.ed_model.specs.SoundLaws.{IsSound}
-use Rattle.ed_model.specs.Run.{starting, outcomes, run_to}
+use Rattle.ed_model.specs.Run.{Running, starting, outcomes, run_to}
 use Rattle.run_laws.specs.IsolationLaws.{Sending, sent}
 
 -- the session but for whether the view records
@@ -43,3 +43,18 @@ RecordingsCanBeReplayed =
     AllByRecursion (CanStandBetween view) messages →
     kind_of stop.number ≡ Some StopRecord → table (run_to [] (map sent messages) (starting begun.0)).session view stop ≡ Ok ended →
     without_recording view (run_to [] (map (sent_to view) (recorded_of view messages begun.0)) (starting s)).session ≡ ended.0
+
+-- A reply records one message at most for a view: the first note of recording that it has for the view is the only one.
+abbrev pub RecordsOneAtMost : ℕ → Response → Type 0
+RecordsOneAtMost view reply = length (recorded_messages view (reply ∷ [])) ≤ 1
+
+-- every reply to a message does so for every view
+abbrev pub RepliesRecordOneMessage : Type 0
+RepliesRecordOneMessage =
+    (s : Session) (sender view : ℕ) (m : Message) (done : Session × Response) → table s sender m ≡ Ok done → RecordsOneAtMost view done.1
+
+-- and so do all replies of a run, from any session
+abbrev pub RunsRecordOneMessageAReply : Type 0
+RunsRecordOneMessageAReply =
+    (files : List (List ℕ)) (commands : List Command) (s : Running) (view : ℕ) →
+    AllByRecursion (RecordsOneAtMost view) (replies_in (outcomes files commands s))

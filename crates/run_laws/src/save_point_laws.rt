@@ -1,5 +1,6 @@
-//! The law of the save point.
+//! Laws of the save point.
 
+ghost use Rattle.run_laws.specs.LastSavePointLaws.{SavedIsUnmodified, ToldUnmodifiedIsTheLastSavedText, UnmodifiedIsTheLastSavedText, UnmodifiedIsTold};
 ghost use Rattle.run_laws.specs.SavePointLaws.{GetModifyTells, UnmodifiedIsTheSavedText};
 
 /// Whenever a document counts as unmodified, groups open or not, its text is that of the save point, unless a text of it changed
@@ -15,4 +16,19 @@ pub fn an_unmodified_document_has_its_saved_text()
     ed_model::a_change_is_appended();
     ed_model::seals_and_groups();
     ed_model::positions_after_a_step();
+}
+
+/// SETSAVEPOINT, EMPTYUNDOBUFFER and its creation leave a document unmodified. In every state that a run reaches, a document that
+/// counts as unmodified, as one of whose views GETMODIFY would be answered by 0, has the text that it had at the last of these three,
+/// unless a text of it changed since without being collected.
+pub fn an_unmodified_document_has_its_last_saved_text()
+    ensures saved { SavedIsUnmodified }
+    ensures told { UnmodifiedIsTold }
+    ensures text { UnmodifiedIsTheLastSavedText }
+    ensures asked { ToldUnmodifiedIsTheLastSavedText }
+{
+    an_unmodified_document_has_its_saved_text();
+    ed_model::session_is_sound();
+    ed_model::soundness_is_kept();
+    ed_model::plans_are_fit();
 }

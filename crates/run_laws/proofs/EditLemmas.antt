@@ -1,0 +1,121 @@
+-- A message that is not marked E leaves every text, and tells of no attempt.
+use Rattle.std.proofs.Common.{◌≡◌, ℕ, Bool, true, false, cond, List, [], ◌∷◌, replicate, take, refl, ap, ◌∙◌, sym, subst, Option, Some, None, Ok, Err}
+use Rattle.std.specs.Prelude.{◌≢◌, ◌&&◌}
+use Rattle.std.specs.List.{AllByRecursion}
+use Rattle.std.proofs.lemmas.Bool.{eqb-false, and_parts}
+use Rattle.ed_types.specs.declared.kind.Kind.{Kind}
+use Rattle.ed_types.specs.Notices.{Notice, Response}
+use Rattle.ed_types.specs.Messages.{marks_of}
+use Rattle.ed_model.specs.declared.plan.DocumentChange.{DocumentChange}
+use Rattle.ed_model.specs.declared.plan.DocumentChange.TheVariants as document_change
+use Rattle.ed_model.specs.declared.plan.Plan.{Plan}
+use Rattle.ed_model.specs.declared.plan.Plan.TheVariants as plan
+use Rattle.ed_model.specs.Text.{Cell, bytes_of}
+use Rattle.ed_model.specs.Session.{Session, Document, document_at, text_of, keeps_no_styles}
+use Rattle.ed_model.specs.Notes as notes
+use Rattle.ed_model.specs.Requests.{Request, Planned}
+use Rattle.ed_model.specs.Changes.{changed_document, styled}
+use Rattle.ed_model.specs.Table.{answered, performed, plan_of, request, record_note}
+use Rattle.ed_model.specs.TableLaws.{Answered}
+use Rattle.ed_model.specs.PlansFit.{PlansFit}
+use Rattle.run_laws.specs.EditLaws.{text_if_there, text_at, TextsStay, TellsNoAttempt, OnlyEditsChangeTexts, OnlyEditsTellOfAttempts}
+use Rattle.run_laws.proofs.TableWays.{of_table}
+use Rattle.run_laws.proofs.PlanShapes.{Leave, may_follow, KeepsTo, IsShaped, leave_of, plan_is_shaped}
+use Rattle.run_laws.proofs.NoteLemmas.{plans_have_codes}
+use Rattle.run_laws.proofs.Going.{own_after, AllFrom, From, AnsweredFrom, table_from}
+use Rattle.run_laws.proofs.SavePointLemmas.{text_styled}
+
+-- no change of a document that is no edit changes its text
+pub text_kept : (bytes : List ℕ) (change : DocumentChange) (d : Document) → text_of (changed_document bytes change d) ≡ text_of d
+text_kept bytes (document_change.StyleRun count style) d = text_styled (replicate count style) d
+text_kept bytes (document_change.StyleBytes count) d = text_styled (take count bytes) d
+text_kept bytes (document_change.SetReadOnly on) d = refl
+text_kept bytes (document_change.SetLineEnd to) d = refl
+text_kept bytes (document_change.SetLineEndTypes to) d = refl
+text_kept bytes document_change.SetSavePoint d = refl
+text_kept bytes document_change.BeginGroup d = refl
+text_kept bytes document_change.EndGroup d = refl
+text_kept bytes document_change.ForgetHistory d = refl
+text_kept bytes (document_change.CollectUndo on) d = refl
+text_kept bytes (document_change.AppendContainer token coalesce) d = refl
+text_kept bytes (document_change.AddMarker line number) d = refl
+text_kept bytes (document_change.AddMarkers line mask) d = refl
+text_kept bytes (document_change.DeleteMarker line number) d = refl
+text_kept bytes (document_change.DeleteMarkers number) d = refl
+text_kept bytes (document_change.DeleteHandle handle) d = refl
+text_kept bytes (document_change.SetLevel line level) d = refl
+text_kept bytes (document_change.SetState line state) d = refl
+text_kept bytes (document_change.SetEndStyled place) d = refl
+text_kept bytes (document_change.NeedStyle start past) d = refl
+text_kept bytes (document_change.FillIndicator indicator start count value) d = refl
+
+-- nor does a plan without the leave to edit
+own_text_kept : (r : Request) (p : Plan) (l : Leave) → l.edits ≡ false → KeepsTo l p → text_of (own_after r p) ≡ text_of r.document
+own_text_kept r (plan.Edit change value after) l barred keeps = let may = (and_parts l.edits (may_follow l after) keeps).0 in absurd (cc)
+own_text_kept r plan.Attempt l barred keeps = refl
+own_text_kept r plan.Undo l barred keeps = absurd (cc)
+own_text_kept r plan.Redo l barred keeps = absurd (cc)
+own_text_kept r (plan.ChangeDocument change value) l barred keeps = text_kept r.message.text change r.document
+own_text_kept r (plan.Answer value) l barred keeps = refl
+own_text_kept r (plan.HandOut value start count) l barred keeps = refl
+own_text_kept r (plan.HandOutStyled start count) l barred keeps = refl
+own_text_kept r (plan.ChangeView change value) l barred keeps = refl
+own_text_kept r (plan.ChangeSession change value) l barred keeps = refl
+
+-- Texts.
+
+abbrev SameText : Document → Document → Type 0
+SameText d e = text_of e ≡ text_of d
+
+abbrev same_text : (d : Document) → SameText d d
+same_text d = refl
+
+abbrev same_relisted : (d e : Document) (views : List ℕ) (held_by_callers : ℕ) → SameText d e → SameText d (record e { views = views; held_by_callers = held_by_callers })
+same_relisted d e views held_by_callers h = h
+
+text_from : (next : ℕ) (o : Option Document) (e : Document) → From SameText same_text same_relisted next o e → text_of e ≡ text_if_there o
+text_from next None e h = ap text_of h.1.1
+text_from next (Some d) e h = h
+
+texts_from : (s t : Session) → AllFrom SameText same_text same_relisted s.next_document s.documents t.documents → TextsStay s t
+texts_from s t all id e found = text_from s.next_document (document_at s.documents id) e (all id e found)
+
+pub only_edits_change_texts : PlansFit → OnlyEditsChangeTexts
+only_edits_change_texts fits s view m kind done sound is unmarked e =
+    texts_from s done.0
+    (subst (AnsweredFrom SameText same_text same_relisted s) e
+    (table_from SameText same_text same_relisted fits s view m sound
+    (λ k r p sent.
+    let same : k ≡ kind = (let there = sent.4 in cc) in
+    let barred : (marks_of k).e ≡ false = ap (λ (x : Kind). (marks_of x).e) same ∙ unmarked in
+    own_text_kept r p (leave_of k) barred (subst (IsShaped (leave_of k)) sent.5 (plan_is_shaped k r)))))
+
+-- Notes.
+
+abbrev NoAttempt : ℕ → Type 0
+NoAttempt code = code ≢ notes.modify_attempt
+
+abbrev SilentOnAttempts : Answered → Type 0
+SilentOnAttempts (Ok done) = TellsNoAttempt done.1
+SilentOnAttempts (Err refusal) = Unit {0}
+
+-- the note of recording is another one
+attempts_if_recorded : (b : Bool) (r : Request) (reply : Response) → TellsNoAttempt reply → TellsNoAttempt (cond b (record reply { notes = record_note r ∷ reply.notes }) reply)
+attempts_if_recorded true r reply h = (eqb-false notes.macro_record notes.modify_attempt refl, h)
+attempts_if_recorded false r reply h = h
+
+answer_tells_no_attempt : (kind : Kind) (r : Request) (p : Planned) → (marks_of kind).e ≡ false → IsShaped (leave_of kind) p → SilentOnAttempts (answered kind r p)
+answer_tells_no_attempt kind r (Err refusal) barred shaped = tt
+answer_tells_no_attempt kind r (Ok p) barred shaped =
+    attempts_if_recorded (r.view.records && (marks_of kind).r) r (performed r p).1
+    (plans_have_codes NoAttempt (eqb-false notes.style_needed notes.modify_attempt refl) (eqb-false notes.save_point_reached notes.modify_attempt refl)
+    (eqb-false notes.save_point_left notes.modify_attempt refl) (eqb-false notes.modified notes.modify_attempt refl) r p
+    (λ is. let may : (marks_of kind).e ≡ true = subst (KeepsTo (leave_of kind)) is shaped in absurd (cc)))
+
+pub only_edits_tell_of_attempts : OnlyEditsTellOfAttempts
+only_edits_tell_of_attempts s view m kind done is unmarked e =
+    subst SilentOnAttempts e
+    (of_table SilentOnAttempts tt tt tt s m view
+    (λ v sees k there d finds.
+    let same : k ≡ kind = cc in
+    answer_tells_no_attempt k (request s v d m) (plan_of k (request s v d m)) (ap (λ (x : Kind). (marks_of x).e) same ∙ unmarked) (plan_is_shaped k (request s v d m))))

@@ -1,0 +1,12 @@
+//! The law of the mark E.
+
+ghost use Rattle.run_laws.specs.EditLaws.{OnlyEditsChangeTexts, OnlyEditsTellOfAttempts};
+
+/// A message that is not marked E leaves the text of every document, and tells no view of an attempt to edit. A document that it
+/// makes has no text.
+pub fn only_edits_change_texts()
+    ensures texts { OnlyEditsChangeTexts }
+    ensures attempts { OnlyEditsTellOfAttempts }
+{
+    ed_model::plans_are_fit();
+}
