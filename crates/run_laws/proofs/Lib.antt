@@ -15,6 +15,7 @@ pub mod UndoRunLemmas
 pub mod SavePointLemmas
 pub mod LastSavePointLemmas
 pub mod EditLemmas
+pub mod AttemptLemmas
 pub mod Invariants
 pub mod StyleLemmas
 pub mod HandleLemmas

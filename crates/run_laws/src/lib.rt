@@ -13,7 +13,7 @@ mod save_point_laws;
 mod small_laws;
 mod undo_run_laws;
 
-pub use edit_laws::only_edits_change_texts;
+pub use edit_laws::{marked_messages_edit, only_edits_change_texts};
 pub use fold_laws::{display_lines_count_visible_lines, fold_parents_are_a_chain};
 pub use id_laws::{handles_never_come_back, ids_never_come_back, opened_views_have_rising_ids};
 pub use isolation_laws::documents_are_apart;

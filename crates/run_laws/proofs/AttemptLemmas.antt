@@ -1,0 +1,47 @@
+-- Each message that is marked E tells of an attempt, where there is something to edit in a read-only document: computed for all kinds at once.
+use Rattle.std.proofs.Common.{◌≡◌, ℕ, Bool, true, false, cond, List, [], ◌∷◌, refl, subst, sym, ◌∙◌, Option, Some, None}
+use Rattle.std.specs.Prelude.{◌&&◌, ◌==◌, find}
+use Rattle.std.specs.List.{list_all}
+use Rattle.std.specs.Option.{option_or}
+use Rattle.std.proofs.lemmas.Bool.{and_parts}
+use Rattle.ed_types.specs.declared.kind.Kind.{Kind}
+use Rattle.ed_types.specs.Messages.{number_of, marks_of, kind_in, kind_among, groups}
+use Rattle.ed_types.specs.MessagesLaws.{EachKindIsFound}
+use Rattle.ed_model.specs.Session.{Session}
+use Rattle.ed_model.specs.Table.{table}
+use Rattle.run_laws.specs.EditLaws.{something_to_edit, with_ones, tells_attempt, MarkedMessagesTellAttempts}
+
+-- What a test finds of all kinds, it finds of each.
+
+of_found : (test sought : Kind → Bool) (ks : List Kind) (kind : Kind) → list_all test ks ≡ true → find sought ks ≡ Some kind → test kind ≡ true
+of_found test sought [] kind all e = absurd (cc)
+of_found test sought (k ∷ ks) kind all e =
+    let parts = and_parts (test k) (list_all test ks) all in go (sought k) e parts.0 (λ f. of_found test sought ks kind parts.1 f)
+  where
+    go : (b : Bool) → cond b (Some k) (find sought ks) ≡ Some kind → test k ≡ true → (find sought ks ≡ Some kind → test kind ≡ true) → test kind ≡ true
+    go true f here later = let same : k ≡ kind = cc in subst (λ (x : Kind). test x ≡ true) same here
+    go false f here later = later f
+
+of_group : (test : Kind → Bool) (gs : List (List Kind)) (number : ℕ) (kind : Kind) → list_all (list_all test) gs ≡ true → kind_in gs number ≡ Some kind → test kind ≡ true
+of_group test [] number kind all e = absurd (cc)
+of_group test (g ∷ gs) number kind all e =
+    let parts = and_parts (list_all test g) (list_all (list_all test) gs) all in
+    go (kind_among g number) refl e (of_found test (λ (k : Kind). number_of k == number) g kind parts.0) (of_group test gs number kind parts.1)
+  where
+    go : (o : Option Kind) → kind_among g number ≡ o → option_or o (kind_in gs number) ≡ Some kind → (kind_among g number ≡ Some kind → test kind ≡ true)
+        → (kind_in gs number ≡ Some kind → test kind ≡ true) → test kind ≡ true
+    go (Some k) found f here later = here (found ∙ f)
+    go None found f here later = later f
+
+-- whether the message, if it is marked E, tells of an attempt in this session
+abbrev tells_if_marked : Session → Kind → Bool
+tells_if_marked s kind = cond (marks_of kind).e (tells_attempt (table s 1 (with_ones kind))) true
+
+all_tell : list_all (list_all (tells_if_marked something_to_edit)) groups ≡ true
+all_tell = refl
+
+pub marked_messages_tell_attempts : EachKindIsFound → MarkedMessagesTellAttempts
+marked_messages_tell_attempts found kind marked =
+    let test : cond (marks_of kind).e (tells_attempt (table something_to_edit 1 (with_ones kind))) true ≡ true =
+    of_group (tells_if_marked something_to_edit) groups (number_of kind) kind all_tell (found kind) in
+    subst (λ (b : Bool). cond b (tells_attempt (table something_to_edit 1 (with_ones kind))) true ≡ true) marked test
