@@ -321,12 +321,12 @@ hongpilas_answer hongpilas_copy_range(hongpilas *session, uint32_t view, size_t 
 #define SCI_COLOURISE              4003
 
 /* Notes. */
-#define SCN_MACRORECORD      2009
 #define SCN_STYLENEEDED      2000
 #define SCN_SAVEPOINTREACHED 2002
 #define SCN_SAVEPOINTLEFT    2003
 #define SCN_MODIFYATTEMPTRO  2004
 #define SCN_MODIFIED         2008
+#define SCN_MACRORECORD      2009
 
 /* Constants. */
 #define SCFIND_MATCHCASE              4

@@ -1,9 +1,14 @@
 #!/usr/bin/env python3
-"""Writes Scintilla's names and numbers into include/hongpilas.h, from the messages of ed_types and the tables of docs/MESSAGES.md.
+"""Writes Scintilla's names and numbers into include/hongpilas.h, from the definitions.
 
-Run it at the top of the repository after a message or a constant was added. With --check it writes nothing, and fails where the
-header is not what it would write, where a constant that the tables name has no number there, or where its calls and structs, with their
-names and types, its refusals or the greatest limits are not those of the crates.
+SCI_ has its numbers from the rows of crates/ed_types/specs/Messages.antt; SCN_, SC_, SCFIND_ and UNDO_ have theirs from the definitions of
+crates/ed_model/specs that DEFINED names, and what no definition reads from a constant of the code. Run it at the top of the repository after a
+message or a constant was added. With --check it writes nothing, and fails where
+
+- the header is not what it would write: a number in it is not that of the definitions, or a name is missing or too many;
+- the enum `Kind` of ed_types has another message or number than the definitions;
+- docs/MESSAGES.md names a constant or a note that DEFINED does not have, or the other way round, or with another number, or never with its number;
+- its calls and structs, with their names and types, its refusals, its version or the greatest limits are not those of the crates.
 """
 import os
 import re
@@ -23,6 +28,71 @@ NAMINGS = (
     (rf"{NUMBER} \(`(?P<name>{CONSTANT})`\)", lambda number: int(number, 0)),
     (rf"`(?P<name>{CONSTANT})`, its low {NUMBER} bits", lambda bits: (1 << int(bits)) - 1),
 )
+# Where definitions have the number of a constant: the words before it, which stand once in the file.
+MODEL = "crates/ed_model/specs"
+DEFINED = {
+    f"{MODEL}/Notes.antt": {
+        "SCN_STYLENEEDED": "style_needed =",
+        "SCN_SAVEPOINTREACHED": "save_point_reached =",
+        "SCN_SAVEPOINTLEFT": "save_point_left =",
+        "SCN_MODIFYATTEMPTRO": "modify_attempt =",
+        "SCN_MODIFIED": "modified =",
+        "SCN_MACRORECORD": "macro_record =",
+        "SC_MOD_INSERTTEXT": "insert_text =",
+        "SC_MOD_DELETETEXT": "delete_text =",
+        "SC_MOD_CHANGESTYLE": "change_style =",
+        "SC_MOD_CHANGEFOLD": "change_fold =",
+        "SC_PERFORMED_USER": "performed_user =",
+        "SC_PERFORMED_UNDO": "performed_undo =",
+        "SC_PERFORMED_REDO": "performed_redo =",
+        "SC_MULTISTEPUNDOREDO": "multi_step =",
+        "SC_LASTSTEPINUNDOREDO": "last_step =",
+        "SC_MOD_CHANGEMARKER": "change_marker =",
+        "SC_MOD_BEFOREINSERT": "before_insert =",
+        "SC_MOD_BEFOREDELETE": "before_delete =",
+        "SC_MULTILINEUNDOREDO": "multi_line =",
+        "SC_STARTACTION": "start_action =",
+        "SC_MOD_CHANGEINDICATOR": "change_indicator =",
+        "SC_MOD_CHANGELINESTATE": "change_line_state =",
+        "SC_MOD_CONTAINER": "container =",
+    },
+    f"{MODEL}/Matches.antt": {
+        "SCFIND_WHOLEWORD": "whole_word =",
+        "SCFIND_MATCHCASE": "match_case =",
+        "SCFIND_WORDSTART": "word_start =",
+    },
+    f"{MODEL}/LinePlans.antt": {
+        "SC_EOL_CRLF": "line_end_number CrLf =",
+        "SC_EOL_CR": "line_end_number Cr =",
+        "SC_EOL_LF": "line_end_number Lf =",
+    },
+    f"{MODEL}/Rows.antt": {"SC_FOLDLEVELBASE": "base_level ="},
+    f"{MODEL}/Folding.antt": {
+        "SC_FOLDLEVELNUMBERMASK": "level_number level = bit_and level",
+        "SC_FOLDLEVELHEADERFLAG": "is_header_level level = meets level",
+    },
+    # FOLDLINE takes three actions, 0 to 2: the one that is not named is to expand.
+    f"{MODEL}/FoldingPlans.antt": {
+        "SC_FOLDACTION_CONTRACT": "if action ==",
+        "SC_FOLDACTION_TOGGLE": "(action ==",
+    },
+    f"{MODEL}/Session.antt": {
+        "SC_MODEVENTMASKALL": "whole_mask =",
+        "SC_DOCUMENTOPTION_STYLES_NONE": "keeps_no_styles d = meets d.options",
+        "SC_DOCUMENTOPTION_TEXT_LARGE": "is_large d = meets d.options",
+    },
+    f"{MODEL}/SessionPlans.antt": {
+        "SC_LINE_END_TYPE_DEFAULT": "types_number Default =",
+        "SC_LINE_END_TYPE_UNICODE": "types_number Unicode =",
+    },
+    # Flags are from UNDO_NONE to the one that lets a step coalesce.
+    f"{MODEL}/UndoPlans.antt": {
+        "UNDO_NONE": "add_undo_action r = argument",
+        "UNDO_MAY_COALESCE": "(flags ==",
+    },
+    # No definition reads the white flag; the program names it where it shows a level.
+    "crates/script_walk/src/look.rt": {"SC_FOLDLEVELWHITEFLAG": "const LEVEL_WHITE: i64 ="},
+}
 STRUCTS = {"Handle": "hongpilas", "LimitsInC": "hongpilas_limits", "NoteInC": "hongpilas_note_data"}
 # How C declares a place of each type that exports and structs of the crate have. A slice is two places, and an allocator none.
 IN_C = {
@@ -54,12 +124,48 @@ def read(path):
 
 
 def messages():
-    """The messages of the profile, in the order of their numbers."""
+    """The messages of the profile, in the order of their numbers, as their rows define them."""
+    found = re.findall(r"^row_of kinds\.\w+ = row (\d+) \w+ +-- (\w+)$", read("crates/ed_types/specs/Messages.antt"), re.M)
+    return sorted((("SCI_" + name, int(number)) for number, name in found), key=lambda pair: pair[1])
+
+
+def kinds():
+    """The messages as the code has them."""
     found = re.findall(r"/// `(SCI_\w+)`\n\s*\w+ = (\d+),", read("crates/ed_types/src/kind.rt"))
     return [(name, int(number)) for name, number in found]
 
 
-def notes(table):
+def defined_behind(words, text, path):
+    """The number behind words that stand once."""
+    found = re.findall(rf"(?<![\w.]){re.escape(words)} {NUMBER}(?!\w)", text)
+    if len(found) != 1:
+        sys.exit(f"{path}: `{words}` and a number stand {len(found)} times, and should once")
+    return int(found[0], 0)
+
+
+def expanding():
+    """The action of FOLDLINE that is neither to contract nor to toggle."""
+    path = f"{MODEL}/FoldingPlans.antt"
+    text, last = read(path), defined_behind("fold_line r = argument 0", read(path), path)
+    (left,) = {*range(last + 1)} - {defined_behind(words, text, path) for words in DEFINED[path].values()}
+    return left
+
+
+def defined():
+    """All constants, each with the number that the definitions have."""
+    found = {name: defined_behind(words, read(path), path) for path, names in DEFINED.items() for name, words in names.items()}
+    return {**found, "SC_FOLDACTION_EXPAND": expanding()}
+
+
+def notes():
+    return sorted((pair for pair in defined().items() if pair[0].startswith("SCN_")), key=lambda pair: pair[1])
+
+
+def constants():
+    return sorted(pair for pair in defined().items() if not pair[0].startswith("SCN_"))
+
+
+def notes_of_page(table):
     return [(name, int(code)) for code, name in re.findall(r"^\| (\d+) \| (SCN_\w+) \|", table, re.M)]
 
 
@@ -69,26 +175,16 @@ def named(table):
         yield from ((it["name"], meaning(it["number"])) for it in re.finditer(pattern, table))
 
 
-def constants(table):
-    """The constants that the tables name, each of which has one number."""
-    found = sorted(set(named(table)))
-    for (name, number), (after, other) in zip(found, found[1:]):
-        if name == after:
-            sys.exit(f"{name} has several numbers: {number} and {other}")
-    return found
-
-
 def lines_of(pairs, spelled):
     widest = max(len(name) for name, _ in pairs)
     return "".join(f"#define {name.ljust(widest)} {spelled(number)}\n" for name, number in pairs)
 
 
 def generated():
-    table = read("docs/MESSAGES.md")
     return "\n".join([
         "/* Messages. */\n" + lines_of(messages(), str),
-        "/* Notes. */\n" + lines_of(notes(table), str),
-        "/* Constants. */\n" + lines_of(constants(table), lambda number: str(number) if number < 10 else f"0x{number:X}"),
+        "/* Notes. */\n" + lines_of(notes(), str),
+        "/* Constants. */\n" + lines_of(constants(), lambda number: str(number) if number < 10 else f"0x{number:X}"),
     ])
 
 
@@ -137,6 +233,16 @@ def declarations(header):
     yield from map(spaced, re.findall(r"^(typedef struct \w+ \{[^{}]*\} \w+);", bare, re.M))
 
 
+def page_faults():
+    """Where docs/MESSAGES.md has other names or numbers than the definitions."""
+    table = read("docs/MESSAGES.md")
+    ours, theirs = {*notes(), *constants()}, {*notes_of_page(table), *named(table)}
+    yield from (f"the definitions have, and docs/MESSAGES.md has not: {name} = {number:#x}" for name, number in sorted(ours - theirs))
+    yield from (f"docs/MESSAGES.md has, and the definitions have not: {name} = {number:#x}" for name, number in sorted(theirs - ours))
+    yield from (f"{name} has no number in the tables" for name in nameless(table))
+    yield from (f"the definitions and `Kind` do not agree on {name} = {number}" for name, number in sorted({*messages()} ^ {*kinds()}))
+
+
 def refusals():
     """The header's names of what is answered, each with its number."""
     found = re.findall(r"^    (\w+) = (\d+),", read("crates/ed_types/src/refusal.rt"), re.M)
@@ -174,7 +280,7 @@ def faults(header):
         yield "an answer is not the number of the crate's refusal, a uint32_t"
     wrong = refusals() ^ set(re.findall(r"^  (HONGPILAS_\w+) = (\w+)", header, re.M))
     yield from (f"{name} = {number} is not on both sides" for name, number in sorted(wrong))
-    yield from (f"{name} has no number in the tables" for name in nameless(read("docs/MESSAGES.md")))
+    yield from page_faults()
     if not has_greatest_limits(header):
         yield f"the greatest limits are not those of the definitions: {greatest_limits()}"
     version = re.search(r"const VERSION: u32 = (\d+);", sources)[1]
