@@ -8,15 +8,22 @@
  * of a refusal. A refused call has changed nothing: neither the session, nor the
  * last reply, nor what a pointer that it was given leads to.
  *
+ * Two forms. Each call that takes a pointer stands here twice: as hongpilas_send, which
+ * is proved and tests no pointer, and as hongpilas_checked_send, which refuses what is
+ * null or too long by its name, and else makes that call. The checked forms are the ones
+ * to begin with, and for whoever loads the shared object; they are written in C
+ * (embedding/checked.c), and tested, not proved. The others save a nanosecond or two.
+ *
  * What the caller owes, which nothing checks:
- *  - a session is set by hongpilas_new or hongpilas_new_with_limits alone, is not
- *    copied, and is used by no call after hongpilas_free;
+ *  - a session is set by hongpilas_new, hongpilas_new_with_limits and their checked forms
+ *    alone, is not copied, and is used by no call after hongpilas_free;
  *  - a session is used by one call at a time, on the thread that made it: Go wants
  *    runtime.LockOSThread for that, and what wraps a session in Rust is !Send;
  *  - no call is made from a signal handler, nor in the forked child of a process that
  *    has several threads;
- *  - no pointer is null, also where the length beside it is 0. hongpilas_call, below,
- *    takes a null text;
+ *  - but for the checked forms and hongpilas_call, no pointer is null, also where the
+ *    length beside it is 0, no session is null, and no length is above 2^63 - 1;
+ *  - what is not null leads to what the call's type says, as long as the length says;
  *  - bytes that were lent are only read, and only as long as they stand, below; where
  *    their length is 0, the address means nothing;
  *  - a text that is sent, and a buffer that is filled, has none of the bytes that the
@@ -46,7 +53,7 @@ extern "C" {
 
 /* The version of this interface: the major number times 1000, and the minor one.
  * hongpilas_version answers that of the library that is linked. */
-#define HONGPILAS_VERSION 1000
+#define HONGPILAS_VERSION 1001
 uint32_t hongpilas_version(void);
 
 /* A session. One word, which means nothing to the caller. */
@@ -113,15 +120,14 @@ hongpilas_answer hongpilas_close_view(hongpilas *session, uint32_t view);
 hongpilas_answer hongpilas_send(hongpilas *session, uint32_t view, uint32_t number, int64_t w, int64_t l,
                                 const uint8_t *text, size_t length, int64_t *value);
 
-/* The same, with a text that may be null where its length is 0, and a value that may
- * be null where it is not asked for. A null text of another length is refused as
- * BAD_ARGUMENT, and a null session as NO_SUCH_VIEW. */
+/* The same, with the tests of hongpilas_checked_send, below, but that the value may be
+ * null where it is not asked for. It is inline, and calls hongpilas_send. */
 static inline hongpilas_answer hongpilas_call(hongpilas *session, uint32_t view, uint32_t number, int64_t w, int64_t l,
                                               const void *text, size_t length, int64_t *value) {
   static const uint8_t none = 0;
   int64_t unasked = 0;
-  if (session == NULL) return HONGPILAS_NO_SUCH_VIEW;
-  if (text == NULL && length != 0) return HONGPILAS_BAD_ARGUMENT;
+  if (session == NULL || session->at == NULL) return HONGPILAS_NO_SUCH_VIEW;
+  if ((text == NULL && length != 0) || length > 0x7FFFFFFFFFFFFFFF) return HONGPILAS_BAD_ARGUMENT;
   return hongpilas_send(session, view, number, w, l, text == NULL ? &none : (const uint8_t *)text, length,
                         value == NULL ? &unasked : value);
 }
@@ -171,6 +177,57 @@ size_t hongpilas_copy_note_text(hongpilas *session, size_t index, size_t start, 
 hongpilas_answer hongpilas_lend_range(hongpilas *session, uint32_t view, size_t start, size_t count,
                                       const uint8_t **bytes);
 hongpilas_answer hongpilas_copy_range(hongpilas *session, uint32_t view, size_t start, uint8_t *into, size_t count);
+
+/* The checked forms. Each tests what it is given, and then makes the call of the same name
+ * without `checked`. What does not pass is refused, and nothing is touched: neither the
+ * session, nor the last reply, nor what any pointer leads to. The first that holds is
+ * answered:
+ *
+ *   NO_SUCH_VIEW where the session is null: the pointer to it is, or its word is, as in
+ *     hongpilas session = {NULL}; and behind hongpilas_checked_free;
+ *   BAD_ARGUMENT where a place for an answer is null, or limits are; where a text or a
+ *     buffer is null and its length is not 0; and where its length is above 2^63 - 1.
+ *
+ * A text or a buffer of length 0 may be null. A start, a count, an index and an id are no
+ * lengths of what a pointer leads to: the call itself says what it does with each. What a
+ * call without `checked` answers at once is set in a place here, *length, *count or
+ * *value, and is as it was where the call is refused. */
+
+/* As hongpilas_new; a null place for the session is BAD_ARGUMENT. */
+hongpilas_answer hongpilas_checked_new(hongpilas *session);
+hongpilas_answer hongpilas_checked_new_with_limits(hongpilas *session, const hongpilas_limits *limits);
+
+/* Gives a session back, and sets its word to null, so that each later call by the checked
+ * forms is refused. Does nothing where the session is null. */
+void hongpilas_checked_free(hongpilas *session);
+
+hongpilas_answer hongpilas_checked_new_view(hongpilas *session, uint32_t *view);
+hongpilas_answer hongpilas_checked_close_view(hongpilas *session, uint32_t view);
+hongpilas_answer hongpilas_checked_send(hongpilas *session, uint32_t view, uint32_t number, int64_t w, int64_t l,
+                                        const uint8_t *text, size_t length, int64_t *value);
+
+/* The last reply: value, text and count of its notes. */
+hongpilas_answer hongpilas_checked_value(hongpilas *session, int64_t *value);
+hongpilas_answer hongpilas_checked_text(hongpilas *session, const uint8_t **text, size_t *length);
+hongpilas_answer hongpilas_checked_copy_text(hongpilas *session, size_t start, uint8_t *into, size_t room,
+                                             size_t *count);
+hongpilas_answer hongpilas_checked_note_count(hongpilas *session, size_t *count);
+
+/* A note of the last reply, and its text. Where there is no note with this index they are
+ * refused as BAD_ARGUMENT. */
+hongpilas_answer hongpilas_checked_note(hongpilas *session, size_t index, hongpilas_note_data *note);
+hongpilas_answer hongpilas_checked_copy_note_text(hongpilas *session, size_t index, size_t start, uint8_t *into,
+                                                  size_t room, size_t *count);
+
+hongpilas_answer hongpilas_checked_lend_range(hongpilas *session, uint32_t view, size_t start, size_t count,
+                                              const uint8_t **bytes);
+hongpilas_answer hongpilas_checked_copy_range(hongpilas *session, uint32_t view, size_t start, uint8_t *into,
+                                              size_t count);
+
+/* The name of an answer. These two are refused as BAD_ARGUMENT alone. */
+hongpilas_answer hongpilas_checked_refusal_name(hongpilas_answer answer, const uint8_t **name, size_t *length);
+hongpilas_answer hongpilas_checked_copy_refusal_name(hongpilas_answer answer, uint8_t *into, size_t room,
+                                                     size_t *count);
 
 /* Scintilla's names and numbers, as far as the profile has them. */
 /* Written by tools/header.py: begin */

@@ -8,7 +8,8 @@ message or a constant was added. With --check it writes nothing, and fails where
 - the header is not what it would write: a number in it is not that of the definitions, or a name is missing or too many;
 - the enum `Kind` of ed_types has another message or number than the definitions;
 - docs/MESSAGES.md names a constant or a note that DEFINED does not have, or the other way round, or with another number, or never with its number;
-- its calls and structs, with their names and types, its refusals, its version or the greatest limits are not those of the crates.
+- its calls and structs, with their names and types, its refusals, its version or the greatest limits are not those of the crates;
+- a checked form is declared otherwise than embedding/checked.c has it, a call that takes a pointer has no checked form, or one has no such call.
 """
 import os
 import re
@@ -93,6 +94,7 @@ DEFINED = {
     # No definition reads the white flag; the program names it where it shows a level.
     "crates/script_walk/src/look.rt": {"SC_FOLDLEVELWHITEFLAG": "const LEVEL_WHITE: i64 ="},
 }
+CHECKED = "embedding/checked.c"
 STRUCTS = {"Handle": "hongpilas", "LimitsInC": "hongpilas_limits", "NoteInC": "hongpilas_note_data"}
 # How C declares a place of each type that exports and structs of the crate have. A slice is two places, and an allocator none.
 IN_C = {
@@ -233,6 +235,29 @@ def declarations(header):
     yield from map(spaced, re.findall(r"^(typedef struct \w+ \{[^{}]*\} \w+);", bare, re.M))
 
 
+def without_checked(calls):
+    return {call for call in calls if "hongpilas_checked_" not in call}
+
+
+def checked_forms():
+    """What embedding/checked.c has for others to call."""
+    return {as_compared(call) for call in re.findall(r"^(?!static )(\w[\w *]*\bhongpilas_\w+\([^()]*\)) \{", read(CHECKED), re.M)}
+
+
+def names_of(calls):
+    return {re.search(r"\bhongpilas_(\w+)\(", call)[1] for call in calls}
+
+
+def checked_faults(found):
+    """Where the checked forms among what the header declares are not those of checked.c, or not those of its calls."""
+    ours, theirs = checked_forms(), found - without_checked(found)
+    yield from (f"{CHECKED} has, and the header has not: {it}" for it in sorted(ours - theirs))
+    yield from (f"the header has, and {CHECKED} has not: {it}" for it in sorted(theirs - ours))
+    calls = (call for call in without_checked(found) if "(" in call and ("*" in call or "hongpilas_free(" in call))
+    wanted = {f"checked_{name}" for name in names_of(calls)}
+    yield from (f"no checked form, or no call that has one: {name}" for name in sorted(wanted ^ names_of(theirs)))
+
+
 def page_faults():
     """Where docs/MESSAGES.md has other names or numbers than the definitions."""
     table = read("docs/MESSAGES.md")
@@ -273,13 +298,15 @@ def faults(header):
     """Where the header's hand-written part is not that of the crates."""
     folder = "crates/hongpilas_c/src"
     sources = "".join(read(f"{folder}/{file}") for file in sorted(os.listdir(os.path.join(TOP, folder))))
-    ours, theirs = {*calls_of_crate(sources), *structs_of_crate(sources)}, set(declarations(header))
+    found = set(declarations(header))
+    ours, theirs = {*calls_of_crate(sources), *structs_of_crate(sources)}, without_checked(found)
     yield from (f"the crate has, and the header has not: {it}" for it in sorted(ours - theirs))
     yield from (f"the header has, and the crate has not: {it}" for it in sorted(theirs - ours))
     if "typedef uint32_t hongpilas_answer;\n" not in header:
         yield "an answer is not the number of the crate's refusal, a uint32_t"
     wrong = refusals() ^ set(re.findall(r"^  (HONGPILAS_\w+) = (\w+)", header, re.M))
     yield from (f"{name} = {number} is not on both sides" for name, number in sorted(wrong))
+    yield from checked_faults(found)
     yield from page_faults()
     if not has_greatest_limits(header):
         yield f"the greatest limits are not those of the definitions: {greatest_limits()}"

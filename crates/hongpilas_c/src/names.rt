@@ -8,7 +8,7 @@ use crate::copies::copy_from;
 use crate::starts::tell_start;
 
 /// The version of this interface: its major number times 1000, and its minor number.
-const VERSION: u32 = 1000;
+const VERSION: u32 = 1001;
 
 /// The name of a refusal by its number.
 fn name_of(number: u32) -> &'static [u8]
@@ -55,7 +55,7 @@ pub extern "C" fn hongpilas_copy_refusal_name(number: u32, into: &mut [u8]) -> u
 /// The version of this interface.
 #[unsafe(no_mangle)]
 pub extern "C" fn hongpilas_version() -> u32
-    ensures { result ≡ 1000 }
+    ensures { result ≡ 1001 }
 {
     VERSION
 }
