@@ -14,11 +14,13 @@
  * to begin with, and for whoever loads the shared object; they are written in C
  * (embedding/checked.c), and tested, not proved. The others save a nanosecond or two.
  *
+ * Threads. A session is used by one call at a time, on the thread that made it; sessions
+ * in different threads are independent of each other. Go wants runtime.LockOSThread for
+ * that, and what wraps a session in Rust is !Send.
+ *
  * What the caller owes, which nothing checks:
  *  - a session is set by hongpilas_new, hongpilas_new_with_limits and their checked forms
  *    alone, is not copied, and is used by no call after hongpilas_free;
- *  - a session is used by one call at a time, on the thread that made it: Go wants
- *    runtime.LockOSThread for that, and what wraps a session in Rust is !Send;
  *  - no call is made from a signal handler, nor in the forked child of a process that
  *    has several threads;
  *  - but for the checked forms and hongpilas_call, no pointer is null, also where the

@@ -9,7 +9,8 @@ message or a constant was added. With --check it writes nothing, and fails where
 - the enum `Kind` of ed_types has another message or number than the definitions;
 - docs/MESSAGES.md names a constant or a note that DEFINED does not have, or the other way round, or with another number, or never with its number;
 - its calls and structs, with their names and types, its refusals, its version or the greatest limits are not those of the crates;
-- a checked form is declared otherwise than embedding/checked.c has it, a call that takes a pointer has no checked form, or one has no such call.
+- a checked form is declared otherwise than embedding/checked.c has it, a call that takes a pointer has no checked form, or one has no such call;
+- the header and a page do not have the same sentence on threads.
 """
 import os
 import re
@@ -94,6 +95,11 @@ DEFINED = {
     # No definition reads the white flag; the program names it where it shows a level.
     "crates/script_walk/src/look.rt": {"SC_FOLDLEVELWHITEFLAG": "const LEVEL_WHITE: i64 ="},
 }
+# Where the header and the pages speak of threads, all in this sentence.
+ON_THREADS = (
+    "A session is used by one call at a time, on the thread that made it; sessions in different threads are independent of each other."
+)
+SPEAK_OF_THREADS = (HEADER, "README.md", "docs/PROMISES.md", "docs/PROFILE.md")
 CHECKED = "embedding/checked.c"
 STRUCTS = {"Handle": "hongpilas", "LimitsInC": "hongpilas_limits", "NoteInC": "hongpilas_note_data"}
 # How C declares a place of each type that exports and structs of the crate have. A slice is two places, and an allocator none.
@@ -268,6 +274,12 @@ def page_faults():
     yield from (f"the definitions and `Kind` do not agree on {name} = {number}" for name, number in sorted({*messages()} ^ {*kinds()}))
 
 
+def threads_faults():
+    for path in SPEAK_OF_THREADS:
+        if ON_THREADS not in " ".join(re.sub(r"^ \* ?", "", read(path), flags=re.M).split()):
+            yield f"{path} does not have the sentence on threads: {ON_THREADS}"
+
+
 def refusals():
     """The header's names of what is answered, each with its number."""
     found = re.findall(r"^    (\w+) = (\d+),", read("crates/ed_types/src/refusal.rt"), re.M)
@@ -308,6 +320,7 @@ def faults(header):
     yield from (f"{name} = {number} is not on both sides" for name, number in sorted(wrong))
     yield from checked_faults(found)
     yield from page_faults()
+    yield from threads_faults()
     if not has_greatest_limits(header):
         yield f"the greatest limits are not those of the definitions: {greatest_limits()}"
     version = re.search(r"const VERSION: u32 = (\d+);", sources)[1]
