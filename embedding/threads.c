@@ -15,11 +15,13 @@ static const hongpilas_limits limits = {DOC_BYTES, 2 * DOC_BYTES, 200, IDS, 20, 
 static uint32_t numbers[MOST_NUMBERS];
 static size_t number_count;
 
-/* What one session does: `seen` has a digest for each message, of all that it answered. `chance` is where the row of random numbers stands. */
+/* What one session does: `seen` has a digest for each message, of all that it answered; `done` counts those that were not refused. `chance` is where the
+ * row of random numbers stands. */
 typedef struct run {
   uint64_t chance;
   size_t count;
   uint64_t *seen;
+  size_t done;
   hongpilas session;
   uint32_t last_view;
   pthread_barrier_t *start;
@@ -98,6 +100,7 @@ static uint64_t send(run *it) {
   uint32_t view = (uint32_t)below(it, 8) < 7 ? it->last_view : (uint32_t)below(it, 6), number = numbers[below(it, number_count)];
   size_t length = any_text(it, text);
   hongpilas_answer answer = hongpilas_checked_send(&it->session, view, number, w, l, text, length, &value);
+  if (answer == HONGPILAS_DONE) it->done++;
   return with_reply(it, with_number(with_number(0, answer), (uint64_t)value));
 }
 
@@ -154,7 +157,7 @@ static void *go(void *given) {
 }
 
 static run run_of(size_t session, size_t count, pthread_barrier_t *start) {
-  run it = {0x2545F4914F6CDD1D + session, count, malloc(count * sizeof *it.seen), {NULL}, 0, start};
+  run it = {0x2545F4914F6CDD1D + session, count, malloc(count * sizeof *it.seen), 0, {NULL}, 0, start};
   must(it.seen != NULL, "there is memory for what is seen");
   return it;
 }
@@ -173,7 +176,7 @@ static bool try_threads(size_t count) {
   run alone[SESSIONS], beside[SESSIONS];
   pthread_t threads[SESSIONS];
   pthread_barrier_t start;
-  size_t found = 0;
+  size_t found = 0, done = 0;
   must(pthread_barrier_init(&start, NULL, SESSIONS) == 0, "there is a barrier");
   for (size_t i = 0; i < SESSIONS; i++) {
     alone[i] = run_of(i, count, NULL);
@@ -184,11 +187,12 @@ static bool try_threads(size_t count) {
   for (size_t i = 0; i < SESSIONS; i++) must(pthread_join(threads[i], NULL) == 0, "a thread ends");
   for (size_t i = 0; i < SESSIONS; i++) {
     found += differences(&alone[i], &beside[i], i);
+    done += beside[i].done;
     free(alone[i].seen);
     free(beside[i].seen);
   }
   pthread_barrier_destroy(&start);
-  printf("threads: %d sessions, %zu messages each, %zu answered otherwise than one after the other\n", SESSIONS, count, found);
+  printf("threads: %d sessions, %zu messages each, %zu of them done, %zu answered otherwise than one after the other\n", SESSIONS, count, done, found);
   return found == 0;
 }
 

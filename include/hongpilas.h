@@ -12,7 +12,7 @@
  * is proved and tests no pointer, and as hongpilas_checked_send, which refuses what is
  * null or too long by its name, and else makes that call. The checked forms are the ones
  * to begin with, and for whoever loads the shared object; they are written in C
- * (embedding/checked.c), and tested, not proved. The others save a nanosecond or two.
+ * (embedding/checked.c), and tested, not proved. The others save about two nanoseconds.
  *
  * Threads. A session is used by one call at a time, on the thread that made it; sessions
  * in different threads are independent of each other. Go wants runtime.LockOSThread for
