@@ -464,7 +464,7 @@ static void do_record(side *s, const record *r) {
       int64_t start = draw_number('p', r->w_kind, r->w, 0, &a), count = draw_number(r->t % 2 == 0 ? 's' : 'p', r->l_kind, r->l, start, &a);
       /* A copy is told of no more room than there is. */
       bool copies = r->operation > 234 && count >= 0 && count <= PAGE;
-      if (r->t % 4 == 1 && start <= length) count = count < 0 || count > length - start ? length - start : count;
+      if (r->t % 4 == 1 && start >= 0 && start <= length) count = count < 0 || count > length - start ? length - start : count;
       lend(s, r->t == 255 ? 77777 : view, (uint64_t)start, (uint64_t)count, copies);
       break;
     }

@@ -60,17 +60,17 @@ static int64_t hostile_number(uint8_t kind, uint8_t x, const around *a) {
     case 8: return limits[x % (sizeof limits / sizeof *limits)];
     case 9: return (int64_t)((uint64_t)1 << x % 64);
     case 10: return -(int64_t)((uint64_t)1 << x % 63);
-    default: return (int64_t)((uint64_t)1 << x % 64) - 1;
+    default: return (int64_t)(((uint64_t)1 << x % 64) - 1);
   }
 }
 
 /* A number as a message wants it; `before` is w, where l is drawn. */
 static int64_t fitting_number(char what, uint8_t x, int64_t before, const around *a) {
-  int64_t rest = a->length - before;
+  int64_t rest = before < 0 || before > a->length ? 0 : a->length - before;
   switch (what) {
     case 'p': return a->length == 0 ? 0 : (x * (a->length + 1)) >> 8;
     case 'e': return x % 8 == 0 || rest <= 0 ? -1 : before + ((x * (rest + 1)) >> 8);
-    case 'c': return x % 4 == 0 ? (x * (a->length + 1)) >> 8 : before + x % 8 - 2;
+    case 'c': return x % 4 == 0 ? (x * (a->length + 1)) >> 8 : (int64_t)((uint64_t)before + x % 8 - 2);
     case 's': return rest <= 0 ? 0 : x < 224 ? (x % 4) % (rest + 1) : ((x - 224) * (rest + 1)) >> 5;
     case 'l': return (x * (a->lines + (x % 16 == 0))) >> 8;
     case 't': return x == 0 ? -1 : a->text;

@@ -277,9 +277,182 @@ check_steps() {
     : >in
 }
 
+# tell_sink NAME GOT STATUS LINE SINK PRINTED: as tell_fault, and what stands on the sink is a part of what is printed, from its first byte on.
+tell_sink() {
+    head -c "$(wc -c <"$5")" "$6" >want
+    if cmp -s "$5" want; then tell_fault "$1" "$2" "$3" "$4"; else tell "$1" 'the sink'; fi
+}
+
+# wait_for FILE TEXT: until the file has a line with this text.
+wait_for() {
+    tries=0
+    until grep -q "$2" "$1" || [ "$tries" = 500 ]; do
+        tries=$((tries + 1))
+        sleep 0.02
+    done
+}
+
+# The program's outside: folders, pipes that end or that nobody reads, full devices and files, names, files that grow or are too long, signals.
+check_outside() {
+    # A script that prints more than a pipe holds, and all that it prints.
+    { printf 'sci 1\nopen\nsend 1 2003 0 0 "%s"\n' "$(bytes 60000)"; for line in 1 2 3 4 5 6 7 8; do printf 'send 1 2182 0 0 ""\n'; done; } >wide.sci
+    "$program" run wide.sci >printed 2>err
+    tell_fault 'a script that prints much' $? 0 ''
+    for order in 1 2 3 4 5 6 7 8 9 10; do echo n; done >wide.orders
+    mkdir folder
+
+    # A folder.
+    for command in run list check 'run --quiet'; do
+        "$program" $command - <folder >out 2>err
+        tell_fault "$command of a folder as standard input" $? 3 'read fault'
+        expect "$command of a folder" 3 '' 'read fault' $command folder
+    done
+    "$program" step good.sci <folder >out 2>err
+    tell_fault 'orders of a folder' $? 3 'read fault'
+    expect 'a script below a file' 3 '' 'read fault' run good.sci/good.sci
+    ln -s loop loop
+    expect 'a link to itself' 3 '' 'read fault' run loop
+    expect 'a name that is too long' 3 '' 'read fault' run "$(bytes 300)"
+
+    # A pipe that nobody reads any more, and one that is written in pieces, or ends amid a line or a script.
+    { "$program" run wide.sci 2>err; echo $? >status; } | head -c 1000 >sink
+    tell_sink 'a pipe that nobody reads any more' "$(cat status)" 3 'write fault' sink printed
+    { "$program" step wide.sci 2>err <wide.orders; echo $? >status; } | head -c 10 >sink
+    tell_fault 'steps to a pipe that nobody reads any more' "$(cat status)" 3 'write fault'
+    { for line in 1 2 3 4; do sed -n "${line}p" good.sci; sleep 0.05; done; } | "$program" run - >out 2>err
+    got=$?
+    printf '%b' "$answered" >want
+    if cmp -s out want; then tell_fault 'a script that comes line by line' $got 0 ''; else tell 'a script that comes line by line' 'output'; fi
+    { printf 'sci 1\nop'; sleep 0.1; printf 'en\nopen'; } | "$program" run - >out 2>err
+    tell_fault 'a pipe that ends amid a line' $? 1 "line 3: NoLineEnd$nl    open"
+    if [ -s out ]; then tell 'nothing is printed before a script is whole' 'output'; else tell 'nothing is printed before a script is whole' yes; fi
+    mkfifo fifo
+    { sleep 0.1; printf 'abc'; sleep 0.1; printf 'de'; } >fifo &
+    expect 'a FILE that is a pipe' 0 '= 1 ""\n= 0 ""\n= 5 "abcde"\n= 0 ""\n= 2 "de"\n' '' run --quiet two.sci fifo second
+    wait $!
+
+    # A device, a file or a disk that is full.
+    if [ -w /dev/full ]; then
+        "$program" run wide.sci >/dev/full 2>err
+        tell_fault 'much to a full device' $? 3 'write fault'
+        "$program" step wide.sci <wide.orders >/dev/full 2>err
+        tell_fault 'steps to a full device' $? 3 'write fault'
+    fi
+    (trap '' XFSZ; ulimit -f 8; "$program" run wide.sci >sink 2>err)
+    tell_sink 'a file that may not grow' $? 3 'write fault' sink printed
+    if [ -s sink ]; then tell 'a file that may not grow has what fits' yes; else tell 'a file that may not grow has what fits' 'nothing'; fi
+    # What is closed: standard error takes no line then, and the status is the same.
+    "$program" run wrong.sci >out 2>&-
+    if [ $? = 1 ] && [ ! -s out ]; then tell 'a fault, with standard error closed' yes; else tell 'a fault, with standard error closed' 'status or output'; fi
+    "$program" run good.sci >&- 2>&-
+    if [ $? = 3 ]; then tell 'all closed' yes; else tell 'all closed' 'status'; fi
+    "$program" <&- >out 2>err
+    if [ $? = 2 ] && [ -s err ] && [ ! -s out ]; then tell 'usage, with standard input closed' yes; else tell 'usage, with standard input closed' 'status or output'; fi
+
+    # No permission: for root, who may read everything, as somebody else.
+    cp file secret && chmod 000 secret
+    mkdir shut && cp file shut/file && chmod 000 shut
+    if [ ! -r secret ]; then
+        expect 'no permission' 3 '' 'read fault' run good.sci secret
+        expect 'no permission for a folder' 3 '' 'read fault' run good.sci shut/file
+    elif chmod 755 . && cp "$program" nobody_program && setpriv --reuid=65534 --regid=65534 --clear-groups ./nobody_program check good.sci >out 2>err; then
+        for forbidden in secret shut/file; do
+            setpriv --reuid=65534 --regid=65534 --clear-groups ./nobody_program run good.sci $forbidden >out 2>err
+            tell_fault "no permission for $forbidden" $? 3 'read fault'
+            setpriv --reuid=65534 --regid=65534 --clear-groups ./nobody_program check $forbidden >out 2>err
+            tell_fault "no permission for the script $forbidden" $? 3 'read fault'
+        done
+    else
+        echo "statuses: nobody here is without permission: those rows are left out"
+    fi
+
+    # Names that are no UTF-8 text, of files that are there.
+    name=$(printf 'a\377')
+    cp good.sci "$name"
+    for command in run list check step; do
+        expect "$command of a name that is no text" 2 '' 'error: a word is not UTF-8 text' $command "$name"
+    done
+    expect 'a FILE with a name that is no text' 2 '' 'error: a word is not UTF-8 text' run good.sci "$name"
+    cp good.sci 'né ☃'
+    expect 'a name that is not ASCII' 0 "$answered" '' run 'né ☃'
+
+    # A file that grows while it is read: its text is that of some length that it had.
+    printf 'sci 1\nopen\nload 1 1\nsend 1 2006 0 0 ""\n' >length.sci
+    bytes 8000000 >grows
+    (for piece in $(seq 300); do bytes 4096; done >>grows) &
+    "$program" run --quiet length.sci grows >out 2>err
+    got=$?
+    wait $!
+    length=$(sed -n '3s/^= \([0-9]*\) ""$/\1/p' out)
+    if [ "${length:-0}" -ge 8000000 ] && [ "$length" -le 9228800 ]; then tell_fault 'a FILE that grows' $got 0 ''; else tell 'a FILE that grows' "length $length, status $got"; fi
+    cp good.sci grows.sci
+    (for piece in $(seq 300); do printf 'send 1 2006 0 0 ""\n'; done >>grows.sci) &
+    "$program" check grows.sci >out 2>err
+    got=$?
+    wait $!
+    count=$(sed -n 's/^ok \([0-9]*\)$/\1/p' out)
+    if [ "$got" = 0 ] && [ "$count" -ge 3 ] && [ "$count" -le 303 ]; then tell 'a script that grows' yes; else tell 'a script that grows' "status $got, $(cat out err)"; fi
+
+    # 2^31 bytes and more, which take no disk; an endless script, an empty FILE.
+    truncate -s 2147483648 long
+    expect 'a script of 2^31 bytes' 1 '' 'script too long' check long
+    expect 'a FILE of 2^31 bytes' 3 '' 'read fault' run length.sci long
+    expect 'a FILE of 2^31 bytes, behind another' 3 '' 'read fault' run length.sci file long
+    truncate -s 1099511627776 long && expect 'a FILE of 2^40 bytes' 3 '' 'read fault' run length.sci long
+    rm -f long
+    expect 'an endless script' 1 '' 'script too long' run /dev/zero
+    expect 'a FILE without bytes' 0 '= 1 ""\n= 0 ""\n= 0 ""\n' '' run --quiet length.sci /dev/null
+
+    # Signals between two lines. The default stands: the program ends by the signal, prints no line of its own, and what it wrote stays.
+    for signal in HUP:129 INT:130 TERM:143 KILL:137; do
+        rm -f orders && mkfifo orders
+        : >out
+        (exec "$program" step good.sci <orders >out 2>err) &
+        stepping=$!
+        exec 9>orders
+        printf 'n\n' >&9
+        wait_for out 'answer 1'
+        [ "$signal" = INT:130 ] || kill -"${signal%:*}" "$stepping"
+        # A program in the background of a script takes no notice of INT: it goes on.
+        [ "$signal" != INT:130 ] || { kill -INT "$stepping"; printf 'q\n' >&9; }
+        wait "$stepping"
+        got=$?
+        exec 9>&-
+        printf 'command 1: open a view\n  answer 1, the id of the view\n' >want
+        wanted=${signal#*:}
+        [ "$signal" != INT:130 ] || wanted=0
+        if cmp -s out want; then tell_fault "a signal, ${signal%:*}, between two orders" $got "$wanted" ''; else tell "a signal, ${signal%:*}, between two orders" "status $got, $(cat out)"; fi
+    done
+    (exec "$program" run - <fifo >out 2>err) &
+    running=$!
+    exec 9>fifo
+    printf 'sci 1\nopen\n' >&9
+    sleep 0.1
+    kill -STOP "$running" && sleep 0.1 && kill -CONT "$running"
+    printf 'send 1 2006 0 0 ""\n' >&9
+    exec 9>&-
+    wait "$running"
+    got=$?
+    printf '= 1 ""\n= 0 ""\n' >want
+    if cmp -s out want; then tell_fault 'a program that is stopped between two lines, and goes on' $got 0 ''; else tell 'a program that is stopped between two lines, and goes on' "$(cat out)"; fi
+    (exec "$program" run - <fifo >out 2>err) &
+    running=$!
+    exec 9>fifo
+    printf 'sci 1\nopen\n' >&9
+    sleep 0.1
+    kill -TERM "$running"
+    wait "$running"
+    tell_fault 'a signal between two lines of a script' $? 143 ''
+    exec 9>&-
+    if [ -s out ]; then tell 'a signal before a script is whole leaves nothing' 'output'; else tell 'a signal before a script is whole leaves nothing' yes; fi
+    chmod 755 shut
+    rm -rf folder shut secret fifo orders loop grows grows.sci "$name" nobody_program
+}
+
 for program in "$out/sci_console" "$out/sci_console.by-rattle"; do
     if [ -x "$program" ]; then
         check_statuses
+        check_outside
         check_faults
         check_lengths
         check_prefixes
