@@ -55,8 +55,8 @@ static struct {
 } counts;
 
 static void fail(const char *what) {
-  fprintf(stderr, "fuzz: FAILED at record %zu: %s; doing %s, message %" PRIu32 " %" PRId64 " %" PRId64 "\n", now.at / RECORD, what, now.doing, now.number,
-          now.w, now.l);
+  fprintf(stderr, "fuzz: FAILED by call %" PRIu64 ", record %zu of its input: %s; doing %s, message %" PRIu32 " %" PRId64 " %" PRId64 "\n", counts.records,
+          now.at / RECORD, what, now.doing, now.number, now.w, now.l);
 #ifndef LIBFUZZER
   FILE *file = fopen("fuzz.failed", "wb");
   if (file != NULL) {
@@ -516,7 +516,7 @@ int LLVMFuzzerTestOneInput(const uint8_t *data, size_t size) {
     do_record(&sides[r.who % SIDES], &r);
   }
   for (size_t i = 0; i < SIDES; i++) {
-    look_at_all(&sides[i], 16);
+    look_at_all(&sides[i], 6);
     close_session(&sides[i]);
   }
   must(blocks == 0 && block_bytes == 0, "all memory is given back");

@@ -80,7 +80,7 @@ struct Times {
 
 enum Group { EDITS, UNDOS, LINES, FOLDS, STYLES, SEARCHES, QUESTIONS, GROUPS };
 static const char *const group_names[GROUPS] = {"insert, delete, replace", "undo, redo", "markers, levels, states", "fold, hide, show", "styles, indicators",
-                                                "search in 64 KiB", "questions"};
+                                                "search in 64 KiB", "questions, caret"};
 static Times ours[GROUPS], theirs[GROUPS];
 
 // The random generator (splitmix64).
@@ -257,7 +257,7 @@ static void erase(Number p, Number n) {
 static void do_typing() {
   Number p = draw_place();
   begin();
-  call(QUESTIONS, 0, SCI_GOTOPOS, p);
+  call(QUESTIONS, 0, SCI_SETEMPTYSELECTION, p);
   plain.caret[0] = plain.anchor[0] = p;
   for (Number i = 0, count = 2 + below(20); i < count; i++) {
     Bytes text = below(12) == 0 ? "\n" : Bytes(1, char('a' + below(26)));

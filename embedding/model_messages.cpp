@@ -81,8 +81,9 @@ hongpilas_answer Session::send(const Message &m) {
   static const Part parts[] = {&Session::send_text,       &Session::send_selection, &Session::send_clipboard, &Session::send_key,
                                &Session::send_undo,       &Session::send_lines,     &Session::send_styles,    &Session::send_indicators,
                                &Session::send_target,     &Session::send_folding,   &Session::send_session};
+  Document &d = documents[v.document];
   for (Part part : parts) {
-    hongpilas_answer answer = (this->*part)(m, v, documents[v.document]);
+    hongpilas_answer answer = (this->*part)(m, v, d);
     if (answer != OTHER) return answer;
   }
   std::abort();
