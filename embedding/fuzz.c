@@ -403,7 +403,10 @@ static void send_drawn(side *s, uint32_t view, uint32_t number, const record *r)
     refuse_all_then = (r->who >> 5) % 2 == 1;
   }
   const door *door = &doors[r->t_kind % (sizeof doors / sizeof *doors)];
-  if (send_by(door, s, view, number, w, l, text, length) == HONGPILAS_OUT_OF_MEMORY) look_at_all(s, 4);
+  if (send_by(door, s, view, number, w, l, text, length) == HONGPILAS_OUT_OF_MEMORY) {
+    if (r->t % 8 == 0) look_at_all(s, 4);
+    else look_at(s, view, 2);
+  }
   int64_t grown = model_peek(s->plain, view, SCI_GETLENGTH);
   static const uint8_t none = 0;
   if (grown > LONGEST) send_by(&doors[0], s, view, SCI_DELETERANGE, grown / 8, grown / 2 + grown / 4, &none, 0);

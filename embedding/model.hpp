@@ -153,6 +153,7 @@ struct Session {
   Number make(Document &document, Kind kind, Number place, const Bytes &bytes);
   bool append(Document &document, const Change &change, bool is_later, bool coalesces);
   Outcome edit(Document &document, std::vector<Step> steps);
+  hongpilas_answer hand_out(const Bytes &text, Number value);
   hongpilas_answer replace_selection(View &view, Document &document, const Bytes &text);
   void travel(View &view, Document &document, bool is_undo);
 };

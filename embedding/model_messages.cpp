@@ -13,21 +13,20 @@ struct Marks {
 
 // What docs/MESSAGES.md marks: Q changes nothing, N takes no memory, E edits the text, R is recorded.
 static const Marks table[] = {
-    {2001, "E R"}, {2003, "E R"}, {2004, "E R"}, {2006, "Q N"}, {2007, "Q N"}, {2008, "Q N"}, {2009, "Q N"}, {2010, "Q N"}, {2011, "E"},   {2012, "N"},
-    {2013, "N R"}, {2014, ""},    {2015, "Q"},   {2016, "Q N"}, {2017, "Q N"}, {2018, ""},    {2019, "Q N"}, {2024, "N R"}, {2025, "N R"}, {2026, "N"},
-    {2027, "Q"},   {2028, "Q N"}, {2029, "E"},   {2030, "Q N"}, {2031, "N"},   {2032, "N"},   {2033, ""},    {2043, ""},    {2044, ""},    {2045, ""},
-    {2046, "Q N"}, {2047, "Q N"}, {2048, "Q N"}, {2073, ""},    {2078, "N"},   {2079, "N"},   {2092, ""},    {2093, "Q N"}, {2136, "Q N"}, {2140, "Q N"},
-    {2141, "N"},   {2142, "N"},   {2143, "Q N"}, {2144, "N"},   {2145, "Q N"}, {2153, "Q"},   {2154, "Q N"}, {2159, "Q N"}, {2160, "N"},   {2161, "Q"},
-    {2162, "Q"},   {2166, "Q N"}, {2167, "Q N"}, {2170, "E R"}, {2171, "N"},   {2173, "Q N"}, {2174, "Q N"}, {2175, "N"},   {2176, "E"},   {2177, "E R"},
-    {2178, "R"},   {2179, "E R"}, {2180, "E R"}, {2181, "E"},   {2182, "Q"},   {2183, "Q N"}, {2190, "N"},   {2191, "Q N"}, {2192, "N"},   {2193, "Q N"},
-    {2194, "E"},   {2197, "N"},   {2198, "N"},   {2199, "Q N"}, {2220, "Q N"}, {2221, "Q N"}, {2222, ""},    {2223, "Q N"}, {2224, "Q N"}, {2225, "Q N"},
-    {2226, ""},    {2227, ""},    {2228, "Q N"}, {2229, ""},    {2230, "Q N"}, {2231, ""},    {2232, ""},    {2236, "Q N"}, {2237, ""},    {2282, "E R"},
-    {2287, "N"},   {2304, "N R"}, {2305, "N R"}, {2306, "N R"}, {2307, "N R"}, {2312, "N R"}, {2313, "N R"}, {2314, "N R"}, {2315, "N R"}, {2316, "N R"},
-    {2317, "N R"}, {2318, "N R"}, {2319, "N R"}, {2326, "E R"}, {2329, "E R"}, {2350, "Q N"}, {2357, "Q N"}, {2358, ""},    {2359, "N"},   {2375, ""},
-    {2376, "N"},   {2377, "N"},   {2378, "Q N"}, {2379, "Q N"}, {2417, "Q N"}, {2418, "Q N"}, {2419, ""},    {2420, ""},    {2466, ""},    {2467, "N"},
-    {2468, "Q N"}, {2500, "N"},   {2501, "Q N"}, {2502, "N"},   {2503, "Q N"}, {2504, ""},    {2505, ""},    {2506, "Q N"}, {2507, "Q N"}, {2508, "Q N"},
-    {2509, "Q N"}, {2556, "N"},   {2560, ""},    {2645, "E"},   {2650, "Q N"}, {2656, ""},    {2657, "Q N"}, {2658, "Q N"}, {2686, "N"},   {2687, "Q"},
-    {2690, "N"},   {3001, "N"},   {3002, "N"},   {4003, ""}};
+    {2001, "E R"}, {2003, "E R"}, {2004, "E R"}, {2006, "Q N"}, {2007, "Q N"}, {2008, "Q N"}, {2009, "Q N"}, {2010, "Q N"}, {2011, "E"}, {2012, "N"},
+    {2013, "N R"}, {2014, ""}, {2015, "Q"}, {2016, "Q N"}, {2017, "Q N"}, {2018, ""}, {2019, "Q N"}, {2024, "N R"}, {2025, "N R"}, {2026, "N"}, {2027, "Q"},
+    {2028, "Q N"}, {2029, "E"}, {2030, "Q N"}, {2031, "N"}, {2032, "N"}, {2033, ""}, {2043, ""}, {2044, ""}, {2045, ""}, {2046, "Q N"}, {2047, "Q N"},
+    {2048, "Q N"}, {2073, ""}, {2078, "N"}, {2079, "N"}, {2092, ""}, {2093, "Q N"}, {2136, "Q N"}, {2140, "Q N"}, {2141, "N"}, {2142, "N"}, {2143, "Q N"},
+    {2144, "N"}, {2145, "Q N"}, {2153, "Q"}, {2154, "Q N"}, {2159, "Q N"}, {2160, "N"}, {2161, "Q"}, {2162, "Q"}, {2166, "Q N"}, {2167, "Q N"}, {2170, "E R"},
+    {2171, "N"}, {2173, "Q N"}, {2174, "Q N"}, {2175, "N"}, {2176, "E"}, {2177, "E R"}, {2178, "R"}, {2179, "E R"}, {2180, "E R"}, {2181, "E"}, {2182, "Q"},
+    {2183, "Q N"}, {2190, "N"}, {2191, "Q N"}, {2192, "N"}, {2193, "Q N"}, {2194, "E"}, {2197, "N"}, {2198, "N"}, {2199, "Q N"}, {2220, "Q N"}, {2221, "Q N"},
+    {2222, ""}, {2223, "Q N"}, {2224, "Q N"}, {2225, "Q N"}, {2226, ""}, {2227, ""}, {2228, "Q N"}, {2229, ""}, {2230, "Q N"}, {2231, ""}, {2232, ""},
+    {2236, "Q N"}, {2237, ""}, {2282, "E R"}, {2287, "N"}, {2304, "N R"}, {2305, "N R"}, {2306, "N R"}, {2307, "N R"}, {2312, "N R"}, {2313, "N R"},
+    {2314, "N R"}, {2315, "N R"}, {2316, "N R"}, {2317, "N R"}, {2318, "N R"}, {2319, "N R"}, {2326, "E R"}, {2329, "E R"}, {2350, "Q N"}, {2357, "Q N"},
+    {2358, ""}, {2359, "N"}, {2375, ""}, {2376, "N"}, {2377, "N"}, {2378, "Q N"}, {2379, "Q N"}, {2417, "Q N"}, {2418, "Q N"}, {2419, ""}, {2420, ""},
+    {2466, ""}, {2467, "N"}, {2468, "Q N"}, {2500, "N"}, {2501, "Q N"}, {2502, "N"}, {2503, "Q N"}, {2504, ""}, {2505, ""}, {2506, "Q N"}, {2507, "Q N"},
+    {2508, "Q N"}, {2509, "Q N"}, {2556, "N"}, {2560, ""}, {2645, "E"}, {2650, "Q N"}, {2656, ""}, {2657, "Q N"}, {2658, "Q N"}, {2686, "N"}, {2687, "Q"},
+    {2690, "N"}, {3001, "N"}, {3002, "N"}, {4003, ""}};
 
 static const char *marks_of(std::uint32_t number) {
   for (const Marks &it : table)
@@ -57,6 +56,19 @@ static Bytes slice(const Document &d, Number from, Number to) { return d.text.su
 static Step insertion(Number place, const Bytes &bytes) { return {Kind::Insertion, place, 0, bytes}; }
 static Step deletion(Number from, Number to) { return {Kind::Deletion, from, to - from, Bytes()}; }
 static hongpilas_answer answer_of(Outcome outcome) { return outcome == Outcome::TooLong ? hongpilas_answer(HONGPILAS_TOO_LONG) : DONE; }
+
+// Sets two numbers; or one, where it lies in 0..greatest.
+static hongpilas_answer set(Number &first, Number x, Number &second, Number y) {
+  first = x;
+  second = y;
+  return DONE;
+}
+
+static hongpilas_answer set_in(Number &into, Number x, Number greatest) {
+  if (!in(x, 0, greatest)) return BAD;
+  into = x;
+  return DONE;
+}
 
 static Bytes line_end(Number mode) { return mode == SC_EOL_CRLF ? "\r\n" : mode == SC_EOL_CR ? "\r" : "\n"; }
 
@@ -89,6 +101,12 @@ hongpilas_answer Session::send(const Message &m) {
   std::abort();
 }
 
+hongpilas_answer Session::hand_out(const Bytes &text, Number value) {
+  reply.text = text;
+  reply.value = value;
+  return DONE;
+}
+
 // Text.
 
 hongpilas_answer Session::send_text(const Message &m, View &v, Document &d) {
@@ -111,38 +129,27 @@ hongpilas_answer Session::send_text(const Message &m, View &v, Document &d) {
     case SCI_GETSTYLEAT: value = in(w, 0, n - 1) ? static_cast<unsigned char>(d.styles[size_t(w)]) : 0; return DONE;
     case SCI_GETSTYLEDTEXT:
       if (!is_range(m, d, end)) return BAD;
-      for (Number p = w; p < end; p++) {
-        reply.text += d.text[size_t(p)];
-        reply.text += d.styles[size_t(p)];
-      }
+      for (Number p = w; p < end; p++) (reply.text += d.text[size_t(p)]) += d.styles[size_t(p)];
       value = 2 * (end - w);
       return DONE;
     case SCI_GETCURLINE: {
       Number line = d.line_of(v.caret);
-      reply.text = slice(d, d.start_of(line), d.start_of(line + 1));
-      value = v.caret - d.start_of(line);
-      return DONE;
+      return hand_out(slice(d, d.start_of(line), d.start_of(line + 1)), v.caret - d.start_of(line));
     }
     case SCI_GETLINEENDPOSITION: value = w < 0 ? -1 : d.end_of(w); return DONE;
     case SCI_GETREADONLY: value = d.read_only; return DONE;
     case SCI_SETREADONLY: d.read_only = w != 0; return DONE;
     case SCI_GETLINE:
-      if (d.has_line(w)) reply.text = slice(d, d.start_of(w), d.start_of(w + 1));
-      value = Number(reply.text.size());
-      return DONE;
+      if (!d.has_line(w)) return DONE;
+      return hand_out(slice(d, d.start_of(w), d.start_of(w + 1)), d.start_of(w + 1) - d.start_of(w));
     case SCI_GETLINECOUNT: value = lines; return DONE;
     case SCI_GETTEXTRANGE:
       if (!is_range(m, d, end)) return BAD;
-      reply.text = slice(d, w, end);
-      value = end - w;
-      return DONE;
+      return hand_out(slice(d, w, end), end - w);
     case SCI_LINEFROMPOSITION: value = d.line_of(d.clamp(w)); return DONE;
     case SCI_POSITIONFROMLINE: value = w < 0 ? d.start_of(d.line_of(v.low())) : w > lines ? -1 : d.start_of(w); return DONE;
     case SCI_SETTEXT: return answer_of(edit(d, {deletion(0, n), insertion(0, m.text)}));
-    case SCI_GETTEXT:
-      reply.text = d.text;
-      value = n;
-      return DONE;
+    case SCI_GETTEXT: return hand_out(d.text, n);
     case SCI_APPENDTEXT:
       if (!is_length(m)) return BAD;
       return answer_of(edit(d, {insertion(n, first_bytes(m))}));
@@ -166,31 +173,19 @@ hongpilas_answer Session::send_selection(const Message &m, View &v, Document &d)
     case SCI_GETSELECTIONSTART: value = v.low(); return DONE;
     case SCI_GETSELECTIONEND: value = v.high(); return DONE;
     case SCI_GETSELECTIONEMPTY: value = v.anchor == v.caret; return DONE;
-    case SCI_SELECTALL:
-      v.anchor = 0;
-      v.caret = d.length();
-      return DONE;
+    case SCI_SELECTALL: return set(v.anchor, 0, v.caret, d.length());
     case SCI_GOTOLINE: v.select(d.start_of(std::min(std::max<Number>(m.w, 0), d.lines() - 1))); return DONE;
     case SCI_GOTOPOS:
     case SCI_SETEMPTYSELECTION: v.select(place); return DONE;
     case SCI_SETANCHOR: v.anchor = place; return DONE;
     case SCI_SETCURRENTPOS: v.caret = place; return DONE;
-    case SCI_SETSELECTIONSTART:
-      v.anchor = place;
-      v.caret = std::max(place, v.caret);
-      return DONE;
-    case SCI_SETSELECTIONEND:
-      v.caret = place;
-      v.anchor = std::min(place, v.anchor);
-      return DONE;
-    case SCI_SETSEL:
-      v.caret = m.l < 0 ? d.length() : d.clamp(m.l);
-      v.anchor = m.w < 0 ? v.caret : place;
-      return DONE;
-    case SCI_GETSELTEXT:
-      reply.text = slice(d, v.low(), v.high());
-      value = v.high() - v.low();
-      return DONE;
+    case SCI_SETSELECTIONSTART: return set(v.anchor, place, v.caret, std::max(place, v.caret));
+    case SCI_SETSELECTIONEND: return set(v.anchor, std::min(place, v.anchor), v.caret, place);
+    case SCI_SETSEL: {
+      Number caret = m.l < 0 ? d.length() : d.clamp(m.l);
+      return set(v.anchor, m.w < 0 ? caret : place, v.caret, caret);
+    }
+    case SCI_GETSELTEXT: return hand_out(slice(d, v.low(), v.high()), v.high() - v.low());
     default: return OTHER;
   }
 }
@@ -368,10 +363,7 @@ hongpilas_answer Session::send_lines(const Message &m, View &, Document &d) {
   auto is_number = [](Number number) { return [number](const Marker &it) { return number == -1 || it.number == number; }; };
   switch (m.number) {
     case SCI_GETEOLMODE: value = d.line_end_mode; return DONE;
-    case SCI_SETEOLMODE:
-      if (!in(w, 0, 2)) return BAD;
-      d.line_end_mode = w;
-      return DONE;
+    case SCI_SETEOLMODE: return set_in(d.line_end_mode, w, 2);
     case SCI_CONVERTEOLS:
       if (!in(w, 0, 2)) return BAD;
       return answer_of(edit(d, conversion(d, w)));
@@ -451,10 +443,7 @@ hongpilas_answer Session::send_styles(const Message &m, View &, Document &d) {
   Number n = d.length(), end = 0;
   switch (m.number) {
     case SCI_GETENDSTYLED: reply.value = d.end_styled; return DONE;
-    case SCI_STARTSTYLING:
-      if (!in(m.w, 0, n)) return BAD;
-      d.end_styled = m.w;
-      return DONE;
+    case SCI_STARTSTYLING: return set_in(d.end_styled, m.w, n);
     case SCI_SETSTYLING:
     case SCI_SETSTYLINGEX: {
       bool is_one = m.number == SCI_SETSTYLING;
@@ -485,15 +474,9 @@ hongpilas_answer Session::send_styles(const Message &m, View &, Document &d) {
 hongpilas_answer Session::send_indicators(const Message &m, View &v, Document &d) {
   Number &value = reply.value, n = d.length(), w = m.w;
   switch (m.number) {
-    case SCI_SETINDICATORCURRENT:
-      if (!in(w, 0, 31)) return BAD;
-      v.indicator = w;
-      return DONE;
+    case SCI_SETINDICATORCURRENT: return set_in(v.indicator, w, 31);
     case SCI_GETINDICATORCURRENT: value = v.indicator; return DONE;
-    case SCI_SETINDICATORVALUE:
-      if (!in(w, 0, 0x7FFFFFFF)) return BAD;
-      v.indicator_value = w == 0 ? 1 : w;
-      return DONE;
+    case SCI_SETINDICATORVALUE: return set_in(v.indicator_value, w == 0 ? 1 : w, 0x7FFFFFFF);
     case SCI_GETINDICATORVALUE: value = v.indicator_value; return DONE;
     case SCI_INDICATORFILLRANGE:
     case SCI_INDICATORCLEARRANGE: {
@@ -547,24 +530,12 @@ hongpilas_answer Session::send_target(const Message &m, View &v, Document &d) {
   switch (m.number) {
     case SCI_SETTARGETSTART: v.target_start = d.clamp(m.w); return DONE;
     case SCI_SETTARGETEND: v.target_end = d.clamp(m.w); return DONE;
-    case SCI_SETTARGETRANGE:
-      v.target_start = d.clamp(m.w);
-      v.target_end = d.clamp(m.l);
-      return DONE;
+    case SCI_SETTARGETRANGE: return set(v.target_start, d.clamp(m.w), v.target_end, d.clamp(m.l));
     case SCI_GETTARGETSTART: value = v.target_start; return DONE;
     case SCI_GETTARGETEND: value = v.target_end; return DONE;
-    case SCI_TARGETFROMSELECTION:
-      v.target_start = v.low();
-      v.target_end = v.high();
-      return DONE;
-    case SCI_TARGETWHOLEDOCUMENT:
-      v.target_start = 0;
-      v.target_end = d.length();
-      return DONE;
-    case SCI_GETTARGETTEXT:
-      reply.text = slice(d, low, high);
-      value = high - low;
-      return DONE;
+    case SCI_TARGETFROMSELECTION: return set(v.target_start, v.low(), v.target_end, v.high());
+    case SCI_TARGETWHOLEDOCUMENT: return set(v.target_start, 0, v.target_end, d.length());
+    case SCI_GETTARGETTEXT: return hand_out(slice(d, low, high), high - low);
     case SCI_SETSEARCHFLAGS:
       if ((m.w & ~Number(SCFIND_WHOLEWORD | SCFIND_MATCHCASE | SCFIND_WORDSTART)) != 0) return BAD;
       v.search_flags = m.w;
@@ -577,20 +548,15 @@ hongpilas_answer Session::send_target(const Message &m, View &v, Document &d) {
       bool is_forwards = v.target_start <= v.target_end;
       for (Number place = low; !text.empty() && place + m.w <= high; place++)
         if ((!is_forwards || value == -1) && is_match(d, place, text, v.search_flags)) value = place;
-      if (value == -1) return DONE;
-      v.target_start = value;
-      v.target_end = value + m.w;
-      return DONE;
+      return value == -1 ? DONE : set(v.target_start, value, v.target_end, value + m.w);
     }
     case SCI_REPLACETARGET: {
       if (m.w != -1 && !is_length(m)) return BAD;
       Bytes text = m.w == -1 ? m.text : first_bytes(m);
       Outcome outcome = edit(d, {deletion(low, high), insertion(low, text)});
       if (outcome != Outcome::Done) return answer_of(outcome);
-      v.target_start = low;
       value = Number(text.size());
-      v.target_end = low + value;
-      return DONE;
+      return set(v.target_start, low, v.target_end, low + value);
     }
     default: return OTHER;
   }
@@ -712,10 +678,7 @@ hongpilas_answer Session::send_session(const Message &m, View &v, Document &d) {
     }
     case SCI_GETLINEENDTYPESALLOWED:
     case SCI_GETLINEENDTYPESACTIVE: value = d.line_end_types; return DONE;
-    case SCI_SETMODEVENTMASK:
-      if (!in(m.w, 0, SC_MODEVENTMASKALL)) return BAD;
-      v.mask = m.w;
-      return DONE;
+    case SCI_SETMODEVENTMASK: return set_in(v.mask, m.w, SC_MODEVENTMASKALL);
     case SCI_GETMODEVENTMASK: value = v.mask; return DONE;
     case SCI_STARTRECORD: v.records = true; return DONE;
     case SCI_STOPRECORD: v.records = false; return DONE;
