@@ -415,7 +415,7 @@ check_outside() {
         [ "$signal" = INT:130 ] || kill -"${signal%:*}" "$stepping"
         # A program in the background of a script takes no notice of INT: it goes on.
         [ "$signal" != INT:130 ] || { kill -INT "$stepping"; printf 'q\n' >&9; }
-        wait "$stepping"
+        { wait "$stepping"; } 2>/dev/null
         got=$?
         exec 9>&-
         printf 'command 1: open a view\n  answer 1, the id of the view\n' >want
@@ -441,7 +441,7 @@ check_outside() {
     printf 'sci 1\nopen\n' >&9
     sleep 0.1
     kill -TERM "$running"
-    wait "$running"
+    { wait "$running"; } 2>/dev/null
     tell_fault 'a signal between two lines of a script' $? 143 ''
     exec 9>&-
     if [ -s out ]; then tell 'a signal before a script is whole leaves nothing' 'output'; else tell 'a signal before a script is whole leaves nothing' yes; fi
