@@ -1,0 +1,37 @@
+//! Finds the library for C, and has it linked. It is looked for in the folder that HONGPILAS_LIB_DIR names; without that variable where
+//! `make -C embedding` builds it, where the tarball has it, and where systems install it.
+use std::env;
+use std::path::{Path, PathBuf};
+
+const PLACES: [&str; 5] =
+    ["../../../embedding/out", "../../../lib", "/usr/local/lib", "/usr/lib/x86_64-linux-gnu", "/usr/lib"];
+
+fn places() -> Vec<PathBuf> {
+    let here = PathBuf::from(env::var_os("CARGO_MANIFEST_DIR").unwrap_or_default());
+    match env::var_os("HONGPILAS_LIB_DIR") {
+        Some(named) => vec![here.join(named)],
+        None => PLACES.iter().map(|place| here.join(place)).collect(),
+    }
+}
+
+fn is_there(place: &Path) -> bool {
+    place.join("libhongpilas.a").is_file()
+}
+
+fn main() {
+    println!("cargo:rerun-if-env-changed=HONGPILAS_LIB_DIR");
+    let looked_in = places();
+    let Some(place) = looked_in.iter().find(|place| is_there(place)) else {
+        let list: Vec<String> = looked_in.iter().map(|place| place.display().to_string()).collect();
+        println!(
+            "cargo:warning=libhongpilas.a is not in {}; `make -C embedding` builds it, and HONGPILAS_LIB_DIR names another folder",
+            list.join(", ")
+        );
+        // What only checks, as `cargo check` and `cargo doc`, wants no library. What links says that it is not there.
+        println!("cargo:rustc-link-lib=static=hongpilas");
+        return;
+    };
+    println!("cargo:rerun-if-changed={}", place.join("libhongpilas.a").display());
+    println!("cargo:rustc-link-search=native={}", place.display());
+    println!("cargo:rustc-link-lib=static=hongpilas");
+}

@@ -1,0 +1,812 @@
+/* Hongpilas in C++17: sessions, views and notes over hongpilas.h. A header alone; link with the library for C.
+ *
+ *   hongpilas::Session session;
+ *   hongpilas::View view = session.new_view();
+ *   view.InsertText(0, "hello,\nworld");
+ *   for (const hongpilas::Note &note : session.notes()) listen(note);
+ *   std::string line = view.GetLine(1);
+ *
+ * Messages are methods by Scintilla's names. A text that a message takes is a std::string_view, whose length is sent with it: ADDTEXT and its
+ * kin have no argument for that. Positions, lengths and lines are std::int64_t and count from 0.
+ *
+ * Refusals. The methods of View throw Refused; those of ResultView, which view.results() is, return a Result instead, with a value or a
+ * Refusal, as std::expected has. A refused call has changed nothing.
+ *
+ * Lent bytes. What GetLine and its kin return is a copy. GetLineView, text() and the text of a note are lent: they stand until the next message
+ * that is done, and what lend_range lends until the next call. A text that is sent is none of these: copy it first.
+ *
+ * What the caller owes besides, above all that a session stays on one thread, stands at the top of hongpilas.h. */
+#ifndef HONGPILAS_HPP
+#define HONGPILAS_HPP
+
+/* In C `hongpilas` is the type of a session. Here it is the namespace, and that type is hongpilas_session. */
+#ifdef HONGPILAS_H
+#error "include hongpilas.hpp in the place of hongpilas.h, or before it"
+#endif
+#define hongpilas hongpilas_session
+#include <hongpilas.h>
+#undef hongpilas
+
+#include <cstddef>
+#include <cstdint>
+#include <cstdlib>
+#include <iterator>
+#include <memory>
+#include <new>
+#include <stdexcept>
+#include <string>
+#include <string_view>
+#include <utility>
+#include <variant>
+
+/* Code that is built without exceptions has all but View, Session's constructors and new_view, and value() of a refused Result ends it. */
+#if defined(__cpp_exceptions)
+#define HONGPILAS_THROWS 1
+#else
+#define HONGPILAS_THROWS 0
+#endif
+
+namespace hongpilas {
+
+/// Why a call is refused.
+enum class Refusal : std::uint32_t {
+  OutOfMemory = HONGPILAS_OUT_OF_MEMORY,
+  NoSuchView = HONGPILAS_NO_SUCH_VIEW,
+  UnknownMessage = HONGPILAS_UNKNOWN_MESSAGE,
+  NoSuchDocument = HONGPILAS_NO_SUCH_DOCUMENT,
+  TooLong = HONGPILAS_TOO_LONG,
+  BadArgument = HONGPILAS_BAD_ARGUMENT,
+  TooMany = HONGPILAS_TOO_MANY
+};
+
+namespace detail {
+/// Bytes that the library lends. Where there are none, their address means nothing.
+inline std::string_view lent(const std::uint8_t *bytes, std::size_t length) noexcept {
+  return length == 0 ? std::string_view() : std::string_view(reinterpret_cast<const char *>(bytes), length);
+}
+}  // namespace detail
+
+/// The name of a refusal, as "no such view". It stands for good.
+inline std::string_view name_of(Refusal refusal) noexcept {
+  const std::uint8_t *name = nullptr;
+  const std::size_t length = hongpilas_refusal_name(static_cast<hongpilas_answer>(refusal), &name);
+  return detail::lent(name, length);
+}
+
+/// A call was refused, and has changed nothing.
+class Refused : public std::runtime_error {
+ public:
+  explicit Refused(Refusal refusal) : std::runtime_error(std::string(name_of(refusal))), refusal_(refusal) {}
+  Refusal refusal() const noexcept { return refusal_; }
+
+ private:
+  Refusal refusal_;
+};
+
+namespace detail {
+[[noreturn]] inline void refuse(Refusal refusal) {
+#if HONGPILAS_THROWS
+  throw Refused(refusal);
+#else
+  static_cast<void>(refusal);
+  std::abort();
+#endif
+}
+}  // namespace detail
+
+/// A value, or why there is none. `*` and `->` are for a result that has a value, error() for one that has none; value() throws Refused.
+template <class T>
+class [[nodiscard]] Result {
+ public:
+  Result(T value) : held_(std::in_place_index<0>, std::move(value)) {}
+  Result(Refusal refusal) : held_(std::in_place_index<1>, refusal) {}
+
+  bool has_value() const noexcept { return held_.index() == 0; }
+  explicit operator bool() const noexcept { return has_value(); }
+  Refusal error() const noexcept { return *std::get_if<1>(&held_); }
+
+  T &operator*() & noexcept { return *std::get_if<0>(&held_); }
+  const T &operator*() const & noexcept { return *std::get_if<0>(&held_); }
+  T &&operator*() && noexcept { return std::move(*std::get_if<0>(&held_)); }
+  T *operator->() noexcept { return std::get_if<0>(&held_); }
+  const T *operator->() const noexcept { return std::get_if<0>(&held_); }
+
+  T &value() & { return checked(), **this; }
+  const T &value() const & { return checked(), **this; }
+  T &&value() && { return checked(), *std::move(*this); }
+  T value_or(T other) const & { return has_value() ? **this : std::move(other); }
+  T value_or(T other) && { return has_value() ? *std::move(*this) : std::move(other); }
+
+ private:
+  void checked() const {
+    if (!has_value()) detail::refuse(error());
+  }
+
+  std::variant<T, Refusal> held_;
+};
+
+/// Done, or why it was refused.
+template <>
+class [[nodiscard]] Result<void> {
+ public:
+  Result() noexcept = default;
+  Result(Refusal refusal) noexcept : answer_(static_cast<hongpilas_answer>(refusal)) {}
+
+  bool has_value() const noexcept { return answer_ == HONGPILAS_DONE; }
+  explicit operator bool() const noexcept { return has_value(); }
+  Refusal error() const noexcept { return static_cast<Refusal>(answer_); }
+  void value() const {
+    if (!has_value()) detail::refuse(error());
+  }
+
+ private:
+  hongpilas_answer answer_ = HONGPILAS_DONE;
+};
+
+/// A note: what a view is told. Fields that its code does not name are 0. Its text is lent as long as the reply is kept.
+struct Note {
+  std::uint32_t view;
+  std::uint32_t code;
+  std::uint32_t kind;
+  std::uint32_t message;
+  std::int64_t position;
+  std::int64_t length;
+  std::int64_t lines;
+  std::int64_t line;
+  std::int64_t now;
+  std::int64_t prev;
+  std::int64_t token;
+  std::int64_t w;
+  std::int64_t l;
+  std::string_view text;
+};
+
+/// The notes of the last reply, in the order in which they were told; they stand until the next message that is done.
+class Notes {
+ public:
+  class iterator {
+   public:
+    using iterator_category = std::input_iterator_tag;
+    using value_type = Note;
+    using difference_type = std::ptrdiff_t;
+    using pointer = void;
+    using reference = Note;
+
+    iterator() noexcept = default;
+    iterator(hongpilas_session *session, std::size_t index) noexcept : session_(session), index_(index) {}
+    Note operator*() const noexcept { return Notes(session_)[index_]; }
+    iterator &operator++() noexcept { return ++index_, *this; }
+    iterator operator++(int) noexcept { return iterator(session_, index_++); }
+    friend bool operator==(const iterator &one, const iterator &other) noexcept { return one.index_ == other.index_; }
+    friend bool operator!=(const iterator &one, const iterator &other) noexcept { return one.index_ != other.index_; }
+
+   private:
+    hongpilas_session *session_ = nullptr;
+    std::size_t index_ = 0;
+  };
+  using value_type = Note;
+  using const_iterator = iterator;
+
+  explicit Notes(hongpilas_session *session) noexcept : session_(session) {}
+  std::size_t size() const noexcept { return hongpilas_note_count(session_); }
+  bool empty() const noexcept { return size() == 0; }
+  iterator begin() const noexcept { return iterator(session_, 0); }
+  iterator end() const noexcept { return iterator(session_, size()); }
+  /// The note with this index; one of zeros where there is none.
+  Note operator[](std::size_t index) const noexcept {
+    hongpilas_note_data note = {};
+    hongpilas_note(session_, index, &note);
+    return {note.view,  note.code, note.kind, note.message, note.position, note.length, note.lines,
+            note.line,  note.now,  note.prev, note.token,   note.w,        note.l,      detail::lent(note.text, note.text_length)};
+  }
+
+ private:
+  hongpilas_session *session_;
+};
+
+/// Limits of a session. To lower some: `hongpilas::Limits limits = hongpilas::greatest_limits; limits.views = 2;`.
+using Limits = hongpilas_limits;
+inline constexpr Limits greatest_limits = HONGPILAS_GREATEST_LIMITS;
+
+/* What a view's methods return is a policy, and so a part of its type: most code wants plain values and exceptions, and code where a refusal is
+ * an ordinary answer, or which is built without exceptions, wants it in the result. A third way, a Result everywhere, would put a `.value()`
+ * behind each message. */
+
+/// The policy of View: values are returned, and refusals are thrown as Refused.
+struct Throwing {
+  template <class T>
+  using Answer = T;
+  template <class T>
+  static T answer(Result<T> &&result) {
+    return std::move(result).value();
+  }
+};
+
+/// The policy of ResultView: a Result is returned, and nothing is thrown but std::bad_alloc, where a text is copied.
+struct Returning {
+  template <class T>
+  using Answer = Result<T>;
+  template <class T>
+  static Result<T> answer(Result<T> &&result) {
+    return std::move(result);
+  }
+};
+
+template <class Policy>
+class BasicView;
+using ResultView = BasicView<Returning>;
+#if HONGPILAS_THROWS
+using View = BasicView<Throwing>;
+#endif
+
+/// A view, by its id: a word that is copied freely, and does not close the view where it ends. It may be used as long as its session is open,
+/// also when the Session object has moved. Messages that only ask are const.
+template <class Policy>
+class BasicView {
+ public:
+  template <class T>
+  using Answer = typename Policy::template Answer<T>;
+
+  BasicView(hongpilas_session *session, std::uint32_t id) noexcept : session_(session), id_(id) {}
+
+  /// The view's id: 1, 2, 3 and so on in the order in which a session's views are opened.
+  std::uint32_t id() const noexcept { return id_; }
+  /// The same view, whose methods return a Result.
+  ResultView results() const noexcept { return ResultView(session_, id_); }
+#if HONGPILAS_THROWS
+  /// The same view, whose methods throw.
+  View throwing() const noexcept { return View(session_, id_); }
+#endif
+
+  /// Sends any message, and returns its value. docs/MESSAGES.md says what w, l and the text stand for.
+  Answer<std::int64_t> send(std::uint32_t number, std::int64_t w = 0, std::int64_t l = 0, std::string_view text = {}) {
+    return Policy::answer(sent(number, w, l, text));
+  }
+
+  /// Lends bytes of the view's document, with no copy. They stand until the next call that does not just look at the last reply.
+  /// Refused: BadArgument where the range does not lie in the text.
+  Answer<std::string_view> lend_range(std::int64_t start, std::int64_t count) const {
+    return Policy::answer(lent_range(start, count));
+  }
+
+  /// Closes the view. A document that no view is attached to and that the caller does not hold goes with it.
+  Answer<void> close() {
+    const hongpilas_answer answer = hongpilas_close_view(session_, id_);
+    return Policy::answer(answer == HONGPILAS_DONE ? Result<void>() : Result<void>(static_cast<Refusal>(answer)));
+  }
+
+  /// The session's last reply, whichever view it came from: its value, its text and its notes.
+  std::int64_t value() const noexcept { return hongpilas_value(session_); }
+  std::string_view text() const noexcept {
+    const std::uint8_t *bytes = nullptr;
+    const std::size_t length = hongpilas_text(session_, &bytes);
+    return detail::lent(bytes, length);
+  }
+  Notes notes() const noexcept { return Notes(session_); }
+
+  // Written by tools/wrappers.py: begin
+  /// SCI_ADDTEXT, 2001. Puts `text` in at the caret; then anchor and caret stand behind it, for an empty `text` too.
+  Answer<void> AddText(std::string_view text) { return as_done(SCI_ADDTEXT, length_of(text), 0, text); }
+  /// SCI_INSERTTEXT, 2003. `position` is -1 for the caret, else in 0..n. Puts `text` in at `position`. Here n is the
+  /// text's length.
+  Answer<void> InsertText(std::int64_t position, std::string_view text) {
+    return as_done(SCI_INSERTTEXT, position, 0, text);
+  }
+  /// SCI_CLEARALL, 2004. Deletes the whole text.
+  Answer<void> ClearAll() { return as_done(SCI_CLEARALL, 0, 0); }
+  /// SCI_GETLENGTH, 2006. Returns the text's length.
+  Answer<std::int64_t> GetLength() const { return as_number(SCI_GETLENGTH, 0, 0); }
+  /// SCI_GETCHARAT, 2007. Returns the byte at `position`, 0 to 255; 0 outside 0..n-1. Here n is the text's length.
+  Answer<std::int64_t> GetCharAt(std::int64_t position) const { return as_number(SCI_GETCHARAT, position, 0); }
+  /// SCI_GETCURRENTPOS, 2008. Returns the caret.
+  Answer<std::int64_t> GetCurrentPos() const { return as_number(SCI_GETCURRENTPOS, 0, 0); }
+  /// SCI_GETANCHOR, 2009. Returns the anchor.
+  Answer<std::int64_t> GetAnchor() const { return as_number(SCI_GETANCHOR, 0, 0); }
+  /// SCI_GETSTYLEAT, 2010. Returns the style of the byte at `position`; 0 outside 0..n-1. Here n is the text's
+  /// length.
+  Answer<std::int64_t> GetStyleAt(std::int64_t position) const { return as_number(SCI_GETSTYLEAT, position, 0); }
+  /// SCI_REDO, 2011. Does the next transaction again; nothing inside a group or where the future is empty.
+  Answer<void> Redo() { return as_done(SCI_REDO, 0, 0); }
+  /// SCI_SETUNDOCOLLECTION, 2012. On while on changes nothing; off forgets the history, ends groups and keeps whether
+  /// the document counts as modified.
+  Answer<void> SetUndoCollection(bool on) { return as_done(SCI_SETUNDOCOLLECTION, on, 0); }
+  /// SCI_SELECTALL, 2013. The anchor goes to 0, the caret goes to the text's length.
+  Answer<void> SelectAll() { return as_done(SCI_SELECTALL, 0, 0); }
+  /// SCI_SETSAVEPOINT, 2014. This is the save point.
+  Answer<void> SetSavePoint() { return as_done(SCI_SETSAVEPOINT, 0, 0); }
+  /// SCI_GETSTYLEDTEXT, 2015. `start` lies in 0..n, and `end` in `start`..n or is -1 for the end of the text. Returns
+  /// byte, style, byte, style and so on; the reply's value is 2(`end`-`start`). Here n is the text's length.
+  Answer<std::string> GetStyledText(std::int64_t start, std::int64_t end) const {
+    return as_copy(SCI_GETSTYLEDTEXT, start, end);
+  }
+  /// As GetStyledText, lent and not copied: it stands until the next message that is done.
+  Answer<std::string_view> GetStyledTextView(std::int64_t start, std::int64_t end) const {
+    return as_lent(SCI_GETSTYLEDTEXT, start, end);
+  }
+  /// SCI_CANREDO, 2016. Returns whether no group is open, the document is not read-only and the future is not empty.
+  Answer<bool> CanRedo() const { return as_flag(SCI_CANREDO, 0, 0); }
+  /// SCI_MARKERLINEFROMHANDLE, 2017. Returns the line of `handle`, else -1.
+  Answer<std::int64_t> MarkerLineFromHandle(std::int64_t handle) const {
+    return as_number(SCI_MARKERLINEFROMHANDLE, handle, 0);
+  }
+  /// SCI_MARKERDELETEHANDLE, 2018. Removes the marker with `handle`, if there is one.
+  Answer<void> MarkerDeleteHandle(std::int64_t handle) { return as_done(SCI_MARKERDELETEHANDLE, handle, 0); }
+  /// SCI_GETUNDOCOLLECTION, 2019. Returns whether undo is collected.
+  Answer<bool> GetUndoCollection() const { return as_flag(SCI_GETUNDOCOLLECTION, 0, 0); }
+  /// SCI_GOTOLINE, 2024. Anchor and caret go to the start of `line`, brought into 0..L-1. Here L is the number of
+  /// lines.
+  Answer<void> GotoLine(std::int64_t line) { return as_done(SCI_GOTOLINE, line, 0); }
+  /// SCI_GOTOPOS, 2025. Anchor and caret go to `position`, clamped. Here clamped means brought into 0..n, n the
+  /// text's length.
+  Answer<void> GotoPos(std::int64_t position) { return as_done(SCI_GOTOPOS, position, 0); }
+  /// SCI_SETANCHOR, 2026. The anchor goes to `position`, clamped. Here clamped means brought into 0..n, n the text's
+  /// length.
+  Answer<void> SetAnchor(std::int64_t position) { return as_done(SCI_SETANCHOR, position, 0); }
+  /// SCI_GETCURLINE, 2027. Returns the line of the caret with its end; the reply's value is the caret less the line's
+  /// start.
+  Answer<std::string> GetCurLine() const { return as_copy(SCI_GETCURLINE, 0, 0); }
+  /// As GetCurLine, lent and not copied: it stands until the next message that is done.
+  Answer<std::string_view> GetCurLineView() const { return as_lent(SCI_GETCURLINE, 0, 0); }
+  /// SCI_GETENDSTYLED, 2028. Returns end styled.
+  Answer<std::int64_t> GetEndStyled() const { return as_number(SCI_GETENDSTYLED, 0, 0); }
+  /// SCI_CONVERTEOLS, 2029. `mode` in 0..2. Makes each CRLF, CR and LF one of that kind; ends of Unicode stay, and so
+  /// does the mode.
+  Answer<void> ConvertEOLs(std::int64_t mode) { return as_done(SCI_CONVERTEOLS, mode, 0); }
+  /// SCI_GETEOLMODE, 2030. Returns the line end that NEWLINE and PASTE make.
+  Answer<std::int64_t> GetEOLMode() const { return as_number(SCI_GETEOLMODE, 0, 0); }
+  /// SCI_SETEOLMODE, 2031. `mode` in 0..2: SC_EOL_CRLF 0, SC_EOL_CR 1, SC_EOL_LF 2.
+  Answer<void> SetEOLMode(std::int64_t mode) { return as_done(SCI_SETEOLMODE, mode, 0); }
+  /// SCI_STARTSTYLING, 2032. `position` in 0..n. End styled becomes `position`. Here n is the text's length.
+  Answer<void> StartStyling(std::int64_t position) { return as_done(SCI_STARTSTYLING, position, 0); }
+  /// SCI_SETSTYLING, 2033. `style` in 0..255, `length` in 0..n-end styled. Styles `length` bytes from end styled on
+  /// with `style`, and moves it behind them. Here n is the text's length.
+  Answer<void> SetStyling(std::int64_t length, std::int64_t style) { return as_done(SCI_SETSTYLING, length, style); }
+  /// SCI_MARKERADD, 2043. `number` in 0..31. Adds marker `number` at the end of `line`'s list; returns its handle;
+  /// bad line -1; TooMany where handles are used up. Here a bad line is one that is not there.
+  Answer<std::int64_t> MarkerAdd(std::int64_t line, std::int64_t number) {
+    return as_number(SCI_MARKERADD, line, number);
+  }
+  /// SCI_MARKERDELETE, 2044. `number` in -1..31. Removes the first copy of `number` on `line`; -1: all of the line.
+  Answer<void> MarkerDelete(std::int64_t line, std::int64_t number) { return as_done(SCI_MARKERDELETE, line, number); }
+  /// SCI_MARKERDELETEALL, 2045. `number` in -1..31. Removes all of number `number`; -1: all.
+  Answer<void> MarkerDeleteAll(std::int64_t number) { return as_done(SCI_MARKERDELETEALL, number, 0); }
+  /// SCI_MARKERGET, 2046. Returns the mask of `line`, bit k for number k; bad line 0. Here a bad line is one that is
+  /// not there.
+  Answer<std::int64_t> MarkerGet(std::int64_t line) const { return as_number(SCI_MARKERGET, line, 0); }
+  /// SCI_MARKERNEXT, 2047. Returns the least line from `line` on whose mask meets the low 32 bits of `mask`, else -1.
+  Answer<std::int64_t> MarkerNext(std::int64_t line, std::int64_t mask) const {
+    return as_number(SCI_MARKERNEXT, line, mask);
+  }
+  /// SCI_MARKERPREVIOUS, 2048. Returns the greatest line up to `line` whose mask meets the low 32 bits of `mask`,
+  /// else -1.
+  Answer<std::int64_t> MarkerPrevious(std::int64_t line, std::int64_t mask) const {
+    return as_number(SCI_MARKERPREVIOUS, line, mask);
+  }
+  /// SCI_SETSTYLINGEX, 2073. The bytes of `styles` are the styles of as many bytes of the text from end styled on,
+  /// which moves behind them; `styles` has at most as many as there are, else BadArgument.
+  Answer<void> SetStylingEx(std::string_view styles) { return as_done(SCI_SETSTYLINGEX, length_of(styles), 0, styles); }
+  /// SCI_BEGINUNDOACTION, 2078. The depth of groups goes up; TooMany at its limit.
+  Answer<void> BeginUndoAction() { return as_done(SCI_BEGINUNDOACTION, 0, 0); }
+  /// SCI_ENDUNDOACTION, 2079. The depth of groups goes down; nothing at 0.
+  Answer<void> EndUndoAction() { return as_done(SCI_ENDUNDOACTION, 0, 0); }
+  /// SCI_SETLINESTATE, 2092. `state` in -2^31..2^31-1. Sets the state of `line`.
+  Answer<void> SetLineState(std::int64_t line, std::int64_t state) { return as_done(SCI_SETLINESTATE, line, state); }
+  /// SCI_GETLINESTATE, 2093. Returns the state of `line`; bad line 0. Here a bad line is one that is not there.
+  Answer<std::int64_t> GetLineState(std::int64_t line) const { return as_number(SCI_GETLINESTATE, line, 0); }
+  /// SCI_GETLINEENDPOSITION, 2136. Returns where the end of `line` begins; the text's length from the last line on;
+  /// -1 below 0.
+  Answer<std::int64_t> GetLineEndPosition(std::int64_t line) const {
+    return as_number(SCI_GETLINEENDPOSITION, line, 0);
+  }
+  /// SCI_GETREADONLY, 2140. Returns whether the document is read-only.
+  Answer<bool> GetReadOnly() const { return as_flag(SCI_GETREADONLY, 0, 0); }
+  /// SCI_SETCURRENTPOS, 2141. The caret goes to `position`, clamped. Here clamped means brought into 0..n, n the
+  /// text's length.
+  Answer<void> SetCurrentPos(std::int64_t position) { return as_done(SCI_SETCURRENTPOS, position, 0); }
+  /// SCI_SETSELECTIONSTART, 2142. P is `position`, clamped: the anchor goes to p, and the caret goes to the greater
+  /// of p and the caret. Here clamped means brought into 0..n, n the text's length.
+  Answer<void> SetSelectionStart(std::int64_t position) { return as_done(SCI_SETSELECTIONSTART, position, 0); }
+  /// SCI_GETSELECTIONSTART, 2143. Returns the selection's start.
+  Answer<std::int64_t> GetSelectionStart() const { return as_number(SCI_GETSELECTIONSTART, 0, 0); }
+  /// SCI_SETSELECTIONEND, 2144. P is `position`, clamped: the caret goes to p, and the anchor goes to the lesser of p
+  /// and the anchor. Here clamped means brought into 0..n, n the text's length.
+  Answer<void> SetSelectionEnd(std::int64_t position) { return as_done(SCI_SETSELECTIONEND, position, 0); }
+  /// SCI_GETSELECTIONEND, 2145. Returns the selection's end.
+  Answer<std::int64_t> GetSelectionEnd() const { return as_number(SCI_GETSELECTIONEND, 0, 0); }
+  /// SCI_GETLINE, 2153. Returns `line` with its end; the reply's value is its length; of a bad line an empty text.
+  /// Here a bad line is one that is not there.
+  Answer<std::string> GetLine(std::int64_t line) const { return as_copy(SCI_GETLINE, line, 0); }
+  /// As GetLine, lent and not copied: it stands until the next message that is done.
+  Answer<std::string_view> GetLineView(std::int64_t line) const { return as_lent(SCI_GETLINE, line, 0); }
+  /// SCI_GETLINECOUNT, 2154. Returns the number of lines.
+  Answer<std::int64_t> GetLineCount() const { return as_number(SCI_GETLINECOUNT, 0, 0); }
+  /// SCI_GETMODIFY, 2159. Returns whether the document is not at its save point.
+  Answer<bool> GetModify() const { return as_flag(SCI_GETMODIFY, 0, 0); }
+  /// SCI_SETSEL, 2160. The caret goes to the text's length for `caret` below 0, else `caret` clamped; then the anchor
+  /// goes to the caret for `anchor` below 0, else `anchor` clamped. Here clamped means brought into 0..n, n the
+  /// text's length.
+  Answer<void> SetSel(std::int64_t anchor, std::int64_t caret) { return as_done(SCI_SETSEL, anchor, caret); }
+  /// SCI_GETSELTEXT, 2161. Returns the selection; the reply's value is its length.
+  Answer<std::string> GetSelText() const { return as_copy(SCI_GETSELTEXT, 0, 0); }
+  /// As GetSelText, lent and not copied: it stands until the next message that is done.
+  Answer<std::string_view> GetSelTextView() const { return as_lent(SCI_GETSELTEXT, 0, 0); }
+  /// SCI_GETTEXTRANGE, 2162. `start` lies in 0..n, and `end` in `start`..n or is -1 for the end of the text. Returns
+  /// [`start`, `end`); the reply's value is `end`-`start`. Here n is the text's length.
+  Answer<std::string> GetTextRange(std::int64_t start, std::int64_t end) const {
+    return as_copy(SCI_GETTEXTRANGE, start, end);
+  }
+  /// As GetTextRange, lent and not copied: it stands until the next message that is done.
+  Answer<std::string_view> GetTextRangeView(std::int64_t start, std::int64_t end) const {
+    return as_lent(SCI_GETTEXTRANGE, start, end);
+  }
+  /// SCI_LINEFROMPOSITION, 2166. Returns the line of `position`, clamped. Here clamped means brought into 0..n, n the
+  /// text's length.
+  Answer<std::int64_t> LineFromPosition(std::int64_t position) const {
+    return as_number(SCI_LINEFROMPOSITION, position, 0);
+  }
+  /// SCI_POSITIONFROMLINE, 2167. Returns the start of `line`; below 0 that of the line of the selection's start; the
+  /// text's length for `line` = the number of lines; -1 beyond.
+  Answer<std::int64_t> PositionFromLine(std::int64_t line) const { return as_number(SCI_POSITIONFROMLINE, line, 0); }
+  /// SCI_REPLACESEL, 2170. Replaces the selection by `text`; anchor and caret stand behind `text`.
+  Answer<void> ReplaceSel(std::string_view text) { return as_done(SCI_REPLACESEL, 0, 0, text); }
+  /// SCI_SETREADONLY, 2171. `on`: the document is read-only.
+  Answer<void> SetReadOnly(bool on) { return as_done(SCI_SETREADONLY, on, 0); }
+  /// SCI_CANPASTE, 2173. Returns whether the document is not read-only.
+  Answer<bool> CanPaste() const { return as_flag(SCI_CANPASTE, 0, 0); }
+  /// SCI_CANUNDO, 2174. Returns whether no group is open, the document is not read-only and the past is not empty.
+  Answer<bool> CanUndo() const { return as_flag(SCI_CANUNDO, 0, 0); }
+  /// SCI_EMPTYUNDOBUFFER, 2175. Forgets the history and ends groups; this is the save point.
+  Answer<void> EmptyUndoBuffer() { return as_done(SCI_EMPTYUNDOBUFFER, 0, 0); }
+  /// SCI_UNDO, 2176. Takes the last transaction back; nothing inside a group or where the past is empty.
+  Answer<void> Undo() { return as_done(SCI_UNDO, 0, 0); }
+  /// SCI_CUT, 2177. A selection that is not empty goes to the clipboard and is deleted; where the document is
+  /// read-only it does neither.
+  Answer<void> Cut() { return as_done(SCI_CUT, 0, 0); }
+  /// SCI_COPY, 2178. A selection that is not empty goes to the clipboard.
+  Answer<void> Copy() { return as_done(SCI_COPY, 0, 0); }
+  /// SCI_PASTE, 2179. A clipboard that is not empty replaces the selection, with each CRLF, CR and LF turned into the
+  /// document's line end if the view converts pastes; anchor and caret stand behind it. Of an empty clipboard:
+  /// nothing.
+  Answer<void> Paste() { return as_done(SCI_PASTE, 0, 0); }
+  /// SCI_CLEAR, 2180. Deletes the selection, or if that is empty from the caret to the next cut. Here a cut is a
+  /// place between two characters.
+  Answer<void> Clear() { return as_done(SCI_CLEAR, 0, 0); }
+  /// SCI_SETTEXT, 2181. Replaces the whole text by `text`.
+  Answer<void> SetText(std::string_view text) { return as_done(SCI_SETTEXT, 0, 0, text); }
+  /// SCI_GETTEXT, 2182. Returns the whole text; the reply's value is the text's length.
+  Answer<std::string> GetText() const { return as_copy(SCI_GETTEXT, 0, 0); }
+  /// As GetText, lent and not copied: it stands until the next message that is done.
+  Answer<std::string_view> GetTextView() const { return as_lent(SCI_GETTEXT, 0, 0); }
+  /// SCI_GETTEXTLENGTH, 2183. Returns the text's length.
+  Answer<std::int64_t> GetTextLength() const { return as_number(SCI_GETTEXTLENGTH, 0, 0); }
+  /// SCI_SETTARGETSTART, 2190. The target's start goes to `position`, clamped. Here clamped means brought into 0..n,
+  /// n the text's length.
+  Answer<void> SetTargetStart(std::int64_t position) { return as_done(SCI_SETTARGETSTART, position, 0); }
+  /// SCI_GETTARGETSTART, 2191. Returns the target's start.
+  Answer<std::int64_t> GetTargetStart() const { return as_number(SCI_GETTARGETSTART, 0, 0); }
+  /// SCI_SETTARGETEND, 2192. The target's end goes to `position`, clamped. Here clamped means brought into 0..n, n
+  /// the text's length.
+  Answer<void> SetTargetEnd(std::int64_t position) { return as_done(SCI_SETTARGETEND, position, 0); }
+  /// SCI_GETTARGETEND, 2193. Returns the target's end.
+  Answer<std::int64_t> GetTargetEnd() const { return as_number(SCI_GETTARGETEND, 0, 0); }
+  /// SCI_REPLACETARGET, 2194. Replaces the target by `text`; the target's start is then where `text` starts and the
+  /// target's end where it ends; returns its length, or 0 where the document is read-only, whose target stays.
+  Answer<std::int64_t> ReplaceTarget(std::string_view text) {
+    return as_number(SCI_REPLACETARGET, length_of(text), 0, text);
+  }
+  /// SCI_SEARCHINTARGET, 2197. Looks for `text` between the target's start and the target's end: the first match
+  /// where the target's start is at most the target's end, else the last. Then the target's start is its start and
+  /// the target's end its end, also backwards; returns its start. None: -1, and the target stays.
+  Answer<std::int64_t> SearchInTarget(std::string_view text) {
+    return as_number(SCI_SEARCHINTARGET, length_of(text), 0, text);
+  }
+  /// SCI_SETSEARCHFLAGS, 2198. `flags` is made of SCFIND_WHOLEWORD 0x2, SCFIND_MATCHCASE 0x4 and SCFIND_WORDSTART
+  /// 0x100000, else BadArgument.
+  Answer<void> SetSearchFlags(std::int64_t flags) { return as_done(SCI_SETSEARCHFLAGS, flags, 0); }
+  /// SCI_GETSEARCHFLAGS, 2199. Returns the flags.
+  Answer<std::int64_t> GetSearchFlags() const { return as_number(SCI_GETSEARCHFLAGS, 0, 0); }
+  /// SCI_VISIBLEFROMDOCLINE, 2220. Returns the display line of `line`; for a hidden one that of the last visible line
+  /// before it; bad line -1. Here a bad line is one that is not there.
+  Answer<std::int64_t> VisibleFromDocLine(std::int64_t line) const {
+    return as_number(SCI_VISIBLEFROMDOCLINE, line, 0);
+  }
+  /// SCI_DOCLINEFROMVISIBLE, 2221. Returns the line shown at `displayLine`; 0 up to 0; the number of lines past the
+  /// last.
+  Answer<std::int64_t> DocLineFromVisible(std::int64_t displayLine) const {
+    return as_number(SCI_DOCLINEFROMVISIBLE, displayLine, 0);
+  }
+  /// SCI_SETFOLDLEVEL, 2222. `level` in 0..2^31-1. Sets the level of `line`.
+  Answer<void> SetFoldLevel(std::int64_t line, std::int64_t level) { return as_done(SCI_SETFOLDLEVEL, line, level); }
+  /// SCI_GETFOLDLEVEL, 2223. Returns the level of `line`; bad line 1024 (SC_FOLDLEVELBASE). Here a bad line is one
+  /// that is not there.
+  Answer<std::int64_t> GetFoldLevel(std::int64_t line) const { return as_number(SCI_GETFOLDLEVEL, line, 0); }
+  /// SCI_GETLASTCHILD, 2224. `level` in -1..2^31-1; returns the last child of `line`, by its own number for `level` =
+  /// -1, else by `level`'s low 12 bits; bad line -1. Here a bad line is one that is not there.
+  Answer<std::int64_t> GetLastChild(std::int64_t line, std::int64_t level) const {
+    return as_number(SCI_GETLASTCHILD, line, level);
+  }
+  /// SCI_GETFOLDPARENT, 2225. Returns the fold parent of `line`; none, or bad line: -1. Here a bad line is one that
+  /// is not there.
+  Answer<std::int64_t> GetFoldParent(std::int64_t line) const { return as_number(SCI_GETFOLDPARENT, line, 0); }
+  /// SCI_SHOWLINES, 2226. Shows each line from `first` to `last` that there is.
+  Answer<void> ShowLines(std::int64_t first, std::int64_t last) { return as_done(SCI_SHOWLINES, first, last); }
+  /// SCI_HIDELINES, 2227. Hides each line from `first` to `last` that there is, but line 0.
+  Answer<void> HideLines(std::int64_t first, std::int64_t last) { return as_done(SCI_HIDELINES, first, last); }
+  /// SCI_GETLINEVISIBLE, 2228. Returns whether `line` is visible; bad line false. Here a bad line is one that is not
+  /// there.
+  Answer<bool> GetLineVisible(std::int64_t line) const { return as_flag(SCI_GETLINEVISIBLE, line, 0); }
+  /// SCI_SETFOLDEXPANDED, 2229. Sets the expanded flag of `line` alone; nothing is shown or hidden.
+  Answer<void> SetFoldExpanded(std::int64_t line, bool on) { return as_done(SCI_SETFOLDEXPANDED, line, on); }
+  /// SCI_GETFOLDEXPANDED, 2230. Returns whether `line` is expanded; bad line false. Here a bad line is one that is
+  /// not there.
+  Answer<bool> GetFoldExpanded(std::int64_t line) const { return as_flag(SCI_GETFOLDEXPANDED, line, 0); }
+  /// SCI_TOGGLEFOLD, 2231. As FOLDLINE with toggle.
+  Answer<void> ToggleFold(std::int64_t line) { return as_done(SCI_TOGGLEFOLD, line, 0); }
+  /// SCI_ENSUREVISIBLE, 2232. A hidden `line` is made visible; before it its fold parents, the outermost first, are
+  /// made visible and, if contracted, expanded. A visible line: nothing.
+  Answer<void> EnsureVisible(std::int64_t line) { return as_done(SCI_ENSUREVISIBLE, line, 0); }
+  /// SCI_GETALLLINESVISIBLE, 2236. Returns whether all lines are visible.
+  Answer<bool> GetAllLinesVisible() const { return as_flag(SCI_GETALLLINESVISIBLE, 0, 0); }
+  /// SCI_FOLDLINE, 2237. `action` in 0..2: SC_FOLDACTION_CONTRACT 0, SC_FOLDACTION_EXPAND 1, SC_FOLDACTION_TOGGLE 2.
+  /// Of `line` if it is a header, else of its fold parent, if it has one: to contract sets its expanded flag off and
+  /// hides its children, to expand sets it on, shows those that no contracted header between has as its own, and
+  /// hides the others.
+  Answer<void> FoldLine(std::int64_t line, std::int64_t action) { return as_done(SCI_FOLDLINE, line, action); }
+  /// SCI_APPENDTEXT, 2282. Puts `text` in at the text's length.
+  Answer<void> AppendText(std::string_view text) { return as_done(SCI_APPENDTEXT, length_of(text), 0, text); }
+  /// SCI_TARGETFROMSELECTION, 2287. The target's start goes to the selection's start, the target's end goes to the
+  /// selection's end.
+  Answer<void> TargetFromSelection() { return as_done(SCI_TARGETFROMSELECTION, 0, 0); }
+  /// SCI_CHARLEFT, 2304. Anchor and caret go to the selection's start if the selection is not empty, else the cut
+  /// before the caret. Here a cut is a place between two characters.
+  Answer<void> CharLeft() { return as_done(SCI_CHARLEFT, 0, 0); }
+  /// SCI_CHARLEFTEXTEND, 2305. The caret goes to the cut before the caret. Here a cut is a place between two
+  /// characters.
+  Answer<void> CharLeftExtend() { return as_done(SCI_CHARLEFTEXTEND, 0, 0); }
+  /// SCI_CHARRIGHT, 2306. Anchor and caret go to the selection's end if the selection is not empty, else the cut
+  /// behind the caret. Here a cut is a place between two characters.
+  Answer<void> CharRight() { return as_done(SCI_CHARRIGHT, 0, 0); }
+  /// SCI_CHARRIGHTEXTEND, 2307. The caret goes to the cut behind the caret. Here a cut is a place between two
+  /// characters.
+  Answer<void> CharRightExtend() { return as_done(SCI_CHARRIGHTEXTEND, 0, 0); }
+  /// SCI_HOME, 2312. Anchor and caret go to the start of the line of the caret.
+  Answer<void> Home() { return as_done(SCI_HOME, 0, 0); }
+  /// SCI_HOMEEXTEND, 2313. The caret goes to the start of the line of the caret.
+  Answer<void> HomeExtend() { return as_done(SCI_HOMEEXTEND, 0, 0); }
+  /// SCI_LINEEND, 2314. Anchor and caret go to where the end of the line of the caret begins.
+  Answer<void> LineEnd() { return as_done(SCI_LINEEND, 0, 0); }
+  /// SCI_LINEENDEXTEND, 2315. The caret goes to where the end of the line of the caret begins.
+  Answer<void> LineEndExtend() { return as_done(SCI_LINEENDEXTEND, 0, 0); }
+  /// SCI_DOCUMENTSTART, 2316. Anchor and caret go to 0.
+  Answer<void> DocumentStart() { return as_done(SCI_DOCUMENTSTART, 0, 0); }
+  /// SCI_DOCUMENTSTARTEXTEND, 2317. The caret goes to 0.
+  Answer<void> DocumentStartExtend() { return as_done(SCI_DOCUMENTSTARTEXTEND, 0, 0); }
+  /// SCI_DOCUMENTEND, 2318. Anchor and caret go to the text's length.
+  Answer<void> DocumentEnd() { return as_done(SCI_DOCUMENTEND, 0, 0); }
+  /// SCI_DOCUMENTENDEXTEND, 2319. The caret goes to the text's length.
+  Answer<void> DocumentEndExtend() { return as_done(SCI_DOCUMENTENDEXTEND, 0, 0); }
+  /// SCI_DELETEBACK, 2326. Deletes the selection, or if that is empty from the cut before the caret to the caret.
+  /// Here a cut is a place between two characters.
+  Answer<void> DeleteBack() { return as_done(SCI_DELETEBACK, 0, 0); }
+  /// SCI_NEWLINE, 2329. As REPLACESEL of the document's line end.
+  Answer<void> NewLine() { return as_done(SCI_NEWLINE, 0, 0); }
+  /// SCI_LINELENGTH, 2350. Returns the length of `line` with its end; bad line 0. Here a bad line is one that is not
+  /// there.
+  Answer<std::int64_t> LineLength(std::int64_t line) const { return as_number(SCI_LINELENGTH, line, 0); }
+  /// SCI_GETDOCPOINTER, 2357. Returns the id of the view's document.
+  Answer<std::int64_t> GetDocPointer() const { return as_number(SCI_GETDOCPOINTER, 0, 0); }
+  /// SCI_SETDOCPOINTER, 2358. `document` = 0: a new document (TooMany); else `document` names one (NoSuchDocument;
+  /// TooMany at the limit of references). It gains a reference, then the old one loses one; the view is attached
+  /// last, with the anchor, the caret, the target's start and the target's end 0 and all lines visible and expanded;
+  /// so it is to its own document too.
+  Answer<void> SetDocPointer(std::int64_t document) { return as_done(SCI_SETDOCPOINTER, 0, document); }
+  /// SCI_SETMODEVENTMASK, 2359. `mask` in 0..0x7FFFFF (SC_MODEVENTMASKALL): which kinds of SCN_MODIFIED this view
+  /// hears.
+  Answer<void> SetModEventMask(std::int64_t mask) { return as_done(SCI_SETMODEVENTMASK, mask, 0); }
+  /// SCI_CREATEDOCUMENT, 2375. `bytes` is not negative, and not used; `options` is 0 or made of
+  /// SC_DOCUMENTOPTION_STYLES_NONE 1 and SC_DOCUMENTOPTION_TEXT_LARGE 256, else BadArgument; returns the id of a new
+  /// document with these options, held once by the caller. TooMany where ids are used up.
+  Answer<std::int64_t> CreateDocument(std::int64_t bytes, std::int64_t options) {
+    return as_number(SCI_CREATEDOCUMENT, bytes, options);
+  }
+  /// SCI_ADDREFDOCUMENT, 2376. `document` is held once more; NoSuchDocument, TooMany.
+  Answer<void> AddRefDocument(std::int64_t document) { return as_done(SCI_ADDREFDOCUMENT, 0, document); }
+  /// SCI_RELEASEDOCUMENT, 2377. `document` is held once less; NoSuchDocument, also where no caller holds it.
+  Answer<void> ReleaseDocument(std::int64_t document) { return as_done(SCI_RELEASEDOCUMENT, 0, document); }
+  /// SCI_GETMODEVENTMASK, 2378. Returns the mask.
+  Answer<std::int64_t> GetModEventMask() const { return as_number(SCI_GETMODEVENTMASK, 0, 0); }
+  /// SCI_GETDOCUMENTOPTIONS, 2379. Returns the options of the view's document.
+  Answer<std::int64_t> GetDocumentOptions() const { return as_number(SCI_GETDOCUMENTOPTIONS, 0, 0); }
+  /// SCI_POSITIONBEFORE, 2417. Returns the greatest cut below `position` (clamped), or 0. Here clamped means brought
+  /// into 0..n, n the text's length; a cut is a place between two characters.
+  Answer<std::int64_t> PositionBefore(std::int64_t position) const {
+    return as_number(SCI_POSITIONBEFORE, position, 0);
+  }
+  /// SCI_POSITIONAFTER, 2418. Returns the least cut above `position` (clamped), or the text's length. Here clamped
+  /// means brought into 0..n, n the text's length; a cut is a place between two characters.
+  Answer<std::int64_t> PositionAfter(std::int64_t position) const { return as_number(SCI_POSITIONAFTER, position, 0); }
+  /// SCI_COPYRANGE, 2419. `start` lies in 0..n, and `end` in `start`..n or is -1 for the end of the text. The
+  /// clipboard becomes [`start`, `end`), an empty one too. Here n is the text's length.
+  Answer<void> CopyRange(std::int64_t start, std::int64_t end) { return as_done(SCI_COPYRANGE, start, end); }
+  /// SCI_COPYTEXT, 2420. The clipboard becomes `text`, an empty one too.
+  Answer<void> CopyText(std::string_view text) { return as_done(SCI_COPYTEXT, length_of(text), 0, text); }
+  /// SCI_MARKERADDSET, 2466. `mask` in 0..2^32-1. Adds each number whose bit is set, rising; bad line nothing;
+  /// TooMany where handles do not suffice for all. Here a bad line is one that is not there.
+  Answer<void> MarkerAddSet(std::int64_t line, std::int64_t mask) { return as_done(SCI_MARKERADDSET, line, mask); }
+  /// SCI_SETPASTECONVERTENDINGS, 2467. `on`: whether this view converts what it pastes.
+  Answer<void> SetPasteConvertEndings(bool on) { return as_done(SCI_SETPASTECONVERTENDINGS, on, 0); }
+  /// SCI_GETPASTECONVERTENDINGS, 2468. Returns whether this view converts what it pastes.
+  Answer<bool> GetPasteConvertEndings() const { return as_flag(SCI_GETPASTECONVERTENDINGS, 0, 0); }
+  /// SCI_SETINDICATORCURRENT, 2500. `number` in 0..31: the view's current indicator.
+  Answer<void> SetIndicatorCurrent(std::int64_t number) { return as_done(SCI_SETINDICATORCURRENT, number, 0); }
+  /// SCI_GETINDICATORCURRENT, 2501. Returns the view's current indicator.
+  Answer<std::int64_t> GetIndicatorCurrent() const { return as_number(SCI_GETINDICATORCURRENT, 0, 0); }
+  /// SCI_SETINDICATORVALUE, 2502. `value` in 0..2^31-1, 0 meaning 1: the value that this view fills in.
+  Answer<void> SetIndicatorValue(std::int64_t value) { return as_done(SCI_SETINDICATORVALUE, value, 0); }
+  /// SCI_GETINDICATORVALUE, 2503. Returns the value that this view fills in.
+  Answer<std::int64_t> GetIndicatorValue() const { return as_number(SCI_GETINDICATORVALUE, 0, 0); }
+  /// SCI_INDICATORFILLRANGE, 2504. `start` in 0..n, `length` in 0..n-`start`. The current indicator has the current
+  /// value over `length` bytes from `start` on. Here n is the text's length.
+  Answer<void> IndicatorFillRange(std::int64_t start, std::int64_t length) {
+    return as_done(SCI_INDICATORFILLRANGE, start, length);
+  }
+  /// SCI_INDICATORCLEARRANGE, 2505. `start` in 0..n, `length` in 0..n-`start`. The current indicator is 0 over
+  /// `length` bytes from `start` on. Here n is the text's length.
+  Answer<void> IndicatorClearRange(std::int64_t start, std::int64_t length) {
+    return as_done(SCI_INDICATORCLEARRANGE, start, length);
+  }
+  /// SCI_INDICATORALLONFOR, 2506. Returns bit k for each indicator k that is not 0 at `position`; 0 outside 0..n-1.
+  /// Here n is the text's length.
+  Answer<std::int64_t> IndicatorAllOnFor(std::int64_t position) const {
+    return as_number(SCI_INDICATORALLONFOR, position, 0);
+  }
+  /// SCI_INDICATORVALUEAT, 2507. `number` in 0..31; returns its value at `position`; 0 outside 0..n-1. Here n is the
+  /// text's length.
+  Answer<std::int64_t> IndicatorValueAt(std::int64_t number, std::int64_t position) const {
+    return as_number(SCI_INDICATORVALUEAT, number, position);
+  }
+  /// SCI_INDICATORSTART, 2508. `number` in 0..31; returns where the longest run of one value that holds `position`
+  /// starts; 0 outside 0..n-1. Here n is the text's length.
+  Answer<std::int64_t> IndicatorStart(std::int64_t number, std::int64_t position) const {
+    return as_number(SCI_INDICATORSTART, number, position);
+  }
+  /// SCI_INDICATOREND, 2509. `number` in 0..31; returns the place just behind the longest run of one value that holds
+  /// `position`; 0 outside 0..n-1. Here n is the text's length.
+  Answer<std::int64_t> IndicatorEnd(std::int64_t number, std::int64_t position) const {
+    return as_number(SCI_INDICATOREND, number, position);
+  }
+  /// SCI_SETEMPTYSELECTION, 2556. Anchor and caret go to `position`, clamped. Here clamped means brought into 0..n, n
+  /// the text's length.
+  Answer<void> SetEmptySelection(std::int64_t position) { return as_done(SCI_SETEMPTYSELECTION, position, 0); }
+  /// SCI_ADDUNDOACTION, 2560. `flags` in 0..1: UNDO_NONE 0 or UNDO_MAY_COALESCE 1. Appends a container's step with
+  /// token `token` while undo is collected, also to a read-only document.
+  Answer<void> AddUndoAction(std::int64_t token, std::int64_t flags) {
+    return as_done(SCI_ADDUNDOACTION, token, flags);
+  }
+  /// SCI_DELETERANGE, 2645. `start` in 0..n, `length` in 0..n-`start`. Deletes the `length` bytes from `start` on.
+  /// Here n is the text's length.
+  Answer<void> DeleteRange(std::int64_t start, std::int64_t length) { return as_done(SCI_DELETERANGE, start, length); }
+  /// SCI_GETSELECTIONEMPTY, 2650. Returns whether anchor and caret are at one place.
+  Answer<bool> GetSelectionEmpty() const { return as_flag(SCI_GETSELECTIONEMPTY, 0, 0); }
+  /// SCI_SETLINEENDTYPESALLOWED, 2656. `types` in 0..1: SC_LINE_END_TYPE_DEFAULT 0, SC_LINE_END_TYPE_UNICODE 1, for
+  /// the document, also a read-only one. Rows and every view's flags go to the lines that hold their starts.
+  Answer<void> SetLineEndTypesAllowed(std::int64_t types) { return as_done(SCI_SETLINEENDTYPESALLOWED, types, 0); }
+  /// SCI_GETLINEENDTYPESALLOWED, 2657. Returns the types of line ends that the document allows.
+  Answer<std::int64_t> GetLineEndTypesAllowed() const { return as_number(SCI_GETLINEENDTYPESALLOWED, 0, 0); }
+  /// SCI_GETLINEENDTYPESACTIVE, 2658. Returns the types of line ends that are active: those that the document allows.
+  Answer<std::int64_t> GetLineEndTypesActive() const { return as_number(SCI_GETLINEENDTYPESACTIVE, 0, 0); }
+  /// SCI_SETTARGETRANGE, 2686. The target's start goes to `start`, the target's end goes to `end`, both clamped. Here
+  /// clamped means brought into 0..n, n the text's length.
+  Answer<void> SetTargetRange(std::int64_t start, std::int64_t end) { return as_done(SCI_SETTARGETRANGE, start, end); }
+  /// SCI_GETTARGETTEXT, 2687. Returns the text between the target's start and the target's end, from the lesser on;
+  /// the reply's value is its length.
+  Answer<std::string> GetTargetText() const { return as_copy(SCI_GETTARGETTEXT, 0, 0); }
+  /// As GetTargetText, lent and not copied: it stands until the next message that is done.
+  Answer<std::string_view> GetTargetTextView() const { return as_lent(SCI_GETTARGETTEXT, 0, 0); }
+  /// SCI_TARGETWHOLEDOCUMENT, 2690. The target's start goes to 0, the target's end goes to the text's length.
+  Answer<void> TargetWholeDocument() { return as_done(SCI_TARGETWHOLEDOCUMENT, 0, 0); }
+  /// SCI_STARTRECORD, 3001. The view records.
+  Answer<void> StartRecord() { return as_done(SCI_STARTRECORD, 0, 0); }
+  /// SCI_STOPRECORD, 3002. The view records no longer.
+  Answer<void> StopRecord() { return as_done(SCI_STOPRECORD, 0, 0); }
+  /// SCI_COLOURISE, 4003. `start` lies in 0..n, and `end` in `start`..n or is -1 for the end of the text. End styled
+  /// is at most `start`; the sending view is asked to style up to `end`. Here n is the text's length.
+  Answer<void> Colourise(std::int64_t start, std::int64_t end) { return as_done(SCI_COLOURISE, start, end); }
+  // Written by tools/wrappers.py: end
+
+ private:
+  Result<std::int64_t> sent(std::uint32_t number, std::int64_t w, std::int64_t l, std::string_view text) const {
+    std::int64_t value = 0;
+    const hongpilas_answer answer = hongpilas_call(session_, id_, number, w, l, text.data(), text.size(), &value);
+    if (answer != HONGPILAS_DONE) return static_cast<Refusal>(answer);
+    return value;
+  }
+  Answer<void> as_done(std::uint32_t number, std::int64_t w, std::int64_t l, std::string_view text = {}) const {
+    const Result<std::int64_t> result = sent(number, w, l, text);
+    return Policy::answer(result ? Result<void>() : Result<void>(result.error()));
+  }
+  Answer<std::int64_t> as_number(std::uint32_t number, std::int64_t w, std::int64_t l, std::string_view text = {}) const {
+    return Policy::answer(sent(number, w, l, text));
+  }
+  Answer<bool> as_flag(std::uint32_t number, std::int64_t w, std::int64_t l) const {
+    const Result<std::int64_t> result = sent(number, w, l, {});
+    return Policy::answer(result ? Result<bool>(*result != 0) : Result<bool>(result.error()));
+  }
+  Answer<std::string> as_copy(std::uint32_t number, std::int64_t w, std::int64_t l) const {
+    const Result<std::int64_t> result = sent(number, w, l, {});
+    return Policy::answer(result ? Result<std::string>(std::string(text())) : Result<std::string>(result.error()));
+  }
+  Answer<std::string_view> as_lent(std::uint32_t number, std::int64_t w, std::int64_t l) const {
+    const Result<std::int64_t> result = sent(number, w, l, {});
+    return Policy::answer(result ? Result<std::string_view>(text()) : Result<std::string_view>(result.error()));
+  }
+  Result<std::string_view> lent_range(std::int64_t start, std::int64_t count) const {
+    const std::uint8_t *bytes = nullptr;
+    if (start < 0 || count < 0) return Refusal::BadArgument;
+    const hongpilas_answer answer =
+        hongpilas_lend_range(session_, id_, static_cast<std::size_t>(start), static_cast<std::size_t>(count), &bytes);
+    if (answer != HONGPILAS_DONE) return static_cast<Refusal>(answer);
+    return detail::lent(bytes, static_cast<std::size_t>(count));
+  }
+  static std::int64_t length_of(std::string_view text) noexcept { return static_cast<std::int64_t>(text.size()); }
+
+  hongpilas_session *session_;
+  std::uint32_t id_;
+};
+
+/// A session: its documents and the views on them. It moves, and is given back with all that it has where it ends. One that was moved from may be
+/// assigned to, and nothing else.
+class Session {
+ public:
+#if HONGPILAS_THROWS
+  /// Opens a session without documents and views. Throws Refused: OutOfMemory; BadArgument where a limit is 0 or above the greatest.
+  explicit Session(const Limits &limits = greatest_limits) : Session(open(limits).value()) {}
+
+  /// Opens a view on a new document. Throws Refused: TooMany, OutOfMemory.
+  View new_view() { return open_view().value().throwing(); }
+  /// The view with this id. Messages to one that is not open are refused as NoSuchView.
+  View view(std::uint32_t id) noexcept { return View(handle_.get(), id); }
+#endif
+
+  /// Opens a session without documents and views. Refused: OutOfMemory; BadArgument where a limit is 0 or above the greatest.
+  static Result<Session> open(const Limits &limits = greatest_limits) noexcept {
+    std::unique_ptr<hongpilas_session> memory(new (std::nothrow) hongpilas_session);
+    if (!memory) return Refusal::OutOfMemory;
+    const hongpilas_answer answer = hongpilas_new_with_limits(memory.get(), &limits);
+    if (answer != HONGPILAS_DONE) return static_cast<Refusal>(answer);
+    return Session(memory.release(), Opened());
+  }
+
+  /// Opens a view on a new document. Refused: TooMany, OutOfMemory.
+  Result<ResultView> open_view() noexcept {
+    std::uint32_t id = 0;
+    const hongpilas_answer answer = hongpilas_new_view(handle_.get(), &id);
+    if (answer != HONGPILAS_DONE) return static_cast<Refusal>(answer);
+    return ResultView(handle_.get(), id);
+  }
+
+  /// The last reply: its value; its text, lent; and its notes. They stand until the next message that is done.
+  std::int64_t value() const noexcept { return hongpilas_value(handle_.get()); }
+  std::string_view text() const noexcept { return ResultView(handle_.get(), 0).text(); }
+  Notes notes() const noexcept { return Notes(handle_.get()); }
+
+  /// The session for calls of hongpilas.h. It stays this object's.
+  hongpilas_session *handle() noexcept { return handle_.get(); }
+
+ private:
+  struct Opened {};
+  struct Close {
+    void operator()(hongpilas_session *session) const noexcept {
+      hongpilas_free(*session);
+      delete session;
+    }
+  };
+  Session(hongpilas_session *session, Opened) noexcept : handle_(session) {}
+
+  // Apart from this object, so that views keep their way to it when it moves.
+  std::unique_ptr<hongpilas_session, Close> handle_;
+};
+
+}  // namespace hongpilas
+
+#endif
