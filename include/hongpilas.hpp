@@ -6,14 +6,16 @@
  *   for (const hongpilas::Note &note : session.notes()) listen(note);
  *   std::string line = view.GetLine(1);
  *
- * Messages are methods by Scintilla's names. A text that a message takes is a std::string_view, whose length is sent with it: ADDTEXT and its
- * kin have no argument for that. Positions, lengths and lines are std::int64_t and count from 0.
+ * Messages are methods by Scintilla's names. A text that a message takes is a std::string_view, whose length is sent
+ * with it: ADDTEXT and its kin have no argument for that. Positions, lengths and lines are std::int64_t and count from
+ * 0.
  *
- * Refusals. The methods of View throw Refused; those of ResultView, which view.results() is, return a Result instead, with a value or a
- * Refusal, as std::expected has. A refused call has changed nothing.
+ * Refusals. The methods of View throw Refused; those of ResultView, which view.results() is, return a Result instead,
+ * with a value or a Refusal, as std::expected has. A refused call has changed nothing.
  *
- * Lent bytes. What GetLine and its kin return is a copy. GetLineView, text() and the text of a note are lent: they stand until the next message
- * that is done, and what lend_range lends until the next call. A text that is sent is none of these: copy it first.
+ * Lent bytes. What GetLine and its kin return is a copy. GetLineView, text() and the text of a note are lent: they
+ * stand until the next message that is done, and what lend_range lends until the next call. A text that is sent is none
+ * of these: copy it first.
  *
  * What the caller owes besides, above all that a session stays on one thread, stands at the top of hongpilas.h. */
 #ifndef HONGPILAS_HPP
@@ -39,7 +41,8 @@
 #include <utility>
 #include <variant>
 
-/* Code that is built without exceptions has all but View, Session's constructors and new_view, and value() of a refused Result ends it. */
+/* Code that is built without exceptions has all but View, Session's constructors and new_view, and value() of a refused
+ * Result ends it. */
 #if defined(__cpp_exceptions)
 #define HONGPILAS_THROWS 1
 #else
@@ -94,7 +97,8 @@ namespace detail {
 }
 }  // namespace detail
 
-/// A value, or why there is none. `*` and `->` are for a result that has a value, error() for one that has none; value() throws Refused.
+/// A value, or why there is none. `*` and `->` are for a result that has a value, error() for one that has none;
+/// value() throws Refused.
 template <class T>
 class [[nodiscard]] Result {
  public:
@@ -143,7 +147,8 @@ class [[nodiscard]] Result<void> {
   hongpilas_answer answer_ = HONGPILAS_DONE;
 };
 
-/// A note: what a view is told. Fields that its code does not name are 0. Its text is lent as long as the reply is kept.
+/// A note: what a view is told. Fields that its code does not name are 0. Its text is lent as long as the reply is
+/// kept.
 struct Note {
   std::uint32_t view;
   std::uint32_t code;
@@ -194,10 +199,10 @@ class Notes {
   iterator end() const noexcept { return iterator(session_, size()); }
   /// The note with this index; one of zeros where there is none.
   Note operator[](std::size_t index) const noexcept {
-    hongpilas_note_data note = {};
-    hongpilas_note(session_, index, &note);
-    return {note.view,  note.code, note.kind, note.message, note.position, note.length, note.lines,
-            note.line,  note.now,  note.prev, note.token,   note.w,        note.l,      detail::lent(note.text, note.text_length)};
+    hongpilas_note_data it = {};
+    hongpilas_note(session_, index, &it);
+    return {it.view, it.code, it.kind, it.message, it.position, it.length, it.lines,
+            it.line, it.now,  it.prev, it.token,   it.w,        it.l,      detail::lent(it.text, it.text_length)};
   }
 
  private:
@@ -208,9 +213,9 @@ class Notes {
 using Limits = hongpilas_limits;
 inline constexpr Limits greatest_limits = HONGPILAS_GREATEST_LIMITS;
 
-/* What a view's methods return is a policy, and so a part of its type: most code wants plain values and exceptions, and code where a refusal is
- * an ordinary answer, or which is built without exceptions, wants it in the result. A third way, a Result everywhere, would put a `.value()`
- * behind each message. */
+/* What a view's methods return is a policy, and so a part of its type: most code wants plain values and exceptions, and
+ * code where a refusal is an ordinary answer, or which is built without exceptions, wants it in the result. A third
+ * way, a Result everywhere, would put a `.value()` behind each message. */
 
 /// The policy of View: values are returned, and refusals are thrown as Refused.
 struct Throwing {
@@ -239,8 +244,8 @@ using ResultView = BasicView<Returning>;
 using View = BasicView<Throwing>;
 #endif
 
-/// A view, by its id: a word that is copied freely, and does not close the view where it ends. It may be used as long as its session is open,
-/// also when the Session object has moved. Messages that only ask are const.
+/// A view, by its id: a word that is copied freely, and does not close the view where it ends. It may be used as long
+/// as its session is open, also when the Session object has moved. Messages that only ask are const.
 template <class Policy>
 class BasicView {
  public:
@@ -263,8 +268,8 @@ class BasicView {
     return Policy::answer(sent(number, w, l, text));
   }
 
-  /// Lends bytes of the view's document, with no copy. They stand until the next call that does not just look at the last reply.
-  /// Refused: BadArgument where the range does not lie in the text.
+  /// Lends bytes of the view's document, with no copy. They stand until the next call that does not just look at the
+  /// last reply. Refused: BadArgument where the range does not lie in the text.
   Answer<std::string_view> lend_range(std::int64_t start, std::int64_t count) const {
     return Policy::answer(lent_range(start, count));
   }
@@ -725,7 +730,8 @@ class BasicView {
     const Result<std::int64_t> result = sent(number, w, l, text);
     return Policy::answer(result ? Result<void>() : Result<void>(result.error()));
   }
-  Answer<std::int64_t> as_number(std::uint32_t number, std::int64_t w, std::int64_t l, std::string_view text = {}) const {
+  Answer<std::int64_t> as_number(std::uint32_t number, std::int64_t w, std::int64_t l,
+                                 std::string_view text = {}) const {
     return Policy::answer(sent(number, w, l, text));
   }
   Answer<bool> as_flag(std::uint32_t number, std::int64_t w, std::int64_t l) const {
@@ -754,12 +760,13 @@ class BasicView {
   std::uint32_t id_;
 };
 
-/// A session: its documents and the views on them. It moves, and is given back with all that it has where it ends. One that was moved from may be
-/// assigned to, and nothing else.
+/// A session: its documents and the views on them. It moves, and is given back with all that it has where it ends. One
+/// that was moved from may be assigned to, and nothing else.
 class Session {
  public:
 #if HONGPILAS_THROWS
-  /// Opens a session without documents and views. Throws Refused: OutOfMemory; BadArgument where a limit is 0 or above the greatest.
+  /// Opens a session without documents and views. Throws Refused: OutOfMemory; BadArgument where a limit is 0 or above
+  /// the greatest.
   explicit Session(const Limits &limits = greatest_limits) : Session(open(limits).value()) {}
 
   /// Opens a view on a new document. Throws Refused: TooMany, OutOfMemory.
@@ -768,7 +775,8 @@ class Session {
   View view(std::uint32_t id) noexcept { return View(handle_.get(), id); }
 #endif
 
-  /// Opens a session without documents and views. Refused: OutOfMemory; BadArgument where a limit is 0 or above the greatest.
+  /// Opens a session without documents and views. Refused: OutOfMemory; BadArgument where a limit is 0 or above the
+  /// greatest.
   static Result<Session> open(const Limits &limits = greatest_limits) noexcept {
     std::unique_ptr<hongpilas_session> memory(new (std::nothrow) hongpilas_session);
     if (!memory) return Refusal::OutOfMemory;

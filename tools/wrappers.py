@@ -1,5 +1,5 @@
 #!/usr/bin/env python3
-"""Writes the methods of all messages, and the constants, into the wrappers for C++, Rust and Python.
+"""Writes the methods of all messages, the constants and Rust's declarations of the calls into the wrappers for C++, Rust and Python.
 
 A message's name and number come from the definitions (crates/ed_types), its arguments, its answer and its sentence from its row of docs/MESSAGES.md.
 Run it at the top of the repository after a message, a row or a constant has changed. With --check it writes nothing, and fails where a wrapper is not
@@ -18,6 +18,7 @@ END = "Written by tools/wrappers.py: end"
 CPP = "include/hongpilas.hpp"
 RUST = "bindings/rust/hongpilas/src/messages.rs"
 RUST_CONSTANTS = "bindings/rust/hongpilas-sys/src/constants.rs"
+RUST_CALLS = "bindings/rust/hongpilas-sys/src/calls.rs"
 PYTHON = "bindings/python/hongpilas/_messages.py"
 PYTHON_CONSTANTS = "bindings/python/hongpilas/constants.py"
 # The column "w, l, T" of the table: for each of its forms the arguments of a method, as (place, name). A length in front of a text is
@@ -89,6 +90,7 @@ class Message:
     arguments: list  # (place, name): w, l or T, and what it is called
     answers: str  # "nothing", "number", "flag" or "text"
     sentence: str
+    takes_length: bool  # whether w is the length of the text, which no method takes
 
     @property
     def snake(self):
@@ -104,11 +106,6 @@ class Message:
     def place(self, place):
         """The name of the argument in a place, or None."""
         return dict(self.arguments).get(place)
-
-    @property
-    def takes_length(self):
-        """Whether w is the length of the text."""
-        return self.place("T") is not None and self.place("w") is None and self.spelled not in ("SETTEXT", "REPLACESEL")
 
 
 def arguments(column):
@@ -131,7 +128,7 @@ def answer(does):
     return "number" if "->" in does else "nothing"
 
 
-def sentence(does, places, column):
+def sentence(does, places):
     """A row's words as the sentence at a method."""
     text = does.replace("`", "")
     for pattern, full in IN_FULL:
@@ -151,20 +148,25 @@ def sentence(does, places, column):
     return text + (f" Here {'; '.join(told)}." if told else "")
 
 
+def rows():
+    """The rows of the table: number, name, marks, arguments, what it does, and notes."""
+    return re.findall(r"^\| (\d{4}) \| SCI_([A-Z]+) \| ([QNER ]*?) ?\| (.*?) ?\| (.*?) ?\| (.*?) ?\|", header.read("docs/MESSAGES.md"), re.M)
+
+
 def messages():
     """The messages of the table, by their numbers."""
     kinds = dict((spelled[4:], (name, int(number))) for spelled, name, number in
                  re.findall(r"/// `(SCI_\w+)`\n\s*(\w+) = (\d+),", header.read("crates/ed_types/src/kind.rt")))
-    row = r"^\| (\d{4}) \| SCI_([A-Z]+) \| ([QNER ]*?) ?\| (.*?) ?\| (.*?) ?\| (.*?) ?\|"
     found = []
-    for number, spelled, marks, column, does, _ in re.findall(row, header.read("docs/MESSAGES.md"), re.M):
+    for number, spelled, marks, column, does, _ in rows():
         name, known = kinds.pop(spelled)
         if known != int(number):
             sys.exit(f"{spelled} has several numbers: {number} and {known}")
         name = name.replace("Eol", "EOL")
         places = arguments(column)
         told = SENTENCES.get(spelled, does)
-        found.append(Message(name, spelled, known, "Q" not in marks.split(), places, answer(told), sentence(told, places, column)))
+        words = sentence(told, places)
+        found.append(Message(name, spelled, known, "Q" not in marks.split(), places, answer(told), words, column.startswith("w length, T")))
     if kinds:
         sys.exit(f"no row of docs/MESSAGES.md: {', '.join(kinds)}")
     return sorted(found, key=lambda it: it.number)
@@ -233,6 +235,54 @@ def rust(found):
     return "".join(f"{line}\n" for line in lines[:-1])
 
 
+# How Rust spells the types of the header.
+IN_RUST = {"uint8_t": "u8", "uint32_t": "u32", "uint64_t": "u64", "int64_t": "i64", "size_t": "usize", "bool": "bool", "void": "c_void"}
+
+
+def in_rust(place):
+    """A parameter or field as Rust has it: `const uint8_t *text` is `text: *const u8`."""
+    const, kind, stars, name = re.fullmatch(r"(const )?(\w+) (\**)(\w+)", place).groups()
+    kind = IN_RUST.get(kind, kind)
+    if stars:
+        kind = "*mut " * (len(stars) - 1) + ("*const " if const else "*mut ") + kind
+    return f"{name}: {kind}"
+
+
+def rust_call(answer, name, taken):
+    """A call of the header as Rust declares it, on a line of its own where that fits."""
+    places = [in_rust(place) for place in re.split(r",\s+", taken) if place != "void"]
+    answered = "" if answer == "void" else f" -> {IN_RUST.get(answer, answer)}"
+    line = f"    pub fn {name}({', '.join(places)}){answered};\n"
+    if len(line) <= 121:
+        return line
+    return f"    pub fn {name}(\n" + "".join(f"        {place},\n" for place in places) + f"    ){answered};\n"
+
+
+def rust_struct(name, body):
+    """A struct of the header, with the comments of its fields."""
+    fields = re.findall(r"(?:(\w[\w ]*?) (\**)(\w+));(?: +/\* (.*?) \*/)?", body)
+    lines = [f"    /// {comment[:1].upper()}{comment[1:]}.\n" * bool(comment) + f"    pub {in_rust(f'{kind} {stars}{field}')},\n" for kind, stars, field, comment in fields]
+    return f"#[repr(C)]\n#[derive(Clone, Copy, Debug)]\npub struct {name} {{\n{''.join(lines)}}}\n"
+
+
+def rust_calls():
+    """What the header declares: answers, structs and calls. The struct of a session is written by hand: it is not copied."""
+    text = header.read(header.HEADER)
+    answers = re.findall(r"^  HONGPILAS_(\w+) = (\d+),? *(?:/\* (.*?) \*/)?$", text, re.M)
+    lines = [f"pub const HONGPILAS_VERSION: u32 = {re.search(r'^#define HONGPILAS_VERSION (.*)$', text, re.M)[1]};\n\n"]
+    for name, number, comment in answers:
+        lines.append(f"/// {comment[:1].upper()}{comment[1:]}.\n" * bool(comment) + f"pub const HONGPILAS_{name}: hongpilas_answer = {number};\n")
+    structs = re.findall(r"^typedef struct \w+ \{\n(.*?)^\} (\w+);", text, re.M | re.S)
+    lines += ["\n" + rust_struct(name, body) for body, name in structs if name != "hongpilas"]
+    limits = dict((name, body) for body, name in structs)["hongpilas_limits"]
+    greatest = re.search(r"^#define HONGPILAS_GREATEST_LIMITS \{(.*)\}$", text, re.M)[1].split(", ")
+    named = zip(re.findall(r"^  \w+ (\w+);", limits, re.M), greatest)
+    lines.append("\n/// All limits at their greatest.\npub const HONGPILAS_GREATEST_LIMITS: hongpilas_limits = hongpilas_limits {\n")
+    lines += [f"    {name}: {number},\n" for name, number in named]
+    calls = re.findall(r"^(\w+) (hongpilas_\w+)\(([^()]*)\);", re.sub(r"/\*.*?\*/", "", text, flags=re.S), re.M)
+    return "".join([*lines, "};\n\nextern \"C\" {\n", *(rust_call(*it) for it in calls), "}\n"])
+
+
 PYTHON_TYPES = {"number": "int", "flag": "bool", "text": "Text"}
 PYTHON_ANSWERS = {"nothing": ("None", "{}"), "number": ("int", "return {}"), "flag": ("bool", "return {} != 0"), "text": ("bytes", None)}
 
@@ -286,13 +336,37 @@ def python_constant(name, title, number):
     return f"# {title}.\n" if title else f"{name} = {number}\n"
 
 
+# What a trial passes: a number in each place, and a text.
+PASSED = {"w": "11", "l": "12", "T": '"ab"'}
+
+
+def call(message, name, on):
+    """A method's call in a trial, where a flag is on."""
+    passed = [on if called == FLAG else PASSED[place] for place, called in message.arguments]
+    return f"{name}({', '.join(passed)})"
+
+
+def expected():
+    """What a trial of all methods sends, from the rows of the table alone, by their numbers."""
+    for number, _, _, column, _, _ in sorted(rows()):
+        letters = re.findall(r"\b[wlT]\b", column)
+        w = "2" if re.match("w length, T", column) else PASSED["w"] if "w" in letters else "0"
+        l = PASSED["l"] if "l" in letters else "0"
+        w, l = ("1" if re.search(rf"\b{place} flag\b", column) else number for place, number in (("w", w), ("l", l)))
+        yield f"""1: {number} {w} {l} {PASSED["T"] if "T" in letters else '""'}"""
+
+
 def files(found):
     """What stands between the marks of each file."""
     yield CPP, cpp(found)
     yield RUST, rust(found)
     yield RUST_CONSTANTS, constants(rust_constant)
+    yield RUST_CALLS, rust_calls()
     yield PYTHON, python(found)
     yield PYTHON_CONSTANTS, constants(python_constant)
+    yield "bindings/cpp/calls.cpp", "".join(f"  view.{call(it, it.name, 'true')};\n" for it in found)
+    yield "bindings/rust/hongpilas/examples/calls.rs", "".join(f"    view.{call(it, it.snake, 'true')}?;\n" for it in found)
+    yield "bindings/python/calls.py", "".join(f"    view.{call(it, it.snake, 'True')}\n" for it in found)
 
 
 def written(path, text):
@@ -315,6 +389,9 @@ def faults():
 
 
 def main():
+    if "--calls" in sys.argv[1:]:
+        print("\n".join(expected()))
+        return
     found = messages()
     wrong = []
     for path, text in files(found):

@@ -11,7 +11,13 @@ fn shown(text: &[u8]) -> Cow<'_, str> {
 fn tell(session: &Session) {
     for note in session.notes() {
         if note.code == SCN_MODIFIED && note.kind & SC_MOD_INSERTTEXT != 0 {
-            println!("view {} is told of {:?} at {}, {} lines more", note.view, shown(note.text), note.position, note.lines);
+            println!(
+                "view {} is told of {:?} at {}, {} lines more",
+                note.view,
+                shown(note.text),
+                note.position,
+                note.lines
+            );
         }
     }
 }
@@ -42,7 +48,11 @@ fn replay(session: &mut Session) -> Result<(), Refusal> {
     let mut view = session.view(from);
     view.start_record()?;
     view.add_text("größer")?;
-    recorded.extend(view.notes().filter(|note| note.code == SCN_MACRORECORD).map(|note| (note.message, note.w, note.l, note.text.to_vec())));
+    recorded.extend(
+        view.notes()
+            .filter(|note| note.code == SCN_MACRORECORD)
+            .map(|note| (note.message, note.w, note.l, note.text.to_vec())),
+    );
     view.stop_record()?;
     for (message, w, l, text) in &recorded {
         session.view(to).send(*message, *w, *l, text)?;
@@ -55,7 +65,11 @@ fn main() -> Result<(), Refusal> {
     let mut session = Session::new()?;
     edit(&mut session)?;
     replay(&mut session)?;
-    for refused in [session.view(1).get_text_range(5, 99).err(), session.view(1).send(9999, 0, 0, b"").err(), session.view(9).undo().err()] {
+    for refused in [
+        session.view(1).get_text_range(5, 99).err(),
+        session.view(1).send(9999, 0, 0, b"").err(),
+        session.view(9).undo().err(),
+    ] {
         println!("refused: {}", refused.map_or("not", Refusal::name));
     }
     session.view(1).close()

@@ -1,0 +1,82 @@
+/* Two views of one document, in C++: a text goes in and out, each view is told, what is refused is thrown or returned,
+ * and a macro is replayed. c++ -std=c++17 -I../../include hello.cpp ../../embedding/out/libhongpilas.a -o hello */
+#include <hongpilas.hpp>
+
+#include <iostream>
+#include <string>
+#include <utility>
+#include <vector>
+
+using hongpilas::Note;
+using hongpilas::Session;
+using hongpilas::View;
+
+/* Says what the views were told of an insertion. */
+static void tell(const Session &session) {
+  for (const Note &note : session.notes())
+    if (note.code == SCN_MODIFIED && (note.kind & SC_MOD_INSERTTEXT) != 0)
+      std::cout << "view " << note.view << " is told of " << note.text.size() << " bytes at " << note.position << ", "
+                << note.lines << " lines more\n";
+}
+
+/* A view that is const answers questions alone. */
+static void show(const View &view) {
+  std::cout << view.GetLength() << " bytes, " << view.GetLineCount() << " lines\n";
+  std::cout << "line 1 is \"" << view.GetLine(1) << "\"\n";
+  std::cout << "lent: \"" << view.lend_range(0, 5) << "\", \"" << view.GetTextRangeView(3, 5) << "\"\n";
+}
+
+/* Puts a text in by one view, and reads it by another. */
+static void edit(Session &session) {
+  View writer = session.new_view(), reader = session.new_view();
+  reader.SetDocPointer(writer.GetDocPointer());
+  writer.InsertText(0, "hello,\nworld");
+  tell(session);
+  show(reader);
+  reader.SetTargetRange(0, reader.GetLength());
+  std::cout << "found at " << reader.SearchInTarget("wor") << " to " << reader.GetTargetEnd() << "\n";
+  reader.Undo();
+  std::cout << "undone: \"" << writer.GetText() << "\", redo: " << std::boolalpha << writer.CanRedo() << "\n";
+}
+
+/* A recorded message, with a copy of its text. */
+struct Recorded {
+  Note note;
+  std::string text;
+};
+
+/* Records what is typed in a view, and sends it to another. */
+static void replay(Session &session) {
+  View from = session.new_view(), to = session.new_view();
+  std::vector<Recorded> recorded;
+  from.StartRecord();
+  from.AddText("größer");
+  for (const Note &note : session.notes())
+    if (note.code == SCN_MACRORECORD) recorded.push_back({note, std::string(note.text)});
+  for (const Recorded &it : recorded) to.send(it.note.message, it.note.w, it.note.l, it.text);
+  std::cout << "replayed: \"" << to.GetText() << "\"\n";
+}
+
+/* What is refused, thrown by a View and returned by a ResultView. */
+static void try_refusals(View view) {
+  try {
+    view.GetTextRange(5, 99);
+  } catch (const hongpilas::Refused &refused) {
+    std::cout << "thrown: " << refused.what() << "\n";
+  }
+  const hongpilas::Result<std::int64_t> sent = view.results().send(9999);
+  std::cout << "returned: " << (sent ? "a value" : hongpilas::name_of(sent.error())) << "\n";
+  std::cout << "instead of it: " << view.results().send(9999).value_or(-1) << "\n";
+}
+
+int main() {
+  Session session;
+  edit(session);
+  replay(session);
+  View view = session.view(1);
+  Session moved = std::move(session);
+  try_refusals(view);
+  view.close();
+  const hongpilas::Result<void> again = view.results().close();
+  std::cout << "closed again: " << (again ? "done" : hongpilas::name_of(again.error())) << "\n";
+}

@@ -1,0 +1,134 @@
+//! The calls, structs and answers of `hongpilas.h`.
+
+use crate::{hongpilas, hongpilas_answer};
+
+// Written by tools/wrappers.py: begin
+pub const HONGPILAS_VERSION: u32 = 1000;
+
+pub const HONGPILAS_DONE: hongpilas_answer = 0;
+/// A growth was refused.
+pub const HONGPILAS_OUT_OF_MEMORY: hongpilas_answer = 1;
+/// No view has that id now.
+pub const HONGPILAS_NO_SUCH_VIEW: hongpilas_answer = 2;
+/// The profile has no such message.
+pub const HONGPILAS_UNKNOWN_MESSAGE: hongpilas_answer = 3;
+/// No document has that id now, or the caller holds no reference to it.
+pub const HONGPILAS_NO_SUCH_DOCUMENT: hongpilas_answer = 4;
+/// The text would pass its limit after some step.
+pub const HONGPILAS_TOO_LONG: hongpilas_answer = 5;
+/// An argument is outside the range that the message states.
+pub const HONGPILAS_BAD_ARGUMENT: hongpilas_answer = 6;
+/// Handles, ids, references, the depth of groups or open views are used up.
+pub const HONGPILAS_TOO_MANY: hongpilas_answer = 7;
+
+#[repr(C)]
+#[derive(Clone, Copy, Debug)]
+pub struct hongpilas_limits {
+    /// Bytes of a document: 0x7FFFFFFF.
+    pub doc_bytes: u64,
+    /// Bytes of a document that was made for large texts: 0x10000000000.
+    pub large_bytes: u64,
+    /// Marker handles of one document, ever: 0x7FFFFFFF.
+    pub handles: u64,
+    /// Document ids, ever; and view ids, ever: 0x7FFFFFFF.
+    pub ids: u64,
+    /// References to one document: 0x7FFFFFFF.
+    pub refs: u64,
+    /// Open views: 1024.
+    pub views: u64,
+    /// Depth of undo groups: 255.
+    pub depth: u64,
+}
+
+#[repr(C)]
+#[derive(Clone, Copy, Debug)]
+pub struct hongpilas_note_data {
+    /// The view that is told.
+    pub view: u32,
+    /// Which note, as SCN_MODIFIED.
+    pub code: u32,
+    /// Scintilla's modificationType.
+    pub kind: u32,
+    /// The number of a recorded message.
+    pub message: u32,
+    /// A position, in bytes.
+    pub position: i64,
+    /// A length, in bytes.
+    pub length: i64,
+    /// Scintilla's linesAdded.
+    pub lines: i64,
+    /// A line, from 0; -1 where all lines are meant.
+    pub line: i64,
+    /// A fold level after a change: foldLevelNow.
+    pub now: i64,
+    /// A fold level before it: foldLevelPrev.
+    pub prev: i64,
+    /// The token of a container's own undo step.
+    pub token: i64,
+    /// The arguments of a recorded message.
+    pub w: i64,
+    pub l: i64,
+    /// The note's text, lent as long as the reply is kept.
+    pub text: *const u8,
+    /// Its length, in bytes.
+    pub text_length: usize,
+}
+
+/// All limits at their greatest.
+pub const HONGPILAS_GREATEST_LIMITS: hongpilas_limits = hongpilas_limits {
+    doc_bytes: 0x7FFFFFFF,
+    large_bytes: 0x10000000000,
+    handles: 0x7FFFFFFF,
+    ids: 0x7FFFFFFF,
+    refs: 0x7FFFFFFF,
+    views: 1024,
+    depth: 255,
+};
+
+extern "C" {
+    pub fn hongpilas_version() -> u32;
+    pub fn hongpilas_refusal_name(answer: hongpilas_answer, name: *mut *const u8) -> usize;
+    pub fn hongpilas_copy_refusal_name(answer: hongpilas_answer, into: *mut u8, room: usize) -> usize;
+    pub fn hongpilas_new(session: *mut hongpilas) -> hongpilas_answer;
+    pub fn hongpilas_new_with_limits(session: *mut hongpilas, limits: *const hongpilas_limits) -> hongpilas_answer;
+    pub fn hongpilas_free(session: hongpilas);
+    pub fn hongpilas_new_view(session: *mut hongpilas, view: *mut u32) -> hongpilas_answer;
+    pub fn hongpilas_close_view(session: *mut hongpilas, view: u32) -> hongpilas_answer;
+    pub fn hongpilas_send(
+        session: *mut hongpilas,
+        view: u32,
+        number: u32,
+        w: i64,
+        l: i64,
+        text: *const u8,
+        length: usize,
+        value: *mut i64,
+    ) -> hongpilas_answer;
+    pub fn hongpilas_value(session: *mut hongpilas) -> i64;
+    pub fn hongpilas_text(session: *mut hongpilas, text: *mut *const u8) -> usize;
+    pub fn hongpilas_copy_text(session: *mut hongpilas, start: usize, into: *mut u8, room: usize) -> usize;
+    pub fn hongpilas_note_count(session: *mut hongpilas) -> usize;
+    pub fn hongpilas_note(session: *mut hongpilas, index: usize, note: *mut hongpilas_note_data) -> bool;
+    pub fn hongpilas_copy_note_text(
+        session: *mut hongpilas,
+        index: usize,
+        start: usize,
+        into: *mut u8,
+        room: usize,
+    ) -> usize;
+    pub fn hongpilas_lend_range(
+        session: *mut hongpilas,
+        view: u32,
+        start: usize,
+        count: usize,
+        bytes: *mut *const u8,
+    ) -> hongpilas_answer;
+    pub fn hongpilas_copy_range(
+        session: *mut hongpilas,
+        view: u32,
+        start: usize,
+        into: *mut u8,
+        count: usize,
+    ) -> hongpilas_answer;
+}
+// Written by tools/wrappers.py: end

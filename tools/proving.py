@@ -1,0 +1,81 @@
+#!/usr/bin/env python3
+"""Runs a command of the toolchain that proves a crate and those below it, and tells how far it is: a line for each crate that is proved.
+
+    tools/proving.py CRATE COMMAND..
+
+It ends as the command does, and then shows what the command printed last, where that failed. What it tells is taken from what the command prints, and from
+crates.txt, which says which crates there are. A crate whose proof was kept is not proved again: it is not told, and counts as done at the end.
+"""
+import collections
+import os
+import re
+import subprocess
+import sys
+import time
+
+TOP = os.path.dirname(os.path.dirname(os.path.abspath(__file__)))
+# How the command tells of a crate that it has proved, in two lines: which crate, and how many functions.
+CRATE = re.compile(r"crate (\w+): ")
+PROVED = re.compile(r"logic=proved functions=(\d+)")
+SHOWN = 40
+
+
+def uses():
+    """The libraries of each crate, by its name."""
+    found = {}
+    with open(os.path.join(TOP, "crates.txt"), encoding="utf-8") as rows:
+        for row in rows:
+            head, _, libraries = row.partition("#")[0].partition(":")
+            if head.strip():
+                found[head.split()[0]] = libraries.split()
+    return found
+
+
+def at_or_below(crate):
+    """The crate, and all crates of the repository that it stands on."""
+    libraries = uses()
+    found, waiting = set(), [crate]
+    while waiting:
+        name = waiting.pop()
+        if name in libraries and name not in found:
+            found.add(name)
+            waiting += libraries[name]
+    return found
+
+
+def minutes(seconds):
+    return f"{seconds // 60:.0f}:{seconds % 60:02.0f}"
+
+
+def tell(line):
+    print(line, flush=True)
+
+
+def follow(lines, waited_for):
+    """Tells of each crate as it is proved, and returns the last lines that were read."""
+    began, last, name = time.monotonic(), collections.deque(maxlen=SHOWN), None
+    for line in lines:
+        last.append(line)
+        found, proved = CRATE.match(line), PROVED.match(line)
+        name = found[1] if found else name
+        if proved and name in waited_for:
+            waited_for.discard(name)
+            tell(f"proved {name}, {proved[1]} functions, at {minutes(time.monotonic() - began)}: {len(waited_for)} crates left")
+    return last
+
+
+def main():
+    crate, command = sys.argv[1], sys.argv[2:]
+    waited_for = at_or_below(crate)
+    tell(f"{' '.join(command)} proves {crate} and the crates below it, {len(waited_for)} in all, as far as no earlier run has; this may take an hour")
+    running = subprocess.Popen(command, stdout=subprocess.PIPE, stderr=subprocess.STDOUT, text=True, errors="replace")
+    last = follow(running.stdout, waited_for)
+    status = running.wait()
+    if status:
+        sys.stdout.write("".join(last))
+    tell(f"{crate} is {'not ' if status else ''}built")
+    return status
+
+
+if __name__ == "__main__":
+    sys.exit(main())
