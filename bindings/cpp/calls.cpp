@@ -1,6 +1,16 @@
 /* Calls each method once, over told.c, which prints what it is sent. */
 #include <hongpilas.hpp>
 
+#include <type_traits>
+
+#if __cplusplus >= 202002L
+#include <ranges>
+static_assert(std::ranges::input_range<hongpilas::Notes>);
+#endif
+static_assert(!std::is_copy_constructible_v<hongpilas::Session> &&
+              std::is_nothrow_move_constructible_v<hongpilas::Session>);
+static_assert(!std::is_copy_assignable_v<hongpilas::Session> && std::is_nothrow_move_assignable_v<hongpilas::Session>);
+
 template class hongpilas::BasicView<hongpilas::Throwing>;
 template class hongpilas::BasicView<hongpilas::Returning>;
 

@@ -6,6 +6,8 @@ import enum
 import os
 from typing import Any
 
+#: The major version of the interface.
+MAJOR = 1
 HERE = os.path.dirname(os.path.abspath(__file__))
 
 
@@ -46,7 +48,7 @@ class NoteInC(ctypes.Structure):
 
 def lent(address: int | None, length: int) -> bytes:
     """A copy of bytes that were lent."""
-    return ctypes.string_at(address, length) if length else b""
+    return ctypes.string_at(address, length) if length and address is not None else b""
 
 
 def whole(kind: Any, number: int) -> int:
@@ -78,6 +80,8 @@ def load() -> Any:
     for name, (result, arguments) in types.items():
         function = getattr(lib, "hongpilas_" + name)
         function.restype, function.argtypes = result, arguments
+    if lib.hongpilas_version() // 1000 != MAJOR:
+        raise ImportError(f"the shared object has version {lib.hongpilas_version()} of the interface, and this package wants {MAJOR}000 and later ones")
     return lib
 
 

@@ -140,7 +140,7 @@ class Session(Messages):
 
     def value(self) -> int:
         """The value of the last message."""
-        return LIB.hongpilas_value(self._open())
+        return int(LIB.hongpilas_value(self._open()))
 
     def text(self) -> bytes:
         """The text that the last message handed out."""
@@ -153,8 +153,8 @@ class Session(Messages):
         handle, note, told = self._open(), NoteInC(), []
         for index in range(LIB.hongpilas_note_count(handle)):
             LIB.hongpilas_note(handle, index, note)
-            numbers = [getattr(note, name) for name in Note._fields[:-1]]
-            told.append(Note(*numbers, lent(note.text, note.text_length)))
+            fields = [getattr(note, name) for name in Note._fields[:-1]]
+            told.append(Note._make([*fields, lent(note.text, note.text_length)]))
         return told
 
     def read(self, start: int, end: int) -> bytes:

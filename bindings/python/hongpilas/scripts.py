@@ -59,7 +59,7 @@ def text_field(rest: bytes) -> tuple[bytes, bytes]:
     at, found = 1, bytearray()
     while rest[at : at + 1] != b'"':
         match = SPELLED.match(rest, at)
-        byte = match and one_byte(match[0])
+        byte = one_byte(match[0]) if match else None
         if match is None or byte is None:
             raise ScriptFault("BadText")
         found.append(byte)
