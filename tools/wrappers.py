@@ -19,8 +19,8 @@ CPP = "include/hongpilas.hpp"
 RUST = "bindings/rust/hongpilas/src/messages.rs"
 RUST_CONSTANTS = "bindings/rust/hongpilas-sys/src/constants.rs"
 RUST_CALLS = "bindings/rust/hongpilas-sys/src/calls.rs"
-PYTHON = "bindings/python/hongpilas/_messages.py"
-PYTHON_CONSTANTS = "bindings/python/hongpilas/constants.py"
+PYTHON = "bindings/python/src/hongpilas/_messages.py"
+PYTHON_CONSTANTS = "bindings/python/src/hongpilas/constants.py"
 # The column "w, l, T" of the table: for each of its forms the arguments of a method, as (place, name). A length in front of a text is
 # the text's own, so that no method takes it.
 ARGUMENTS = {
@@ -380,7 +380,7 @@ def faults():
     """Where a hand-written part is not that of the crates: refusals without a place in a wrapper."""
     named = re.findall(r"^    (\w+) = (\d+),", header.read("crates/ed_types/src/refusal.rt"), re.M)
     for path, form in ((CPP, "  {name} = HONGPILAS_{capitals}"), ("bindings/rust/hongpilas/src/refusal.rs", "    {name} = {number},"),
-                       ("bindings/python/hongpilas/_library.py", "    {capitals} = {number}\n")):
+                       ("bindings/python/src/hongpilas/_library.py", "    {capitals} = {number}\n")):
         text = header.read(path)
         for name, number in named:
             capitals = re.sub(r"(?<!^)(?=[A-Z])", "_", name).upper()

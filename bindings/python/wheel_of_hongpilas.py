@@ -50,7 +50,7 @@ def metadata():
 
 def contents():
     """The files of the wheel, by their names in it, but for the record."""
-    folder = os.path.join(HERE, PACKAGE)
+    folder = os.path.join(HERE, "src", PACKAGE)
     files = {f"{PACKAGE}/{name}": read(os.path.join(folder, name)) for name in sorted(os.listdir(folder)) if name.endswith((".py", ".typed"))}
     about = f"{PACKAGE}-{field('version')}.dist-info"
     files[f"{PACKAGE}/{LIBRARY}"] = read(library())
