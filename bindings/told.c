@@ -1,5 +1,5 @@
-/* Stands in for the library: it prints each message that it is sent, and does nothing else. bindings/check builds each
- * wrapper's calls over it. */
+/* Stands in for the library: it prints each message that it is sent, and that the session is given back. bindings/check
+ * builds each wrapper's calls over it. */
 #include <hongpilas.h>
 #include <stdio.h>
 
@@ -12,7 +12,11 @@ hongpilas_answer hongpilas_new_with_limits(hongpilas *session, const hongpilas_l
   return limits == NULL;
 }
 
-void hongpilas_free(hongpilas session) { (void)session; }
+void hongpilas_free(hongpilas session) {
+  (void)session;
+  puts("given back");
+  fflush(stdout);
+}
 
 hongpilas_answer hongpilas_new_view(hongpilas *session, uint32_t *view) {
   *view = 1;

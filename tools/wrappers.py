@@ -354,6 +354,7 @@ def expected():
         l = PASSED["l"] if "l" in letters else "0"
         w, l = ("1" if re.search(rf"\b{place} flag\b", column) else number for place, number in (("w", w), ("l", l)))
         yield f"""1: {number} {w} {l} {PASSED["T"] if "T" in letters else '""'}"""
+    yield "given back"
 
 
 def files(found):

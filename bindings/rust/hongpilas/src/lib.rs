@@ -109,7 +109,16 @@ impl Session {
         unsafe { sys::hongpilas_value(self.at()) }
     }
 
-    /// The last reply's text, lent until the next message.
+    /// The last reply's text, lent until the next message: behind that it is not there to be used.
+    ///
+    /// ```compile_fail,E0502
+    /// let mut session = hongpilas::Session::new()?;
+    /// session.new_view()?.get_text()?;
+    /// let text = session.text();
+    /// session.view(1).insert_text(0, "one")?;
+    /// assert_eq!(text, b"");
+    /// # Ok::<(), hongpilas::Refusal>(())
+    /// ```
     pub fn text(&self) -> &[u8] {
         let mut bytes = ptr::null();
         // SAFETY: the session is open. The reply stays as long as the session is borrowed: what takes its place borrows it as mutable.
@@ -128,6 +137,17 @@ impl Session {
     /// session.new_view()?.insert_text(0, "hello")?;
     /// let inserted = session.notes().find(|note| note.code == SCN_MODIFIED && note.kind & SC_MOD_INSERTTEXT != 0);
     /// assert_eq!(inserted.map(|note| note.text), Some(&b"hello"[..]));
+    /// # Ok::<(), hongpilas::Refusal>(())
+    /// ```
+    ///
+    /// A note goes with them:
+    ///
+    /// ```compile_fail,E0502
+    /// let mut session = hongpilas::Session::new()?;
+    /// session.new_view()?.insert_text(0, "hello")?;
+    /// let note = session.notes().next();
+    /// session.view(1).undo()?;
+    /// assert!(note.is_some());
     /// # Ok::<(), hongpilas::Refusal>(())
     /// ```
     pub fn notes(&self) -> Notes<'_> {
@@ -238,6 +258,17 @@ impl View<'_> {
     /// view.insert_text(0, "hello, world")?;
     /// assert_eq!(view.lend_range(7, 5)?, b"world");
     /// assert!(view.lend_range(7, 6).is_err());
+    /// # Ok::<(), hongpilas::Refusal>(())
+    /// ```
+    ///
+    /// They stand until the next call:
+    ///
+    /// ```compile_fail,E0499
+    /// let mut session = hongpilas::Session::new()?;
+    /// let mut view = session.new_view()?;
+    /// let bytes = view.lend_range(0, 0)?;
+    /// view.insert_text(0, "hello, world")?;
+    /// assert_eq!(bytes, b"");
     /// # Ok::<(), hongpilas::Refusal>(())
     /// ```
     ///

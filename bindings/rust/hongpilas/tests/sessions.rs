@@ -90,6 +90,20 @@ fn views_close_and_are_used_up() -> Result<(), Refusal> {
     Ok(())
 }
 
+/// What the documentation shows not to compile does so with copies.
+#[test]
+fn copies_outlive_the_next_message() -> Result<(), Refusal> {
+    let mut session = Session::new()?;
+    session.new_view()?.get_text()?;
+    let text = session.text().to_vec();
+    session.view(1).insert_text(0, "one")?;
+    let note = session.notes().next().map(|note| note.text.to_vec());
+    let bytes = session.view(1).lend_range(0, 3)?.to_vec();
+    session.view(1).undo()?;
+    assert_eq!((text, note, bytes), (vec![], Some(b"one".to_vec()), b"one".to_vec()));
+    Ok(())
+}
+
 #[test]
 fn refusals_have_names() {
     assert_eq!(Refusal::TooLong.to_string(), "text too long");
