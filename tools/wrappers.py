@@ -311,8 +311,7 @@ def python(found):
 
 def constants(line):
     """All constants of the header, each as this line has it."""
-    table = header.read("docs/MESSAGES.md")
-    groups = (("Messages", header.messages()), ("Notes", header.notes(table)), ("Constants", header.constants(table)))
+    groups = (("Messages", header.messages()), ("Notes", header.notes()), ("Constants", header.constants()))
     return "\n".join(line(None, title, None) + "".join(line(name, None, spelled(number)) for name, number in pairs) for title, pairs in groups)
 
 

@@ -3,7 +3,7 @@
 use crate::{hongpilas, hongpilas_answer};
 
 // Written by tools/wrappers.py: begin
-pub const HONGPILAS_VERSION: u32 = 1000;
+pub const HONGPILAS_VERSION: u32 = 1001;
 
 pub const HONGPILAS_DONE: hongpilas_answer = 0;
 /// A growth was refused.
@@ -129,6 +129,76 @@ extern "C" {
         start: usize,
         into: *mut u8,
         count: usize,
+    ) -> hongpilas_answer;
+    pub fn hongpilas_checked_new(session: *mut hongpilas) -> hongpilas_answer;
+    pub fn hongpilas_checked_new_with_limits(
+        session: *mut hongpilas,
+        limits: *const hongpilas_limits,
+    ) -> hongpilas_answer;
+    pub fn hongpilas_checked_free(session: *mut hongpilas);
+    pub fn hongpilas_checked_new_view(session: *mut hongpilas, view: *mut u32) -> hongpilas_answer;
+    pub fn hongpilas_checked_close_view(session: *mut hongpilas, view: u32) -> hongpilas_answer;
+    pub fn hongpilas_checked_send(
+        session: *mut hongpilas,
+        view: u32,
+        number: u32,
+        w: i64,
+        l: i64,
+        text: *const u8,
+        length: usize,
+        value: *mut i64,
+    ) -> hongpilas_answer;
+    pub fn hongpilas_checked_value(session: *mut hongpilas, value: *mut i64) -> hongpilas_answer;
+    pub fn hongpilas_checked_text(
+        session: *mut hongpilas,
+        text: *mut *const u8,
+        length: *mut usize,
+    ) -> hongpilas_answer;
+    pub fn hongpilas_checked_copy_text(
+        session: *mut hongpilas,
+        start: usize,
+        into: *mut u8,
+        room: usize,
+        count: *mut usize,
+    ) -> hongpilas_answer;
+    pub fn hongpilas_checked_note_count(session: *mut hongpilas, count: *mut usize) -> hongpilas_answer;
+    pub fn hongpilas_checked_note(
+        session: *mut hongpilas,
+        index: usize,
+        note: *mut hongpilas_note_data,
+    ) -> hongpilas_answer;
+    pub fn hongpilas_checked_copy_note_text(
+        session: *mut hongpilas,
+        index: usize,
+        start: usize,
+        into: *mut u8,
+        room: usize,
+        count: *mut usize,
+    ) -> hongpilas_answer;
+    pub fn hongpilas_checked_lend_range(
+        session: *mut hongpilas,
+        view: u32,
+        start: usize,
+        count: usize,
+        bytes: *mut *const u8,
+    ) -> hongpilas_answer;
+    pub fn hongpilas_checked_copy_range(
+        session: *mut hongpilas,
+        view: u32,
+        start: usize,
+        into: *mut u8,
+        count: usize,
+    ) -> hongpilas_answer;
+    pub fn hongpilas_checked_refusal_name(
+        answer: hongpilas_answer,
+        name: *mut *const u8,
+        length: *mut usize,
+    ) -> hongpilas_answer;
+    pub fn hongpilas_checked_copy_refusal_name(
+        answer: hongpilas_answer,
+        into: *mut u8,
+        room: usize,
+        count: *mut usize,
     ) -> hongpilas_answer;
 }
 // Written by tools/wrappers.py: end

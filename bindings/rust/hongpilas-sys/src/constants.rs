@@ -148,12 +148,12 @@ pub const SCI_STOPRECORD: u32 = 3002;
 pub const SCI_COLOURISE: u32 = 4003;
 
 // Notes.
-pub const SCN_MACRORECORD: u32 = 2009;
 pub const SCN_STYLENEEDED: u32 = 2000;
 pub const SCN_SAVEPOINTREACHED: u32 = 2002;
 pub const SCN_SAVEPOINTLEFT: u32 = 2003;
 pub const SCN_MODIFYATTEMPTRO: u32 = 2004;
 pub const SCN_MODIFIED: u32 = 2008;
+pub const SCN_MACRORECORD: u32 = 2009;
 
 // Constants.
 pub const SCFIND_MATCHCASE: i64 = 4;
