@@ -4,7 +4,8 @@
     tools/proving.py CRATE COMMAND..
 
 It ends as the command does, and then shows what the command printed last, where that failed. What it tells is taken from what the command prints, and from
-crates.txt, which says which crates there are. A crate whose proof was kept is not proved again: it is not told, and counts as done at the end.
+crates.txt, which says which crates there are. A crate whose proof was kept is not proved again, and has no line; it counts as left until one that stands
+on it is proved.
 """
 import collections
 import os
@@ -14,9 +15,12 @@ import sys
 import time
 
 TOP = os.path.dirname(os.path.dirname(os.path.abspath(__file__)))
-# How the command tells of a crate that it has proved, in two lines: which crate, and how many functions.
+# How the command tells of what it has proved in a crate, and then of the crate, in two lines: which one, and how many functions.
+PART = re.compile(r"(?:fn|struct|enum|trait|impl|const) (\w+)::.*: proved$")
 CRATE = re.compile(r"crate (\w+): ")
 PROVED = re.compile(r"logic=proved functions=(\d+)")
+# What else is told: that it waits, and how it goes about it.
+ASIDE = re.compile(r"rt: (?:waiting|chose|building) .*")
 SHOWN = 40
 
 
@@ -51,16 +55,27 @@ def tell(line):
     print(line, flush=True)
 
 
+def counted(count, word):
+    return f"{count} {word}{'' if count == 1 else 's'}"
+
+
 def follow(lines, waited_for):
     """Tells of each crate as it is proved, and returns the last lines that were read."""
-    began, last, name = time.monotonic(), collections.deque(maxlen=SHOWN), None
+    began, last, begun, name = time.monotonic(), collections.deque(maxlen=SHOWN), set(), None
     for line in lines:
         last.append(line)
-        found, proved = CRATE.match(line), PROVED.match(line)
+        part, found, proved = PART.match(line), CRATE.match(line), PROVED.match(line)
         name = found[1] if found else name
+        if ASIDE.match(line):
+            tell(line.rstrip())
+        if part and part[1] in waited_for and part[1] not in begun:
+            begun.add(part[1])
+            tell(f"proving {part[1]}")
         if proved and name in waited_for:
-            waited_for.discard(name)
-            tell(f"proved {name}, {proved[1]} functions, at {minutes(time.monotonic() - began)}: {len(waited_for)} crates left")
+            # What it stands on was proved before it, now or by an earlier run.
+            waited_for -= at_or_below(name)
+            after = minutes(time.monotonic() - began)
+            tell(f"proved {name}, {counted(int(proved[1]), 'function')}, after {after}; {counted(len(waited_for), 'crate')} left")
     return last
 
 
@@ -69,7 +84,10 @@ def main():
     waited_for = at_or_below(crate)
     tell(f"{' '.join(command)} proves {crate} and the crates below it, {len(waited_for)} in all, as far as no earlier run has; this may take an hour")
     running = subprocess.Popen(command, stdout=subprocess.PIPE, stderr=subprocess.STDOUT, text=True, errors="replace")
-    last = follow(running.stdout, waited_for)
+    try:
+        last = follow(running.stdout, waited_for)
+    except KeyboardInterrupt:
+        last = []
     status = running.wait()
     if status:
         sys.stdout.write("".join(last))
