@@ -53,7 +53,8 @@ kept 'no such command' 4000000 "$program" go
 kept 'no such script' 4000000 "$program" run missing.sci
 kept 'want of memory' 300 env HEAP_MOST=300 "$program" run "$top/examples/hello.sci"
 kept 'a run without notes' 4000000 "$program" run --quiet "$top/examples/a_long_walk.sci"
-kept 'a line at fault' 4000000 "$program" check "$top/examples/hello.out"
+kept 'a faulty script' 4000000 "$program" check "$top/examples/hello.out"
+kept 'a line at fault' 4000000 "$program" check --show "$top/examples/hello.out"
 cp "$top/examples/steps/tour.orders" "$work/in"
 kept 'a tour of steps' 4000000 "$program" step "$top/examples/steps/tour.sci" "$top/examples/steps/tour.file1"
 : >"$work/in"

@@ -1,9 +1,9 @@
 #!/usr/bin/env python3
 """Runs the worked examples by the built program, as each compiler made it, and compares what they print and how they end.
 
-Each script is run with the files that it loads, and once more with --quiet, which leaves out the notes' lines and nothing else. The script that
-the program's own run in `rt ci` takes lies in crates/sci_console/data/ as well, and is looked at to be the same. Run it anywhere in the
-repository after `rt ci`, or after `rt run` in crates/sci_console.
+Each script is run with the files that it loads, and once more with --quiet, which leaves out the notes' lines and nothing else. The program's
+own run in `rt ci` takes one of them from standard input: crates/sci_console/stdin and stdout are looked at to be that example. Run it anywhere
+in the repository after `rt ci`, or after `rt run` in crates/sci_console.
 """
 import os
 import re
@@ -13,7 +13,8 @@ import sys
 TOP = os.path.dirname(os.path.dirname(os.path.abspath(__file__)))
 EXAMPLES = os.path.join(TOP, "examples")
 CRATE = os.path.join(TOP, "crates", "sci_console")
-DATA = os.path.join(CRATE, "data")
+# What the program's own run in `rt ci` takes from standard input.
+OWN_RUN = "all_notes_of_an_insertion"
 
 
 def read(*path):
@@ -36,11 +37,13 @@ def programs():
     return [it for it in built if os.path.exists(it)]
 
 
-def look_at_data():
-    """Ends with an error where a file of the program's own run is not the one of the examples."""
-    for file in os.listdir(DATA):
-        if read(DATA, file) != read(EXAMPLES, file):
-            sys.exit("crates/sci_console/data/%s is not the one of examples/" % file)
+def look_at_own_run():
+    """Ends with an error where the program's own run is not that of its example, from standard input."""
+    if read(CRATE, "args").split() != [b"run", b"-"]:
+        sys.exit("crates/sci_console/args does not run a script from standard input")
+    for file, example in (("stdin", OWN_RUN + ".sci"), ("stdout", OWN_RUN + ".out")):
+        if read(CRATE, file) != read(EXAMPLES, example):
+            sys.exit("crates/sci_console/%s is not examples/%s" % (file, example))
 
 
 def is_as_written(program, flags, script, loaded):
@@ -60,7 +63,7 @@ def main():
     built = programs()
     if not built:
         sys.exit("sci_console was not built")
-    look_at_data()
+    look_at_own_run()
     runs = [is_as_written(program, flags, script, loaded)
             for script, loaded in scripts() for program in built for flags in ([], ["--quiet"])]
     print("examples: %d passed, %d failed" % (runs.count(True), runs.count(False)))

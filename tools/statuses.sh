@@ -50,7 +50,7 @@ answered='= 1 ""\n= 0 ""\n@ 1 2008 1040 0 5 0 0 0 0 0 0 0 0 "hello"\n@ 1 2003 0 
 quiet='= 1 ""\n= 0 ""\n= 5 ""\n'
 printf 'sci 2\nopen\nexpect 2\n' >unmet.sci
 printf 'sci 1\nopen\nexpect 1\n' >wrong.sci
-unknown="line 3: UnknownCommand$nl    expect 1"
+unknown='line 3: UnknownCommand'
 printf 'sci 1\nopen\nsend 1 2003 0 0 "a\n' >cut.sci
 printf 'sci 3\n' >three.sci
 : >empty.sci
@@ -73,14 +73,20 @@ check_statuses() {
     expect 'a fault of line 3' 1 '' "$unknown" run wrong.sci
     expect 'a fault, listed' 1 '' "$unknown" list wrong.sci
     expect 'a fault, checked' 1 '' "$unknown" check wrong.sci
+    expect 'a fault, checked and shown' 1 '' "$unknown$nl    expect 1" check --show wrong.sci
+    expect 'a fault, shown, asked for behind the script' 1 '' "$unknown$nl    expect 1" check wrong.sci --show
     expect 'a fault, run without notes' 1 '' "$unknown" run --quiet wrong.sci
     expect 'a fault, stepped' 1 '' "$unknown" step wrong.sci
     expect 'an empty script' 1 '' 'line 1: NoLineEnd' run -
-    expect 'a fault of a text' 1 '' "line 3: BadText$nl    send 1 2003 0 0 \"a" run cut.sci
-    expect 'a fault of the first line' 1 '' "line 1: BadVersion$nl    sci 3" list three.sci
+    expect 'a fault of a text' 1 '' 'line 3: BadText' run cut.sci
+    expect 'a fault of the first line' 1 '' 'line 1: BadVersion' list three.sci
     expect 'an empty file for a script' 1 '' 'line 1: NoLineEnd' check empty.sci
     expect 'a check does not run' 0 'ok 2\n' '' check unmet.sci
+    expect 'a check that shows finds no fault' 0 'ok 2\n' '' check --show unmet.sci
+    expect 'a check that shows, of no such script' 3 '' 'read fault' check --show missing.sci
+    expect 'a run that shows' 2 '' '*' run --show wrong.sci
     expect 'a script that is too long' 1 '' 'script too long' check long.sci
+    expect 'a script that is too long, shown' 1 '' 'script too long' check --show long.sci
     expect 'no such script' 3 '' 'read fault' run missing.sci
     expect 'no such file, before a wrong script' 3 '' 'read fault' run wrong.sci missing
     expect 'a folder for a script' 3 '' 'read fault' check .
@@ -116,7 +122,7 @@ check_statuses() {
     : >in
 
     # A device that is full takes nothing, and what is closed neither takes nor gives.
-    for command in run list check 'run --quiet'; do
+    for command in run list check 'run --quiet' 'check --show'; do
         if [ -w /dev/full ]; then
             "$program" $command good.sci >/dev/full 2>err
             tell_fault "$command to a full device" $? 3 'write fault'
@@ -135,10 +141,11 @@ check_statuses() {
     tell_fault 'little memory' $? 1 'out of memory'
 }
 
-# fault NAME SCRIPT LINE [SHOWN]: the script, as printf's %b spells it, is refused with this line, and SHOWN is what is shown of the line at fault.
+# fault NAME SCRIPT LINE [SHOWN]: the script, as printf's %b spells it, is refused with this line, and SHOWN is what --show shows of the line at fault.
 fault() {
     printf '%b' "$2" >in
-    expect "$1" 1 '' "$3${4:+$nl    $4}" check -
+    expect "$1" 1 '' "$3" check -
+    expect "$1, shown" 1 '' "$3${4:+$nl    $4}" check --show -
     : >in
 }
 
@@ -200,17 +207,17 @@ check_lengths() {
     { printf 'sci 1\nsend 1 2006 0 0 "'; bytes 65518; printf '"\n'; } >in
     expect 'a line of 65,536 bytes' 0 'ok 1\n' '' check -
     { printf 'sci 1\nsend 1 2006 0 0 "'; bytes 65519; printf '"\n'; } >in
-    expect 'a line of 65,537 bytes' 1 '' "line 2: LineTooLong$nl    send 1 2006 0 0 \"$(bytes 103)..." check -
+    expect 'a line of 65,537 bytes' 1 '' "line 2: LineTooLong$nl    send 1 2006 0 0 \"$(bytes 103)..." check --show -
     { printf 'sci 1\n'; bytes 65536; printf '\n'; } >in
-    expect 'no command, of 65,536 bytes' 1 '' "line 2: UnknownCommand$nl    $(bytes 120)..." check -
+    expect 'no command, of 65,536 bytes' 1 '' "line 2: UnknownCommand$nl    $(bytes 120)..." check --show -
     { printf 'sci 1\n'; bytes 65537; } >in
-    expect 'a line too long, without its LF' 1 '' "line 2: LineTooLong$nl    $(bytes 120)..." check -
+    expect 'a line too long, without its LF' 1 '' "line 2: LineTooLong$nl    $(bytes 120)..." check --show -
     bytes 65537 >in
-    expect 'a version too long' 1 '' "line 1: LineTooLong$nl    $(bytes 120)..." check -
+    expect 'a version too long' 1 '' "line 1: LineTooLong$nl    $(bytes 120)..." check --show -
     { printf 'sci 1\n'; bytes 120; printf '\n'; } >in
-    expect 'a line of 120 bytes is shown whole' 1 '' "line 2: UnknownCommand$nl    $(bytes 120)" check -
+    expect 'a line of 120 bytes is shown whole' 1 '' "line 2: UnknownCommand$nl    $(bytes 120)" check --show -
     { printf 'sci 1\n'; bytes 117; printf '\200a\n'; } >in
-    expect 'no escape is cut' 1 '' "line 2: UnknownCommand$nl    $(bytes 117)..." check -
+    expect 'no escape is cut' 1 '' "line 2: UnknownCommand$nl    $(bytes 117)..." check --show -
     # 256 commands: 255 lines of 65,536 bytes, and one of what is left.
     bytes 65518 >text
     { printf 'sci 1\n'; for line in $(seq 255); do printf 'send 1 2006 0 0 "'; cat text; printf '"\n'; done; printf 'send 1 2006 0 0 "'; bytes 65256; printf '"\n'; } >longest.sci
@@ -235,7 +242,8 @@ check_prefixes() {
             expect "the first $count bytes" 0 "ok $((lines - 1))\n" '' check -
         else
             line="line $((lines + 1)): NoLineEnd" rest=$(tail -n +$((lines + 1)) in)
-            expect "the first $count bytes" 1 '' "$line${rest:+$nl    $rest}" check -
+            expect "the first $count bytes" 1 '' "$line" check -
+            expect "the first $count bytes, shown" 1 '' "$line${rest:+$nl    $rest}" check --show -
         fi
         count=$((count + 1))
     done

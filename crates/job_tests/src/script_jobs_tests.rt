@@ -292,6 +292,11 @@ fn is_quiet_run(alloc: Global, words: &[&str], wanted: &str, names: &[&str]) -> 
     matches!(&task(alloc, words), Ok(Task::RunQuietly { script, files }) if script.as_str() == wanted && are_texts(files, names))
 }
 
+/// Whether words ask for a check of this script that shows the line at fault.
+fn is_showing_check(alloc: Global, words: &[&str], wanted: &str) -> bool {
+    matches!(&task(alloc, words), Ok(Task::CheckAndShow { script }) if script.as_str() == wanted)
+}
+
 /// Whether words ask for a check of this script, among all tasks.
 fn is_check_task(alloc: Global, words: &[&str], wanted: &str) -> bool {
     matches!(&task(alloc, words), Ok(Task::Whole(Job::Check { script })) if script.as_str() == wanted)
@@ -312,9 +317,15 @@ fn reads_tasks(rt: HostRuntime) {
     assert!(rt; is_step(rt.alloc(), &["step", "s", "f"], "s", &["f"]));
     assert!(rt; is_quiet_run(rt.alloc(), &["run", "--quiet", "s", "f"], "s", &["f"]));
     assert!(rt; is_check_task(rt.alloc(), &["check", "s"], "s"));
+    assert!(rt; is_check_task(rt.alloc(), &["check", "-"], "-"));
+    assert!(rt; is_showing_check(rt.alloc(), &["check", "--show", "s"], "s"));
+    assert!(rt; is_showing_check(rt.alloc(), &["check", "-", "--show"], "-"));
     assert!(rt; is_run_task(rt.alloc(), &["run", "-"], "-"));
     // No job is asked for by these, but tasks.
     assert!(rt; is_no_job(rt.alloc(), &["step", "s"]));
     assert!(rt; is_no_job(rt.alloc(), &["run", "--quiet", "s"]));
+    assert!(rt; is_no_job(rt.alloc(), &["check", "--show", "s"]));
     assert!(rt; is_no_task(rt.alloc(), &["step"]));
+    assert!(rt; is_no_task(rt.alloc(), &["run", "--show", "s"]));
+    assert!(rt; is_no_task(rt.alloc(), &["check", "--show", "s", "f"]));
 }

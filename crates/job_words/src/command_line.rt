@@ -15,7 +15,7 @@ const LIST_HELP: &str =
     "Example:\n  sci_console list fill.sci > same.sci\nwrites the commands of fill.sci as a script of version 2, which does the same.";
 
 const CHECK_HELP: &str =
-    "Example:\n  sci_console check fill.sci\nprints `ok 3` for a script of three commands, and runs none of them.";
+    "Example:\n  sci_console check fill.sci\nprints `ok 3` for a script of three commands, and runs none of them. Where the script is faulty, standard error\nhas `line K: CAUSE` and, with --show, the line at fault below it.";
 
 const STEP_HELP: &str =
     "Example:\n  sci_console step fill.sci text.txt\nreads one order a line from standard input, and ends with the input:\n  n    does the next command, and tells what comes of it in words\n  b    goes back by one command\n  g N  goes to where the first N commands are done\n  t    shows the text of each view with its lines, its caret (^) and its selection (~)\n  l    shows the fold level, the markers and the flags of each line\n  h    shows what can be undone and redone\n  q    ends";
@@ -41,6 +41,14 @@ fn quiet_flag<'a>(alloc: Global) -> Arg<'a> {
         .long("quiet")
         .action(ArgAction::SetTrue)
         .help("Prints no notes: no line that begins with @")
+}
+
+/// The flag of a check that shows the line at fault.
+fn show_flag<'a>(alloc: Global) -> Arg<'a> {
+    Arg::new(alloc, "show")
+        .long("show")
+        .action(ArgAction::SetTrue)
+        .help("Shows the line at fault too")
 }
 
 /// A subcommand with a script.
@@ -71,7 +79,7 @@ fn list_command<'a>(alloc: Global) -> Result<Command<'a>, AllocError> {
 /// The subcommand that checks.
 fn check_command<'a>(alloc: Global) -> Result<Command<'a>, AllocError> {
     let about = "Prints the number of a script's commands";
-    with_script(alloc, "check", about, CHECK_HELP)
+    with_script(alloc, "check", about, CHECK_HELP)?.arg(show_flag(alloc))
 }
 
 /// The subcommand that steps.
@@ -104,6 +112,14 @@ fn task_with_files(name: &str, is_quiet: bool, script: Word, files: Words) -> Ta
     Task::Whole(Job::Run { script, files })
 }
 
+/// The task of a check.
+fn check_task(shows: bool, script: Word) -> Task {
+    if shows {
+        return Task::CheckAndShow { script };
+    }
+    Task::Whole(Job::Check { script })
+}
+
 /// The task of a subcommand, if it is one of the program's.
 fn task_of_matches(alloc: Global, matches: &ArgMatches<'_>) -> Result<Option<Task>, AllocError> {
     let Some((name, arguments)) = matches.subcommand() else {
@@ -117,7 +133,7 @@ fn task_of_matches(alloc: Global, matches: &ArgMatches<'_>) -> Result<Option<Tas
         return Ok(Some(Task::Whole(Job::List { script })));
     }
     if name == "check" {
-        return Ok(Some(Task::Whole(Job::Check { script })));
+        return Ok(Some(check_task(arguments.get_flag("show"), script)));
     }
     let files = match arguments.get_strs("FILE") {
         Some(files) => copy_words(alloc, files)?,
@@ -151,6 +167,6 @@ pub fn parsed_task(alloc: Global, words: &[String]) -> Result<Task, WordFault> {
 pub fn parsed_job(alloc: Global, words: &[String]) -> Result<Job, WordFault> {
     match parsed_task(alloc, words)? {
         Task::Whole(job) => Ok(job),
-        Task::RunQuietly { .. } | Task::Step { .. } => no_job(alloc),
+        Task::RunQuietly { .. } | Task::Step { .. } | Task::CheckAndShow { .. } => no_job(alloc),
     }
 }

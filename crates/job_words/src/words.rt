@@ -91,6 +91,8 @@ pub enum Task {
     RunQuietly { script: Word, files: Words },
     /// Steps through a script with files.
     Step { script: Word, files: Words },
+    /// Checks a script, and shows the line at fault.
+    CheckAndShow { script: Word },
 }
 
 /// Why words are no job.
@@ -228,7 +230,8 @@ fn direct_step(alloc: Global, words: &[String]) -> Result<Option<Task>, AllocErr
     Ok(None)
 }
 
-/// Reads the words behind the program's name: those of a job, `step SCRIPT FILE..`, or `run --quiet SCRIPT FILE..`.
+/// Reads the words behind the program's name: those of a job, `step SCRIPT FILE..`, `run --quiet SCRIPT FILE..`, or
+/// `check --show SCRIPT`.
 ///
 /// Where each word is plain, the answer is the task that they ask for and no other.
 ///

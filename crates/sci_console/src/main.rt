@@ -2,7 +2,7 @@
 //!
 //!     sci_console run [--quiet] SCRIPT [FILE...]
 //!     sci_console list SCRIPT
-//!     sci_console check SCRIPT
+//!     sci_console check [--show] SCRIPT
 //!     sci_console step SCRIPT [FILE...]
 //!
 //! SCRIPT and each FILE are paths; `-` for SCRIPT is standard input.
@@ -15,7 +15,8 @@ use ed_types::{Bytes, ScriptFault};
 use job_words::{Job, Task, Word, WordFault, Words, read_task};
 use script_ends::shown::show_line;
 use script_ends::{
-    ReaderSource, RunFault, TextSource, WriterSink, read_file, read_script, read_text, status_of,
+    ReaderSource, RunFault, TextSource, WriterSink, check_script, read_file, read_script,
+    read_text, status_of,
 };
 use script_jobs::{do_job, run_quietly};
 use script_walk::step_commands;
@@ -85,27 +86,36 @@ fn do_task(rt: &HostRuntime, task: &Task, files: Vec<Bytes>, text: &[u8]) -> Res
         Task::Whole(job) => do_job(rt.alloc(), job, files, &mut source, &mut sink),
         Task::RunQuietly { .. } => run_quietly(rt.alloc(), &mut source, &files, &mut sink),
         Task::Step { .. } => step(rt, &files, text),
+        Task::CheckAndShow { .. } => check_script(rt.alloc(), &mut source, &mut sink),
     }
 }
 
-/// Does a task: reads its files, and then its script. Sets `shown` to the line at fault where the script has one.
+/// Sets `shown` to the line at fault of these bytes, if the task asks for that and they are at fault in a line.
+fn show_fault(task: &Task, answer: &Result<u64, RunFault>, text: &[u8], shown: &mut String) {
+    if let (Task::CheckAndShow { .. }, Err(RunFault::Script(ScriptFault::BadLine { line, .. }))) =
+        (task, answer)
+    {
+        // Where memory runs out, less of the line is shown.
+        let _ = show_line(shown, text, *line);
+    }
+}
+
+/// Does a task: reads its files, and then its script, whose file is closed before more is done. Sets `shown` as `show_fault` does.
 fn run_task(rt: &HostRuntime, task: &Task, shown: &mut String) -> Result<u64, RunFault> {
     let (script, files) = match task {
         Task::Whole(Job::Run { script, files })
         | Task::RunQuietly { script, files }
         | Task::Step { script, files } => (script, read_files(rt, files)?),
-        Task::Whole(Job::List { script } | Job::Check { script }) => (script, Vec::new(rt.alloc())),
+        Task::Whole(Job::List { script } | Job::Check { script }) | Task::CheckAndShow { script } =>
+            (script, Vec::new(rt.alloc())),
     };
     let text = read_script_at(rt, script)?;
     let answer = do_task(rt, task, files, &text);
-    if let Err(RunFault::Script(ScriptFault::BadLine { line, .. })) = &answer {
-        // Where memory runs out, less of the line is shown.
-        let _ = show_line(shown, &text, *line);
-    }
+    show_fault(task, &answer, &text, shown);
     answer
 }
 
-/// Prints the line of a fault on standard error, if there is one, and below it the line at fault, if it has bytes. Answers the exit status.
+/// Prints the line of a fault on standard error, if there is one, and below it what is shown, if that is not empty. Answers the exit status.
 fn finish(rt: &HostRuntime, answer: &Result<u64, RunFault>, shown: &str) -> u8
     ensures { result ≡ status answer.now }
 {
