@@ -1,5 +1,5 @@
 -- Fold parents, a line at a time, and how many visible lines stand before one.
-use Rattle.std.proofs.Common.{◌≡◌, ℕ, zero, suc, ◌+◌, ◌-◌, ◌<◌, ◌≤◌, Bool, true, false, cond, List, [], ◌∷◌, ◌++◌, length, take, get_or, filter, count_by, reverse, unwrap_or, slice_get, Option, Some, None, inl, inr, refl, ap, subst, ◌∙◌, sym, arith, zero-add, append-nil, length-append, ◌&&◌, nat_lt}
+use Rattle.std.proofs.Common.{◌≡◌, ℕ, zero, suc, ◌+◌, ◌-◌, ◌<◌, ◌≤◌, Bool, true, false, cond, List, [], ◌∷◌, ◌++◌, length, filter, reverse, unwrap_or, slice_get, Option, Some, None, inl, inr, refl, ap, subst, ◌∙◌, sym, arith, zero-add, append-nil, length-append, nat_lt}
 use Rattle.std.specs.Prelude.{find}
 use Rattle.std.specs.List.{range_with_len}
 use Rattle.std.proofs.lemmas.Bool.{and_parts, ltb-true, cases_order}
@@ -7,11 +7,11 @@ use Rattle.std.proofs.lemmas.List.{reverse-append}
 use Rattle.std.proofs.lemmas.List.Elements.{filter-append}
 use Rattle.std.proofs.lemmas.List.Sums.{count_by_more_yes, count_by_more_no}
 use Rattle.ed_model.specs.Rows.{Flags, fresh_flags}
-use Rattle.ed_model.specs.Folding.{number_at, is_header, is_parent_of, parents_among, fold_parents, fold_parent, is_visible}
-use Rattle.ed_model.specs.DisplayLines.{visible_before, display_line, visible_lines, line_shown}
+use Rattle.ed_model.specs.Folding.{number_at, is_header, is_parent_of, parents_among, is_visible}
+use Rattle.ed_model.specs.DisplayLines.{visible_before, visible_lines, line_shown}
 use Rattle.ed_model.specs.proved.Lists.{slice_get_append_right}
 use Rattle.ed_model.specs.proved.Rising.{range-append}
-use Rattle.run_laws.specs.FoldLaws.{parents_from, FoldParentsAreAChain, IsNearestHeader, FoldParentIsTheNearestHeader, LinesWithoutParent, DisplayLinesCountVisibleLines, VisibleLinesAreShown, HiddenLinesHaveThatBefore}
+use Rattle.run_laws.specs.FoldLaws.{parents_from, FoldParentsAreAChain, FoldParentIsTheNearestHeader, LinesWithoutParent, DisplayLinesCountVisibleLines, VisibleLinesAreShown, HiddenLinesHaveThatBefore}
 
 -- Fold parents are sought from a line back.
 

@@ -1,5 +1,5 @@
 -- How many lines a converted text has, where Unicode's line ends do not count.
-use Rattle.std.proofs.Common.{◌≡◌, ℕ, zero, suc, ◌+◌, ◌-◌, ◌<◌, ◌≤◌, Bool, true, false, cond, ◌==◌, ◌||◌, ◌&&◌, List, [], ◌∷◌, ◌++◌, length, filter, refl, ap, ◌∙◌, sym, arith}
+use Rattle.std.proofs.Common.{◌≡◌, ℕ, zero, suc, ◌+◌, ◌-◌, ◌≤◌, Bool, true, false, cond, ◌==◌, ◌||◌, ◌&&◌, List, [], ◌∷◌, ◌++◌, length, filter, refl, ap, ◌∙◌, sym, arith}
 use Rattle.std.specs.Prelude.{not}
 use Rattle.std.specs.List.{range_with_len}
 use Rattle.std.proofs.lemmas.Bool.{and_right, eqb-true, ne_eqb}
@@ -7,7 +7,7 @@ use Rattle.ed_model.specs.declared.plan.LineEnd.{LineEnd}
 use Rattle.ed_model.specs.declared.plan.LineEnd.TheVariants.{CrLf, Cr, Lf}
 use Rattle.ed_model.specs.declared.plan.LineEndTypes.TheVariants.{Default}
 use Rattle.ed_model.specs.Text.{stands}
-use Rattle.ed_model.specs.Lines.{is_line_start, line_starts, line_count}
+use Rattle.ed_model.specs.Lines.{is_line_start, line_count}
 use Rattle.ed_model.specs.LineEnds.{line_end_bytes, begins_with_line_feed, converted_after, converted}
 use Rattle.run_laws.specs.LineEndLaws.{HasOnly, LineCountStays}
 use Rattle.run_laws.proofs.LineEndKinds.{only_after, first_byte}

@@ -9,7 +9,7 @@ use Rattle.ed_model.specs.declared.plan.LineEnd.{LineEnd}
 use Rattle.ed_model.specs.declared.plan.LineEnd.TheVariants.{CrLf, Cr, Lf}
 use Rattle.ed_model.specs.declared.plan.LineEndTypes.{LineEndTypes}
 use Rattle.ed_model.specs.Text.{stands}
-use Rattle.ed_model.specs.Lines.{knows_unicode, unicode_end_before, is_line_start, line_starts, line_count, start_after_line, line_end_length, end_of_line}
+use Rattle.ed_model.specs.Lines.{is_line_start, line_starts, line_count, start_after_line, line_end_length, end_of_line}
 use Rattle.ed_model.specs.LineEnds.{line_end_bytes, begins_with_line_feed, converted_after, converted}
 use Rattle.ed_model.specs.proved.Rising.{increasing_at}
 use Rattle.ed_model.specs.proved.Lines.{line_starts_rise, start_from_contains}

@@ -11,10 +11,10 @@ use Rattle.ed_model.specs.declared.plan.Edit.TheVariants as edit
 use Rattle.ed_model.specs.declared.plan.Follow.TheVariants as follow
 use Rattle.ed_model.specs.declared.plan.Plan.{Plan}
 use Rattle.ed_model.specs.declared.plan.Plan.TheVariants as plan
-use Rattle.ed_model.specs.Steps.{Step, edited}
+use Rattle.ed_model.specs.Steps.{Step}
 use Rattle.ed_model.specs.LineEnds.{converted, conversion_steps, after_steps}
 use Rattle.ed_model.specs.LinePlans.{line_end_kind, convert_eols}
-use Rattle.ed_model.specs.Session.{Session, View, Document, view_at, document_at, with_document, text_of, limit_of}
+use Rattle.ed_model.specs.Session.{Session, Document, document_at, with_document, text_of, limit_of}
 use Rattle.ed_model.specs.Requests.{Request, Planned, text, size, with_argument, argument}
 use Rattle.ed_model.specs.Edits.{has_steps, stays_within, edit_plan}
 use Rattle.ed_model.specs.Performing.{Scene, scene_of, step_made, steps_made, sealed_scene, edit_made}
