@@ -1,24 +1,22 @@
 -- A message that is not marked E leaves every text, and tells of no attempt.
-use Rattle.std.proofs.Common.{◌≡◌, ℕ, Bool, true, false, cond, List, [], ◌∷◌, replicate, take, refl, ap, ◌∙◌, sym, subst, Option, Some, None, Ok, Err}
+use Rattle.std.proofs.Common.{◌≡◌, ℕ, Bool, true, false, cond, List, ◌∷◌, replicate, take, refl, ap, ◌∙◌, subst, Option, Some, None, Ok, Err}
 use Rattle.std.specs.Prelude.{◌≢◌, ◌&&◌}
-use Rattle.std.specs.List.{AllByRecursion}
 use Rattle.std.proofs.lemmas.Bool.{eqb-false, and_parts}
 use Rattle.ed_types.specs.declared.kind.Kind.{Kind}
-use Rattle.ed_types.specs.Notices.{Notice, Response}
+use Rattle.ed_types.specs.Notices.{Response}
 use Rattle.ed_types.specs.Messages.{marks_of}
 use Rattle.ed_model.specs.declared.plan.DocumentChange.{DocumentChange}
 use Rattle.ed_model.specs.declared.plan.DocumentChange.TheVariants as document_change
 use Rattle.ed_model.specs.declared.plan.Plan.{Plan}
 use Rattle.ed_model.specs.declared.plan.Plan.TheVariants as plan
-use Rattle.ed_model.specs.Text.{Cell, bytes_of}
-use Rattle.ed_model.specs.Session.{Session, Document, document_at, text_of, keeps_no_styles}
+use Rattle.ed_model.specs.Session.{Session, Document, document_at, text_of}
 use Rattle.ed_model.specs.Notes as notes
 use Rattle.ed_model.specs.Requests.{Request, Planned}
-use Rattle.ed_model.specs.Changes.{changed_document, styled}
+use Rattle.ed_model.specs.Changes.{changed_document}
 use Rattle.ed_model.specs.Table.{answered, performed, plan_of, request, record_note}
 use Rattle.ed_model.specs.TableLaws.{Answered}
 use Rattle.ed_model.specs.PlansFit.{PlansFit}
-use Rattle.run_laws.specs.EditLaws.{text_if_there, text_at, TextsStay, TellsNoAttempt, OnlyEditsChangeTexts, OnlyEditsTellOfAttempts}
+use Rattle.run_laws.specs.EditLaws.{text_if_there, TextsStay, TellsNoAttempt, OnlyEditsChangeTexts, OnlyEditsTellOfAttempts}
 use Rattle.run_laws.proofs.TableWays.{of_table}
 use Rattle.run_laws.proofs.PlanShapes.{Leave, may_follow, KeepsTo, IsShaped, leave_of, plan_is_shaped}
 use Rattle.run_laws.proofs.NoteLemmas.{plans_have_codes}

@@ -1,6 +1,6 @@
 -- The last save point of a run: there is one for each document, and from it on the law of the save point holds.
-use Rattle.std.proofs.Common.{◌≡◌, ℕ, ◌==◌, cond, Bool, true, false, List, [], ◌∷◌, length, refl, ap, ◌∙◌, sym, subst, inl, inr, Option, Some, None, Result, Ok, Err}
-use Rattle.std.specs.Prelude.{◌⊎◌, pos, not, ◌&&◌, ◌||◌}
+use Rattle.std.proofs.Common.{◌≡◌, ℕ, ◌==◌, cond, Bool, true, false, List, [], ◌∷◌, length, refl, ap, ◌∙◌, sym, subst, inl, inr, Option, Some, None, Ok, Err}
+use Rattle.std.specs.Prelude.{◌⊎◌, not, ◌&&◌, ◌||◌}
 use Rattle.std.specs.Option.{option_or}
 use Rattle.std.proofs.lemmas.Bool.{eqb-true, eq-eqb, and_parts}
 use Rattle.ed_types.specs.declared.kind.Kind.{Kind}
@@ -13,8 +13,8 @@ use Rattle.ed_types.specs.Notices.{Response}
 use Rattle.ed_types.specs.Messages.{kind_of, marks_of}
 use Rattle.ed_model.specs.declared.plan.DocumentChange.TheVariants as document_change
 use Rattle.ed_model.specs.Numbers.{flag}
-use Rattle.ed_model.specs.History.{History, at_save_point, saved, emptied}
-use Rattle.ed_model.specs.Session.{Session, View, Document, view_at, document_at, text_of, new_session, new_document, with_document}
+use Rattle.ed_model.specs.History.{at_save_point}
+use Rattle.ed_model.specs.Session.{Session, View, Document, view_at, document_at, text_of, new_session, with_document}
 use Rattle.ed_model.specs.Requests.{Request}
 use Rattle.ed_model.specs.Performing.{quiet}
 use Rattle.ed_model.specs.Changes.{changed_document}

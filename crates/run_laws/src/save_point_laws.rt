@@ -18,9 +18,9 @@ pub fn an_unmodified_document_has_its_saved_text()
     ed_model::positions_after_a_step();
 }
 
-/// SETSAVEPOINT, EMPTYUNDOBUFFER and its creation leave a document unmodified. In every state that a run reaches, a document that
-/// counts as unmodified, as one of whose views GETMODIFY would be answered by 0, has the text that it had at the last of these three,
-/// unless a text of it changed since without being collected.
+/// SETSAVEPOINT, EMPTYUNDOBUFFER and its creation leave a document unmodified, and GETMODIFY answers 0 then. In every state that a
+/// run reaches and in which GETMODIFY would answer 0, the text is that of the last of these three, unless a text of the document
+/// changed since without being collected.
 pub fn an_unmodified_document_has_its_last_saved_text()
     ensures saved { SavedIsUnmodified }
     ensures told { UnmodifiedIsTold }
