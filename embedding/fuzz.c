@@ -205,6 +205,8 @@ static void look_at(side *s, uint32_t view, int64_t most) {
     for (size_t i = 0; i < sizeof of_line / sizeof *of_line; i++) ask(s, view, of_line[i], line, 0);
     ask(s, view, SCI_GETLASTCHILD, line, -1);
   }
+  for (int64_t handle = model_peek(s->plain, view, SCI_MARKERADD), end = handle - most; handle > end; handle--)
+    ask(s, view, SCI_MARKERLINEFROMHANDLE, handle, 0);
   for (int64_t place = 0, step = length / most + 1; place < length; place += step) {
     for (size_t i = 0; i < sizeof of_place / sizeof *of_place; i++) ask(s, view, of_place[i], place, 0);
     int64_t mask = ask(s, view, SCI_INDICATORALLONFOR, place, 0);
@@ -394,7 +396,7 @@ static void send_drawn(side *s, uint32_t view, uint32_t number, const record *r)
   uint8_t *text = place_for(0, length, r->t % 2 == 0);
   memcpy(text, drawn, length);
   around a = {model_peek(s->plain, view, SCI_GETLENGTH), model_peek(s->plain, view, SCI_GETLINECOUNT), model_peek(s->plain, view, SCI_GETCURRENTPOS),
-              (int64_t)length};
+              (int64_t)length, model_peek(s->plain, view, SCI_MARKERADD)};
   const char *shape = shape_of(number);
   int64_t w = draw_number(shape[0], r->w_kind, r->w, number == SCI_SETSTYLING ? model_peek(s->plain, view, SCI_GETENDSTYLED) : 0, &a);
   int64_t l = draw_number(shape[1], r->l_kind, r->l, w, &a);
@@ -463,7 +465,7 @@ static void do_record(side *s, const record *r) {
     case 229: case 230: case 231: case 232: case 233: case 234:
     case 235: case 236: case 237: case 238: {
       int64_t length = model_peek(s->plain, view, SCI_GETLENGTH);
-      around a = {length, 1, 0, 0};
+      around a = {length, 1, 0, 0, 1};
       int64_t start = draw_number('p', r->w_kind, r->w, 0, &a), count = draw_number(r->t % 2 == 0 ? 's' : 'p', r->l_kind, r->l, start, &a);
       /* A copy is told of no more room than there is. */
       bool copies = r->operation > 234 && count >= 0 && count <= PAGE;

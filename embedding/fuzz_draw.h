@@ -41,7 +41,7 @@ static const uint32_t favoured[] = {
     SCI_HIDELINES,    SCI_DELETEBACK,   SCI_NEWLINE,    SCI_CLEAR,      SCI_REPLACETARGET, SCI_SEARCHINTARGET,     SCI_SETSAVEPOINT, SCI_EMPTYUNDOBUFFER};
 
 typedef struct around {
-  int64_t length, lines, caret, text;
+  int64_t length, lines, caret, text, next_handle;
 } around;
 
 /* A number near some limit, or anywhere. */
@@ -75,7 +75,7 @@ static int64_t fitting_number(char what, uint8_t x, int64_t before, const around
     case 'l': return (x * (a->lines + (x % 16 == 0))) >> 8;
     case 't': return x == 0 ? -1 : a->text;
     case 'm': return x % 16 == 0 ? -1 : x % 8 == 0 ? 31 : x % 5;
-    case 'h': return 1 + x % 32;
+    case 'h': return a->next_handle - x % 16;
     case 'f': return 0x400 + x % 4 + (x & 0x10 ? 0x2000 : 0) + (x == 0xFF ? 0x1000 : 0);
     case 'i': return x % 2 == 0 ? x / 2 % 3 + 8 : x / 2 % 32;
     case 'y': return x % 4;

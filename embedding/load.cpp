@@ -72,7 +72,7 @@ struct Times {
     std::uint64_t wanted = std::uint64_t(std::ceil(share * double(count))), seen = 0;
     for (size_t i = 0; i < counts.size(); i++) {
       seen += counts[i];
-      if (seen >= wanted && wanted > 0) return std::exp2((double(i) + 0.5) / 16);
+      if (seen >= wanted && wanted > 0) return std::min(std::exp2((double(i) + 0.5) / 16), longest);
     }
     return longest;
   }

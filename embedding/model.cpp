@@ -442,5 +442,6 @@ int64_t model_peek(const model *m, uint32_t view, uint32_t number) {
   if (found == m->session.views.end()) return 0;
   const plain::Document &d = m->session.documents.at(found->second.document);
   if (number == SCI_GETDOCPOINTER) return found->second.document;
+  if (number == SCI_MARKERADD) return d.next_handle;
   return number == SCI_GETLENGTH ? d.length() : number == SCI_GETLINECOUNT ? d.lines() : number == SCI_GETENDSTYLED ? d.end_styled : found->second.caret;
 }

@@ -27,7 +27,8 @@ size_t model_text(const model *session, const uint8_t **text);
 size_t model_note_count(const model *session);
 bool model_note(const model *session, size_t index, hongpilas_note_data *note);
 
-/* The answer to GETLENGTH, GETLINECOUNT, GETCURRENTPOS, GETENDSTYLED or GETDOCPOINTER, aside from the last reply; 0 of no view. */
+/* The answer to GETLENGTH, GETLINECOUNT, GETCURRENTPOS, GETENDSTYLED or GETDOCPOINTER, and of MARKERADD the next
+ * handle, aside from the last reply; 0 of no view. */
 int64_t model_peek(const model *session, uint32_t view, uint32_t number);
 
 /* The marks of a message, as "Q N", or NULL where there is none with this number; and the numbers of all messages, a 0 behind them. */
