@@ -343,7 +343,8 @@ class Document {
     Rows made;
     for (Number p = from; p <= to; p++) {
       bool starts = p == 0 || at(p - 1) == '\n' || (at(p - 1) == '\r' && at(p) != '\n') ||
-                    (unicode && ((at(p - 2) == 0xC2 && at(p - 1) == 0x85) || (at(p - 3) == 0xE2 && at(p - 2) == 0x80 && (at(p - 1) == 0xA8 || at(p - 1) == 0xA9))));
+                    (unicode && ((at(p - 2) == 0xC2 && at(p - 1) == 0x85) ||
+                                 (at(p - 3) == 0xE2 && at(p - 2) == 0x80 && (at(p - 1) == 0xA8 || at(p - 1) == 0xA9))));
       if (starts) made.push_back({p, Row()});
     }
     std::vector<bool> taken(made.size(), false);

@@ -551,10 +551,11 @@ static void run_file(const char *path) {
 }
 
 static void print_counts(double seconds) {
-  printf("fuzz: %" PRIu64 " inputs, %" PRIu64 " calls drawn, %" PRIu64 " messages sent (%" PRIu64 " of them to look), %" PRIu64 " calls in all, in %.0f seconds\n", counts.inputs,
-         counts.records, counts.messages, counts.looks, counts.calls, seconds);
-  printf("fuzz: answers of messages: done %" PRIu64 ", out of memory %" PRIu64 ", no such view %" PRIu64 ", unknown message %" PRIu64 ", no such document %" PRIu64
-         ", too long %" PRIu64 ", bad argument %" PRIu64 ", too many %" PRIu64 "\n", counts.answers[0], counts.answers[1], counts.answers[2], counts.answers[3],
+  printf("fuzz: %" PRIu64 " inputs, %" PRIu64 " calls drawn, %" PRIu64 " messages sent (%" PRIu64 " of them to look), %" PRIu64
+         " calls in all, in %.0f seconds\n",
+         counts.inputs, counts.records, counts.messages, counts.looks, counts.calls, seconds);
+  printf("fuzz: answers of messages: done %" PRIu64 ", out of memory %" PRIu64 ", no such view %" PRIu64 ", unknown message %" PRIu64
+         ", no such document %" PRIu64 ", too long %" PRIu64 ", bad argument %" PRIu64 ", too many %" PRIu64 "\n", counts.answers[0], counts.answers[1], counts.answers[2], counts.answers[3],
          counts.answers[4], counts.answers[5], counts.answers[6], counts.answers[7]);
   printf("fuzz: requests for memory: %" PRIu64 ", refused %" PRIu64 "; calls that were refused for it %" PRIu64 "\n", counts.requests, counts.refused,
          counts.out_of_memory);

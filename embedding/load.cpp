@@ -221,7 +221,8 @@ static void compare(bool whole) {
 // Work. Each kind is a few calls, which the model does too.
 
 static Bytes draw_text(Number most) {
-  static const char *const words[] = {"let", "x", "= ", "editor", "(line)", "\n", "\n", "\r\n", "    ", "\xC3\xA9", "text_of", ", ", "\xE2\x80\xA8", "\r", "; ", "/* a longer remark */"};
+  static const char *const words[] = {"let", "x", "= ", "editor", "(line)", "\n", "\n", "\r\n", "    ",
+                                      "\xC3\xA9", "text_of", ", ", "\xE2\x80\xA8", "\r", "; ", "/* a longer remark */"};
   Bytes text;
   for (Number wanted = 1 + below(most); Number(text.size()) < wanted;) text += words[below(16) == 0 ? 7 + below(9) : below(16)];
   return text;

@@ -306,7 +306,8 @@ int main(int count, char **words) {
   must_be(length, wanted, "the length when all is undone");
   compare_about(0);
   for (Number from = 0; from < length; from += 1 << 24) compare(from, from + (1 << 24));
-  std::printf("load_huge: %" PRIu64 " calls in %.0f seconds, compared %" PRIu64 " times and twice in full; all undone\n", calls, (now_us() - begun) / 1e6, compared);
+  std::printf("load_huge: %" PRIu64 " calls in %.0f seconds, compared %" PRIu64 " times and twice in full; all undone\n", calls,
+              (now_us() - begun) / 1e6, compared);
   std::printf("| Microseconds | calls | half of them | 99 of 100 | 999 of 1,000 | longest |\n|---|---|---|---|---|---|\n");
   print_times("loading, 8 MiB a call", loading);
   print_times("edits and markers near the last edit", near_times);
