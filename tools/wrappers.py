@@ -1,5 +1,5 @@
 #!/usr/bin/env python3
-"""Writes the methods of all messages, the constants and Rust's declarations of the calls into the wrappers for C++, Rust and Python.
+"""Writes the methods of all messages, the constants, Rust's declarations of the calls and the version into the wrappers for C++, Rust and Python.
 
 A message's name and number come from the definitions (crates/ed_types), its arguments, its answer and its sentence from its row of docs/MESSAGES.md.
 Run it at the top of the repository after a message, a row or a constant has changed. With --check it writes nothing, and fails where a wrapper is not
@@ -376,6 +376,14 @@ def written(path, text):
     return "".join([*lines[: begin + 1], text, *lines[end:]])
 
 
+def versions():
+    """The files that name a version, with that of the header: its number is the major one times 1000, and the minor one."""
+    major, minor = divmod(int(re.search(r"^#define HONGPILAS_VERSION (\d+)$", header.read("include/hongpilas.h"), re.M)[1]), 1000)
+    for path, version in (("bindings/python/pyproject.toml", f"{major}.{minor}"), ("bindings/rust/Cargo.toml", f"{major}.{minor}.0"),
+                          ("bindings/rust/Cargo.lock", f"{major}.{minor}.0")):
+        yield path, re.sub(r'^version = "[\d.]+"$', f'version = "{version}"', header.read(path), flags=re.M)
+
+
 def faults():
     """Where a hand-written part is not that of the crates: refusals without a place in a wrapper."""
     named = re.findall(r"^    (\w+) = (\d+),", header.read("crates/ed_types/src/refusal.rt"), re.M)
@@ -394,8 +402,7 @@ def main():
         return
     found = messages()
     wrong = []
-    for path, text in files(found):
-        new = written(path, text)
+    for path, new in [*((path, written(path, text)) for path, text in files(found)), *versions()]:
         if "--check" not in sys.argv[1:]:
             with open(os.path.join(header.TOP, path), "w", encoding="utf-8") as file:
                 file.write(new)
