@@ -20,17 +20,13 @@ SPELLED = re.compile(rb'\\\\|\\"|\\x[0-9a-f]{2}|[ !#-\[\]-~]')
 class ScriptFault(Exception):
     """Bytes that are no script. `cause` and `line` say why and where; for a script that is too long, `line` is None."""
 
-    def __init__(self, cause: str, line: int | None = None, text: bytes = b""):
+    def __init__(self, cause: str, line: int | None = None):
         super().__init__(cause if line is None else f"line {line}: {cause}")
-        self.cause, self.line, self.text = cause, line, text
+        self.cause, self.line = cause, line
 
     def shown(self) -> str:
-        """The fault as the program shows it: with the line itself, at most 120 characters of it."""
-        if self.line is None:
-            return "script too long"
-        text = "".join(map(printable, self.text[:121]))
-        text = text if len(text) <= 120 else f"{text[:120]}..."
-        return f"{self}\n    {text}" if text else str(self)
+        """The fault as the program tells it, in one line."""
+        return "script too long" if self.line is None else str(self)
 
 
 def printable(byte: int) -> str:
@@ -122,7 +118,7 @@ def assemble(script: bytes) -> list[Command]:
             else:
                 commands.append(command(line, version))
         except ScriptFault as fault:
-            raise ScriptFault(fault.cause, at + 1, line) from None
+            raise ScriptFault(fault.cause, at + 1) from None
     return commands
 
 
