@@ -231,7 +231,8 @@ hongpilas_answer hongpilas_checked_refusal_name(hongpilas_answer answer, const u
 hongpilas_answer hongpilas_checked_copy_refusal_name(hongpilas_answer answer, uint8_t *into, size_t room,
                                                      size_t *count);
 
-/* Scintilla's names and numbers, as far as the profile has them. */
+/* Scintilla's names and numbers, as far as the profile has them; none where Scintilla.h was included before. */
+#ifndef SCINTILLA_H
 /* Written by tools/header.py: begin */
 /* Messages. */
 #define SCI_ADDTEXT                2001
@@ -426,6 +427,7 @@ hongpilas_answer hongpilas_checked_copy_refusal_name(hongpilas_answer answer, ui
 #define UNDO_MAY_COALESCE             1
 #define UNDO_NONE                     0
 /* Written by tools/header.py: end */
+#endif
 
 #ifdef __cplusplus
 }
