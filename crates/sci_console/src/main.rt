@@ -92,9 +92,9 @@ fn do_task(rt: &HostRuntime, task: &Task, files: Vec<Bytes>, text: &[u8]) -> Res
 
 /// Sets `shown` to the line at fault of these bytes, if the task asks for that and they are at fault in a line.
 fn show_fault(task: &Task, answer: &Result<u64, RunFault>, text: &[u8], shown: &mut String) {
-    if let (Task::CheckAndShow { .. }, Err(RunFault::Script(ScriptFault::BadLine { line, .. }))) =
-        (task, answer)
-    {
+    if let (Task::CheckAndShow { .. }, Err(RunFault::Script(ScriptFault::BadLine { line, .. }))) = (
+        task, answer,
+    ) {
         // Where memory runs out, less of the line is shown.
         let _ = show_line(shown, text, *line);
     }
