@@ -8,7 +8,7 @@ uint32_t hongpilas_version(void) { return HONGPILAS_VERSION; }
 size_t hongpilas_refusal_name(hongpilas_answer answer, const uint8_t **name) { return *name = NULL, answer - answer; }
 
 hongpilas_answer hongpilas_new_with_limits(hongpilas *session, const hongpilas_limits *limits) {
-  session->at = NULL;
+  session->at = session;
   return limits == NULL;
 }
 
