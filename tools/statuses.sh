@@ -332,7 +332,7 @@ check_outside() {
     printf '%b' "$answered" >want
     if cmp -s out want; then tell_fault 'a script that comes line by line' $got 0 ''; else tell 'a script that comes line by line' 'output'; fi
     { printf 'sci 1\nop'; sleep 0.1; printf 'en\nopen'; } | "$program" run - >out 2>err
-    tell_fault 'a pipe that ends amid a line' $? 1 "line 3: NoLineEnd$nl    open"
+    tell_fault 'a pipe that ends amid a line' $? 1 "line 3: NoLineEnd"
     if [ -s out ]; then tell 'nothing is printed before a script is whole' 'output'; else tell 'nothing is printed before a script is whole' yes; fi
     mkfifo fifo
     { sleep 0.1; printf 'abc'; sleep 0.1; printf 'de'; } >fifo &
