@@ -375,12 +375,12 @@ check_outside() {
     fi
 
     # Names that are no UTF-8 text, of files that are there.
-    name=$(printf 'a\377')
-    cp good.sci "$name"
+    foreign=$(printf 'a\377')
+    cp good.sci "$foreign"
     for command in run list check step; do
-        expect "$command of a name that is no text" 2 '' 'error: a word is not UTF-8 text' $command "$name"
+        expect "$command of a name that is no text" 2 '' 'error: a word is not UTF-8 text' $command "$foreign"
     done
-    expect 'a FILE with a name that is no text' 2 '' 'error: a word is not UTF-8 text' run good.sci "$name"
+    expect 'a FILE with a name that is no text' 2 '' 'error: a word is not UTF-8 text' run good.sci "$foreign"
     cp good.sci 'né ☃'
     expect 'a name that is not ASCII' 0 "$answered" '' run 'né ☃'
 
