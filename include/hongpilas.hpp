@@ -290,9 +290,9 @@ class BasicView {
   Notes notes() const noexcept { return Notes(session_); }
 
   // Written by tools/wrappers.py: begin
-  /// SCI_ADDTEXT, 2001. Puts `text` in at the caret; then anchor and caret stand behind it, for an empty `text` too.
+  /// SCI_ADDTEXT, 2001. Inserts `text` at the caret; then anchor and caret stand after it, for an empty `text` too.
   Answer<void> AddText(std::string_view text) { return as_done(SCI_ADDTEXT, length_of(text), 0, text); }
-  /// SCI_INSERTTEXT, 2003. `position` is -1 for the caret, else in 0..n. Puts `text` in at `position`. Here n is the
+  /// SCI_INSERTTEXT, 2003. `position` is -1 for the caret, else in 0..n. Inserts `text` at `position`. Here n is the
   /// text's length.
   Answer<void> InsertText(std::int64_t position, std::string_view text) {
     return as_done(SCI_INSERTTEXT, position, 0, text);
@@ -310,14 +310,14 @@ class BasicView {
   /// SCI_GETSTYLEAT, 2010. Returns the style of the byte at `position`; 0 outside 0..n-1. Here n is the text's
   /// length.
   Answer<std::int64_t> GetStyleAt(std::int64_t position) const { return as_number(SCI_GETSTYLEAT, position, 0); }
-  /// SCI_REDO, 2011. Does the next transaction again; nothing inside a group or where the future is empty.
+  /// SCI_REDO, 2011. Performs the next transaction again; does nothing inside a group or if the future is empty.
   Answer<void> Redo() { return as_done(SCI_REDO, 0, 0); }
   /// SCI_SETUNDOCOLLECTION, 2012. On while on changes nothing; off forgets the history, ends groups and keeps whether
   /// the document counts as modified.
   Answer<void> SetUndoCollection(bool on) { return as_done(SCI_SETUNDOCOLLECTION, on, 0); }
   /// SCI_SELECTALL, 2013. The anchor goes to 0, the caret goes to the text's length.
   Answer<void> SelectAll() { return as_done(SCI_SELECTALL, 0, 0); }
-  /// SCI_SETSAVEPOINT, 2014. This is the save point.
+  /// SCI_SETSAVEPOINT, 2014. Makes the current state the save point.
   Answer<void> SetSavePoint() { return as_done(SCI_SETSAVEPOINT, 0, 0); }
   /// SCI_GETSTYLEDTEXT, 2015. `start` lies in 0..n, and `end` in `start`..n or is -1 for the end of the text. Returns
   /// byte, style, byte, style and so on; the reply's value is 2(`end`-`start`). Here n is the text's length.
@@ -354,20 +354,20 @@ class BasicView {
   Answer<std::string_view> GetCurLineView() const { return as_lent(SCI_GETCURLINE, 0, 0); }
   /// SCI_GETENDSTYLED, 2028. Returns end styled.
   Answer<std::int64_t> GetEndStyled() const { return as_number(SCI_GETENDSTYLED, 0, 0); }
-  /// SCI_CONVERTEOLS, 2029. `mode` in 0..2. Makes each CRLF, CR and LF one of that kind; ends of Unicode stay, and so
-  /// does the mode.
+  /// SCI_CONVERTEOLS, 2029. `mode` in 0..2. Turns each CRLF, CR and LF into that line end; Unicode line ends and the
+  /// mode stay.
   Answer<void> ConvertEOLs(std::int64_t mode) { return as_done(SCI_CONVERTEOLS, mode, 0); }
-  /// SCI_GETEOLMODE, 2030. Returns the line end that NEWLINE and PASTE make.
+  /// SCI_GETEOLMODE, 2030. Returns the line end that NEWLINE and PASTE insert.
   Answer<std::int64_t> GetEOLMode() const { return as_number(SCI_GETEOLMODE, 0, 0); }
   /// SCI_SETEOLMODE, 2031. `mode` in 0..2: SC_EOL_CRLF 0, SC_EOL_CR 1, SC_EOL_LF 2.
   Answer<void> SetEOLMode(std::int64_t mode) { return as_done(SCI_SETEOLMODE, mode, 0); }
   /// SCI_STARTSTYLING, 2032. `position` in 0..n. End styled becomes `position`. Here n is the text's length.
   Answer<void> StartStyling(std::int64_t position) { return as_done(SCI_STARTSTYLING, position, 0); }
   /// SCI_SETSTYLING, 2033. `style` in 0..255, `length` in 0..n-end styled. Styles `length` bytes from end styled on
-  /// with `style`, and moves it behind them. Here n is the text's length.
+  /// with `style`, and moves end styled after them. Here n is the text's length.
   Answer<void> SetStyling(std::int64_t length, std::int64_t style) { return as_done(SCI_SETSTYLING, length, style); }
   /// SCI_MARKERADD, 2043. `number` in 0..31. Adds marker `number` at the end of `line`'s list; returns its handle;
-  /// bad line -1; TooMany where handles are used up. Here a bad line is one that is not there.
+  /// bad line -1; TooMany if handles are used up. Here a bad line is one that is not there.
   Answer<std::int64_t> MarkerAdd(std::int64_t line, std::int64_t number) {
     return as_number(SCI_MARKERADD, line, number);
   }
@@ -387,12 +387,13 @@ class BasicView {
   Answer<std::int64_t> MarkerPrevious(std::int64_t line, std::int64_t mask) const {
     return as_number(SCI_MARKERPREVIOUS, line, mask);
   }
-  /// SCI_SETSTYLINGEX, 2073. The bytes of `styles` are the styles of as many bytes of the text from end styled on,
-  /// which moves behind them; `styles` has at most as many as there are, else BadArgument.
+  /// SCI_SETSTYLINGEX, 2073. Styles as many bytes as `styles` has, from end styled on, with the bytes of `styles`,
+  /// and moves end styled after them; `styles` has at most n-end styled bytes, else BadArgument. Here n is the text's
+  /// length.
   Answer<void> SetStylingEx(std::string_view styles) { return as_done(SCI_SETSTYLINGEX, length_of(styles), 0, styles); }
-  /// SCI_BEGINUNDOACTION, 2078. The depth of groups goes up; TooMany at its limit.
+  /// SCI_BEGINUNDOACTION, 2078. Raises the depth of groups by 1; TooMany at its limit.
   Answer<void> BeginUndoAction() { return as_done(SCI_BEGINUNDOACTION, 0, 0); }
-  /// SCI_ENDUNDOACTION, 2079. The depth of groups goes down; nothing at 0.
+  /// SCI_ENDUNDOACTION, 2079. Lowers the depth of groups by 1; does nothing at 0.
   Answer<void> EndUndoAction() { return as_done(SCI_ENDUNDOACTION, 0, 0); }
   /// SCI_SETLINESTATE, 2092. `state` in -2^31..2^31-1. Sets the state of `line`.
   Answer<void> SetLineState(std::int64_t line, std::int64_t state) { return as_done(SCI_SETLINESTATE, line, state); }
@@ -452,7 +453,7 @@ class BasicView {
   /// SCI_POSITIONFROMLINE, 2167. Returns the start of `line`; below 0 that of the line of the selection's start; the
   /// text's length for `line` = the number of lines; -1 beyond.
   Answer<std::int64_t> PositionFromLine(std::int64_t line) const { return as_number(SCI_POSITIONFROMLINE, line, 0); }
-  /// SCI_REPLACESEL, 2170. Replaces the selection by `text`; anchor and caret stand behind `text`.
+  /// SCI_REPLACESEL, 2170. Replaces the selection by `text`; anchor and caret stand after `text`.
   Answer<void> ReplaceSel(std::string_view text) { return as_done(SCI_REPLACESEL, 0, 0, text); }
   /// SCI_SETREADONLY, 2171. `on`: the document is read-only.
   Answer<void> SetReadOnly(bool on) { return as_done(SCI_SETREADONLY, on, 0); }
@@ -460,20 +461,20 @@ class BasicView {
   Answer<bool> CanPaste() const { return as_flag(SCI_CANPASTE, 0, 0); }
   /// SCI_CANUNDO, 2174. Returns whether no group is open, the document is not read-only and the past is not empty.
   Answer<bool> CanUndo() const { return as_flag(SCI_CANUNDO, 0, 0); }
-  /// SCI_EMPTYUNDOBUFFER, 2175. Forgets the history and ends groups; this is the save point.
+  /// SCI_EMPTYUNDOBUFFER, 2175. Forgets the history and ends groups; makes the current state the save point.
   Answer<void> EmptyUndoBuffer() { return as_done(SCI_EMPTYUNDOBUFFER, 0, 0); }
-  /// SCI_UNDO, 2176. Takes the last transaction back; nothing inside a group or where the past is empty.
+  /// SCI_UNDO, 2176. Takes back the last transaction; does nothing inside a group or if the past is empty.
   Answer<void> Undo() { return as_done(SCI_UNDO, 0, 0); }
-  /// SCI_CUT, 2177. A selection that is not empty goes to the clipboard and is deleted; where the document is
-  /// read-only it does neither.
+  /// SCI_CUT, 2177. Copies a selection that is not empty to the clipboard, and deletes the selection; on a read-only
+  /// document it does neither.
   Answer<void> Cut() { return as_done(SCI_CUT, 0, 0); }
-  /// SCI_COPY, 2178. A selection that is not empty goes to the clipboard.
+  /// SCI_COPY, 2178. Copies a selection that is not empty to the clipboard.
   Answer<void> Copy() { return as_done(SCI_COPY, 0, 0); }
-  /// SCI_PASTE, 2179. A clipboard that is not empty replaces the selection, with each CRLF, CR and LF turned into the
-  /// document's line end if the view converts pastes; anchor and caret stand behind it. Of an empty clipboard:
-  /// nothing.
+  /// SCI_PASTE, 2179. Replaces the selection by a clipboard that is not empty, with each CRLF, CR and LF turned into
+  /// the document's line end if the view converts pastes; anchor and caret stand after it. With an empty clipboard it
+  /// does nothing.
   Answer<void> Paste() { return as_done(SCI_PASTE, 0, 0); }
-  /// SCI_CLEAR, 2180. Deletes the selection, or if that is empty from the caret to the next cut. Here a cut is a
+  /// SCI_CLEAR, 2180. Deletes the selection, or if that is empty, from the caret to the next cut. Here a cut is a
   /// place between two characters.
   Answer<void> Clear() { return as_done(SCI_CLEAR, 0, 0); }
   /// SCI_SETTEXT, 2181. Replaces the whole text by `text`.
@@ -495,13 +496,13 @@ class BasicView {
   /// SCI_GETTARGETEND, 2193. Returns the target's end.
   Answer<std::int64_t> GetTargetEnd() const { return as_number(SCI_GETTARGETEND, 0, 0); }
   /// SCI_REPLACETARGET, 2194. Replaces the target by `text`; the target's start is then where `text` starts and the
-  /// target's end where it ends; returns its length, or 0 where the document is read-only, whose target stays.
+  /// target's end where it ends; returns its length, or 0 on a read-only document, whose target stays.
   Answer<std::int64_t> ReplaceTarget(std::string_view text) {
     return as_number(SCI_REPLACETARGET, length_of(text), 0, text);
   }
-  /// SCI_SEARCHINTARGET, 2197. Looks for `text` between the target's start and the target's end: the first match
-  /// where the target's start is at most the target's end, else the last. Then the target's start is its start and
-  /// the target's end its end, also backwards; returns its start. None: -1, and the target stays.
+  /// SCI_SEARCHINTARGET, 2197. Looks for `text` between the target's start and the target's end: the first match if
+  /// the target's start is at most the target's end, else the last. Then the target's start is the start of the match
+  /// and the target's end its end, backwards too; returns its start. If there is none: -1, and the target stays.
   Answer<std::int64_t> SearchInTarget(std::string_view text) {
     return as_number(SCI_SEARCHINTARGET, length_of(text), 0, text);
   }
@@ -533,9 +534,9 @@ class BasicView {
   /// SCI_GETFOLDPARENT, 2225. Returns the fold parent of `line`; none, or bad line: -1. Here a bad line is one that
   /// is not there.
   Answer<std::int64_t> GetFoldParent(std::int64_t line) const { return as_number(SCI_GETFOLDPARENT, line, 0); }
-  /// SCI_SHOWLINES, 2226. Shows each line from `first` to `last` that there is.
+  /// SCI_SHOWLINES, 2226. Shows each existing line from `first` to `last`.
   Answer<void> ShowLines(std::int64_t first, std::int64_t last) { return as_done(SCI_SHOWLINES, first, last); }
-  /// SCI_HIDELINES, 2227. Hides each line from `first` to `last` that there is, but line 0.
+  /// SCI_HIDELINES, 2227. Hides each existing line from `first` to `last` except line 0.
   Answer<void> HideLines(std::int64_t first, std::int64_t last) { return as_done(SCI_HIDELINES, first, last); }
   /// SCI_GETLINEVISIBLE, 2228. Returns whether `line` is visible; bad line false. Here a bad line is one that is not
   /// there.
@@ -545,19 +546,19 @@ class BasicView {
   /// SCI_GETFOLDEXPANDED, 2230. Returns whether `line` is expanded; bad line false. Here a bad line is one that is
   /// not there.
   Answer<bool> GetFoldExpanded(std::int64_t line) const { return as_flag(SCI_GETFOLDEXPANDED, line, 0); }
-  /// SCI_TOGGLEFOLD, 2231. As FOLDLINE with toggle.
+  /// SCI_TOGGLEFOLD, 2231. Like FOLDLINE with toggle.
   Answer<void> ToggleFold(std::int64_t line) { return as_done(SCI_TOGGLEFOLD, line, 0); }
-  /// SCI_ENSUREVISIBLE, 2232. A hidden `line` is made visible; before it its fold parents, the outermost first, are
-  /// made visible and, if contracted, expanded. A visible line: nothing.
+  /// SCI_ENSUREVISIBLE, 2232. Makes a hidden `line` visible; before that, makes each of its fold parents visible and
+  /// expands it if it is contracted, the outermost first. For a visible line it does nothing.
   Answer<void> EnsureVisible(std::int64_t line) { return as_done(SCI_ENSUREVISIBLE, line, 0); }
   /// SCI_GETALLLINESVISIBLE, 2236. Returns whether all lines are visible.
   Answer<bool> GetAllLinesVisible() const { return as_flag(SCI_GETALLLINESVISIBLE, 0, 0); }
   /// SCI_FOLDLINE, 2237. `action` in 0..2: SC_FOLDACTION_CONTRACT 0, SC_FOLDACTION_EXPAND 1, SC_FOLDACTION_TOGGLE 2.
-  /// Of `line` if it is a header, else of its fold parent, if it has one: to contract sets its expanded flag off and
-  /// hides its children, to expand sets it on, shows those that no contracted header between has as its own, and
-  /// hides the others.
+  /// Acts on `line` if it is a header, else on its fold parent, if it has one. To contract sets the header's expanded
+  /// flag off and hides its children; to expand sets the flag on, shows those children that no contracted header
+  /// between has as its own, and hides the others.
   Answer<void> FoldLine(std::int64_t line, std::int64_t action) { return as_done(SCI_FOLDLINE, line, action); }
-  /// SCI_APPENDTEXT, 2282. Puts `text` in at the text's length.
+  /// SCI_APPENDTEXT, 2282. Inserts `text` at the text's length.
   Answer<void> AppendText(std::string_view text) { return as_done(SCI_APPENDTEXT, length_of(text), 0, text); }
   /// SCI_TARGETFROMSELECTION, 2287. The target's start goes to the selection's start, the target's end goes to the
   /// selection's end.
@@ -569,9 +570,9 @@ class BasicView {
   /// characters.
   Answer<void> CharLeftExtend() { return as_done(SCI_CHARLEFTEXTEND, 0, 0); }
   /// SCI_CHARRIGHT, 2306. Anchor and caret go to the selection's end if the selection is not empty, else the cut
-  /// behind the caret. Here a cut is a place between two characters.
+  /// after the caret. Here a cut is a place between two characters.
   Answer<void> CharRight() { return as_done(SCI_CHARRIGHT, 0, 0); }
-  /// SCI_CHARRIGHTEXTEND, 2307. The caret goes to the cut behind the caret. Here a cut is a place between two
+  /// SCI_CHARRIGHTEXTEND, 2307. The caret goes to the cut after the caret. Here a cut is a place between two
   /// characters.
   Answer<void> CharRightExtend() { return as_done(SCI_CHARRIGHTEXTEND, 0, 0); }
   /// SCI_HOME, 2312. Anchor and caret go to the start of the line of the caret.
@@ -590,10 +591,10 @@ class BasicView {
   Answer<void> DocumentEnd() { return as_done(SCI_DOCUMENTEND, 0, 0); }
   /// SCI_DOCUMENTENDEXTEND, 2319. The caret goes to the text's length.
   Answer<void> DocumentEndExtend() { return as_done(SCI_DOCUMENTENDEXTEND, 0, 0); }
-  /// SCI_DELETEBACK, 2326. Deletes the selection, or if that is empty from the cut before the caret to the caret.
+  /// SCI_DELETEBACK, 2326. Deletes the selection, or if that is empty, from the cut before the caret to the caret.
   /// Here a cut is a place between two characters.
   Answer<void> DeleteBack() { return as_done(SCI_DELETEBACK, 0, 0); }
-  /// SCI_NEWLINE, 2329. As REPLACESEL of the document's line end.
+  /// SCI_NEWLINE, 2329. Like REPLACESEL with the document's line end.
   Answer<void> NewLine() { return as_done(SCI_NEWLINE, 0, 0); }
   /// SCI_LINELENGTH, 2350. Returns the length of `line` with its end; bad line 0. Here a bad line is one that is not
   /// there.
@@ -601,22 +602,22 @@ class BasicView {
   /// SCI_GETDOCPOINTER, 2357. Returns the id of the view's document.
   Answer<std::int64_t> GetDocPointer() const { return as_number(SCI_GETDOCPOINTER, 0, 0); }
   /// SCI_SETDOCPOINTER, 2358. `document` = 0: a new document (TooMany); else `document` names one (NoSuchDocument;
-  /// TooMany at the limit of references). It gains a reference, then the old one loses one; the view is attached
-  /// last, with the anchor, the caret, the target's start and the target's end 0 and all lines visible and expanded;
-  /// so it is to its own document too.
+  /// TooMany at the limit of references). That document gains a reference, then the old one loses one; the view is
+  /// attached last, with the anchor, the caret, the target's start and the target's end 0 and all lines visible and
+  /// expanded. The same holds for the view's own document.
   Answer<void> SetDocPointer(std::int64_t document) { return as_done(SCI_SETDOCPOINTER, 0, document); }
-  /// SCI_SETMODEVENTMASK, 2359. `mask` in 0..0x7FFFFF (SC_MODEVENTMASKALL): which kinds of SCN_MODIFIED this view
-  /// hears.
+  /// SCI_SETMODEVENTMASK, 2359. `mask` in 0..0x7FFFFF (SC_MODEVENTMASKALL): the kinds of SCN_MODIFIED that this view
+  /// is notified of.
   Answer<void> SetModEventMask(std::int64_t mask) { return as_done(SCI_SETMODEVENTMASK, mask, 0); }
   /// SCI_CREATEDOCUMENT, 2375. `bytes` is not negative, and not used; `options` is 0 or made of
   /// SC_DOCUMENTOPTION_STYLES_NONE 1 and SC_DOCUMENTOPTION_TEXT_LARGE 256, else BadArgument; returns the id of a new
-  /// document with these options, held once by the caller. TooMany where ids are used up.
+  /// document with these options, held once by the caller. TooMany if ids are used up.
   Answer<std::int64_t> CreateDocument(std::int64_t bytes, std::int64_t options) {
     return as_number(SCI_CREATEDOCUMENT, bytes, options);
   }
   /// SCI_ADDREFDOCUMENT, 2376. `document` is held once more; NoSuchDocument, TooMany.
   Answer<void> AddRefDocument(std::int64_t document) { return as_done(SCI_ADDREFDOCUMENT, 0, document); }
-  /// SCI_RELEASEDOCUMENT, 2377. `document` is held once less; NoSuchDocument, also where no caller holds it.
+  /// SCI_RELEASEDOCUMENT, 2377. `document` is held once less; NoSuchDocument, also if no caller holds it.
   Answer<void> ReleaseDocument(std::int64_t document) { return as_done(SCI_RELEASEDOCUMENT, 0, document); }
   /// SCI_GETMODEVENTMASK, 2378. Returns the mask.
   Answer<std::int64_t> GetModEventMask() const { return as_number(SCI_GETMODEVENTMASK, 0, 0); }
@@ -631,12 +632,12 @@ class BasicView {
   /// means brought into 0..n, n the text's length; a cut is a place between two characters.
   Answer<std::int64_t> PositionAfter(std::int64_t position) const { return as_number(SCI_POSITIONAFTER, position, 0); }
   /// SCI_COPYRANGE, 2419. `start` lies in 0..n, and `end` in `start`..n or is -1 for the end of the text. The
-  /// clipboard becomes [`start`, `end`), an empty one too. Here n is the text's length.
+  /// clipboard becomes [`start`, `end`), even if that is empty. Here n is the text's length.
   Answer<void> CopyRange(std::int64_t start, std::int64_t end) { return as_done(SCI_COPYRANGE, start, end); }
-  /// SCI_COPYTEXT, 2420. The clipboard becomes `text`, an empty one too.
+  /// SCI_COPYTEXT, 2420. The clipboard becomes `text`, even if `text` is empty.
   Answer<void> CopyText(std::string_view text) { return as_done(SCI_COPYTEXT, length_of(text), 0, text); }
   /// SCI_MARKERADDSET, 2466. `mask` in 0..2^32-1. Adds each number whose bit is set, rising; bad line nothing;
-  /// TooMany where handles do not suffice for all. Here a bad line is one that is not there.
+  /// TooMany if handles do not suffice for all. Here a bad line is one that is not there.
   Answer<void> MarkerAddSet(std::int64_t line, std::int64_t mask) { return as_done(SCI_MARKERADDSET, line, mask); }
   /// SCI_SETPASTECONVERTENDINGS, 2467. `on`: whether this view converts what it pastes.
   Answer<void> SetPasteConvertEndings(bool on) { return as_done(SCI_SETPASTECONVERTENDINGS, on, 0); }
@@ -650,13 +651,13 @@ class BasicView {
   Answer<void> SetIndicatorValue(std::int64_t value) { return as_done(SCI_SETINDICATORVALUE, value, 0); }
   /// SCI_GETINDICATORVALUE, 2503. Returns the value that this view fills in.
   Answer<std::int64_t> GetIndicatorValue() const { return as_number(SCI_GETINDICATORVALUE, 0, 0); }
-  /// SCI_INDICATORFILLRANGE, 2504. `start` in 0..n, `length` in 0..n-`start`. The current indicator has the current
+  /// SCI_INDICATORFILLRANGE, 2504. `start` in 0..n, `length` in 0..n-`start`. Gives the current indicator the current
   /// value over `length` bytes from `start` on. Here n is the text's length.
   Answer<void> IndicatorFillRange(std::int64_t start, std::int64_t length) {
     return as_done(SCI_INDICATORFILLRANGE, start, length);
   }
-  /// SCI_INDICATORCLEARRANGE, 2505. `start` in 0..n, `length` in 0..n-`start`. The current indicator is 0 over
-  /// `length` bytes from `start` on. Here n is the text's length.
+  /// SCI_INDICATORCLEARRANGE, 2505. `start` in 0..n, `length` in 0..n-`start`. Gives the current indicator the value
+  /// 0 over `length` bytes from `start` on. Here n is the text's length.
   Answer<void> IndicatorClearRange(std::int64_t start, std::int64_t length) {
     return as_done(SCI_INDICATORCLEARRANGE, start, length);
   }
@@ -675,7 +676,7 @@ class BasicView {
   Answer<std::int64_t> IndicatorStart(std::int64_t number, std::int64_t position) const {
     return as_number(SCI_INDICATORSTART, number, position);
   }
-  /// SCI_INDICATOREND, 2509. `number` in 0..31; returns the place just behind the longest run of one value that holds
+  /// SCI_INDICATOREND, 2509. `number` in 0..31; returns the place just after the longest run of one value that holds
   /// `position`; 0 outside 0..n-1. Here n is the text's length.
   Answer<std::int64_t> IndicatorEnd(std::int64_t number, std::int64_t position) const {
     return as_number(SCI_INDICATOREND, number, position);
@@ -694,7 +695,7 @@ class BasicView {
   /// SCI_GETSELECTIONEMPTY, 2650. Returns whether anchor and caret are at one place.
   Answer<bool> GetSelectionEmpty() const { return as_flag(SCI_GETSELECTIONEMPTY, 0, 0); }
   /// SCI_SETLINEENDTYPESALLOWED, 2656. `types` in 0..1: SC_LINE_END_TYPE_DEFAULT 0, SC_LINE_END_TYPE_UNICODE 1, for
-  /// the document, also a read-only one. Rows and every view's flags go to the lines that hold their starts.
+  /// the document, also a read-only one. Rows and the flags of every view go to the lines that contain their starts.
   Answer<void> SetLineEndTypesAllowed(std::int64_t types) { return as_done(SCI_SETLINEENDTYPESALLOWED, types, 0); }
   /// SCI_GETLINEENDTYPESALLOWED, 2657. Returns the types of line ends that the document allows.
   Answer<std::int64_t> GetLineEndTypesAllowed() const { return as_number(SCI_GETLINEENDTYPESALLOWED, 0, 0); }
@@ -714,8 +715,9 @@ class BasicView {
   Answer<void> StartRecord() { return as_done(SCI_STARTRECORD, 0, 0); }
   /// SCI_STOPRECORD, 3002. The view records no longer.
   Answer<void> StopRecord() { return as_done(SCI_STOPRECORD, 0, 0); }
-  /// SCI_COLOURISE, 4003. `start` lies in 0..n, and `end` in `start`..n or is -1 for the end of the text. End styled
-  /// is at most `start`; the sending view is asked to style up to `end`. Here n is the text's length.
+  /// SCI_COLOURISE, 4003. `start` lies in 0..n, and `end` in `start`..n or is -1 for the end of the text. If end
+  /// styled is greater than `start`, it becomes `start`; the sending view is asked to style up to `end`. Here n is
+  /// the text's length.
   Answer<void> Colourise(std::int64_t start, std::int64_t end) { return as_done(SCI_COLOURISE, start, end); }
   // Written by tools/wrappers.py: end
 

@@ -37,16 +37,16 @@ SENTENCES = {
     "GETLINE": "hands out line w with its end -> its length; of a bad line an empty text",
     "GETLINESTATE": "-> the state of line w; bad line 0",
     "GETFOLDLEVEL": "-> the level of line w; bad line 1024 (SC_FOLDLEVELBASE)",
-    "GETMODIFY": "-> 1 where the document is not at its save point, else 0",
-    "GETSELECTIONEMPTY": "-> 1 where anchor and caret are at one place, else 0",
-    "REPLACETARGET": "Replaces the target by T; ts is then where T starts and te where it ends -> its length, or 0 where the document is read-only, "
+    "GETMODIFY": "-> 1 if the document is not at its save point, else 0",
+    "GETSELECTIONEMPTY": "-> 1 if anchor and caret are at one place, else 0",
+    "REPLACETARGET": "Replaces the target by T; ts is then where T starts and te where it ends -> its length, or 0 on a read-only document, "
     "whose target stays",
-    "SETSTYLINGEX": "The bytes of T are the styles of as many bytes of the text from end styled on, which moves behind them; T has at most as many as "
-    "there are, else BadArgument",
+    "SETSTYLINGEX": "Styles as many bytes as T has, from end styled on, with the bytes of T, and moves end styled after them; T has at most n-end styled bytes, "
+    "else BadArgument",
     "SETFOLDEXPANDED": "the expanded flag of line w alone; nothing is shown or hidden",
     "GETINDICATORCURRENT": "-> the view's current indicator",
     "GETINDICATORVALUE": "-> the value that this view fills in",
-    "INDICATOREND": "w in 0..31 -> the place just behind the longest run of one value that holds l; 0 outside 0..n-1",
+    "INDICATOREND": "w in 0..31 -> the place just after the longest run of one value that holds l; 0 outside 0..n-1",
     "GETPASTECONVERTENDINGS": "-> 1 if this view converts what it pastes, else 0",
     "GETLINEENDTYPESALLOWED": "-> the types of line ends that the document allows",
     "GETLINEENDTYPESACTIVE": "-> the types of line ends that are active: those that the document allows",
@@ -55,7 +55,7 @@ SENTENCES = {
 IN_FULL = (
     # Refusals by their numbers.
     (r"\belse 6\b", "else BadArgument"), (r"\(4; ", "(NoSuchDocument; "), (r"; 4, 7$", "; NoSuchDocument, TooMany"),
-    (r"; 4, also", "; NoSuchDocument, also"), (r"\(7\)", "(TooMany)"), (r"\b7 (where|at) ", r"TooMany \1 "),
+    (r"; 4, also", "; NoSuchDocument, also"), (r"\(7\)", "(TooMany)"), (r"\b7 (if|at) ", r"TooMany \1 "),
     # Arguments.
     (r"^length w(\. ?|$)", ""), (r"^flag w\. ", ""), (r"^flag w:", "w:"),
     (r"^range\.", "w lies in 0..n, and l in w..n or is -1 for the end of the text."),

@@ -30,14 +30,14 @@ class Messages:
 
     # Written by tools/wrappers.py: begin
     def add_text(self, text: Text) -> None:
-        """SCI_ADDTEXT, 2001. Puts `text` in at the caret; then anchor and caret stand behind it, for an empty
+        """SCI_ADDTEXT, 2001. Inserts `text` at the caret; then anchor and caret stand after it, for an empty
         `text` too.
         """
         text = as_bytes(text)
         self.send(constants.SCI_ADDTEXT, len(text), 0, text)
 
     def insert_text(self, position: int, text: Text) -> None:
-        """SCI_INSERTTEXT, 2003. `position` is -1 for the caret, else in 0..n. Puts `text` in at `position`. Here n
+        """SCI_INSERTTEXT, 2003. `position` is -1 for the caret, else in 0..n. Inserts `text` at `position`. Here n
         is the text's length.
         """
         self.send(constants.SCI_INSERTTEXT, position, 0, text)
@@ -71,7 +71,9 @@ class Messages:
         return self.send(constants.SCI_GETSTYLEAT, position)
 
     def redo(self) -> None:
-        """SCI_REDO, 2011. Does the next transaction again; nothing inside a group or where the future is empty."""
+        """SCI_REDO, 2011. Performs the next transaction again; does nothing inside a group or if the future is
+        empty.
+        """
         self.send(constants.SCI_REDO)
 
     def set_undo_collection(self, on: bool) -> None:
@@ -85,7 +87,7 @@ class Messages:
         self.send(constants.SCI_SELECTALL)
 
     def set_save_point(self) -> None:
-        """SCI_SETSAVEPOINT, 2014. This is the save point."""
+        """SCI_SETSAVEPOINT, 2014. Makes the current state the save point."""
         self.send(constants.SCI_SETSAVEPOINT)
 
     def get_styled_text(self, start: int, end: int) -> bytes:
@@ -144,13 +146,13 @@ class Messages:
         return self.send(constants.SCI_GETENDSTYLED)
 
     def convert_eols(self, mode: int) -> None:
-        """SCI_CONVERTEOLS, 2029. `mode` in 0..2. Makes each CRLF, CR and LF one of that kind; ends of Unicode
-        stay, and so does the mode.
+        """SCI_CONVERTEOLS, 2029. `mode` in 0..2. Turns each CRLF, CR and LF into that line end; Unicode line ends
+        and the mode stay.
         """
         self.send(constants.SCI_CONVERTEOLS, mode)
 
     def get_eol_mode(self) -> int:
-        """SCI_GETEOLMODE, 2030. Returns the line end that NEWLINE and PASTE make."""
+        """SCI_GETEOLMODE, 2030. Returns the line end that NEWLINE and PASTE insert."""
         return self.send(constants.SCI_GETEOLMODE)
 
     def set_eol_mode(self, mode: int) -> None:
@@ -163,13 +165,13 @@ class Messages:
 
     def set_styling(self, length: int, style: int) -> None:
         """SCI_SETSTYLING, 2033. `style` in 0..255, `length` in 0..n-end styled. Styles `length` bytes from end
-        styled on with `style`, and moves it behind them. Here n is the text's length.
+        styled on with `style`, and moves end styled after them. Here n is the text's length.
         """
         self.send(constants.SCI_SETSTYLING, length, style)
 
     def marker_add(self, line: int, number: int) -> int:
         """SCI_MARKERADD, 2043. `number` in 0..31. Adds marker `number` at the end of `line`'s list; returns its
-        handle; bad line -1; TooMany where handles are used up. Here a bad line is one that is not there.
+        handle; bad line -1; TooMany if handles are used up. Here a bad line is one that is not there.
         """
         return self.send(constants.SCI_MARKERADD, line, number)
 
@@ -202,18 +204,19 @@ class Messages:
         return self.send(constants.SCI_MARKERPREVIOUS, line, mask)
 
     def set_styling_ex(self, styles: Text) -> None:
-        """SCI_SETSTYLINGEX, 2073. The bytes of `styles` are the styles of as many bytes of the text from end
-        styled on, which moves behind them; `styles` has at most as many as there are, else BadArgument.
+        """SCI_SETSTYLINGEX, 2073. Styles as many bytes as `styles` has, from end styled on, with the bytes of
+        `styles`, and moves end styled after them; `styles` has at most n-end styled bytes, else BadArgument.
+        Here n is the text's length.
         """
         styles = as_bytes(styles)
         self.send(constants.SCI_SETSTYLINGEX, len(styles), 0, styles)
 
     def begin_undo_action(self) -> None:
-        """SCI_BEGINUNDOACTION, 2078. The depth of groups goes up; TooMany at its limit."""
+        """SCI_BEGINUNDOACTION, 2078. Raises the depth of groups by 1; TooMany at its limit."""
         self.send(constants.SCI_BEGINUNDOACTION)
 
     def end_undo_action(self) -> None:
-        """SCI_ENDUNDOACTION, 2079. The depth of groups goes down; nothing at 0."""
+        """SCI_ENDUNDOACTION, 2079. Lowers the depth of groups by 1; does nothing at 0."""
         self.send(constants.SCI_ENDUNDOACTION)
 
     def set_line_state(self, line: int, state: int) -> None:
@@ -309,7 +312,7 @@ class Messages:
         return self.send(constants.SCI_POSITIONFROMLINE, line)
 
     def replace_sel(self, text: Text) -> None:
-        """SCI_REPLACESEL, 2170. Replaces the selection by `text`; anchor and caret stand behind `text`."""
+        """SCI_REPLACESEL, 2170. Replaces the selection by `text`; anchor and caret stand after `text`."""
         self.send(constants.SCI_REPLACESEL, 0, 0, text)
 
     def set_read_only(self, on: bool) -> None:
@@ -327,32 +330,32 @@ class Messages:
         return self.send(constants.SCI_CANUNDO) != 0
 
     def empty_undo_buffer(self) -> None:
-        """SCI_EMPTYUNDOBUFFER, 2175. Forgets the history and ends groups; this is the save point."""
+        """SCI_EMPTYUNDOBUFFER, 2175. Forgets the history and ends groups; makes the current state the save point."""
         self.send(constants.SCI_EMPTYUNDOBUFFER)
 
     def undo(self) -> None:
-        """SCI_UNDO, 2176. Takes the last transaction back; nothing inside a group or where the past is empty."""
+        """SCI_UNDO, 2176. Takes back the last transaction; does nothing inside a group or if the past is empty."""
         self.send(constants.SCI_UNDO)
 
     def cut(self) -> None:
-        """SCI_CUT, 2177. A selection that is not empty goes to the clipboard and is deleted; where the document is
-        read-only it does neither.
+        """SCI_CUT, 2177. Copies a selection that is not empty to the clipboard, and deletes the selection; on a
+        read-only document it does neither.
         """
         self.send(constants.SCI_CUT)
 
     def copy(self) -> None:
-        """SCI_COPY, 2178. A selection that is not empty goes to the clipboard."""
+        """SCI_COPY, 2178. Copies a selection that is not empty to the clipboard."""
         self.send(constants.SCI_COPY)
 
     def paste(self) -> None:
-        """SCI_PASTE, 2179. A clipboard that is not empty replaces the selection, with each CRLF, CR and LF turned
-        into the document's line end if the view converts pastes; anchor and caret stand behind it. Of an empty
-        clipboard: nothing.
+        """SCI_PASTE, 2179. Replaces the selection by a clipboard that is not empty, with each CRLF, CR and LF
+        turned into the document's line end if the view converts pastes; anchor and caret stand after it. With
+        an empty clipboard it does nothing.
         """
         self.send(constants.SCI_PASTE)
 
     def clear(self) -> None:
-        """SCI_CLEAR, 2180. Deletes the selection, or if that is empty from the caret to the next cut. Here a cut
+        """SCI_CLEAR, 2180. Deletes the selection, or if that is empty, from the caret to the next cut. Here a cut
         is a place between two characters.
         """
         self.send(constants.SCI_CLEAR)
@@ -392,17 +395,17 @@ class Messages:
 
     def replace_target(self, text: Text) -> int:
         """SCI_REPLACETARGET, 2194. Replaces the target by `text`; the target's start is then where `text` starts
-        and the target's end where it ends; returns its length, or 0 where the document is read-only, whose
-        target stays.
+        and the target's end where it ends; returns its length, or 0 on a read-only document, whose target
+        stays.
         """
         text = as_bytes(text)
         return self.send(constants.SCI_REPLACETARGET, len(text), 0, text)
 
     def search_in_target(self, text: Text) -> int:
         """SCI_SEARCHINTARGET, 2197. Looks for `text` between the target's start and the target's end: the first
-        match where the target's start is at most the target's end, else the last. Then the target's start is
-        its start and the target's end its end, also backwards; returns its start. None: -1, and the target
-        stays.
+        match if the target's start is at most the target's end, else the last. Then the target's start is the
+        start of the match and the target's end its end, backwards too; returns its start. If there is none: -1,
+        and the target stays.
         """
         text = as_bytes(text)
         return self.send(constants.SCI_SEARCHINTARGET, len(text), 0, text)
@@ -452,11 +455,11 @@ class Messages:
         return self.send(constants.SCI_GETFOLDPARENT, line)
 
     def show_lines(self, first: int, last: int) -> None:
-        """SCI_SHOWLINES, 2226. Shows each line from `first` to `last` that there is."""
+        """SCI_SHOWLINES, 2226. Shows each existing line from `first` to `last`."""
         self.send(constants.SCI_SHOWLINES, first, last)
 
     def hide_lines(self, first: int, last: int) -> None:
-        """SCI_HIDELINES, 2227. Hides each line from `first` to `last` that there is, but line 0."""
+        """SCI_HIDELINES, 2227. Hides each existing line from `first` to `last` except line 0."""
         self.send(constants.SCI_HIDELINES, first, last)
 
     def get_line_visible(self, line: int) -> bool:
@@ -476,12 +479,12 @@ class Messages:
         return self.send(constants.SCI_GETFOLDEXPANDED, line) != 0
 
     def toggle_fold(self, line: int) -> None:
-        """SCI_TOGGLEFOLD, 2231. As FOLDLINE with toggle."""
+        """SCI_TOGGLEFOLD, 2231. Like FOLDLINE with toggle."""
         self.send(constants.SCI_TOGGLEFOLD, line)
 
     def ensure_visible(self, line: int) -> None:
-        """SCI_ENSUREVISIBLE, 2232. A hidden `line` is made visible; before it its fold parents, the outermost
-        first, are made visible and, if contracted, expanded. A visible line: nothing.
+        """SCI_ENSUREVISIBLE, 2232. Makes a hidden `line` visible; before that, makes each of its fold parents
+        visible and expands it if it is contracted, the outermost first. For a visible line it does nothing.
         """
         self.send(constants.SCI_ENSUREVISIBLE, line)
 
@@ -491,14 +494,14 @@ class Messages:
 
     def fold_line(self, line: int, action: int) -> None:
         """SCI_FOLDLINE, 2237. `action` in 0..2: SC_FOLDACTION_CONTRACT 0, SC_FOLDACTION_EXPAND 1,
-        SC_FOLDACTION_TOGGLE 2. Of `line` if it is a header, else of its fold parent, if it has one: to contract
-        sets its expanded flag off and hides its children, to expand sets it on, shows those that no contracted
-        header between has as its own, and hides the others.
+        SC_FOLDACTION_TOGGLE 2. Acts on `line` if it is a header, else on its fold parent, if it has one. To
+        contract sets the header's expanded flag off and hides its children; to expand sets the flag on, shows
+        those children that no contracted header between has as its own, and hides the others.
         """
         self.send(constants.SCI_FOLDLINE, line, action)
 
     def append_text(self, text: Text) -> None:
-        """SCI_APPENDTEXT, 2282. Puts `text` in at the text's length."""
+        """SCI_APPENDTEXT, 2282. Inserts `text` at the text's length."""
         text = as_bytes(text)
         self.send(constants.SCI_APPENDTEXT, len(text), 0, text)
 
@@ -522,12 +525,12 @@ class Messages:
 
     def char_right(self) -> None:
         """SCI_CHARRIGHT, 2306. Anchor and caret go to the selection's end if the selection is not empty, else the
-        cut behind the caret. Here a cut is a place between two characters.
+        cut after the caret. Here a cut is a place between two characters.
         """
         self.send(constants.SCI_CHARRIGHT)
 
     def char_right_extend(self) -> None:
-        """SCI_CHARRIGHTEXTEND, 2307. The caret goes to the cut behind the caret. Here a cut is a place between two
+        """SCI_CHARRIGHTEXTEND, 2307. The caret goes to the cut after the caret. Here a cut is a place between two
         characters.
         """
         self.send(constants.SCI_CHARRIGHTEXTEND)
@@ -565,13 +568,13 @@ class Messages:
         self.send(constants.SCI_DOCUMENTENDEXTEND)
 
     def delete_back(self) -> None:
-        """SCI_DELETEBACK, 2326. Deletes the selection, or if that is empty from the cut before the caret to the
+        """SCI_DELETEBACK, 2326. Deletes the selection, or if that is empty, from the cut before the caret to the
         caret. Here a cut is a place between two characters.
         """
         self.send(constants.SCI_DELETEBACK)
 
     def new_line(self) -> None:
-        """SCI_NEWLINE, 2329. As REPLACESEL of the document's line end."""
+        """SCI_NEWLINE, 2329. Like REPLACESEL with the document's line end."""
         self.send(constants.SCI_NEWLINE)
 
     def line_length(self, line: int) -> int:
@@ -586,22 +589,22 @@ class Messages:
 
     def set_doc_pointer(self, document: int) -> None:
         """SCI_SETDOCPOINTER, 2358. `document` = 0: a new document (TooMany); else `document` names one
-        (NoSuchDocument; TooMany at the limit of references). It gains a reference, then the old one loses one;
-        the view is attached last, with the anchor, the caret, the target's start and the target's end 0 and all
-        lines visible and expanded; so it is to its own document too.
+        (NoSuchDocument; TooMany at the limit of references). That document gains a reference, then the old one
+        loses one; the view is attached last, with the anchor, the caret, the target's start and the target's
+        end 0 and all lines visible and expanded. The same holds for the view's own document.
         """
         self.send(constants.SCI_SETDOCPOINTER, 0, document)
 
     def set_mod_event_mask(self, mask: int) -> None:
-        """SCI_SETMODEVENTMASK, 2359. `mask` in 0..0x7FFFFF (SC_MODEVENTMASKALL): which kinds of SCN_MODIFIED this
-        view hears.
+        """SCI_SETMODEVENTMASK, 2359. `mask` in 0..0x7FFFFF (SC_MODEVENTMASKALL): the kinds of SCN_MODIFIED that
+        this view is notified of.
         """
         self.send(constants.SCI_SETMODEVENTMASK, mask)
 
     def create_document(self, bytes: int, options: int) -> int:
         """SCI_CREATEDOCUMENT, 2375. `bytes` is not negative, and not used; `options` is 0 or made of
         SC_DOCUMENTOPTION_STYLES_NONE 1 and SC_DOCUMENTOPTION_TEXT_LARGE 256, else BadArgument; returns the id
-        of a new document with these options, held once by the caller. TooMany where ids are used up.
+        of a new document with these options, held once by the caller. TooMany if ids are used up.
         """
         return self.send(constants.SCI_CREATEDOCUMENT, bytes, options)
 
@@ -610,7 +613,7 @@ class Messages:
         self.send(constants.SCI_ADDREFDOCUMENT, 0, document)
 
     def release_document(self, document: int) -> None:
-        """SCI_RELEASEDOCUMENT, 2377. `document` is held once less; NoSuchDocument, also where no caller holds it."""
+        """SCI_RELEASEDOCUMENT, 2377. `document` is held once less; NoSuchDocument, also if no caller holds it."""
         self.send(constants.SCI_RELEASEDOCUMENT, 0, document)
 
     def get_mod_event_mask(self) -> int:
@@ -635,18 +638,18 @@ class Messages:
 
     def copy_range(self, start: int, end: int) -> None:
         """SCI_COPYRANGE, 2419. `start` lies in 0..n, and `end` in `start`..n or is -1 for the end of the text. The
-        clipboard becomes [`start`, `end`), an empty one too. Here n is the text's length.
+        clipboard becomes [`start`, `end`), even if that is empty. Here n is the text's length.
         """
         self.send(constants.SCI_COPYRANGE, start, end)
 
     def copy_text(self, text: Text) -> None:
-        """SCI_COPYTEXT, 2420. The clipboard becomes `text`, an empty one too."""
+        """SCI_COPYTEXT, 2420. The clipboard becomes `text`, even if `text` is empty."""
         text = as_bytes(text)
         self.send(constants.SCI_COPYTEXT, len(text), 0, text)
 
     def marker_add_set(self, line: int, mask: int) -> None:
         """SCI_MARKERADDSET, 2466. `mask` in 0..2^32-1. Adds each number whose bit is set, rising; bad line
-        nothing; TooMany where handles do not suffice for all. Here a bad line is one that is not there.
+        nothing; TooMany if handles do not suffice for all. Here a bad line is one that is not there.
         """
         self.send(constants.SCI_MARKERADDSET, line, mask)
 
@@ -675,14 +678,14 @@ class Messages:
         return self.send(constants.SCI_GETINDICATORVALUE)
 
     def indicator_fill_range(self, start: int, length: int) -> None:
-        """SCI_INDICATORFILLRANGE, 2504. `start` in 0..n, `length` in 0..n-`start`. The current indicator has the
+        """SCI_INDICATORFILLRANGE, 2504. `start` in 0..n, `length` in 0..n-`start`. Gives the current indicator the
         current value over `length` bytes from `start` on. Here n is the text's length.
         """
         self.send(constants.SCI_INDICATORFILLRANGE, start, length)
 
     def indicator_clear_range(self, start: int, length: int) -> None:
-        """SCI_INDICATORCLEARRANGE, 2505. `start` in 0..n, `length` in 0..n-`start`. The current indicator is 0
-        over `length` bytes from `start` on. Here n is the text's length.
+        """SCI_INDICATORCLEARRANGE, 2505. `start` in 0..n, `length` in 0..n-`start`. Gives the current indicator
+        the value 0 over `length` bytes from `start` on. Here n is the text's length.
         """
         self.send(constants.SCI_INDICATORCLEARRANGE, start, length)
 
@@ -705,7 +708,7 @@ class Messages:
         return self.send(constants.SCI_INDICATORSTART, number, position)
 
     def indicator_end(self, number: int, position: int) -> int:
-        """SCI_INDICATOREND, 2509. `number` in 0..31; returns the place just behind the longest run of one value
+        """SCI_INDICATOREND, 2509. `number` in 0..31; returns the place just after the longest run of one value
         that holds `position`; 0 outside 0..n-1. Here n is the text's length.
         """
         return self.send(constants.SCI_INDICATOREND, number, position)
@@ -734,8 +737,8 @@ class Messages:
 
     def set_line_end_types_allowed(self, types: int) -> None:
         """SCI_SETLINEENDTYPESALLOWED, 2656. `types` in 0..1: SC_LINE_END_TYPE_DEFAULT 0, SC_LINE_END_TYPE_UNICODE
-        1, for the document, also a read-only one. Rows and every view's flags go to the lines that hold their
-        starts.
+        1, for the document, also a read-only one. Rows and the flags of every view go to the lines that contain
+        their starts.
         """
         self.send(constants.SCI_SETLINEENDTYPESALLOWED, types)
 
@@ -775,8 +778,9 @@ class Messages:
         self.send(constants.SCI_STOPRECORD)
 
     def colourise(self, start: int, end: int) -> None:
-        """SCI_COLOURISE, 4003. `start` lies in 0..n, and `end` in `start`..n or is -1 for the end of the text. End
-        styled is at most `start`; the sending view is asked to style up to `end`. Here n is the text's length.
+        """SCI_COLOURISE, 4003. `start` lies in 0..n, and `end` in `start`..n or is -1 for the end of the text. If
+        end styled is greater than `start`, it becomes `start`; the sending view is asked to style up to `end`.
+        Here n is the text's length.
         """
         self.send(constants.SCI_COLOURISE, start, end)
     # Written by tools/wrappers.py: end

@@ -12,14 +12,14 @@ fn length_of(text: &[u8]) -> i64 {
 /// states is refused as [`Refusal::BadArgument`].
 impl View<'_> {
     // Written by tools/wrappers.py: begin
-    /// SCI_ADDTEXT, 2001. Puts `text` in at the caret; then anchor and caret stand behind it,
+    /// SCI_ADDTEXT, 2001. Inserts `text` at the caret; then anchor and caret stand after it,
     /// for an empty `text` too.
     pub fn add_text(&mut self, text: impl AsRef<[u8]>) -> Result<(), Refusal> {
         let text = text.as_ref();
         self.as_done(sys::SCI_ADDTEXT, length_of(text), 0, text)
     }
 
-    /// SCI_INSERTTEXT, 2003. `position` is -1 for the caret, else in 0..n. Puts `text` in at
+    /// SCI_INSERTTEXT, 2003. `position` is -1 for the caret, else in 0..n. Inserts `text` at
     /// `position`. Here n is the text's length.
     pub fn insert_text(&mut self, position: i64, text: impl AsRef<[u8]>) -> Result<(), Refusal> {
         self.as_done(sys::SCI_INSERTTEXT, position, 0, text.as_ref())
@@ -57,8 +57,8 @@ impl View<'_> {
         self.as_number(sys::SCI_GETSTYLEAT, position, 0, &[])
     }
 
-    /// SCI_REDO, 2011. Does the next transaction again; nothing inside a group or where the
-    /// future is empty.
+    /// SCI_REDO, 2011. Performs the next transaction again; does nothing inside a group or if
+    /// the future is empty.
     pub fn redo(&mut self) -> Result<(), Refusal> {
         self.as_done(sys::SCI_REDO, 0, 0, &[])
     }
@@ -74,7 +74,7 @@ impl View<'_> {
         self.as_done(sys::SCI_SELECTALL, 0, 0, &[])
     }
 
-    /// SCI_SETSAVEPOINT, 2014. This is the save point.
+    /// SCI_SETSAVEPOINT, 2014. Makes the current state the save point.
     pub fn set_save_point(&mut self) -> Result<(), Refusal> {
         self.as_done(sys::SCI_SETSAVEPOINT, 0, 0, &[])
     }
@@ -136,13 +136,13 @@ impl View<'_> {
         self.as_number(sys::SCI_GETENDSTYLED, 0, 0, &[])
     }
 
-    /// SCI_CONVERTEOLS, 2029. `mode` in 0..2. Makes each CRLF, CR and LF one of that kind; ends
-    /// of Unicode stay, and so does the mode.
+    /// SCI_CONVERTEOLS, 2029. `mode` in 0..2. Turns each CRLF, CR and LF into that line end;
+    /// Unicode line ends and the mode stay.
     pub fn convert_eols(&mut self, mode: i64) -> Result<(), Refusal> {
         self.as_done(sys::SCI_CONVERTEOLS, mode, 0, &[])
     }
 
-    /// SCI_GETEOLMODE, 2030. Returns the line end that NEWLINE and PASTE make.
+    /// SCI_GETEOLMODE, 2030. Returns the line end that NEWLINE and PASTE insert.
     pub fn get_eol_mode(&mut self) -> Result<i64, Refusal> {
         self.as_number(sys::SCI_GETEOLMODE, 0, 0, &[])
     }
@@ -159,15 +159,15 @@ impl View<'_> {
     }
 
     /// SCI_SETSTYLING, 2033. `style` in 0..255, `length` in 0..n-end styled. Styles `length`
-    /// bytes from end styled on with `style`, and moves it behind them. Here n is the text's
-    /// length.
+    /// bytes from end styled on with `style`, and moves end styled after them. Here n is the
+    /// text's length.
     pub fn set_styling(&mut self, length: i64, style: i64) -> Result<(), Refusal> {
         self.as_done(sys::SCI_SETSTYLING, length, style, &[])
     }
 
     /// SCI_MARKERADD, 2043. `number` in 0..31. Adds marker `number` at the end of `line`'s
-    /// list; returns its handle; bad line -1; TooMany where handles are used up. Here a bad
-    /// line is one that is not there.
+    /// list; returns its handle; bad line -1; TooMany if handles are used up. Here a bad line
+    /// is one that is not there.
     pub fn marker_add(&mut self, line: i64, number: i64) -> Result<i64, Refusal> {
         self.as_number(sys::SCI_MARKERADD, line, number, &[])
     }
@@ -201,20 +201,20 @@ impl View<'_> {
         self.as_number(sys::SCI_MARKERPREVIOUS, line, mask, &[])
     }
 
-    /// SCI_SETSTYLINGEX, 2073. The bytes of `styles` are the styles of as many bytes of the
-    /// text from end styled on, which moves behind them; `styles` has at most as many as there
-    /// are, else BadArgument.
+    /// SCI_SETSTYLINGEX, 2073. Styles as many bytes as `styles` has, from end styled on, with
+    /// the bytes of `styles`, and moves end styled after them; `styles` has at most n-end
+    /// styled bytes, else BadArgument. Here n is the text's length.
     pub fn set_styling_ex(&mut self, styles: impl AsRef<[u8]>) -> Result<(), Refusal> {
         let styles = styles.as_ref();
         self.as_done(sys::SCI_SETSTYLINGEX, length_of(styles), 0, styles)
     }
 
-    /// SCI_BEGINUNDOACTION, 2078. The depth of groups goes up; TooMany at its limit.
+    /// SCI_BEGINUNDOACTION, 2078. Raises the depth of groups by 1; TooMany at its limit.
     pub fn begin_undo_action(&mut self) -> Result<(), Refusal> {
         self.as_done(sys::SCI_BEGINUNDOACTION, 0, 0, &[])
     }
 
-    /// SCI_ENDUNDOACTION, 2079. The depth of groups goes down; nothing at 0.
+    /// SCI_ENDUNDOACTION, 2079. Lowers the depth of groups by 1; does nothing at 0.
     pub fn end_undo_action(&mut self) -> Result<(), Refusal> {
         self.as_done(sys::SCI_ENDUNDOACTION, 0, 0, &[])
     }
@@ -318,7 +318,7 @@ impl View<'_> {
         self.as_number(sys::SCI_POSITIONFROMLINE, line, 0, &[])
     }
 
-    /// SCI_REPLACESEL, 2170. Replaces the selection by `text`; anchor and caret stand behind
+    /// SCI_REPLACESEL, 2170. Replaces the selection by `text`; anchor and caret stand after
     /// `text`.
     pub fn replace_sel(&mut self, text: impl AsRef<[u8]>) -> Result<(), Refusal> {
         self.as_done(sys::SCI_REPLACESEL, 0, 0, text.as_ref())
@@ -340,36 +340,37 @@ impl View<'_> {
         self.as_flag(sys::SCI_CANUNDO, 0, 0, &[])
     }
 
-    /// SCI_EMPTYUNDOBUFFER, 2175. Forgets the history and ends groups; this is the save point.
+    /// SCI_EMPTYUNDOBUFFER, 2175. Forgets the history and ends groups; makes the current state
+    /// the save point.
     pub fn empty_undo_buffer(&mut self) -> Result<(), Refusal> {
         self.as_done(sys::SCI_EMPTYUNDOBUFFER, 0, 0, &[])
     }
 
-    /// SCI_UNDO, 2176. Takes the last transaction back; nothing inside a group or where the
+    /// SCI_UNDO, 2176. Takes back the last transaction; does nothing inside a group or if the
     /// past is empty.
     pub fn undo(&mut self) -> Result<(), Refusal> {
         self.as_done(sys::SCI_UNDO, 0, 0, &[])
     }
 
-    /// SCI_CUT, 2177. A selection that is not empty goes to the clipboard and is deleted; where
-    /// the document is read-only it does neither.
+    /// SCI_CUT, 2177. Copies a selection that is not empty to the clipboard, and deletes the
+    /// selection; on a read-only document it does neither.
     pub fn cut(&mut self) -> Result<(), Refusal> {
         self.as_done(sys::SCI_CUT, 0, 0, &[])
     }
 
-    /// SCI_COPY, 2178. A selection that is not empty goes to the clipboard.
+    /// SCI_COPY, 2178. Copies a selection that is not empty to the clipboard.
     pub fn copy(&mut self) -> Result<(), Refusal> {
         self.as_done(sys::SCI_COPY, 0, 0, &[])
     }
 
-    /// SCI_PASTE, 2179. A clipboard that is not empty replaces the selection, with each CRLF,
-    /// CR and LF turned into the document's line end if the view converts pastes; anchor and
-    /// caret stand behind it. Of an empty clipboard: nothing.
+    /// SCI_PASTE, 2179. Replaces the selection by a clipboard that is not empty, with each
+    /// CRLF, CR and LF turned into the document's line end if the view converts pastes; anchor
+    /// and caret stand after it. With an empty clipboard it does nothing.
     pub fn paste(&mut self) -> Result<(), Refusal> {
         self.as_done(sys::SCI_PASTE, 0, 0, &[])
     }
 
-    /// SCI_CLEAR, 2180. Deletes the selection, or if that is empty from the caret to the next
+    /// SCI_CLEAR, 2180. Deletes the selection, or if that is empty, from the caret to the next
     /// cut. Here a cut is a place between two characters.
     pub fn clear(&mut self) -> Result<(), Refusal> {
         self.as_done(sys::SCI_CLEAR, 0, 0, &[])
@@ -413,17 +414,17 @@ impl View<'_> {
     }
 
     /// SCI_REPLACETARGET, 2194. Replaces the target by `text`; the target's start is then where
-    /// `text` starts and the target's end where it ends; returns its length, or 0 where the
-    /// document is read-only, whose target stays.
+    /// `text` starts and the target's end where it ends; returns its length, or 0 on a
+    /// read-only document, whose target stays.
     pub fn replace_target(&mut self, text: impl AsRef<[u8]>) -> Result<i64, Refusal> {
         let text = text.as_ref();
         self.as_number(sys::SCI_REPLACETARGET, length_of(text), 0, text)
     }
 
     /// SCI_SEARCHINTARGET, 2197. Looks for `text` between the target's start and the target's
-    /// end: the first match where the target's start is at most the target's end, else the
-    /// last. Then the target's start is its start and the target's end its end, also backwards;
-    /// returns its start. None: -1, and the target stays.
+    /// end: the first match if the target's start is at most the target's end, else the last.
+    /// Then the target's start is the start of the match and the target's end its end,
+    /// backwards too; returns its start. If there is none: -1, and the target stays.
     pub fn search_in_target(&mut self, text: impl AsRef<[u8]>) -> Result<i64, Refusal> {
         let text = text.as_ref();
         self.as_number(sys::SCI_SEARCHINTARGET, length_of(text), 0, text)
@@ -477,12 +478,12 @@ impl View<'_> {
         self.as_number(sys::SCI_GETFOLDPARENT, line, 0, &[])
     }
 
-    /// SCI_SHOWLINES, 2226. Shows each line from `first` to `last` that there is.
+    /// SCI_SHOWLINES, 2226. Shows each existing line from `first` to `last`.
     pub fn show_lines(&mut self, first: i64, last: i64) -> Result<(), Refusal> {
         self.as_done(sys::SCI_SHOWLINES, first, last, &[])
     }
 
-    /// SCI_HIDELINES, 2227. Hides each line from `first` to `last` that there is, but line 0.
+    /// SCI_HIDELINES, 2227. Hides each existing line from `first` to `last` except line 0.
     pub fn hide_lines(&mut self, first: i64, last: i64) -> Result<(), Refusal> {
         self.as_done(sys::SCI_HIDELINES, first, last, &[])
     }
@@ -505,14 +506,14 @@ impl View<'_> {
         self.as_flag(sys::SCI_GETFOLDEXPANDED, line, 0, &[])
     }
 
-    /// SCI_TOGGLEFOLD, 2231. As FOLDLINE with toggle.
+    /// SCI_TOGGLEFOLD, 2231. Like FOLDLINE with toggle.
     pub fn toggle_fold(&mut self, line: i64) -> Result<(), Refusal> {
         self.as_done(sys::SCI_TOGGLEFOLD, line, 0, &[])
     }
 
-    /// SCI_ENSUREVISIBLE, 2232. A hidden `line` is made visible; before it its fold parents,
-    /// the outermost first, are made visible and, if contracted, expanded. A visible line:
-    /// nothing.
+    /// SCI_ENSUREVISIBLE, 2232. Makes a hidden `line` visible; before that, makes each of its
+    /// fold parents visible and expands it if it is contracted, the outermost first. For a
+    /// visible line it does nothing.
     pub fn ensure_visible(&mut self, line: i64) -> Result<(), Refusal> {
         self.as_done(sys::SCI_ENSUREVISIBLE, line, 0, &[])
     }
@@ -523,14 +524,15 @@ impl View<'_> {
     }
 
     /// SCI_FOLDLINE, 2237. `action` in 0..2: SC_FOLDACTION_CONTRACT 0, SC_FOLDACTION_EXPAND 1,
-    /// SC_FOLDACTION_TOGGLE 2. Of `line` if it is a header, else of its fold parent, if it has
-    /// one: to contract sets its expanded flag off and hides its children, to expand sets it
-    /// on, shows those that no contracted header between has as its own, and hides the others.
+    /// SC_FOLDACTION_TOGGLE 2. Acts on `line` if it is a header, else on its fold parent, if it
+    /// has one. To contract sets the header's expanded flag off and hides its children; to
+    /// expand sets the flag on, shows those children that no contracted header between has as
+    /// its own, and hides the others.
     pub fn fold_line(&mut self, line: i64, action: i64) -> Result<(), Refusal> {
         self.as_done(sys::SCI_FOLDLINE, line, action, &[])
     }
 
-    /// SCI_APPENDTEXT, 2282. Puts `text` in at the text's length.
+    /// SCI_APPENDTEXT, 2282. Inserts `text` at the text's length.
     pub fn append_text(&mut self, text: impl AsRef<[u8]>) -> Result<(), Refusal> {
         let text = text.as_ref();
         self.as_done(sys::SCI_APPENDTEXT, length_of(text), 0, text)
@@ -555,12 +557,12 @@ impl View<'_> {
     }
 
     /// SCI_CHARRIGHT, 2306. Anchor and caret go to the selection's end if the selection is not
-    /// empty, else the cut behind the caret. Here a cut is a place between two characters.
+    /// empty, else the cut after the caret. Here a cut is a place between two characters.
     pub fn char_right(&mut self) -> Result<(), Refusal> {
         self.as_done(sys::SCI_CHARRIGHT, 0, 0, &[])
     }
 
-    /// SCI_CHARRIGHTEXTEND, 2307. The caret goes to the cut behind the caret. Here a cut is a
+    /// SCI_CHARRIGHTEXTEND, 2307. The caret goes to the cut after the caret. Here a cut is a
     /// place between two characters.
     pub fn char_right_extend(&mut self) -> Result<(), Refusal> {
         self.as_done(sys::SCI_CHARRIGHTEXTEND, 0, 0, &[])
@@ -607,13 +609,13 @@ impl View<'_> {
         self.as_done(sys::SCI_DOCUMENTENDEXTEND, 0, 0, &[])
     }
 
-    /// SCI_DELETEBACK, 2326. Deletes the selection, or if that is empty from the cut before the
-    /// caret to the caret. Here a cut is a place between two characters.
+    /// SCI_DELETEBACK, 2326. Deletes the selection, or if that is empty, from the cut before
+    /// the caret to the caret. Here a cut is a place between two characters.
     pub fn delete_back(&mut self) -> Result<(), Refusal> {
         self.as_done(sys::SCI_DELETEBACK, 0, 0, &[])
     }
 
-    /// SCI_NEWLINE, 2329. As REPLACESEL of the document's line end.
+    /// SCI_NEWLINE, 2329. Like REPLACESEL with the document's line end.
     pub fn new_line(&mut self) -> Result<(), Refusal> {
         self.as_done(sys::SCI_NEWLINE, 0, 0, &[])
     }
@@ -630,16 +632,16 @@ impl View<'_> {
     }
 
     /// SCI_SETDOCPOINTER, 2358. `document` = 0: a new document (TooMany); else `document` names
-    /// one (NoSuchDocument; TooMany at the limit of references). It gains a reference, then the
-    /// old one loses one; the view is attached last, with the anchor, the caret, the target's
-    /// start and the target's end 0 and all lines visible and expanded; so it is to its own
-    /// document too.
+    /// one (NoSuchDocument; TooMany at the limit of references). That document gains a
+    /// reference, then the old one loses one; the view is attached last, with the anchor, the
+    /// caret, the target's start and the target's end 0 and all lines visible and expanded. The
+    /// same holds for the view's own document.
     pub fn set_doc_pointer(&mut self, document: i64) -> Result<(), Refusal> {
         self.as_done(sys::SCI_SETDOCPOINTER, 0, document, &[])
     }
 
-    /// SCI_SETMODEVENTMASK, 2359. `mask` in 0..0x7FFFFF (SC_MODEVENTMASKALL): which kinds of
-    /// SCN_MODIFIED this view hears.
+    /// SCI_SETMODEVENTMASK, 2359. `mask` in 0..0x7FFFFF (SC_MODEVENTMASKALL): the kinds of
+    /// SCN_MODIFIED that this view is notified of.
     pub fn set_mod_event_mask(&mut self, mask: i64) -> Result<(), Refusal> {
         self.as_done(sys::SCI_SETMODEVENTMASK, mask, 0, &[])
     }
@@ -647,7 +649,7 @@ impl View<'_> {
     /// SCI_CREATEDOCUMENT, 2375. `bytes` is not negative, and not used; `options` is 0 or made
     /// of SC_DOCUMENTOPTION_STYLES_NONE 1 and SC_DOCUMENTOPTION_TEXT_LARGE 256, else
     /// BadArgument; returns the id of a new document with these options, held once by the
-    /// caller. TooMany where ids are used up.
+    /// caller. TooMany if ids are used up.
     pub fn create_document(&mut self, bytes: i64, options: i64) -> Result<i64, Refusal> {
         self.as_number(sys::SCI_CREATEDOCUMENT, bytes, options, &[])
     }
@@ -657,7 +659,7 @@ impl View<'_> {
         self.as_done(sys::SCI_ADDREFDOCUMENT, 0, document, &[])
     }
 
-    /// SCI_RELEASEDOCUMENT, 2377. `document` is held once less; NoSuchDocument, also where no
+    /// SCI_RELEASEDOCUMENT, 2377. `document` is held once less; NoSuchDocument, also if no
     /// caller holds it.
     pub fn release_document(&mut self, document: i64) -> Result<(), Refusal> {
         self.as_done(sys::SCI_RELEASEDOCUMENT, 0, document, &[])
@@ -688,21 +690,21 @@ impl View<'_> {
     }
 
     /// SCI_COPYRANGE, 2419. `start` lies in 0..n, and `end` in `start`..n or is -1 for the end
-    /// of the text. The clipboard becomes [`start`, `end`), an empty one too. Here n is the
-    /// text's length.
+    /// of the text. The clipboard becomes [`start`, `end`), even if that is empty. Here n is
+    /// the text's length.
     pub fn copy_range(&mut self, start: i64, end: i64) -> Result<(), Refusal> {
         self.as_done(sys::SCI_COPYRANGE, start, end, &[])
     }
 
-    /// SCI_COPYTEXT, 2420. The clipboard becomes `text`, an empty one too.
+    /// SCI_COPYTEXT, 2420. The clipboard becomes `text`, even if `text` is empty.
     pub fn copy_text(&mut self, text: impl AsRef<[u8]>) -> Result<(), Refusal> {
         let text = text.as_ref();
         self.as_done(sys::SCI_COPYTEXT, length_of(text), 0, text)
     }
 
     /// SCI_MARKERADDSET, 2466. `mask` in 0..2^32-1. Adds each number whose bit is set, rising;
-    /// bad line nothing; TooMany where handles do not suffice for all. Here a bad line is one
-    /// that is not there.
+    /// bad line nothing; TooMany if handles do not suffice for all. Here a bad line is one that
+    /// is not there.
     pub fn marker_add_set(&mut self, line: i64, mask: i64) -> Result<(), Refusal> {
         self.as_done(sys::SCI_MARKERADDSET, line, mask, &[])
     }
@@ -738,15 +740,16 @@ impl View<'_> {
         self.as_number(sys::SCI_GETINDICATORVALUE, 0, 0, &[])
     }
 
-    /// SCI_INDICATORFILLRANGE, 2504. `start` in 0..n, `length` in 0..n-`start`. The current
-    /// indicator has the current value over `length` bytes from `start` on. Here n is the
+    /// SCI_INDICATORFILLRANGE, 2504. `start` in 0..n, `length` in 0..n-`start`. Gives the
+    /// current indicator the current value over `length` bytes from `start` on. Here n is the
     /// text's length.
     pub fn indicator_fill_range(&mut self, start: i64, length: i64) -> Result<(), Refusal> {
         self.as_done(sys::SCI_INDICATORFILLRANGE, start, length, &[])
     }
 
-    /// SCI_INDICATORCLEARRANGE, 2505. `start` in 0..n, `length` in 0..n-`start`. The current
-    /// indicator is 0 over `length` bytes from `start` on. Here n is the text's length.
+    /// SCI_INDICATORCLEARRANGE, 2505. `start` in 0..n, `length` in 0..n-`start`. Gives the
+    /// current indicator the value 0 over `length` bytes from `start` on. Here n is the text's
+    /// length.
     pub fn indicator_clear_range(&mut self, start: i64, length: i64) -> Result<(), Refusal> {
         self.as_done(sys::SCI_INDICATORCLEARRANGE, start, length, &[])
     }
@@ -769,7 +772,7 @@ impl View<'_> {
         self.as_number(sys::SCI_INDICATORSTART, number, position, &[])
     }
 
-    /// SCI_INDICATOREND, 2509. `number` in 0..31; returns the place just behind the longest run
+    /// SCI_INDICATOREND, 2509. `number` in 0..31; returns the place just after the longest run
     /// of one value that holds `position`; 0 outside 0..n-1. Here n is the text's length.
     pub fn indicator_end(&mut self, number: i64, position: i64) -> Result<i64, Refusal> {
         self.as_number(sys::SCI_INDICATOREND, number, position, &[])
@@ -800,8 +803,8 @@ impl View<'_> {
     }
 
     /// SCI_SETLINEENDTYPESALLOWED, 2656. `types` in 0..1: SC_LINE_END_TYPE_DEFAULT 0,
-    /// SC_LINE_END_TYPE_UNICODE 1, for the document, also a read-only one. Rows and every
-    /// view's flags go to the lines that hold their starts.
+    /// SC_LINE_END_TYPE_UNICODE 1, for the document, also a read-only one. Rows and the flags
+    /// of every view go to the lines that contain their starts.
     pub fn set_line_end_types_allowed(&mut self, types: i64) -> Result<(), Refusal> {
         self.as_done(sys::SCI_SETLINEENDTYPESALLOWED, types, 0, &[])
     }
@@ -847,8 +850,8 @@ impl View<'_> {
     }
 
     /// SCI_COLOURISE, 4003. `start` lies in 0..n, and `end` in `start`..n or is -1 for the end
-    /// of the text. End styled is at most `start`; the sending view is asked to style up to
-    /// `end`. Here n is the text's length.
+    /// of the text. If end styled is greater than `start`, it becomes `start`; the sending view
+    /// is asked to style up to `end`. Here n is the text's length.
     pub fn colourise(&mut self, start: i64, end: i64) -> Result<(), Refusal> {
         self.as_done(sys::SCI_COLOURISE, start, end, &[])
     }
