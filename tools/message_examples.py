@@ -15,8 +15,9 @@ MARKS = {
 }
 HEAD = """# One line for each message
 
-Each line stands in a script of `examples/`, which `sci_console run` runs whole; beside it is what that run prints for it, notes left out. `= VALUE "TEXT"` is the
-reply. Written by `tools/message_examples.py` from the examples, whose outputs are theorems of `ed_model`; the gate's script sees that it is up to date.
+Each line is part of a script in `examples/`; the last column names the script, and `sci_console run` runs it whole. *What it prints* is what that
+run prints for the line, without the notes: `= VALUE "TEXT"` is a reply, and `! NUMBER` a refusal. The outputs of the examples are theorems of `ed_model`.
+`tools/message_examples.py` writes this page from the examples, and the gate checks that it is up to date.
 
 | Number | Message | A line that runs | What it prints | In |
 |---|---|---|---|---|
