@@ -555,8 +555,8 @@ class BasicView {
   Answer<bool> GetAllLinesVisible() const { return as_flag(SCI_GETALLLINESVISIBLE, 0, 0); }
   /// SCI_FOLDLINE, 2237. `action` in 0..2: SC_FOLDACTION_CONTRACT 0, SC_FOLDACTION_EXPAND 1, SC_FOLDACTION_TOGGLE 2.
   /// Acts on `line` if it is a header, else on its fold parent, if it has one. To contract sets the header's expanded
-  /// flag off and hides its children; to expand sets the flag on, shows those children that no contracted header
-  /// between has as its own, and hides the others.
+  /// flag off and hides its children; to expand sets the flag on and shows its children, except the children of
+  /// contracted headers among them; these it hides.
   Answer<void> FoldLine(std::int64_t line, std::int64_t action) { return as_done(SCI_FOLDLINE, line, action); }
   /// SCI_APPENDTEXT, 2282. Inserts `text` at the text's length.
   Answer<void> AppendText(std::string_view text) { return as_done(SCI_APPENDTEXT, length_of(text), 0, text); }

@@ -526,8 +526,8 @@ impl View<'_> {
     /// SCI_FOLDLINE, 2237. `action` in 0..2: SC_FOLDACTION_CONTRACT 0, SC_FOLDACTION_EXPAND 1,
     /// SC_FOLDACTION_TOGGLE 2. Acts on `line` if it is a header, else on its fold parent, if it
     /// has one. To contract sets the header's expanded flag off and hides its children; to
-    /// expand sets the flag on, shows those children that no contracted header between has as
-    /// its own, and hides the others.
+    /// expand sets the flag on and shows its children, except the children of contracted
+    /// headers among them; these it hides.
     pub fn fold_line(&mut self, line: i64, action: i64) -> Result<(), Refusal> {
         self.as_done(sys::SCI_FOLDLINE, line, action, &[])
     }
