@@ -1,16 +1,16 @@
-//! Room in a `Vec` that grows, with a bound on it: `Vec::reserve` does not say how much there is afterwards.
+//! Growth of a `Vec` with a bound on its capacity: `Vec::reserve` does not say how large the capacity is afterwards.
 #![tactic(auto)]
 
 ghost use Rattle.std.specs.Prelude.{◌≡◌, ◌≤◌, ◌+◌, ◌⊎◌, max, OnOk, OnErr, IsOk, vec_len, vec_capacity};
 
 use std::alloc::AllocError;
 
-/// Makes room for `count` more items. Where it is too small, it becomes room for `count`, or for as many as there are if that is
-/// more, so that a run of items that come one by one takes amortised constant time for each.
+/// Makes room for `count` more items. If the spare capacity is too small, it becomes `count` or the number of items,
+/// whichever is larger. So items that are pushed one by one take amortised constant time each.
 ///
 /// # Errors
 ///
-/// `AllocError` where memory is refused. All is then as it was.
+/// `AllocError` if the allocation fails. `vec` is then unchanged.
 pub fn reserve<T>(vec: &mut Vec<T>, count: usize) -> Result<(), AllocError>
     ensures items { vec.new.items ≡ vec.old.items }
     ensures len { vec_len vec.new ≡ vec_len vec.old }
