@@ -18,6 +18,6 @@ module _ {X A : Type 0} where
     pub len : b.len ≡ length b.cells.left + length b.cells.right
     pub small : (b.len + b.spare < 2 ^ 63) × (b.moved < 2 ^ 64)
 
-  -- the block has these items on the left, so many free cells, and these items on the right, and so many were moved
+  -- the block has these items on the left, this number of free cells, these items on the right, and this count of moved items
   abbrev pub Has : Block X A → List X → ℕ → List X → ℕ → Type 0
   Has b left spare right moved = IsBlock b × (b.cells.left ≡ left) × (b.spare ≡ spare) × (b.cells.right ≡ right) × (b.moved ≡ moved)

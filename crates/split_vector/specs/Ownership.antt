@@ -45,7 +45,7 @@ module _ (R : RattleType) where
   cells_lent (block_ptr b o) cs = beside (said (fit cs)) (slots_lent b o cs)
   cells_lent null_ptr cs = said ffalse
 
-  -- the allocator's token for a block of n cells, and none where there is no block
+  -- the allocator's token for a block of n cells; there is none if n is 0
   abbrev pub deed_owns : (Ty → Ptr → Fml) → Ptr → ℕ → Fml
   deed_owns token p zero = ftrue
   deed_owns token p (suc n) = token (raw (ty_array (lone R.mir) (suc n))) p

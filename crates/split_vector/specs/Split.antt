@@ -16,7 +16,7 @@ module _ {X : Type 0} where
   abbrev pub split_code : Coded X → Coded (Split X)
   split_code c = code_by (List X × (ℕ × (ℕ × ℕ))) (coded× (coded_list c) (coded× coded_ℕ (coded× coded_ℕ coded_ℕ))) (λ s. (s.items, (s.spare, (s.gap, s.moved)))) (λ p. split p.0 p.1.0 p.1.1.0 p.1.1.1) (λ _. refl)
 
-  -- xs with the items new put in at the place
+  -- xs with the items new inserted at the place
   abbrev pub inserted : List X → ℕ → List X → List X
   inserted xs place new = take place xs ++ new ++ drop place xs
 
@@ -28,14 +28,14 @@ module _ {X : Type 0} where
   abbrev pub EachBetween : (X → Type 0) → ℕ → ℕ → List X → Type 0
   EachBetween P low high xs = (k : ℕ) (d : X) → low ≤ k → k < high → P (slice_index_or xs k d)
 
-  -- new is old, with an item that R relates to the old one in place of each from low up to high
+  -- new is old, with each item from low up to high replaced by one that R relates to it
   pub record IsUpdated (R : X → X → Type 0) (low high : ℕ) (old new : List X) : Type 0 where
     pub same_length : length new ≡ length old
     pub updated : (k : ℕ) (d : X) → low ≤ k → k < high → R (slice_index_or old k d) (slice_index_or new k d)
     pub kept_below : (k : ℕ) (d : X) → k < low → slice_index_or new k d ≡ slice_index_or old k d
     pub kept_above : (k : ℕ) (d : X) → high ≤ k → slice_index_or new k d ≡ slice_index_or old k d
 
--- a counter that stays at the greatest `u64`
+-- a counter that stops at the greatest `u64`
 abbrev pub counted : ℕ → ℕ → ℕ
 counted moved n = min (moved + n) (2 ^ 64 - 1)
 
@@ -47,31 +47,31 @@ apart p q = (p - q) + (q - p)
 abbrev pub outside : ℕ → ℕ → ℕ → ℕ
 outside low high g = (low - g) + (g - high)
 
--- the most room that a block of so many items and so much room has once room for `count` more was asked for: that, or what a
--- block of twice the size has
+-- the most spare capacity that a block may have after room for `count` more was requested, by its old length and spare
+-- capacity: the requested room, or what a block of twice the size has
 abbrev pub most_room : ℕ → ℕ → ℕ → ℕ
 most_room items room count = max count (items + 2 * room)
 
--- the size of a block of so many cells once it has grown by a sixty-fourth part, or to what was wanted where that is more
+-- the size of a block of so many cells once it has grown by a 64th of its size, or to the wanted size if that is larger
 abbrev pub part_larger : ℕ → ℕ → ℕ
 part_larger held wanted = max wanted (held + held / 64)
 
--- where the gap lies after count items went in at the place, or after none did
+-- where the gap lies after count items were inserted at the place; it stays if there are none
 abbrev pub gap_after : ℕ → ℕ → ℕ → ℕ
 gap_after place count gap = if count == 0 then gap else place + count
 
--- the counter after count items went in at the place: the gap was moved there, and the items were written
+-- the counter after count items were inserted at the place: the gap was moved there, and the items were written
 abbrev pub moved_after : ℕ → ℕ → ℕ → ℕ → ℕ
 moved_after place count gap moved = if count == 0 then moved else counted moved (apart place gap + count)
 
--- where the gap lies after the count items from the place on were taken away
+-- where the gap lies after the count items from the place on were deleted
 abbrev pub gap_closed : ℕ → ℕ → ℕ → ℕ
 gap_closed place count gap = if count == 0 then gap else place
 
--- the counter after that: the gap was moved to the nearer end of the range, or not at all where it lay inside
+-- the counter after that deletion: the gap was moved to the nearer end of the range, unless it lay inside
 abbrev pub moved_closed : ℕ → ℕ → ℕ → ℕ → ℕ
 moved_closed place count gap moved = if count == 0 then moved else counted moved (outside place (place + count) gap)
 
--- where the gap lies while the items from low to high are lent as one slice: at the nearer end, if it lay between them
+-- where the gap lies while the items from low to high are lent as one slice: if it lay between them, at the nearer end
 abbrev pub gap_beside : ℕ → ℕ → ℕ → ℕ
 gap_beside low high gap = if nat_lt low gap && nat_lt gap high then (if nat_le (gap - low) (high - gap) then low else high) else gap

@@ -1,4 +1,4 @@
-//! The fields of a vector, and the steps that keep them a gap buffer. The arithmetic of the gap is here.
+//! The fields of a vector, and the steps that keep them a gap buffer. All arithmetic of the gap is in this module.
 ghost use Rattle.std.specs.Prelude.{◌≡◌, ◌≤◌, ◌<◌, ◌+◌, ◌-◌, ◌*◌, ◌^◌, [], ◌∷◌, ◌++◌, length, take, drop, replicate, slice_index_or, slice_set, slice_range, OnOk, OnErr, Some, true};
 ghost use Rattle.std.specs.Vec.Ownership.{FitsInBlock};
 ghost use Rattle.std.specs.Mem.{type_size};
@@ -11,12 +11,12 @@ use std::alloc::{AllocError, Allocator};
 use std::mem::{self, size_of_val};
 use std_alloc::room::may_hold;
 
-/// So many items are carried over the gap at once, where it moves far. `raise_part` and `lower_part` copy them to the stack and write them
-/// on the other side, but clang makes one move of memory of it: in `objdump -d` of a proved program a part is one call of `memmove`, of
-/// 32,768 bytes for items of 8, straight from where they lie to where they go. So each item is written once, as it is counted.
+/// The number of items that a long move of the gap copies at once. `raise_part` and `lower_part` copy them to the stack
+/// and back, but clang merges the two copies: in `objdump -d` of a proved program a part is one call of `memmove`, of
+/// 32,768 bytes for items of 8 bytes. So each item is written once, as it is counted.
 const PART: usize = 4096;
 
-/// A part of more bytes is not copied to the stack.
+/// The most bytes of a part that is copied to the stack.
 const PART_BYTES: usize = 32_768;
 
 /// A row of `len + spare` cells: `gap` items, then `spare` cells with no item, then the other items.
@@ -31,7 +31,7 @@ pub struct Block<T, A: Allocator> {
     alloc: A,
 }
 
-/// Gives the `len` cells back, where there are any.
+/// Frees the block of `len` cells, if there is one.
 fn release<T, A: Allocator>(alloc: &A, base: Base<T>, len: usize, cells: Cells<T>, deed: Deed<T, A>)
     requires { (cells.at ≡ base.ptr) × (length cells.left + cells.spare + length cells.right ≡ len) × (deed.at ≡ base.ptr) × (deed.len ≡ len) × (deed.alloc ≡ alloc.now) }
 {
@@ -42,7 +42,7 @@ fn release<T, A: Allocator>(alloc: &A, base: Base<T>, len: usize, cells: Cells<T
     }
 }
 
-// Whether a part of these items takes so few bytes that a copy of it may stand on the stack.
+// Returns whether a part of these items is small enough to be copied to the stack.
 #[inline(always)]
 fn is_small_part<T>(items: &[T]) -> bool
     requires { 4096 ≤ length items.now }
@@ -52,7 +52,7 @@ fn is_small_part<T>(items: &[T]) -> bool
 }
 
 impl<T, A: Allocator> Block<T, A> {
-    /// A block of no cells, which takes no memory.
+    /// Returns a block with no cells. Allocates nothing.
     pub(crate) fn new(alloc: A) -> Self
         ensures { Has result [] 0 [] 0 }
     {
@@ -69,7 +69,7 @@ impl<T, A: Allocator> Block<T, A> {
         }
     }
 
-    /// Gives the memory back.
+    /// Frees the memory.
     pub(crate) fn free(self)
         requires { IsBlock self }
     {
@@ -86,7 +86,7 @@ impl<T, A: Allocator> Block<T, A> {
         release(&alloc, base, len + spare, cells, deed);
     }
 
-    /// The items before the gap.
+    /// Returns the items before the gap.
     pub(crate) fn left(&self) -> &[T]
         requires { IsBlock self.now }
         ensures { result.now ≡ self.now.cells.left }
@@ -94,7 +94,7 @@ impl<T, A: Allocator> Block<T, A> {
         self.cells.left(self.base, self.gap)
     }
 
-    /// The items behind the gap.
+    /// Returns the items behind the gap.
     pub(crate) fn right(&self) -> &[T]
         requires { IsBlock self.now }
         ensures { result.now ≡ self.now.cells.right }
@@ -103,7 +103,7 @@ impl<T, A: Allocator> Block<T, A> {
             .right(self.base, self.gap + self.spare, self.len - self.gap)
     }
 
-    /// The item in the cell `place`.
+    /// Returns the item in the cell `place`.
     #[inline]
     pub(crate) fn item(&self, place: usize) -> T
     where
@@ -122,7 +122,7 @@ impl<T, A: Allocator> Block<T, A> {
         self.moved = self.moved.saturating_add(items as u64);
     }
 
-    // Carries the last `PART` items before the gap over it.
+    // Moves the last `PART` items before the gap behind it.
     fn raise_part(&mut self)
     where
         T: Copy,
@@ -141,7 +141,7 @@ impl<T, A: Allocator> Block<T, A> {
         self.gap = from;
     }
 
-    // Carries the first `PART` items behind the gap over it.
+    // Moves the first `PART` items behind the gap before it.
     fn lower_part(&mut self)
     where
         T: Copy,
@@ -159,7 +159,7 @@ impl<T, A: Allocator> Block<T, A> {
         self.gap = gap + PART;
     }
 
-    // Moves the gap to `place`, where that is near. The items that lie between are copied, and not counted.
+    // Moves the gap to `place`, which is near it. Copies the items between the two, and does not count them.
     fn slide_near(&mut self, place: usize)
         requires { IsBlock self.old × (place ≤ self.old.len) }
         ensures { Has self.new (take place (block_items self.old)) self.old.spare (drop place (block_items self.old)) self.old.moved }
@@ -177,7 +177,7 @@ impl<T, A: Allocator> Block<T, A> {
         }
     }
 
-    // Moves the gap back to less than a part behind `place`, a part after the other.
+    // Moves the gap back, part by part, to less than a part behind `place`.
     fn slide_back(&mut self, place: usize)
     where
         T: Copy,
@@ -190,7 +190,7 @@ impl<T, A: Allocator> Block<T, A> {
         }
     }
 
-    // Moves the gap on to less than a part before `place`, a part after the other.
+    // Moves the gap forward, part by part, to less than a part before `place`.
     fn slide_on(&mut self, place: usize)
     where
         T: Copy,
@@ -203,7 +203,7 @@ impl<T, A: Allocator> Block<T, A> {
         }
     }
 
-    /// Moves the gap to `place`. The items that lie between are copied, and not counted.
+    /// Moves the gap to `place`. Copies the items between the two, and does not count them.
     pub(crate) fn slide(&mut self, place: usize)
     where
         T: Copy,
@@ -218,7 +218,7 @@ impl<T, A: Allocator> Block<T, A> {
         self.slide_near(place);
     }
 
-    /// Moves the gap to `place`, and counts the items that were copied. Mostly it stands there.
+    /// Moves the gap to `place`, and counts the items that this copies. The gap usually stands there already.
     #[inline(always)]
     pub(crate) fn move_gap(&mut self, place: usize)
     where
@@ -232,7 +232,7 @@ impl<T, A: Allocator> Block<T, A> {
         self.carry_gap(place);
     }
 
-    // Moves the gap to `place` from elsewhere.
+    // The slow path of `move_gap`, out of line: the gap stands elsewhere.
     #[inline(never)]
     fn carry_gap(&mut self, place: usize)
     where
@@ -249,7 +249,7 @@ impl<T, A: Allocator> Block<T, A> {
         self.count(distance);
     }
 
-    /// Moves the gap, if it lies outside, to the nearer end of the range from `low` to `high`.
+    /// Moves the gap to the nearer end of the range from `low` to `high`, unless it stands in that range.
     fn reach(&mut self, low: usize, high: usize)
     where
         T: Copy,
@@ -264,7 +264,7 @@ impl<T, A: Allocator> Block<T, A> {
         }
     }
 
-    /// Takes the `count` items from `place` on away.
+    /// Deletes the `count` items from `place` on.
     pub(crate) fn remove(&mut self, place: usize, count: usize)
     where
         T: Copy,
@@ -322,7 +322,7 @@ impl<T, A: Allocator> Block<T, A> {
         self.count(count);
     }
 
-    /// Writes `item` over the one at `index`.
+    /// Overwrites the item at `index` with `item`.
     pub(crate) fn replace(&mut self, index: usize, item: T)
         requires { IsBlock self.old × (index < self.old.len) }
         ensures fields { IsBlock self.new × (self.new.spare ≡ self.old.spare) × (self.new.gap ≡ self.old.gap) × (self.new.moved ≡ self.old.moved) }
@@ -336,7 +336,8 @@ impl<T, A: Allocator> Block<T, A> {
         }
     }
 
-    /// Writes what `change` returns for it over each item from `low` up to `high`: those before the gap, then those behind it.
+    /// Replaces each item from `low` up to `high` by what `change` returns for it: first those before the gap, then
+    /// those behind it.
     #[inline]
     pub(crate) fn update<F: Fn(T) -> T>(&mut self, low: usize, high: usize, change: &F)
     where
@@ -361,7 +362,7 @@ impl<T, A: Allocator> Block<T, A> {
         );
     }
 
-    // Has the allocator make the block one of `size` cells: no item lies behind the gap.
+    // Lets the allocator enlarge the block to `size` cells. No item lies behind the gap.
     fn enlarge(&mut self, size: usize) -> Result<(), AllocError>
         requires { IsBlock self.old × (self.old.gap ≡ self.old.len) × (0 < self.old.len + self.old.spare) × (self.old.len + self.old.spare ≤ size) × FitsInBlock T.row size }
         ensures ok { OnOk result (Has self.new self.old.cells.left (size - self.old.len) self.old.cells.right self.old.moved) }
@@ -388,7 +389,7 @@ impl<T, A: Allocator> Block<T, A> {
         Ok(())
     }
 
-    // Copies the items to a new block of `size` cells.
+    // Moves the items to a new block of `size` cells.
     fn move_to(&mut self, size: usize) -> Result<(), AllocError>
     where
         T: Copy,
@@ -409,8 +410,8 @@ impl<T, A: Allocator> Block<T, A> {
         Ok(())
     }
 
-    /// Makes the block one of `size` cells, with the gap at the same place. Where no item lies behind the gap, the
-    /// allocator may do so: it moves a large block without a copy, and touches no memory for cells without an item.
+    /// Enlarges the block to `size` cells. The gap stays at its place. If no item lies behind it, the allocator
+    /// enlarges the block itself: it moves a large block without a copy, and does not touch the memory of empty cells.
     pub(crate) fn grow(&mut self, size: usize) -> Result<(), AllocError>
     where
         T: Copy,

@@ -1,7 +1,7 @@
-//! The block, the one place with raw pointers: a row of cells, of which those in the gap hold nothing.
+//! The block, and all raw pointers of this crate: a row of cells, of which those in the gap hold nothing.
 //!
-//! `Base` is the address alone, and may be copied. `Cells` is the right to the cells, and `Deed` the right to give the
-//! block back: they take no bytes, exist once each, and are handed in where they are needed.
+//! `Base` is the address alone, and may be copied. `Cells` is the right to use the cells, and `Deed` the right to free
+//! the block. Both take no bytes and exist once for each block; a function that needs them takes them as arguments.
 ghost use Rattle.std.specs.Prelude.{◌≡◌, ℕ, ◌+◌, ◌-◌, ◌*◌, ◌^◌, ◌<◌, ◌≤◌, ◌⊎◌, List, [], ◌∷◌, ◌++◌, map, length, take, drop, slice_set, Some, IfOk, OnErr, ⊤};
 ghost use Rattle.std.specs.Vec.Ownership.{FitsInBlock};
 ghost use base.Fml.{ftrue};
@@ -15,7 +15,7 @@ use std::marker::{Model, PhantomData};
 use std::mem::{align_of, size_of};
 use std::slice;
 
-/// Where the block begins. It owns nothing.
+/// The address of the block. It owns nothing.
 pub struct Base<T> {
     ptr: *mut T,
 }
@@ -32,7 +32,7 @@ impl<T> Clone for Base<T> {
 
 impl<T> Copy for Base<T> {}
 
-/// The owner of the cells: the items `left` of the gap, `spare` cells with no item, and the items `right` of it.
+/// The owner of the cells: the items `left` of the gap, `spare` empty cells, and the items `right` of the gap.
 pub struct Cells<T> {
     mark: PhantomData<*const T>,
     ghost at: { Ptr },
@@ -47,7 +47,7 @@ impl<T> Model for Cells<T> {
     ghost also_shares = { λ c _ κ. cells_lent T.row c.at (cells_of c.left c.spare c.right) κ };
 }
 
-/// The right to give the block of `len` cells at `at` back to `alloc`, or nothing where `len` is 0.
+/// The right to return the block of `len` cells at `at` to `alloc`. If `len` is 0, there is no block.
 pub struct Deed<T, A: Allocator> {
     mark: PhantomData<*const (T, A)>,
     ghost at: { Ptr },
@@ -61,7 +61,7 @@ impl<T, A: Allocator> Model for Deed<T, A> {
     ghost also_shares = { λ _ _ _. ftrue };
 }
 
-/// No cell at all. The address lies nowhere, and nothing is read through it.
+/// Returns no cells at all. The address points nowhere, and nothing is read through it.
 pub(crate) fn no_cells<T, A: Allocator>(_alloc: &A) -> (Base<T>, Cells<T>, Deed<T, A>)
     ensures { (result.1.at ≡ result.0.ptr) × (result.1.left ≡ []) × (result.1.spare ≡ 0) × (result.1.right ≡ []) × (result.2.at ≡ result.0.ptr) × (result.2.len ≡ 0) × (result.2.alloc ≡ _alloc.now) }
 {
@@ -76,7 +76,7 @@ pub(crate) fn no_cells<T, A: Allocator>(_alloc: &A) -> (Base<T>, Cells<T>, Deed<
     )
 }
 
-/// Takes a block of `len` cells.
+/// Allocates a block of `len` cells.
 pub(crate) fn allocate<T, A: Allocator>(
     alloc: &A,
     len: usize,
@@ -99,8 +99,8 @@ pub(crate) fn allocate<T, A: Allocator>(
     }
 }
 
-/// Has the allocator make a block of `old` cells one of `new`, where no item lies behind the gap: it keeps the first items
-/// alone. On `Err` all is as it was.
+/// Lets the allocator enlarge a block of `old` cells to `new`. No item lies behind the gap, since the allocator keeps
+/// the first items alone. On `Err` nothing changes.
 pub(crate) fn enlarge<T, A: Allocator>(
     alloc: &A,
     base: Base<T>,
@@ -133,7 +133,7 @@ pub(crate) fn enlarge<T, A: Allocator>(
     }
 }
 
-/// Gives a block back. Its items are forgotten.
+/// Frees a block. Its items are forgotten.
 pub(crate) fn deallocate<T, A: Allocator>(
     alloc: &A,
     base: Base<T>,
@@ -150,7 +150,7 @@ pub(crate) fn deallocate<T, A: Allocator>(
     }
 }
 
-/// Ends the rights to a block that was never taken.
+/// Discards the rights to a block that was never allocated.
 pub(crate) fn discard<T, A: Allocator>(cells: Cells<T>, deed: Deed<T, A>)
     requires { deed.len ≡ 0 }
 {
@@ -175,7 +175,7 @@ impl<T> Cells<T> {
         unsafe { base.ptr.add(place).write(item) }
     }
 
-    /// Writes `item` over the one at `index` on the left. The old item is forgotten.
+    /// Overwrites the item at `index` on the left. The old item is forgotten.
     pub(crate) fn replace_left(&mut self, base: Base<T>, index: usize, item: T)
         requires { (base.ptr ≡ self.old.at) × (index < length self.old.left) }
         ensures { (self.new.at ≡ self.old.at) × (self.new.left ≡ slice_set self.old.left index item) × (self.new.spare ≡ self.old.spare) × (self.new.right ≡ self.old.right) }
@@ -183,7 +183,7 @@ impl<T> Cells<T> {
         unsafe { base.ptr.add(index).write(item) }
     }
 
-    /// Writes `item` over the one in the cell `place`, which lies right of the gap. The old item is forgotten.
+    /// Overwrites the item in the cell `place`, which lies right of the gap. The old item is forgotten.
     pub(crate) fn replace_right(&mut self, base: Base<T>, place: usize, item: T)
         requires { (base.ptr ≡ self.old.at) × (length self.old.left + self.old.spare ≤ place) × (place < length self.old.left + self.old.spare + length self.old.right) }
         ensures { (self.new.at ≡ self.old.at) × (self.new.left ≡ self.old.left) × (self.new.spare ≡ self.old.spare) × (self.new.right ≡ slice_set self.old.right (place - (length self.old.left + self.old.spare)) item) }
@@ -191,7 +191,7 @@ impl<T> Cells<T> {
         unsafe { base.ptr.add(place).write(item) }
     }
 
-    /// The `len` items from the cell `from` on.
+    /// Returns the `len` items from the cell `from` on.
     pub(crate) fn slice(&self, base: Base<T>, from: usize, len: usize) -> &[T]
         requires { (base.ptr ≡ self.now.at) × IsRun (cells_of self.now.left self.now.spare self.now.right) from len }
         ensures { take len (drop from (cells_of self.now.left self.now.spare self.now.right)) ≡ map Some result.now }
@@ -199,7 +199,7 @@ impl<T> Cells<T> {
         unsafe { slice::from_raw_parts(base.ptr.add(from), len) }
     }
 
-    /// Moves the last `count` items on the left over the gap.
+    /// Moves the last `count` items on the left to the right side of the gap.
     pub(crate) fn raise(&mut self, base: Base<T>, from: usize, to: usize, count: usize)
         requires { (base.ptr ≡ self.old.at) × (from + count ≡ length self.old.left) × (to ≡ from + self.old.spare) }
         ensures { (self.new.at ≡ self.old.at) × (self.new.left ≡ take from self.old.left) × (self.new.spare ≡ self.old.spare) × (self.new.right ≡ drop from self.old.left ++ self.old.right) }
@@ -207,7 +207,7 @@ impl<T> Cells<T> {
         unsafe { move_up(base.ptr.add(from), base.ptr.add(to), count) }
     }
 
-    /// Moves the first `count` items on the right back over the gap.
+    /// Moves the first `count` items on the right to the left side of the gap.
     pub(crate) fn lower(&mut self, base: Base<T>, from: usize, to: usize, count: usize)
         requires { (base.ptr ≡ self.old.at) × (to ≡ length self.old.left) × (from ≡ to + self.old.spare) × (count ≤ length self.old.right) }
         ensures { (self.new.at ≡ self.old.at) × (self.new.left ≡ self.old.left ++ take count self.old.right) × (self.new.spare ≡ self.old.spare) × (self.new.right ≡ drop count self.old.right) }
@@ -215,7 +215,7 @@ impl<T> Cells<T> {
         unsafe { move_down(base.ptr.add(from), base.ptr.add(to), count) }
     }
 
-    /// Forgets the items beside the gap: all but the first `left` on the left, and the first `after` on the right.
+    /// Forgets the items next to the gap: it keeps the first `left` on the left, and drops the first `after` on the right.
     pub(crate) fn widen(&mut self, left: usize, after: usize)
         requires { (left ≤ length self.old.left) × (after ≤ length self.old.right) }
         ensures { (self.new.at ≡ self.old.at) × (self.new.left ≡ take left self.old.left) × (self.new.spare ≡ self.old.spare + (length self.old.left - left) + after) × (self.new.right ≡ drop after self.old.right) }

@@ -1,4 +1,4 @@
-//! What a block shows of its items, on either side of the gap.
+//! Reads of the items of a block, on either side of the gap.
 ghost use Rattle.std.specs.Prelude.{◌≡◌, ◌≤◌, ◌<◌, ◌+◌, ◌-◌, ◌⊎◌, ◌++◌, length, take, drop, slice_index_or, slice_range};
 ghost use Rattle.split_vector.specs.Split.{gap_beside};
 ghost use Rattle.split_vector.specs.Block.{IsBlock, block_items};
@@ -7,7 +7,7 @@ use crate::block::Block;
 use std::alloc::Allocator;
 
 impl<T, A: Allocator> Block<T, A> {
-    /// The item at `index`. There is one read for both sides of the gap, and the side adds `spare` to its place, or nothing.
+    /// Returns the item at `index`. Both sides of the gap share one read: only the number added to the index differs.
     pub(crate) fn get(&self, index: usize) -> T
     where
         T: Copy,
@@ -22,7 +22,7 @@ impl<T, A: Allocator> Block<T, A> {
         self.item(place)
     }
 
-    /// Copies the items from `start` on into `target`, as many as it is long.
+    /// Copies the items from `start` on into `target`, which says how many.
     pub(crate) fn copy_out(&self, start: usize, target: &mut [T])
     where
         T: Copy,
@@ -41,7 +41,7 @@ impl<T, A: Allocator> Block<T, A> {
         }
     }
 
-    /// Moves the gap, if it lies between `low` and `high`, to the nearer of the two. Mostly it lies elsewhere.
+    /// Moves the gap out of the range from `low` to `high`, to the nearer end. The gap usually stands elsewhere already.
     #[inline(always)]
     pub(crate) fn settle(&mut self, low: usize, high: usize)
     where
@@ -57,7 +57,7 @@ impl<T, A: Allocator> Block<T, A> {
         }
     }
 
-    // Moves the gap from between `low` and `high` to the nearer of the two.
+    // The slow path of `settle`, out of line: the gap stands between `low` and `high`, and moves to the nearer of the two.
     #[inline(never)]
     fn settle_from_between(&mut self, low: usize, high: usize)
     where
@@ -76,7 +76,7 @@ impl<T, A: Allocator> Block<T, A> {
         }
     }
 
-    /// The `count` items from `start` on, of which none lies beyond the gap from another.
+    /// Returns the `count` items from `start` on, which all lie on one side of the gap.
     pub(crate) fn run(&self, start: usize, count: usize) -> &[T]
         requires inside { IsBlock self.now × (start + count ≤ self.now.len) }
         requires beside { (self.now.gap ≤ start) ⊎ (start + count ≤ self.now.gap) }

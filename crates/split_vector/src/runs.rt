@@ -5,7 +5,7 @@ ghost use Rattle.split_vector.specs.Split.{EachBetween, IsUpdated};
 use crate::cells::{Base, Cells};
 
 impl<T> Cells<T> {
-    /// The items on the left.
+    /// Returns the items on the left.
     pub(crate) fn left(&self, base: Base<T>, gap: usize) -> &[T]
         requires { (base.ptr ≡ self.now.at) × (gap ≡ length self.now.left) }
         ensures { result.now ≡ self.now.left }
@@ -13,7 +13,7 @@ impl<T> Cells<T> {
         self.slice(base, 0, gap)
     }
 
-    /// The items on the right, which begin in the cell `place`.
+    /// Returns the items on the right, which begin in the cell `place`.
     pub(crate) fn right(&self, base: Base<T>, place: usize, len: usize) -> &[T]
         requires { (base.ptr ≡ self.now.at) × (place ≡ length self.now.left + self.now.spare) × (len ≡ length self.now.right) }
         ensures { result.now ≡ self.now.right }
@@ -34,7 +34,7 @@ impl<T> Cells<T> {
         }
     }
 
-    /// Writes what `change` returns for it over each item from `low` up to `high`, on the left.
+    /// Replaces each item from `low` up to `high` on the left by what `change` returns for it.
     #[inline(always)]
     pub(crate) fn update_left<F: Fn(T) -> T>(
         &mut self,
@@ -58,7 +58,7 @@ impl<T> Cells<T> {
         }
     }
 
-    /// The same on the right, whose `len` items stand in the cells from `first` on.
+    /// Like `update_left`, for the `len` items on the right, which stand in the cells from `first` on.
     #[inline(always)]
     pub(crate) fn update_right<F: Fn(T) -> T>(
         &mut self,

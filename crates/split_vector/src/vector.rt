@@ -1,4 +1,4 @@
-//! `SplitVector` and its calls. A clause sees a vector as its `items`, `spare`, `gap` and `moved`.
+//! `SplitVector` and its calls. A contract sees a vector as its `items`, `spare`, `gap` and `moved`.
 ghost use Rattle.std.specs.Prelude.{◌≡◌, ◌≤◌, ◌<◌, ◌+◌, ◌*◌, ◌^◌, ◌==◌, ◌⊎◌, [], ◌∷◌, ◌++◌, length, replicate, slice_index_or, slice_set, slice_range, OnOk, OnErr, IsOk};
 ghost use Rattle.std.specs.Borrow.{sem};
 ghost use Rattle.split_vector.specs.Split.{split, inserted, deleted, EachBetween, IsUpdated, gap_after, moved_after, gap_closed, moved_closed, most_room, part_larger};
@@ -7,10 +7,10 @@ use crate::block::Block;
 use std::alloc::{AllocError, Allocator, Global};
 use std::marker::Model;
 
-/// A block that grows by little grows by its size divided by this.
+/// `reserve_narrow` enlarges a block by its size divided by this.
 const PARTS: usize = 64;
 
-/// A list of items in one block of memory, with the free room as a gap among them.
+/// A list of items in one block of memory, with the spare capacity as a gap among them.
 pub struct SplitVector<T, A: Allocator = Global> {
     block: Block<T, A>,
 }
@@ -33,7 +33,7 @@ impl<T, A: Allocator> Model for SplitVector<T, A> {
 impl<T: Copy, A: Allocator> SplitVector<T, A> {
     ghost use Rattle.split_vector.specs.SplitLends.{lent_and_back};
 
-    /// Returns an empty vector with no room. It takes no memory.
+    /// Returns an empty vector with no spare capacity. Allocates nothing.
     pub fn new(alloc: A) -> Self
         ensures { result ≡ split [] 0 0 0 }
     {
@@ -57,7 +57,7 @@ impl<T: Copy, A: Allocator> SplitVector<T, A> {
         self.len() == 0
     }
 
-    /// Returns how many more items fit in without more memory.
+    /// Returns how many more items fit in without an allocation.
     pub fn spare(&self) -> usize
         ensures spare { result ≡ self.now.spare }
         ensures within { length self.now.items + self.now.spare < 2 ^ 63 }
@@ -73,15 +73,15 @@ impl<T: Copy, A: Allocator> SplitVector<T, A> {
         self.block.gap
     }
 
-    /// Returns how many items insertions and deletions have moved or written so far, or `u64::MAX` for any number above it.
-    /// Growth and lending are not counted.
+    /// Returns how many items insertions and deletions have moved or written so far. The count stays at `u64::MAX` once
+    /// it is reached. Growth and lending are not counted.
     pub fn moved(&self) -> u64
         ensures { result ≡ self.now.moved }
     {
         self.block.moved
     }
 
-    /// Returns the item at `index`.
+    /// Returns the item at `index`, which is below the length.
     pub fn get(&self, index: usize) -> T
         requires { index < length self.now.items }
         ensures { result ≡ slice_index_or self.now.items index result }
@@ -89,7 +89,7 @@ impl<T: Copy, A: Allocator> SplitVector<T, A> {
         self.block.get(index)
     }
 
-    /// Puts `item` in the place of the one at `index`.
+    /// Replaces the item at `index`, which is below the length, by `item`.
     pub fn set(&mut self, index: usize, item: T)
         requires { index < length self.old.items }
         ensures items { self.new.items ≡ slice_set self.old.items index item }
@@ -113,12 +113,12 @@ impl<T: Copy, A: Allocator> SplitVector<T, A> {
         self.block.update(low, high, &change);
     }
 
-    /// Makes room for `count` more items, in a block of at least twice the size where the room is too small, so that a
-    /// run of insertions takes amortised constant time for each item.
+    /// Makes room for `count` more items. If the spare capacity is too small, the block at least doubles, so that a run
+    /// of insertions takes amortised constant time for each item.
     ///
     /// # Errors
     ///
-    /// `AllocError` where the memory is refused, or where no block can be so large. The vector is then as it was.
+    /// `AllocError` if the allocation fails, or if no block can be so large. The vector is then unchanged.
     #[inline(always)]
     pub fn reserve(&mut self, count: usize) -> Result<(), AllocError>
         ensures ok { OnOk result ((self.new.items ≡ self.old.items) × (count ≤ self.new.spare) × (self.new.gap ≡ self.old.gap) × (self.new.moved ≡ self.old.moved)) }
@@ -134,7 +134,7 @@ impl<T: Copy, A: Allocator> SplitVector<T, A> {
         self.grow(count)
     }
 
-    // Takes a larger block, where the room is too small. It stands apart, since it is rare.
+    // Moves to a larger block. Out of line, since it is rare.
     #[inline(never)]
     fn grow(&mut self, count: usize) -> Result<(), AllocError>
         requires { self.old.spare < count }
@@ -149,14 +149,16 @@ impl<T: Copy, A: Allocator> SplitVector<T, A> {
         self.block.grow(wanted.max(doubled))
     }
 
-    /// Makes room for `count` more items. Where the room is too small, it takes a block that is larger by a sixty-fourth part, or of the
-    /// size that is needed where that is more. The gap of a vector that grew so is narrow: what is carried over it is written near where
-    /// it was read, and memory does that at a multiple of the speed. But all items are copied some 45 times while a vector grows to
-    /// twice its size, and not once as by `reserve`: it is for owners who see to it that it is seldom.
+    /// Makes room for `count` more items. If the spare capacity is too small, the block grows by a 64th of its size, or
+    /// to the size that is needed if that is larger.
+    ///
+    /// The gap of such a vector stays narrow, so a move of the gap writes near where it reads, which memory does
+    /// several times faster. In return a vector that doubles its size copies all items about 45 times, and not once as
+    /// with `reserve`. So it is for owners that grow seldom.
     ///
     /// # Errors
     ///
-    /// `AllocError` where the memory is refused, or where no block can be so large. The vector is then as it was.
+    /// `AllocError` if the allocation fails, or if no block can be so large. The vector is then unchanged.
     pub fn reserve_narrow(&mut self, count: usize) -> Result<(), AllocError>
         ensures ok { OnOk result ((self.new.items ≡ self.old.items) × (count ≤ self.new.spare) × (self.new.gap ≡ self.old.gap) × (self.new.moved ≡ self.old.moved)) }
         ensures room_is_there { count ≤ self.old.spare → IsOk result × (self.new ≡ self.old) }
@@ -173,7 +175,7 @@ impl<T: Copy, A: Allocator> SplitVector<T, A> {
         Ok(())
     }
 
-    /// Puts `item` in before the one at `place`, or at the end. There must be room for it.
+    /// Inserts `item` before the item at `place`, or at the end. There must be room for it.
     #[inline]
     pub fn insert_reserved(&mut self, place: usize, item: T)
         requires { (place ≤ length self.old.items) × (0 < self.old.spare) }
@@ -186,7 +188,7 @@ impl<T: Copy, A: Allocator> SplitVector<T, A> {
         self.block.write(item);
     }
 
-    /// Puts the items of `source` in, in their order, before the one at `place`, or at the end. There must be room for them.
+    /// Inserts the items of `source`, in their order, before the item at `place`, or at the end. There must be room for them.
     #[inline]
     pub fn insert_slice_reserved(&mut self, place: usize, source: &[T])
         requires { (place ≤ length self.old.items) × (length source.now ≤ self.old.spare) }
@@ -201,7 +203,7 @@ impl<T: Copy, A: Allocator> SplitVector<T, A> {
         }
     }
 
-    /// Puts `item` in `count` times before the one at `place`, or at the end. There must be room for them.
+    /// Inserts `item` `count` times before the item at `place`, or at the end. There must be room for them.
     pub fn insert_fill_reserved(&mut self, place: usize, count: usize, item: T)
         requires { (place ≤ length self.old.items) × (count ≤ self.old.spare) }
         ensures items { self.new.items ≡ inserted self.old.items place (replicate count item) }
@@ -215,7 +217,7 @@ impl<T: Copy, A: Allocator> SplitVector<T, A> {
         }
     }
 
-    /// Takes the `count` items from `place` on away. Their room becomes spare.
+    /// Deletes the `count` items from `place` on. Their cells become spare capacity.
     pub fn delete(&mut self, place: usize, count: usize)
         requires { place + count ≤ length self.old.items }
         ensures items { self.new.items ≡ deleted self.old.items place count }
@@ -228,7 +230,7 @@ impl<T: Copy, A: Allocator> SplitVector<T, A> {
         }
     }
 
-    /// Copies the items from `start` on into `target`, as many as it is long.
+    /// Copies the items from `start` on into `target`, which says how many.
     pub fn copy_out(&self, start: usize, target: &mut [T])
         requires { start + length target.old ≤ length self.now.items }
         ensures { target.new ≡ slice_range self.now.items start (start + length target.old) }
@@ -236,7 +238,7 @@ impl<T: Copy, A: Allocator> SplitVector<T, A> {
         self.block.copy_out(start, target);
     }
 
-    /// Returns the items before the gap and those behind it. Nothing moves.
+    /// Returns the items before the gap and those behind it. The gap stays where it is.
     pub fn halves(&self) -> (&[T], &[T])
         ensures joined { result.0.now ++ result.1.now ≡ self.now.items }
         ensures parted { length result.0.now ≡ self.now.gap }
@@ -244,7 +246,7 @@ impl<T: Copy, A: Allocator> SplitVector<T, A> {
         (self.block.left(), self.block.right())
     }
 
-    /// Lends the `count` items from `start` on as one slice. If the gap lies among them, it is moved to the nearer end.
+    /// Lends the `count` items from `start` on as one slice. If the gap lies among them, it moves to the nearer end first.
     pub fn lend(&mut self, start: usize, count: usize) -> &[T]
         requires { start + count ≤ length self.old.items }
         ensures* back { sem 𝓛 (lent_and_back T.row A.row A.Allocator self.entry start count) }

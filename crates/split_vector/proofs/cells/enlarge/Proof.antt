@@ -1,4 +1,4 @@
--- `enlarge` hands the allocator the items as an array with room behind it, and cuts what comes back into cells again. Assumes `Logic`.
+-- `enlarge` hands the allocator the items as an array with room behind it, and splits what it returns into cells again. Assumes `Logic`.
 use mathlib.Core.Path.{◌≡◌, refl, sym, subst}
 use mathlib.Core.Bool.{true, false}
 use Prim.Native.Nat.{ℕ, ◌+◌, ◌-◌, ◌*◌, ◌<◌, ◌≤◌, ◌^◌}
@@ -106,7 +106,7 @@ module _ (E : El) (Z : Al) where
   abbrev Asks : Z.row.Denot → Ptr → ℕ → ℕ → ℕ → (Cr E).Denot → Dd.Denot → Type 0
   Asks a x len old new cells deed = (cells.at ≡ x) × (len ≡ length cells.left) × (len + cells.spare ≡ old) × (length cells.right ≡ 0) × (0 < old) × (old ≤ new) × FitsInBlock (R E) new × (deed.at ≡ x) × (deed.len ≡ old) × (deed.alloc ≡ a)
 
-  -- what the answer t says where the block grew, and where it did not
+  -- what the result t says if the block grew, and if it did not
   abbrev Grown : Z.row.Denot → ℕ → ℕ → (Cr E).Denot → Out.Denot → Type 0
   Grown a len new cells t = IfOk t.0 (λ y. (t.1.at ≡ y.ptr) × (t.1.left ≡ cells.left) × (t.1.spare ≡ new - len) × (t.1.right ≡ cells.right) × (t.2.at ≡ y.ptr) × (t.2.len ≡ new) × (t.2.alloc ≡ a))
 
@@ -146,7 +146,7 @@ module _ (E : El) (Z : Al) {M : Type 1} {𝓤 : Ura M} (𝓛 : Logic 𝓤) (at_m
   abbrev tk : Ty → Ptr → Fml
   tk = token Z a
 
-  -- a Result that was answered, with the cells and the deed that go with it
+  -- a Result as it is returned, with its cells and its deed
   back : (r : (Larger E Z).Denot) (rv : Val) (b o n size : ℕ) → let d : (Cr E).Denot = record { mark = record {}; at = block_ptr b o; left = cells.left; spare = n; right = cells.right } in
       let e : (Dd E Z).Denot = record { mark = record {}; at = block_ptr b o; len = size; alloc = a } in
       len ≡ length cells.left → len + n ≡ size → length cells.right ≡ 0 → 0 < size → size * sz E < 2 ^ 63

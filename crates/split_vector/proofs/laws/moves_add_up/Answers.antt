@@ -1,4 +1,4 @@
--- One call after the other.
+-- Call by call.
 use Rattle.std.proofs.Common.{arith, ℕ, ◌+◌, ◌-◌, ◌^◌, ◌≤◌, ◌==◌, if◌then◌else◌, Bool, true, false, List, [], ◌∷◌}
 use Rattle.std.proofs.Math.Nat.{min-le_left}
 use Rattle.split_vector.specs.Split.{apart, outside, counted}

@@ -5,7 +5,7 @@ use Rattle.split_vector.proofs.block.Block.slide_on.Given as goal
 abbrev pub decreases-parts : goal.decreases-parts
 decreases-parts g l = l.place - l.self.gap
 
--- some parts are carried over the gap, which still has to go in the same direction
+-- some parts have been moved over the gap, which still has to move in the same direction
 abbrev pub invariant-parts : goal.invariant-parts
 invariant-parts g l =
     record {
