@@ -1,4 +1,4 @@
--- What is stored, when a start comes or goes at the step, and when the end moves.
+-- The stored numbers when a start is inserted or removed at the step, and when the end moves.
 use Rattle.std.proofs.Common.{◌≡◌, ℕ, ◌+◌, ◌-◌, ◌<◌, ◌≤◌, min, List, [], ◌∷◌, length, get_or, map, insert, remove, sym, ap, ◌∙◌, ◌⊎◌, inl, inr, arith, add-one, append_assoc}
 use Rattle.std.proofs.lemmas.List.{ext_get_or, get_or_past, map-append, take-map, drop-map}
 use Rattle.std.proofs.lemmas.Bool.{cases_lt, cases_order}
@@ -23,7 +23,7 @@ within_all_at e xs k w (inr h) = omega (arith, get_or_past xs k 0 h)
 within_all : (e : ℕ) (xs : List ℕ) → ((k : ℕ) → k < length xs → get_or xs k 0 ≤ e) → AreWithin e xs
 within_all e xs w k = within_all_at e xs k w (cases_lt k (length xs))
 
--- text was put into the partition at the step
+-- text was inserted into the partition at the step
 module _ (greatest e i n : ℕ) (xs : List ℕ) (sound : IsSound greatest e i xs) (l : i < length xs) where
   raised_at : (k : ℕ) → k < length xs → (i < k) ⊎ (k ≤ i) → get_or (starts_of (e + n) i xs) k 0 ≡ get_or (raised_behind (starts_of e i xs) i n) k 0
   raised_at k b (inl h) =
@@ -47,7 +47,7 @@ module _ (greatest e i n : ℕ) (xs : List ℕ) (sound : IsSound greatest e i xs
         sound = rw starts_of_raised (sound_raised (starts_of e i xs) e i n sound.sound (omega (arith, length-starts_of e i xs)));
       }
 
--- text was taken out of the partition at the step
+-- text was deleted from the partition at the step
 module _ (greatest e i n : ℕ) (xs : List ℕ) (sound : IsSound greatest e i xs) (l : i < length xs) (can : CanLose (starts_of e i xs) e i n) where
   lowered_at : (k : ℕ) → k < length xs → (i < k) ⊎ (k ≤ i) → get_or (starts_of (e - n) i xs) k 0 ≡ get_or (lowered_behind (starts_of e i xs) i n) k 0
   lowered_at k b (inl h) =
@@ -86,7 +86,8 @@ moved_start :
 moved_start e s t xs ys j k q l m near far (inl h) = starts_of_far e t ys k (far h) m ∙ ap (λ v. e - v) q ∙ sym (starts_of_far e s xs j h l)
 moved_start e s t xs ys j k q l m near far (inr h) = starts_of_near e t ys k (near h) ∙ q ∙ sym (starts_of_near e s xs j h)
 
--- a start came in at place i, stored as v: the step goes from s to t, one on where the start lies up to the one right behind it
+-- a start was inserted at place i, stored as v: the step moves from s to t, one forward if the new start comes before
+-- it or right behind it
 module _ (greatest e s t i x v : ℕ) (xs : List ℕ) (sound : IsSound greatest e s xs) (can : CanStart (starts_of e s xs) e i x)
     (moves : t ≡ s + min 1 (s + 2 - i)) (small : v ≤ e) (there : get_or (starts_of e t (insert xs i v)) i 0 ≡ x) where
   inside : i ≤ length xs
@@ -137,7 +138,7 @@ module _ (greatest e s t i x v : ℕ) (xs : List ℕ) (sound : IsSound greatest 
         sound = rw starts_of_inserted (sound_inserted (starts_of e s xs) e i x sound.sound can);
       }
 
--- the start at place i went away: the step goes from s to t, one back where the start does not lie behind it
+-- the start at place i was removed: the step moves from s to t, one back unless the start lies behind it
 module _ (greatest e s t i : ℕ) (xs : List ℕ) (sound : IsSound greatest e s xs) (not_first : 0 < i) (l : i < length xs)
     (moves : t ≡ s - min 1 (s + 1 - i)) where
   fewer : length (remove xs i) + 1 ≡ length xs
@@ -178,7 +179,7 @@ module _ (greatest e s t i : ℕ) (xs : List ℕ) (sound : IsSound greatest e s 
         sound = rw starts_of_removed (sound_removed (starts_of e s xs) e i sound.sound not_first there);
       }
 
--- what a call leaves: it is sound, and its starts are those that are wanted
+-- what a call leaves: the stored numbers are sound, and the starts are the wanted ones
 abbrev pub Leaves : ℕ → ℕ → ℕ → List ℕ → List ℕ → Type 0
 Leaves greatest e i stored starts = IsSound greatest e i stored × (starts_of e i stored ≡ starts)
 

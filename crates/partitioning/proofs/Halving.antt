@@ -7,7 +7,8 @@ use Rattle.partitioning.specs.Partitions.{ArePartitions, IsLastAtMost, IsFloorLo
 use Rattle.split_vector.specs.Split.{counted}
 use Rattle.partitioning.proofs.Parts.{rising_or_same}
 
--- of so many starts, now were read, and a range of the width is left: as many more halvings as it needs stay within the bound
+-- of count starts, those up to now were read, and a range of this width is left: the halvings that it needs stay within
+-- the upper bound
 abbrev pub MayRead : ℕ → ℕ → ℕ → ℕ → Type 0
 MayRead count old now width = (k : ℕ) → IsFloorLog k count → (j : ℕ) × (width ≤ 2 ^ j) × (now + j ≤ old + (1 + k))
 
@@ -25,7 +26,8 @@ pub halved :
 halved count old now now' width width' a b c may k log =
     let m = may k log in halved_at old now now' width width' k m.0 a b c m.1 m.2
 
--- .. and as many more as it needs at least stay above the other bound
+-- of count starts, those up to now were read, and a range of this width is left: the halvings that it needs at least
+-- reach the lower bound
 abbrev pub MustRead : ℕ → ℕ → ℕ → ℕ → Type 0
 MustRead count old now width = (k : ℕ) → IsFloorLog k count → (j : ℕ) × (2 ^ j ≤ width) × (counted old k ≤ counted now j)
 
@@ -53,7 +55,7 @@ no_more old now k (suc j) h e = let p : 2 ^ j * 2 ≤ 1 = rw pow-suc at h in abs
 pub read_enough : (count old now width k : ℕ) → width ≤ 1 → MustRead count old now width → IsFloorLog k count → counted old k ≤ now
 read_enough count old now width k h must log = let m = must k log in no_more old now k m.0 (omega (arith, m.1)) m.2
 
--- what is left of a look-up: a range of so many starts from one on, of which the last that is at most the wanted place is one
+-- the rest of a look-up: `width` starts from `low` on, among which is the last one that is at most the wanted place
 pub record IsRange (starts : List ℕ) (wanted low width : ℕ) : Type 0 where
   pub some : 0 < width
   pub within : low + width ≤ length starts
@@ -94,7 +96,7 @@ earlier_half starts end wanted low width half sound range h m above =
       above = λ b. omega (arith, above, rising_or_same starts sound.rising (low + half) (low + (width - half)) (omega arith) b);
     }
 
--- a range of one is what was looked for
+-- a range of one partition is the one that was looked for
 pub found : (starts : List ℕ) (end wanted low width : ℕ) → ArePartitions starts end → IsRange starts wanted low width → width ≤ 1 → IsLastAtMost starts wanted low
 found starts end wanted low width sound range one =
     let w = range.within in
@@ -105,7 +107,7 @@ found starts end wanted low width sound range one =
       last = λ k a b. omega (arith, range.above (omega arith), rising_or_same starts sound.rising (low + width) k (omega arith) b);
     }
 
--- .. at each place behind the end too
+-- a range of one partition is the one that was looked for, also for a place behind the end
 pub found_at :
     (starts : List ℕ) (end place wanted i : ℕ) → ArePartitions starts end → wanted ≡ min place end → IsLastAtMost starts wanted i → IsLastAtMost starts place i
 found_at starts end place wanted i sound w last =
@@ -115,7 +117,7 @@ found_at starts end place wanted i sound w last =
       last = λ k a b. omega (arith, last.last k a b, sound.within k b);
     }
 
--- the answer was no
+-- the comparison said no
 pub below_where_not : (wanted start : ℕ) → (start ≤ wanted → false ≡ true) → wanted < start
 below_where_not wanted start never =
     elim (cases_lt wanted start) [
@@ -123,7 +125,7 @@ below_where_not wanted start never =
       | inr h ↦ absurd (false≢true (never h))
     ]
 
--- the answer, as a number, times the half is how far the range goes on
+-- the answer as a number, times the half, is how far the range moves up
 pub turned_by :
     (starts : List ℕ) (end wanted low width middle half low' width' : ℕ) (yes : Bool) → ArePartitions starts end → IsRange starts wanted low width
     → half < width → half ≤ width - half → middle ≡ low + half → low' ≡ low + bool_byte yes * half → width' ≡ width - half
@@ -135,7 +137,7 @@ turned_by starts end wanted low width middle half low' width' false sound range 
     let same : low' ≡ low = omega arith in
     rw (same, r) (earlier_half starts end wanted low width half sound range h m (rw p at (below_where_not wanted (get_or starts middle 0) answer.1)))
 
--- the answer as a number, moved up to a power of two
+-- the answer as a number, shifted up to a power of two
 pub moved_up : (yes : Bool) (power : ℕ) → power < 18446744073709551616 → bool_byte yes * power % 18446744073709551616 ≡ bool_byte yes * power
 moved_up true power h = omega arith
 moved_up false power h = omega arith

@@ -36,7 +36,7 @@ turned_at end low i x old new k t l e a b (inl q) =
 turned_at end low i x old new k t l e a b (inr ne) =
     get_or-set_other new i k x 0 ne ∙ t.turned k a (omega arith)
 
--- one more number turned
+-- one more number is turned
 pub turned_more :
     (end low i x : ℕ) (old new : List ℕ) → IsTurned end low i old new → low ≤ i → i < length new → x ≡ end - get_or new i 0
     → IsTurned end low (i + 1) old (set new i x)
@@ -48,7 +48,7 @@ turned_more end low i x old new t h l e =
       kept_above = λ k a. let ne : k ≢ i = omega arith in get_or-set_other new i k x 0 ne ∙ t.kept_above k (omega arith);
     }
 
--- no number turned
+-- no number is turned
 pub turned_none : (end low : ℕ) (old : List ℕ) → IsTurned end low low old old
 turned_none end low old =
     record {
@@ -58,7 +58,7 @@ turned_none end low old =
       kept_above = λ k a. refl;
     }
 
--- items replaced by such that stand for the distances to the end; d is there for what is read past a list
+-- items replaced by items that stand for the distances to the end; d is the value of a read past a list
 module _ {X : Type 0} (f : X → ℕ) (R : X → X → Type 0) (end low high : ℕ) (old new : List X) (d : X)
     (fits : high ≤ length old) (u : IsUpdated R low high old new) (turns : (x y : X) → R x y → f y ≡ end - f x) where
   number_of : (xs : List X) (k : ℕ) → k < length xs → get_or (map f xs) k 0 ≡ f (get_or xs k d)

@@ -1,4 +1,4 @@
--- Starts stay in order when some move, and when one comes or goes.
+-- Starts stay in order when some move, and when one is inserted or removed.
 use Rattle.std.proofs.Common.{◌≡◌, ℕ, ◌+◌, ◌-◌, ◌<◌, ◌≤◌, zero, suc, List, length, get_or, insert, remove, ◌∙◌, ◌⊎◌, inl, inr, arith, add-one}
 use Rattle.std.specs.List.Sorted.{IsStrictlyIncreasing}
 use Rattle.std.proofs.lemmas.Bool.{cases_lt, cases_order}
@@ -16,7 +16,7 @@ rising_pairs s r j (suc k) h l =
       | inr a ↦ let q : j ≡ k = omega arith in rw q step
     ]
 
--- and not above it where the two may be one
+-- an earlier number, or the same one, is not above a later one
 pub rising_or_same : (s : List ℕ) → IsStrictlyIncreasing s → (j k : ℕ) → j ≤ k → k < length s → get_or s j 0 ≤ get_or s k 0
 rising_or_same s r j k h l =
     elim (cases_lt j k) [
@@ -24,7 +24,7 @@ rising_or_same s r j k h l =
       | inr a ↦ let q : j ≡ k = omega arith in rw q (omega arith)
     ]
 
--- text was put into partition i
+-- text was inserted into partition i
 module _ (s : List ℕ) (end i n : ℕ) (sound : ArePartitions s end) (l : i < length s) where
   raised_near : (k : ℕ) → k ≤ i → get_or (raised_behind s i n) k 0 ≡ get_or s k 0
   raised_near k h = map_from_before (λ x. x + n) (i + 1) s k (omega arith)
@@ -53,7 +53,7 @@ module _ (s : List ℕ) (end i n : ℕ) (sound : ArePartitions s end) (l : i < l
         within = λ k b. raised_within k (omega (arith, length-raised)) (cases_lt i k);
       }
 
--- text was taken out of partition i
+-- text was deleted from partition i
 module _ (s : List ℕ) (end i n : ℕ) (sound : ArePartitions s end) (l : i < length s) (can : CanLose s end i n) where
   lowered_near : (k : ℕ) → k ≤ i → get_or (lowered_behind s i n) k 0 ≡ get_or s k 0
   lowered_near k h = map_from_before (λ x. x - n) (i + 1) s k (omega arith)
@@ -64,7 +64,7 @@ module _ (s : List ℕ) (end i n : ℕ) (sound : ArePartitions s end) (l : i < l
   length-lowered : length (lowered_behind s i n) ≡ length s
   length-lowered = length-map_from (λ x. x - n) (i + 1) s
 
-  -- what lies behind partition i is past all that was taken
+  -- what lies behind partition i lies past everything that was deleted
   pub past_loss : (k : ℕ) → i < k → k < length s → get_or s i 0 + n < get_or s k 0
   past_loss k h b = omega (arith, can.before_next (omega arith), rising_or_same s sound.rising (i + 1) k (omega arith) b)
 
@@ -90,7 +90,7 @@ module _ (s : List ℕ) (end i n : ℕ) (sound : ArePartitions s end) (l : i < l
         within = λ k b. lowered_within k (omega (arith, length-lowered)) (cases_lt i k);
       }
 
--- a start came in at place i
+-- a start was inserted at place i
 module _ (s : List ℕ) (end i x : ℕ) (sound : ArePartitions s end) (can : CanStart s end i x) where
   inserted_below : (k : ℕ) → k < i → get_or (insert s i x) k 0 ≡ get_or s k 0
   inserted_below k h = get_or-insert_below s i x 0 k h can.within
@@ -137,7 +137,7 @@ module _ (s : List ℕ) (end i x : ℕ) (sound : ArePartitions s end) (can : Can
         within = λ k b. inserted_within k (omega arith) (cases_order k i);
       }
 
--- the start at place i went away
+-- the start at place i was removed
 module _ (s : List ℕ) (end i : ℕ) (sound : ArePartitions s end) (not_first : 0 < i) (l : i < length s) where
   removed_below : (k : ℕ) → k < i → get_or (remove s i) k 0 ≡ get_or s k 0
   removed_below k h = get_or-remove_below s i 0 k h l

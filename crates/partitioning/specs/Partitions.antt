@@ -3,8 +3,8 @@ use Rattle.std.specs.Prelude.{◌≡◌, ℕ, ◌+◌, ◌-◌, ◌^◌, ◌<◌
 use Rattle.std.specs.List.Sorted.{IsStrictlyIncreasing}
 use Rattle.std.specs.Coded.{Coded, code_by, coded×, coded_list, coded_ℕ}
 
--- where each partition starts, the length of the whole, how many more starts fit in,
--- how many stored starts were changed for the step's sake, and where the step stands
+-- where each partition starts, the length of the whole, how many more starts fit in, how many stored starts the moves
+-- of the step have changed, and where the step stands
 pub record Partitions : Type 0 where
   pub starts : List ℕ
   pub length : ℕ
@@ -35,7 +35,7 @@ pub record IsLastAtMost (starts : List ℕ) (place i : ℕ) : Type 0 where
   pub at_most : slice_index starts i ≤ place
   pub last : (k : ℕ) → i < k → k < length starts → place < slice_index starts k
 
--- a partition can be put in before partition i, or at the end: it starts behind the one before it and before the next
+-- a partition can be inserted before partition i, or at the end: it starts behind the one before it and before the next
 pub record CanStart (starts : List ℕ) (end i start : ℕ) : Type 0 where
   pub not_first : 0 < i
   pub within : i ≤ length starts
@@ -43,7 +43,7 @@ pub record CanStart (starts : List ℕ) (end i start : ℕ) : Type 0 where
   pub before : i < length starts → start < slice_index starts i
   pub at_most : start ≤ end
 
--- so much can be taken out of partition i, and it does not become empty unless it is the last
+-- n can be deleted from partition i, which does not become empty unless it is the last
 pub record CanLose (starts : List ℕ) (end i n : ℕ) : Type 0 where
   pub before_next : i + 1 < length starts → slice_index starts i + n < slice_index starts (i + 1)
   pub before_end : slice_index starts i + n ≤ end

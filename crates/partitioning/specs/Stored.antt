@@ -3,7 +3,7 @@ use Rattle.split_vector.specs.Split.{apart}
 use Rattle.std.specs.Prelude.{◌≡◌, ℕ, ◌+◌, ◌-◌, ◌<◌, ◌≤◌, min, List, length, slice_index}
 use Rattle.partitioning.specs.Partitions.{ArePartitions, map_from}
 
--- the starts that are stored so with the step at a partition
+-- the starts that the stored numbers stand for, with the step at a partition
 abbrev pub starts_of : ℕ → ℕ → List ℕ → List ℕ
 starts_of end step stored = map_from (λ distance. end - distance) (step + 1) stored
 
@@ -11,7 +11,7 @@ starts_of end step stored = map_from (λ distance. end - distance) (step + 1) st
 abbrev pub near_count : ℕ → ℕ → ℕ
 near_count step count = min count (step + 1)
 
--- how many of so many starts are stored anew where the step moves from one partition to another
+-- how many of so many starts change their stored form when the step moves from one partition to another
 abbrev pub steps_between : ℕ → ℕ → ℕ → ℕ
 steps_between from to count = apart (near_count to count) (near_count from count)
 

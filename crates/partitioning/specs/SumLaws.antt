@@ -1,17 +1,18 @@
--- What a list of calls of a `Partitioning` changes in all for the step's sake.
+-- How many stored starts a list of calls of a `Partitioning` changes in all by moving the step.
 use Rattle.std.specs.Prelude.{ℕ, ◌+◌, ◌≤◌, List, [], ◌∷◌}
 use Rattle.split_vector.specs.Split.{apart}
 
--- where the step stands, and how many stored starts were changed for its sake so far
+-- where the step stands, and how many stored starts its moves have changed so far
 pub record Steps : Type 0 where
   pub step_at : ℕ
   pub stepped : ℕ
 
--- What each call that names a partition keeps to. It pays the step's way to that partition and one, or pays less and leaves the rest of the way.
+-- What each call that names a partition keeps to: it changes no more starts than the step's distance from that
+-- partition and one. A step that stops on the way leaves the rest of the distance.
 abbrev pub KeepsTo : ℕ → Steps → Steps → Type 0
 KeepsTo index was now = now.stepped + apart index now.step_at ≤ was.stepped + (apart index was.step_at + 1)
 
--- calls one after the other, each by the partition that it names and by what it leaves
+-- a list of calls: the partition that each names, and what it leaves
 abbrev pub EachKeepsTo : Steps → List (ℕ × Steps) → Type 0
 EachKeepsTo was [] = Unit {0}
 EachKeepsTo was (call ∷ calls) = KeepsTo call.0 was call.1 × EachKeepsTo call.1 calls
@@ -20,12 +21,13 @@ abbrev pub steps_after : Steps → List (ℕ × Steps) → Steps
 steps_after was [] = was
 steps_after was (call ∷ calls) = steps_after call.1 calls
 
--- the sum of what each may change: the step's way to the partition that it names, from where the step stands by then, and one
+-- the sum of what each call may change: the step's distance from the partition that it names, from where the step
+-- stands by then, and one
 abbrev pub sum_of_ways : Steps → List (ℕ × Steps) → ℕ
 sum_of_ways was [] = 0
 sum_of_ways was (call ∷ calls) = (apart call.0 was.step_at + 1) + sum_of_ways call.1 calls
 
--- the same with the way from the partition that the call before it named
+-- the same sum with the distance from the partition that the call before it named
 abbrev pub sum_between : ℕ → List (ℕ × Steps) → ℕ
 sum_between from [] = 0
 sum_between from (call ∷ calls) = (apart call.0 from + 1) + sum_between call.0 calls

@@ -1,4 +1,4 @@
-//! Starts that are read by look-ups, and a count of what they read.
+//! Starts that look-ups read, and a count of these reads.
 ghost use Rattle.std.specs.Prelude.{◌≡◌, ◌≤◌, ◌<◌, ◌+◌, ◌^◌, ◌↔◌, length, slice_index, IsTrue};
 ghost use Rattle.partitioning.specs.Partitions.{ArePartitions};
 ghost use Rattle.split_vector.specs.Split.{counted};
@@ -8,7 +8,7 @@ use crate::table::Partitioning;
 use std::alloc::Allocator;
 use std::marker::Model;
 
-/// How many starts look-ups have read so far, or `u64::MAX` for any number above it.
+/// How many starts look-ups have read so far. The count stays at `u64::MAX` once it is reached.
 #[derive(Drop)]
 pub struct Probes {
     reads: u64,
@@ -38,7 +38,7 @@ impl Probes {
     }
 }
 
-// Counts that one more start was read.
+// Counts one more read.
 #[inline]
 fn count_read(probes: &mut Probes)
     ensures counted { probes.new ≡ counted probes.old 1 }
@@ -47,8 +47,8 @@ fn count_read(probes: &mut Probes)
     probes.reads = probes.reads.saturating_add(1);
 }
 
-/// The starts of a partitioning, as a look-up is handed them: outside this module a start is read by
-/// `probe` and `is_at_most` alone, which count it.
+/// The starts of a partitioning, as a look-up takes them. Outside this module only `probe` and `is_at_most` read a
+/// start, and both count it.
 #[derive(Drop)]
 pub(crate) struct CountedStarts<'a, P: Place, A: Allocator> {
     table: &'a Partitioning<P, A>,
@@ -65,7 +65,7 @@ impl<'a, P: Place, A: Allocator> Model for CountedStarts<'a, P, A> {
 }
 
 impl<'a, P: Place, A: Allocator> CountedStarts<'a, P, A> {
-    /// The starts of this partitioning.
+    /// Returns the starts of this partitioning.
     pub(crate) fn of(table: &'a Partitioning<P, A>) -> Self
         ensures { result ≡ table.now }
     {
@@ -90,7 +90,7 @@ impl<'a, P: Place, A: Allocator> CountedStarts<'a, P, A> {
         self.table.length()
     }
 
-    /// Returns where the partition starts, and counts that it was read.
+    /// Returns where the partition starts, and counts one read.
     pub(crate) fn probe(&self, index: usize, probes: &mut Probes) -> P
         requires { index < length self.now.starts }
         ensures start { P.number result ≡ slice_index self.now.starts index }
@@ -101,7 +101,7 @@ impl<'a, P: Place, A: Allocator> CountedStarts<'a, P, A> {
         self.table.place_of(index)
     }
 
-    /// Returns whether the partition starts at `wanted` or before it, and counts that its start was read.
+    /// Returns whether the partition starts at `wanted` or before it, and counts one read.
     #[inline]
     pub(crate) fn is_at_most(&self, index: usize, wanted: P, probes: &mut Probes) -> bool
         requires index { index < length self.now.starts }

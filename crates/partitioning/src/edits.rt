@@ -1,4 +1,4 @@
-//! The calls that change partitions. Text that comes or goes moves the step to its partition.
+//! The calls that change partitions. Text that is inserted or deleted moves the step to its partition.
 ghost use Rattle.std.specs.Prelude.{◌≡◌, ◌≤◌, ◌<◌, ◌+◌, ◌-◌, length, insert, remove};
 ghost use Rattle.partitioning.specs.Partitions.{ArePartitions, CanStart, CanLose, raised_behind, lowered_behind};
 ghost use Rattle.partitioning.specs.Stored.{steps_between};
@@ -9,8 +9,9 @@ use crate::table::Partitioning;
 use std::alloc::Allocator;
 
 impl<P: Place, A: Allocator> Partitioning<P, A> {
-    /// Puts a partition that starts at `start` in before the one at `index`, or at the end. There must be room for it.
-    /// No other stored start is changed: the step stays with its partition, or goes to one that comes right behind it.
+    /// Inserts a partition that starts at `start` before the one at `index`, or at the end. There must be room for it.
+    /// No other stored start changes: the step stays with its partition, or moves to the new one if that comes right
+    /// behind it.
     pub fn insert_reserved(&mut self, index: usize, start: usize)
         requires room { 0 < self.old.room }
         requires start { CanStart self.old.starts self.old.length index start }
@@ -23,7 +24,7 @@ impl<P: Place, A: Allocator> Partitioning<P, A> {
         ensures few { self.new.stepped + apart index self.new.step_at ≤ self.old.stepped + (apart index self.old.step_at + 1) }
         ensures sound { ArePartitions self.new.starts self.new.length }
     {
-        let _ = self.count(); // it says that the step's place is small
+        let _ = self.count(); // brings the fact that the step's place is small
         let place = P::from_usize(start);
         if index <= self.step_at + 1 {
             self.body.insert_reserved(index, place);
@@ -34,8 +35,8 @@ impl<P: Place, A: Allocator> Partitioning<P, A> {
         }
     }
 
-    /// Takes the start of a partition away, so that it joins the one before it. The first partition stays. No other stored
-    /// start is changed: the step stays with its partition, or goes one back where that is the one that was joined.
+    /// Joins the partition at `index` with the one before it, by removing its start. The first partition stays. No
+    /// other stored start changes: the step stays with its partition, or moves to the one before if its own was joined.
     pub fn remove(&mut self, index: usize)
         requires { (0 < index) × (index < length self.old.starts) }
         ensures starts { self.new.starts ≡ remove self.old.starts index }
@@ -55,7 +56,7 @@ impl<P: Place, A: Allocator> Partitioning<P, A> {
         }
     }
 
-    /// Puts `count` more into the partition at `index`: the starts behind it and the length rise by as much.
+    /// Inserts `count` into the partition at `index`: the starts behind it and the length rise by `count`.
     pub fn insert_text(&mut self, index: usize, count: usize)
         requires index { index < length self.old.starts }
         requires fits { self.old.length + count ≤ P.GREATEST }
@@ -72,8 +73,8 @@ impl<P: Place, A: Allocator> Partitioning<P, A> {
         self.end = self.end.plus(P::from_usize(count));
     }
 
-    /// Takes `count` out of the partition at `index`: the starts behind it and the length fall by as much. Something of
-    /// the partition must stay, unless it is the last.
+    /// Deletes `count` from the partition at `index`: the starts behind it and the length fall by `count`. The
+    /// partition must not become empty, unless it is the last.
     pub fn delete_text(&mut self, index: usize, count: usize)
         requires index { index < length self.old.starts }
         requires count { CanLose self.old.starts self.old.length index count }

@@ -5,13 +5,13 @@
 //!          |------|----|--|        length 8
 //! ```
 //!
-//! Text that comes or goes in one partition moves every start behind it. Those are not changed one by one: up to a
-//! partition, the step, starts are stored as they are, and behind it as their distances to the end, so that they move
-//! with the end. Text that comes or goes elsewhere moves the step there, and changes the starts between the two alone. A
-//! start that comes or goes changes no other. So edits near one another are cheap, however long the text is, starts are put
-//! in anywhere at the cost of a move in memory, and a look-up adds one subtraction.
+//! Text that is inserted into a partition, or deleted from it, moves every start behind it. These are not changed one
+//! by one. Up to one partition, the step, starts are stored as they are, and behind it as their distances to the end,
+//! so that they move with the end. An edit elsewhere moves the step there first, and changes only the starts between
+//! the two. A start that is inserted or removed changes no other. So edits near one another are cheap, however long the
+//! text is; inserting a start costs one move in memory; and a look-up costs one subtraction more.
 //!
-//! Contracts see the starts and the length, and nothing of how they are stored.
+//! Contracts see the starts and the length, and not how they are stored.
 #![tactic(auto)]
 
 mod counted;

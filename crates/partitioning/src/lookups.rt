@@ -1,4 +1,4 @@
-//! How the partition of a place is found.
+//! Look-up of the partition of a place.
 ghost use Rattle.std.specs.Prelude.{◌≡◌, ◌≤◌, ◌<◌, ◌+◌, ◌-◌, ℕ, length, slice_index};
 ghost use Rattle.partitioning.specs.Partitions.{IsLastAtMost, IsFloorLog};
 ghost use Rattle.split_vector.specs.Split.{counted};
@@ -7,11 +7,11 @@ use crate::counted::{CountedStarts, Probes};
 use crate::places::Place;
 use std::alloc::Allocator;
 
-// So many starts are mostly in the processor's caches.
+// This many starts usually fit in the processor's caches.
 const FEW: usize = 1 << 17;
 
-/// Returns the last partition that starts at `place` or before it: from the length on, the last of all.
-/// Each start that it reads is counted in `probes`, since it is handed nothing else to read starts by.
+/// Returns the last partition that starts at `place` or before it; from the length on, this is the last of all. Counts
+/// each start that it reads in `probes`, since `CountedStarts` offers no other way to read one.
 pub(crate) fn last_at_most<P: Place, A: Allocator>(
     starts: &CountedStarts<'_, P, A>,
     place: usize,
@@ -29,9 +29,9 @@ pub(crate) fn last_at_most<P: Place, A: Allocator>(
     last_among(starts, wanted, 0, starts.count(), probes)
 }
 
-// Among few starts: no jump rests on what a start is, since the processor would guess it wrongly half of the time. The first
-// turn leaves a power of two of starts, so that each other turn adds the next lower power or nothing. It is added by a shift:
-// of a product with the power the compiler would make a jump again.
+// The look-up among few starts. No branch depends on the value of a start, since the processor would mispredict half of
+// them. The first turn leaves a power of two of starts, so each further turn adds the next lower power or nothing. It
+// adds by a shift: the compiler would turn a product with the power into a branch again.
 fn last_of_few<P: Place, A: Allocator>(
     starts: &CountedStarts<'_, P, A>,
     wanted: P,
@@ -55,8 +55,9 @@ fn last_of_few<P: Place, A: Allocator>(
     low
 }
 
-// The last of those from `first` to before `behind` that starts at `wanted` or before it: by a guess the processor fetches the next start
-// before it has this one, which wins where starts come from memory, though half of the guesses are wrong.
+// Returns the last partition from `first` to before `behind` that starts at `wanted` or before it. The branch is
+// predicted, so that the processor fetches the next start before it has this one. That wins where starts come from
+// memory, although half of the predictions are wrong.
 fn last_among<P: Place, A: Allocator>(
     starts: &CountedStarts<'_, P, A>,
     wanted: P,
@@ -72,7 +73,7 @@ fn last_among<P: Place, A: Allocator>(
     ensures few { (k : ℕ) → IsFloorLog k (behind - first) → probes.new ≤ probes.old + (1 + k) }
     ensures many { (k : ℕ) → IsFloorLog k (behind - first) → counted probes.old k ≤ probes.new }
 {
-    let _ = starts.count(); // it says that the starts rise
+    let _ = starts.count(); // brings the fact that the starts rise
     let mut low = first;
     let mut width = behind - first;
     'halving: while width > 1 {
@@ -86,8 +87,8 @@ fn last_among<P: Place, A: Allocator>(
     low
 }
 
-/// Returns the last partition that starts at `place` or before it, which is one of those from `first` to before `behind`. Each start that
-/// it reads is counted in `probes`.
+/// Returns the last partition that starts at `place` or before it, which is one of those from `first` to before
+/// `behind`. Counts each start that it reads in `probes`.
 pub(crate) fn last_between<P: Place, A: Allocator>(
     starts: &CountedStarts<'_, P, A>,
     place: usize,

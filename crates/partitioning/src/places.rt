@@ -1,9 +1,8 @@
-//! The numbers that places in a text are kept as.
+//! The types in which places of a text are stored.
 ghost use Rattle.std.specs.Prelude.{◌≡◌, ◌+◌, ◌-◌, ◌^◌, ◌≤◌, ◌<◌, ◌↔◌, ℕ, IsTrue};
 ghost use Rattle.std.proofs.Common.{lit<};
 
-/// A number that says how far into a text a place lies. Its order, sum and difference are those of numbers up to a
-/// greatest one.
+/// A place in a text, as a number. Its order, sum and difference are those of the numbers up to `GREATEST`.
 pub trait Place: Copy + Drop {
     /// The number that a place stands for.
     ghost number: { Self → ℕ };
@@ -22,28 +21,28 @@ pub trait Place: Copy + Drop {
         requires { place ≤ GREATEST }
         ensures { number result ≡ place };
 
-    /// Returns the number that it stands for.
+    /// Returns the number that this place stands for.
     fn to_usize(self) -> usize
         ensures { result ≡ number self };
 
-    /// Returns whether it lies at `other` or before it.
+    /// Returns whether this place is `other` or before it.
     fn is_at_most(self, other: Self) -> bool
         ensures { IsTrue result ↔ (number self ≤ number other) };
 
-    /// Returns the sum, which must not be past the greatest place.
+    /// Returns the sum, which must be at most `GREATEST`.
     fn plus(self, other: Self) -> Self
         requires { number self + number other ≤ GREATEST }
         ensures { number result ≡ number self + number other };
 
-    /// Returns how far it lies behind `other`, which must not lie behind it.
+    /// Returns how far this place lies behind `other`, which must not lie behind it.
     fn minus(self, other: Self) -> Self
         requires { number other ≤ number self }
         ensures { number result ≡ number self - number other };
 
-    /// Two places that stand for one number are one.
+    /// Two places that stand for the same number are equal.
     ghost exact: { (a b : Self) → number a ≡ number b → a ≡ b };
 
-    /// A place goes into a `usize`.
+    /// Every place fits into a `usize`.
     ghost fits: { GREATEST < 2 ^ 64 };
 }
 

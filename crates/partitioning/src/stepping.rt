@@ -1,4 +1,4 @@
-//! How the step moves.
+//! Moves of the step.
 ghost use Rattle.std.specs.Prelude.{◌≡◌, ◌≤◌, ◌<◌, ◌+◌, length, map};
 ghost use Rattle.partitioning.specs.Stored.{AreWithin, IsTurned, near_count};
 ghost use Rattle.split_vector.specs.Split.{counted, apart};
@@ -8,7 +8,7 @@ use crate::table::Partitioning;
 use split_vector::SplitVector;
 use std::alloc::Allocator;
 
-// Returns how many of the starts are stored as they are, with the step at a partition.
+// Returns how many of `count` starts are stored as they are, with the step at the partition `step`.
 fn near_starts(step: usize, count: usize) -> usize
     ensures { result ≡ near_count step count }
 {
@@ -38,7 +38,7 @@ fn turn<P: Place, A: Allocator>(body: &mut SplitVector<P, A>, low: usize, high: 
 }
 
 impl<P: Place, A: Allocator> Partitioning<P, A> {
-    // Moves the step to the partition behind it, and counts the start that this changes.
+    // Moves the step to the next partition, and counts the start that this changes.
     fn step_on(&mut self)
         requires { self.old.step_at + 1 < length self.old.starts }
         ensures starts { self.new.starts ≡ self.old.starts }
@@ -47,14 +47,15 @@ impl<P: Place, A: Allocator> Partitioning<P, A> {
         ensures step_at { self.new.step_at ≡ self.old.step_at + 1 }
         ensures stepped { self.new.stepped ≡ counted self.old.stepped 1 }
     {
-        let _ = self.count(); // it says that the number of starts is small
+        let _ = self.count(); // brings the fact that the number of starts is small
         let index = self.step_at + 1;
         turn_one(&mut self.body, index, self.end);
         self.step_at = index;
         self.stepped = self.stepped.saturating_add(1);
     }
 
-    // Moves the step to the partition at `index`, which may be far away, and counts the starts that this changes.
+    // Moves the step to the partition at `index`, which may be far away, and counts the starts that this changes. Out
+    // of line, so that the hot path does not pay for its stack frame.
     #[inline(never)]
     fn step_far(&mut self, index: usize)
         requires { index ≤ length self.old.starts }
@@ -75,8 +76,8 @@ impl<P: Place, A: Allocator> Partitioning<P, A> {
         self.stepped = self.stepped.saturating_add((high - low) as u64);
     }
 
-    // Moves the step to the partition at `index`, and counts the starts that this changes. Mostly it stands there, or one
-    // partition in front of it.
+    // Moves the step to the partition at `index`, and counts the starts that this changes. The step usually stands
+    // there already, or one partition before it.
     #[inline(always)]
     pub(crate) fn step_to(&mut self, index: usize)
         requires { index ≤ length self.old.starts }

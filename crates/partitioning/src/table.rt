@@ -13,9 +13,9 @@ use std::marker::Model;
 /// A text cut into partitions, of which only the last may be empty: where each starts, and the length of the whole.
 ///
 /// The starts up to the step are stored as they are, and those behind it as their distances to the end. So text that is
-/// put into the partition at the step, or taken from it, changes the end alone, and each start behind the step moves
-/// with it. Text of another partition moves the step there first, and changes the starts between the two. A start that comes
-/// or goes changes no other: it is stored by the side of the step on which it lies.
+/// inserted into the partition at the step, or deleted from it, changes the end alone, and each start behind the step
+/// moves with it. An edit in another partition moves the step there first, and changes the starts between the two. A
+/// start that is inserted or removed changes no other: it is stored as its side of the step demands.
 #[derive(Drop)]
 pub struct Partitioning<P: Place, A: Allocator = Global> {
     pub(crate) body: SplitVector<P, A>,
@@ -40,11 +40,11 @@ impl<P: Place, A: Allocator> Model for Partitioning<P, A> {
 }
 
 impl<P: Place, A: Allocator> Partitioning<P, A> {
-    /// Returns one partition, which starts at 0 and is empty. It takes memory for its start, and for no more.
+    /// Returns one partition, which starts at 0 and is empty. Allocates memory for its start, and no more.
     ///
     /// # Errors
     ///
-    /// `AllocError` where the memory for its start is refused.
+    /// `AllocError` if the allocation fails.
     pub fn new(alloc: A) -> Result<Self, AllocError>
         ensures start { IfOk result (λ t. (t.starts ≡ 0 ∷ []) × (t.length ≡ 0) × (t.stepped ≡ 0) × (t.step_at ≡ 0)) }
         ensures room { IfOk result (λ t. t.room ≡ 0) }
@@ -78,7 +78,7 @@ impl<P: Place, A: Allocator> Partitioning<P, A> {
         self.end.to_usize()
     }
 
-    // Returns where the partition starts, as it is stored as a place.
+    // Returns where the partition starts, as a place.
     pub(crate) fn place_of(&self, index: usize) -> P
         requires { index < length self.now.starts }
         ensures { P.number result ≡ slice_index self.now.starts index }
@@ -90,8 +90,8 @@ impl<P: Place, A: Allocator> Partitioning<P, A> {
         self.end.minus(stored)
     }
 
-    // Returns whether the partition starts at `wanted` or before it. Its start is compared as it is stored, for both sides of the
-    // step: so one of two answers is taken, for which the processor needs no jump.
+    // Returns whether the partition starts at `wanted` or before it. The start is compared in its stored form for both
+    // sides of the step, and one of the two answers is selected: the processor needs no branch for that.
     #[inline]
     pub(crate) fn starts_by(&self, index: usize, wanted: P) -> bool
         requires index { index < length self.now.starts }
@@ -114,15 +114,16 @@ impl<P: Place, A: Allocator> Partitioning<P, A> {
         self.place_of(index).to_usize()
     }
 
-    /// Returns how many stored starts were changed for the step's sake so far, or `u64::MAX` for any number above it.
+    /// Returns how many stored starts the moves of the step have changed so far. The count stays at `u64::MAX` once it
+    /// is reached.
     pub fn stepped(&self) -> u64
         ensures { result ≡ self.now.stepped }
     {
         self.stepped
     }
 
-    /// Returns the partition that the step stands at: the one that text last came to or went from, or the last of those whose
-    /// starts were put in right behind it, or the one that it was joined with.
+    /// Returns the partition at which the step stands: the one that was last edited, the last of those that were
+    /// inserted right behind it, or the one that it was joined with.
     pub fn step_at(&self) -> usize
         ensures { result ≡ self.now.step_at }
     {
@@ -133,7 +134,7 @@ impl<P: Place, A: Allocator> Partitioning<P, A> {
     ///
     /// # Errors
     ///
-    /// `AllocError` where the memory is refused. All is then as it was.
+    /// `AllocError` if the allocation fails. Nothing has changed then.
     #[inline(always)]
     pub fn reserve(&mut self, count: usize) -> Result<(), AllocError>
         ensures ok { OnOk result ((count ≤ self.new.room) × (self.new ≡ record self.old { room = self.new.room })) }
@@ -145,8 +146,8 @@ impl<P: Place, A: Allocator> Partitioning<P, A> {
         self.body.reserve(count)
     }
 
-    /// Returns the last partition that starts at `place` or before it: from the length on, the last of all.
-    /// Each start that it reads is counted in `probes`.
+    /// Returns the last partition that starts at `place` or before it; from the length on, this is the last of all.
+    /// Counts each start that it reads in `probes`.
     pub fn partition_of(&self, place: usize, probes: &mut Probes) -> usize
         ensures last { IsLastAtMost self.now.starts place result }
         ensures counted { probes.old ≤ probes.new }
@@ -156,8 +157,8 @@ impl<P: Place, A: Allocator> Partitioning<P, A> {
         last_at_most(&CountedStarts::of(self), place, probes)
     }
 
-    /// Returns the same partition where it is known to be one of those from `first` to before `behind`. Each start that it reads is counted
-    /// in `probes`.
+    /// Like `partition_of`, if the partition is known to be one of those from `first` to before `behind`. Counts each
+    /// start that it reads in `probes`.
     pub fn partition_between(
         &self,
         place: usize,

@@ -1,4 +1,4 @@
--- One call after the other.
+-- Call by call.
 use Rattle.std.proofs.Common.{arith, ℕ, ◌+◌, ◌≤◌, List, [], ◌∷◌}
 use Rattle.split_vector.specs.Split.{apart}
 use Rattle.partitioning.specs.SumLaws.{Steps, EachKeepsTo, steps_after, sum_of_ways, sum_between}
@@ -12,7 +12,7 @@ by_step was (call ∷ calls) keeps =
     let others : (steps_after call.1 calls).stepped ≤ call.1.stepped + sum_of_ways call.1 calls = by_step call.1 calls keeps.1 in
     omega (arith, first, others)
 
--- What was paid, and the way to the partition that was named last, rise by no more than each call's share.
+-- The changes so far, and the distance from the partition that was named last, rise by at most each call's share.
 by_names :
     (from : ℕ) (was : Steps) (calls : List (ℕ × Steps)) → EachKeepsTo was calls
     → (steps_after was calls).stepped ≤ was.stepped + apart from was.step_at + sum_between from calls
