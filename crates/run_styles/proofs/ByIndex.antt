@@ -1,4 +1,4 @@
--- The steps of the code by the index of a run, as its contracts write them.
+-- The steps of the code by the index of a run, as their contracts state them.
 use Rattle.std.proofs.Common.{◌≡◌, ℕ, ◌+◌, ◌-◌, ◌<◌, ◌≤◌, zero, suc, List, [], ◌∷◌, ◌++◌, length, get_or, take, drop, map, replicate, refl, sym, ap, ◌∙◌, arith, append_assoc, append-nil, length-append, subst, drop-drop, take-append-drop, ⊎_elim, take_at, drop_at}
 use Rattle.std.proofs.Math.Seq.{drop-append-add}
 use Rattle.std.proofs.lemmas.List.{length-take-le, length-drop, get_or-append_right, get_or_append_left, get_or-replicate, length-replicate, drop_all, get_or-drop, get_or_default, get_or_past, nil_from_length, take_all}
@@ -11,7 +11,7 @@ use Rattle.run_styles.proofs.Tables.{expansion-append, length-expansion, rise_le
 use Rattle.run_styles.proofs.Pieces.{length_front}
 use Rattle.run_styles.proofs.Steps.{At, at, Stands, stands_at, Parts, parts, split_parts, fill_parts, join_parts, grow_parts, shrink_parts, drop_parts, first_parts, last_parts}
 
--- what stands behind a seam, without its first item
+-- what comes behind a seam, without its first item
 pub remove-seam : {X : Type 0} (xs : List X) (f k : ℕ) → f ≤ k → k < length xs → remove (take f xs ++ drop k xs) f ≡ take f xs ++ drop (k + 1) xs
 remove-seam xs f k le h =
     let n : length (take f xs) ≡ f = length-take-le f xs (omega arith) in
@@ -20,7 +20,7 @@ remove-seam xs f k le h =
     let back : drop (suc f) (take f xs ++ drop k xs) ≡ drop (k + 1) xs = ap (λ m. drop m (take f xs ++ drop k xs)) (sym n1) ∙ drop-append-add (take f xs) (drop k xs) 1 ∙ drop-drop 1 k xs in
     rw (front, back) refl
 
--- how many stand there
+-- how many items that are
 pub length-seam : {X : Type 0} (xs : List X) (f k : ℕ) → f ≤ k → k ≤ length xs → length (take f xs ++ drop k xs) + (k - f) ≡ length xs
 length-seam xs f k le h = omega (arith, length-append (take f xs) (drop k xs), length-take-le f xs (omega arith), length-drop k xs)
 
@@ -29,11 +29,11 @@ drop-split_starts S i q h =
     let e = drop-drop 1 (i + 1) (insert S (i + 1) q) in
     sym e ∙ ap (λ l. drop 1 l) (drop_at (take (i + 1) S) (q ∷ drop (i + 1) S) (i + 1) (length-take-le (i + 1) S (omega arith)))
 
--- the place that a run starts before, and no later one does, lies before the run's end
+-- a place at or behind a run's start, and before the start of each later run, lies before the run's end
 pub run_end : (S : List ℕ) (end q i : ℕ) → ((k : ℕ) → i < k → k < length S → q < get_or S k 0) → q < end → q < get_or S (i + 1) end
 run_end S end q i last top = ⊎_elim (λ h. rw (get_or_default S (i + 1) end 0 h) (last (i + 1) (omega arith) h)) (λ h. rw (get_or_past S (i + 1) end h) top) (cases_lt (i + 1) (length S))
 
--- text put into the last run moves no start
+-- text inserted into the last run moves no start
 pub raised_last : (S : List ℕ) (k : ℕ) → 0 < length S → take (length S - 1 + 1) S ++ map (λ s. s + k) (drop (length S - 1 + 1) S) ≡ S
 raised_last S k h =
     let n : length S - 1 + 1 ≡ length S = omega arith in
@@ -87,14 +87,14 @@ module _ {V : Type 0} where
       let P : List V → Type 0 = λ l. Stands (insert S (i + 1) q) (take (i + 1) W ++ drop i W) end l in
       subst P p.list (stands_at _ _ _ _ end _ es ew (split_parts (take i S) p.s q (drop (i + 1) S) (take i W) p.v (drop (i + 1) W) end p.fronts pos p.table (omega arith) (omega arith)))
 
-  -- an item put in behind itself
+  -- an item inserted behind itself
   pub split_values : (W : List V) (i : ℕ) (v : V) → i < length W → v ≡ get_or W i v → (take (i + 1) W ++ v ∷ []) ++ drop (i + 1) W ≡ take (i + 1) W ++ drop i W
   split_values W i v h e =
       let a : At W i = at W i h in
       let here : v ≡ a.item = e ∙ a.read v in
       append_assoc (take (i + 1) W) (v ∷ []) (drop (i + 1) W) ∙ ap (λ l. take (i + 1) W ++ l) (ap (λ x. x ∷ drop (i + 1) W) here ∙ sym a.rest)
 
-  -- what stands behind a run that was cut in two
+  -- what comes behind a run that was cut in two
   pub drop-split_values : (W : List V) (i : ℕ) → i < length W → drop (i + 1) (take (i + 1) W ++ drop i W) ≡ drop i W
   drop-split_values W i h = drop_at (take (i + 1) W) (drop i W) (i + 1) (length-take-le (i + 1) W (omega arith))
 
@@ -155,7 +155,7 @@ module _ {V : Type 0} where
       let R : List V → Type 0 = λ l. Stands (take (a + 1) S ++ drop b S) (take a W ++ v ∷ drop b W) end l in
       subst R same (stands_at _ _ _ _ end _ front refl fill)
 
-  -- a run that is a table's only one, or has others behind and before it
+  -- text inserted into a run, which is the only one of its table or has others before or behind it
   pub grow_stands : (S : List ℕ) (W : List V) (end i q k : ℕ) (v : V) → IsTable S W end → i < length S → 0 < k → get_or S i 0 ≤ q → q ≤ get_or S (i + 1) end → get_or W i v ≡ v
       → Stands (take (i + 1) S ++ map (λ s. s + k) (drop (i + 1) S)) W (end + k) (inserted (expansion S W end) q k v)
   grow_stands S W end i q k v t h more low high e =
@@ -228,7 +228,7 @@ module _ {V : Type 0} where
       let Q : ℕ → Type 0 = λ n. Stands (take i S ++ map (λ s. s - k) (drop (i + 1) S)) (take i W ++ drop (i + 1) W) n (deleted (expansion S W end) (get_or S i 0) k) in
       subst Q top (subst R list dropped)
 
-  -- what stands behind a seam
+  -- what comes behind a seam
   pub drop_seam : (W : List V) (i k : ℕ) → i ≤ length W → drop i (take i W ++ drop k W) ≡ drop k W
   drop_seam W i k h = drop_at (take i W) (drop k W) i (length-take-le i W h)
 
@@ -268,7 +268,7 @@ module _ {V : Type 0} where
       let ew : (take (length S) W ++ v ∷ []) ++ drop (length S) W ≡ W ++ v ∷ [] = rw (take_all (length S) W (omega arith), drop_all (length S) W (omega arith)) (append-nil (W ++ v ∷ [])) in
       stands_at _ _ _ _ (end + k) _ es ew (last_parts S W v end k pos more t)
 
--- a partition can be put in at the end of the text that was there
+-- a partition can be inserted at the end of the text that was there
 pub can_start_last : (S : List ℕ) (end k : ℕ) → Rise S end → get_or S 0 1 ≡ 0 → CanStart (take (length S - 1 + 1) S ++ map (λ s. s + k) (drop (length S - 1 + 1) S)) (end + k) (length S) end
 can_start_last S end k rise z =
     let some : 0 < length S = ⊎_elim (λ o. o) (λ e. let e' : S ≡ [] = nil_from_length S (omega arith) in let wrong : 1 ≡ 0 = sym (ap (λ l. get_or l 0 1) e') ∙ z in absurd (omega arith)) (cases_lt 0 (length S)) in

@@ -1,4 +1,4 @@
--- A run that is taken away: what the containers ask, and what the two steps leave.
+-- A run that is deleted: what the containers require, and what the two steps leave.
 use Rattle.std.proofs.Common.{◌≡◌, ℕ, ◌+◌, ◌-◌, ◌<◌, ◌≤◌, zero, suc, max, List, [], ◌∷◌, ◌++◌, length, get_or, take, drop, map, refl, sym, ap, ◌∙◌, arith, subst, ⊎_elim, take-append-drop, drop-drop, take_at}
 use Rattle.std.proofs.Math.Seq.{drop-append-add}
 use Rattle.std.proofs.lemmas.List.{length-take-le, get_or_default, get_or_past, get_or-append_right, get_or-drop}
@@ -12,7 +12,7 @@ use Rattle.run_styles.proofs.Tables.{rise_lt, rise_within, head-map_sub}
 use Rattle.run_styles.proofs.Steps.{Stands}
 use Rattle.run_styles.proofs.ByIndex.{empty_stands}
 
--- the starts, once one is removed and its run's text taken out of the run before, or of the first
+-- the starts, once one is removed and its run's text deleted from the run before, or from the first
 pub lowered-drop : (S : List ℕ) (end i j n : ℕ) → j ≡ max i 1 → i < length S → 1 < length S → get_or S 0 1 ≡ 0 → get_or S i 0 + n ≡ get_or S (i + 1) end
     → take (j - 1 + 1) (remove S j) ++ map (λ s. s - n) (drop (j - 1 + 1) (remove S j)) ≡ take i S ++ map (λ s. s - n) (drop (i + 1) S)
 lowered-drop [] end i j n m h more z whole = absurd (omega (arith, h))
@@ -34,7 +34,7 @@ lowered-drop (s ∷ s' ∷ S) end (suc i) j n m h more z whole =
     ∙ ap (λ l. l ++ map (λ t. t - n) (drop (suc i) (remove (s ∷ s' ∷ S) (suc i)))) front
     ∙ ap (λ l. take (suc i) (s ∷ s' ∷ S) ++ map (λ t. t - n) l) (back ∙ ap (λ q. drop q (s ∷ s' ∷ S)) (sym k'))
 
--- that text is there, and something stays
+-- that run holds the text, and something of it stays
 pub can_lose_run : (S : List ℕ) (end i j n : ℕ) → Rise S end → j ≡ max i 1 → i < length S → 1 < length S → get_or S 0 1 ≡ 0 → get_or S i 0 + n ≡ get_or S (i + 1) end → CanLose (remove S j) end (j - 1) n
 can_lose_run S end i j n rise m h more z whole =
     let here : j < length S = omega arith in
@@ -69,7 +69,7 @@ can_lose_run S end i j n rise m h more z whole =
     })
     (cases_lt 0 i)
 
--- a part of a run can be taken out of it
+-- a part of a run can be deleted from it
 pub can_lose_part : (S : List ℕ) (end i n : ℕ) → Rise S end → i < length S → get_or S i 0 + n < get_or S (i + 1) end → CanLose S end i n
 can_lose_part S end i n rise h part =
     let top : get_or S (i + 1) end ≤ end = rise_within S end (i + 1) rise in
@@ -78,7 +78,7 @@ can_lose_part S end i n rise h part =
       before_end = omega arith;
     }
 
--- a run that ends below the end is there
+-- the run with this index exists, as it ends below the end
 pub index_within : (S : List ℕ) (end i left : ℕ) → get_or S i end + left ≤ end → 0 < left → i < length S
 index_within S end i left h some = ⊎_elim (λ o. o) (λ past. let e = get_or_past S i end past in absurd (omega arith)) (cases_lt i (length S))
 
@@ -108,7 +108,7 @@ module _ {V : Type 0} where
       let Q : ℕ → Type 0 = λ n. Stands (take (0 + 1) S ++ map (λ s. s - k) (drop (0 + 1) S)) W end' (deleted (expansion S W end) n k) in
       subst Q (sym at_zero) (subst P all (empty_stands S W end end' t one (omega arith)))
 
--- where the next run starts once text was taken out of a run
+-- where the next run starts once text was deleted from a run
 pub next_shrunk : (S : List ℕ) (end end' i k : ℕ) → i < length S → end' + k ≡ end → get_or (take (i + 1) S ++ map (λ s. s - k) (drop (i + 1) S)) (i + 1) end' ≡ get_or S (i + 1) end - k
 next_shrunk S end end' i k h e =
     let len : length (take (i + 1) S) ≡ i + 1 = length-take-le (i + 1) S (omega arith) in

@@ -1,4 +1,4 @@
--- A range that is set to a value: where it may be widened or trimmed, and the runs that take its place.
+-- A range that is set to a value: where it may be widened or trimmed, and the runs that replace it.
 use Rattle.std.proofs.Common.{◌≡◌, ◌≢◌, ◌⊎◌, ℕ, ◌+◌, ◌-◌, ◌<◌, ◌≤◌, zero, suc, List, [], ◌∷◌, ◌++◌, Some, None, length, get_or, set, take, drop, replicate, refl, sym, ap, ◌∙◌, arith, subst, ⊎_elim, append_assoc, length-append, take-append-drop, take_at, drop_at}
 use Rattle.std.proofs.lemmas.List.{length-take-le, length-drop, length-replicate, get_or-append_right, get_or_append_left, get_or-replicate, get_or-take, get_or-drop, get_or_default, get_or_past, same_lists, take_more_set, drop-set-lt}
 use Rattle.std.proofs.lemmas.Option.{slice_get-get_or, get_or_from_slice_get, slice_get_past}
@@ -70,7 +70,7 @@ module _ {V : Type 0} where
   set_values : (W : List V) (a b : ℕ) (v : V) → a < b → a < length W → take (a + 1) (set W a v) ++ drop b (set W a v) ≡ take a W ++ v ∷ drop b W
   set_values W a b v o h = rw (take_more_set W a v h, drop-set-lt b W a v o) (append_assoc (take a W) (v ∷ []) (drop b W))
 
-  -- the runs from one to another replaced by one, which takes in neighbours that have its value
+  -- the runs from one to another replaced by one, which absorbs neighbours that have its value
   pub replaced : (S : List ℕ) (W : List V) (end first last from to : ℕ) (v : V) → IsTable S W end → 0 < end → first < last → last ≤ length S
       → (from ≡ first) ⊎ ((from + 1 ≡ first) × (slice_get W from ≡ Some v)) → (to ≡ last) ⊎ ((to ≡ last + 1) × (slice_get W last ≡ Some v)) → to ≤ length W
       → Stands (take (from + 1) S ++ drop to S) (take (from + 1) (set W from v) ++ drop to (set W from v)) end (filled (expansion S W end) (get_or S first 0) (get_or S last end - get_or S first 0) v)
@@ -135,7 +135,7 @@ module _ {V : Type 0} where
   pub filled-none : (xs : List V) (p : ℕ) (v : V) → filled xs p 0 v ≡ xs
   filled-none xs p v = let n : p + 0 ≡ p = omega arith in rw n (take-append-drop p xs)
 
-  -- nothing changes where the value is there already
+  -- nothing changes if the value is there already
   pub filled_same : (xs : List V) (p n : ℕ) (v : V) → p + n ≤ length xs → ((k : ℕ) → p ≤ k → k < p + n → slice_get xs k ≡ Some v) → filled xs p n v ≡ xs
   filled_same xs p n v h there =
       filled_widened xs p n (p + n) 0 v (omega arith) (omega arith) h there (λ k low high. absurd (omega arith)) ∙ filled-none xs (p + n) v

@@ -1,4 +1,4 @@
--- The rule for inserted values, and the run that takes the inserted places in.
+-- The rule for inserted values, and the run that absorbs the inserted places.
 use Rattle.std.proofs.Common.{◌≡◌, ◌≢◌, ◌⊎◌, ℕ, ◌+◌, ◌-◌, ◌<◌, ◌≤◌, suc, Bool, true, false, not, cond, List, [], ◌∷◌, ◌++◌, length, get_or, take, drop, map, refl, sym, ap, ◌∙◌, arith, ⊎_elim, ne_eqb, eq-eqb, true≢false, replicate, length-append}
 use Rattle.std.proofs.lemmas.Bool.{cases_lt}
 use Rattle.std.proofs.lemmas.List.{get_or_default, get_or_past, length-take-le, length-replicate, length-drop}
@@ -28,7 +28,7 @@ module _ {V : Type 0} where
   value_at_end eq d [] = refl
   value_at_end eq d (x ∷ xs) = rw (eq-eqb (length (x ∷ xs)) (length (x ∷ xs)) refl, ne_eqb (suc (length xs)) 0 (λ e. absurd (omega (arith, e)))) refl
 
-  -- where another value than the default begins, the run before takes the places in
+  -- where a value other than the default begins, the run before absorbs the places
   pub space_before : (eq : V → V → Bool) (S : List ℕ) (W : List V) (end i place k : ℕ) (r d : V) → IsTable S W end → i < length S → 0 < k → 0 < place → place < end → get_or S i 0 ≡ place → r ≡ get_or W i r → eq r d ≡ false
       → Stands (take (i - 1 + 1) S ++ map (λ s. s + k) (drop (i - 1 + 1) S)) W (end + k) (inserted (expansion S W end) place k (inserted_value eq d (expansion S W end) place))
   space_before eq S W end i place k r d t h more h1 h2 at read other =
@@ -48,7 +48,7 @@ module _ {V : Type 0} where
       let own : get_or W (i - 1) (get_or W (i - 1) d) ≡ get_or W (i - 1) d = get_or_default W (i - 1) (get_or W (i - 1) d) d (omega arith) in
       rw v (grow_stands S W end (i - 1) place k (get_or W (i - 1) d) t (omega arith) more (omega arith) (omega arith) own)
 
-  -- elsewhere the run that holds the place does
+  -- elsewhere the run that holds the place absorbs them
   pub space_in : (eq : V → V → Bool) → IsExact eq → (S : List ℕ) (W : List V) (end i place k : ℕ) (d : V) → IsTable S W end → i < length S → 0 < k → 0 < place → place < end → get_or S i 0 ≤ place → place < get_or S (i + 1) end
       → (get_or S i 0 ≢ place) ⊎ (eq (get_or W i d) d ≡ true)
       → Stands (take (i + 1) S ++ map (λ s. s + k) (drop (i + 1) S)) W (end + k) (inserted (expansion S W end) place k (inserted_value eq d (expansion S W end) place))
@@ -71,7 +71,7 @@ module _ {V : Type 0} where
           let apart : get_or S i 0 ≢ place = ⊎_elim (λ n. n) (λ y. absurd (true≢false (sym y ∙ e))) c in
           value_inside eq d (expansion S W end) place false h1 (omega arith) (ap (λ x. eq x d) there ∙ e) ∙ value_in_run S W end i (place - 1) d t h (omega arith) (omega arith) (omega arith)
 
-  -- an end of the list that has the default already takes more of it in
+  -- at an end of the list that has the default already, its run absorbs them
   pub start_grown : (S : List ℕ) (W : List V) (end k : ℕ) (v : V) → IsTable S W end → 0 < end → 0 < k → v ≡ get_or W 0 v
       → Stands (take (0 + 1) S ++ map (λ s. s + k) (drop (0 + 1) S)) W (end + k) (inserted (expansion S W end) 0 k v)
   start_grown [] W end k v t pos more read = absurd (omega (arith, t.from_zero))
@@ -90,7 +90,7 @@ module _ {V : Type 0} where
       some_runs [] W end t = absurd (omega (arith, t.from_zero))
       some_runs (s ∷ S) W end t = omega arith
 
-  -- places that are put in, and then set
+  -- places that are inserted, and then set
   pub filled-inserted : (xs : List V) (p k : ℕ) (v w : V) → p ≤ length xs → filled (inserted xs p k v) p k w ≡ inserted xs p k w
   filled-inserted xs p k v w h = fill_middle (take p xs) (replicate k v) (drop p xs) p k w (length-take-le p xs h) (length-replicate k v)
 

@@ -41,7 +41,7 @@ module _ {V : Type 0} where
   differ_append (x ∷ []) ys apart h k = differ_cons x ys (apart 0 x refl refl) k
   differ_append (x ∷ x' ∷ xs) ys apart h k = (h.0, differ_append (x' ∷ xs) ys (λ i v e. apart (suc i) v (ap suc e)) h.1 k)
 
-  -- the value next to one is another
+  -- the value next to one differs from it
   pub differ_next : (xs : List V) (i : ℕ) (v : V) → NeighboursDiffer xs → slice_get xs i ≡ Some v → slice_get xs (i + 1) ≢ Some v
   differ_next xs i v h e = let n : i + 1 ≡ suc i = omega arith in rw n (next xs i h e)
     where
@@ -80,7 +80,7 @@ module _ {V : Type 0} where
       let P : List V → Type 0 = λ l. NeighboursDiffer l in
       subst P (drop-drop (m - k) k xs ∙ ap (λ j. drop j xs) n) (differ_drop (m - k) (drop k xs) h)
 
-  -- what stands before the last value of a front, or behind the first of the rest
+  -- the value before the last one of a front, or behind the first one of the rest
   pub differ_before : (xs : List V) (k : ℕ) (v : V) → NeighboursDiffer (take k xs) → 0 < k - 1 → slice_get xs (k - 1) ≡ Some v → slice_get xs (k - 1 - 1) ≢ Some v
   differ_before xs k v h pos e f =
       let n : (k - 1 - 1) + 1 ≡ k - 1 = omega arith in
@@ -109,7 +109,7 @@ module _ {V : Type 0} where
   pub read_here : (xs : List V) (i : ℕ) (r : V) → i < length xs → r ≡ get_or xs i r → slice_get xs i ≡ Some r
   read_here xs i r h e = slice_get_read xs (length xs) i r refl h e
 
-  -- two neighbours of one value, of which one is taken away
+  -- two neighbours with the same value, of which one is removed
   pub differ_joined : (xs : List V) (k : ℕ) (v : V) → k < length xs → NeighboursDiffer (take k xs) → NeighboursDiffer (drop k xs) → slice_get xs (k - 1) ≡ Some v → slice_get xs k ≡ Some v
       → NeighboursDiffer (take k xs ++ drop (k + 1) xs)
   differ_joined xs k v h front behind before here =
@@ -121,7 +121,7 @@ module _ {V : Type 0} where
       differ_behind xs k v behind here (ap (λ j. slice_get xs j) (sym m) ∙ sym (slice_get-drop (k + 1) xs 0) ∙ g ∙ there))
       front (differ_further xs k (k + 1) behind (omega arith))
 
-  -- a value put behind the last, which differs
+  -- a value appended, which differs from the last
   pub differ_push : (xs : List V) (v : V) → (0 < length xs → slice_get xs (length xs - 1) ≢ Some v) → NeighboursDiffer xs → NeighboursDiffer (xs ++ v ∷ [])
   differ_push xs v apart h =
       differ_append xs (v ∷ []) (λ i w e f g. let i' : length xs - 1 ≡ i = omega (arith, e) in apart (omega (arith, e)) (ap (λ j. slice_get xs j) i' ∙ f ∙ sym g)) h tt

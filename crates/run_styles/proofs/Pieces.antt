@@ -1,4 +1,5 @@
--- What each step of the code does to the list that the runs stand for. A table is written as the runs before a run, that run, and those behind it.
+-- What each step of the code does to the list that the runs stand for. A table is written as the runs before a run,
+-- that run, and those behind it.
 use Rattle.std.proofs.Common.{◌≡◌, ℕ, ◌+◌, ◌-◌, ◌≤◌, suc, List, [], ◌∷◌, ◌++◌, length, get_or, take, drop, map, replicate, refl, sym, ap, ◌∙◌, arith, append_assoc, append-nil}
 use Rattle.std.proofs.lemmas.List.{length-replicate, replicate-append-replicate, take-append-le, drop-append-le, take-replicate, drop-replicate}
 use Rattle.std.proofs.Math.Seq.{take-append-add, drop-append-add}
@@ -7,7 +8,7 @@ use Rattle.run_styles.specs.Runs.{inserted, deleted, filled}
 use Rattle.run_styles.proofs.Tables.{expansion-append, length-expansion, expansion-map_add, head-map_add, rise_le, rise_above}
 
 module _ {V : Type 0} where
-  -- where a list is cut inside the middle of three parts, which has one value
+  -- a list cut inside the middle one of three parts, which has one value
   take_inside : (A C : List V) (n q : ℕ) (v : V) → length A ≤ q → q ≤ length A + n → take q (A ++ (replicate n v ++ C)) ≡ A ++ replicate (q - length A) v
   take_inside A C n q v low high =
       let e : q ≡ length A + (q - length A) = omega arith in
@@ -73,7 +74,7 @@ module _ {V : Type 0} where
   length_front [] vs s ys e h z = sym z
   length_front (x ∷ xs) vs s ys e h z = let l = length-expansion (x ∷ xs) vs s e h in omega (arith, l)
 
-  -- a run cut in two, or two of one value joined
+  -- a run cut in two, or two runs of the same value joined
   pub expansion-merge : (xs : List ℕ) (s p : ℕ) (ys : List ℕ) (vs : List V) (v : V) (ws : List V) (end : ℕ) → length xs ≡ length vs → s ≤ p → p ≤ get_or ys 0 end
       → expansion (xs ++ s ∷ p ∷ ys) (vs ++ v ∷ v ∷ ws) end ≡ expansion (xs ++ s ∷ ys) (vs ++ v ∷ ws) end
   expansion-merge xs s p ys vs v ws end e low high =
@@ -95,7 +96,7 @@ module _ {V : Type 0} where
       ∙ sym (fill_middle (expansion xs vs s) (expansion (s ∷ ms) us (get_or ys 0 end)) (expansion ys ws end) s (get_or ys 0 end - s) v front mid')
       ∙ ap (λ t. filled t s (get_or ys 0 end - s) v) (sym (expansion-append xs (s ∷ (ms ++ ys)) vs (us ++ ws) end e ∙ ap (λ t. expansion xs vs s ++ t) (expansion-append (s ∷ ms) ys us ws end e')))
 
-  -- text put into a run
+  -- text inserted into a run
   pub expansion-grow : (xs : List ℕ) (s : ℕ) (ys : List ℕ) (vs : List V) (v : V) (ws : List V) (end q k : ℕ) → length xs ≡ length vs → Rise xs s → get_or (xs ++ s ∷ ys) 0 1 ≡ 0 → s ≤ q → q ≤ get_or ys 0 end
       → expansion (xs ++ s ∷ map (λ t. t + k) ys) (vs ++ v ∷ ws) (end + k) ≡ inserted (expansion (xs ++ s ∷ ys) (vs ++ v ∷ ws) end) q k v
   expansion-grow xs s ys vs v ws end q k e hx z low high =
@@ -108,7 +109,7 @@ module _ {V : Type 0} where
       ∙ sym (insert_inside (expansion xs vs s) (expansion ys ws end) (get_or ys 0 end - s) q k v low' high')
       ∙ ap (λ t. inserted t q k v) (sym (expansion-append xs (s ∷ ys) vs (v ∷ ws) end e))
 
-  -- text taken out of a run
+  -- text deleted from a run
   pub expansion-shrink : (xs : List ℕ) (s : ℕ) (ys : List ℕ) (vs : List V) (v : V) (ws : List V) (end q k : ℕ) → length xs ≡ length vs → Rise xs s → Rise ys end → get_or (xs ++ s ∷ ys) 0 1 ≡ 0 → s ≤ q → q + k ≤ get_or ys 0 end
       → expansion (xs ++ s ∷ map (λ t. t - k) ys) (vs ++ v ∷ ws) (end - k) ≡ deleted (expansion (xs ++ s ∷ ys) (vs ++ v ∷ ws) end) q k
   expansion-shrink xs s ys vs v ws end q k e hx hy z low high =
@@ -127,7 +128,7 @@ module _ {V : Type 0} where
       ∙ sym (delete_inside (expansion xs vs s) (expansion ys ws end) (get_or ys 0 end - s) q k v low' high')
       ∙ ap (λ t. deleted t q k) (sym (expansion-append xs (s ∷ ys) vs (v ∷ ws) end e))
 
-  -- a run taken away with its text
+  -- a run deleted with its text
   pub expansion-drop : (xs : List ℕ) (s : ℕ) (ys : List ℕ) (vs : List V) (v : V) (ws : List V) (end k : ℕ) → length xs ≡ length vs → Rise xs s → Rise ys end → get_or (xs ++ s ∷ ys) 0 1 ≡ 0 → s + k ≡ get_or ys 0 end
       → expansion (xs ++ map (λ t. t - k) ys) (vs ++ ws) (end - k) ≡ deleted (expansion (xs ++ s ∷ ys) (vs ++ v ∷ ws) end) s k
   expansion-drop xs s ys vs v ws end k e hx hy z high =

@@ -1,4 +1,4 @@
--- What is read of the runs: where a run of the list begins and ends, how many there are, and whether there is one value alone.
+-- Reads of the runs: where a run of the list begins and ends, how many there are, and whether all values are equal.
 use Rattle.std.proofs.Common.{◌≡◌, ◌≢◌, ℕ, ◌+◌, ◌-◌, ◌<◌, ◌≤◌, zero, suc, Bool, true, false, List, [], ◌∷◌, ◌++◌, Some, length, get_or, replicate, refl, sym, ap, ◌∙◌, arith}
 use Rattle.std.proofs.lemmas.List.{get_or_default, get_or_past, nil_from_length}
 use Rattle.std.proofs.lemmas.Option.{slice_get-get_or}

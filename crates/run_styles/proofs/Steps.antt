@@ -1,4 +1,4 @@
--- Each step of the code, by the index of a run: the table that it leaves, and the list that this stands for.
+-- Each step of the code, by the index of a run: the table that it leaves, and the list that this table stands for.
 use Rattle.std.proofs.Common.{◌≡◌, ℕ, ◌+◌, ◌-◌, ◌<◌, ◌≤◌, zero, suc, List, [], ◌∷◌, ◌++◌, length, get_or, take, drop, map, refl, sym, ap, ◌∙◌, arith, length-append, subst}
 use Rattle.std.proofs.lemmas.List.{length-take-le, length-map, take_more, drop_more, take-append-drop, get_or-drop, take_all, drop_all}
 use Rattle.run_styles.specs.Expansion.{expansion, Rise, IsTable}
@@ -63,7 +63,7 @@ module _ {V : Type 0} where
         list = expansion-merge xs s p ys vs v ws end e (omega arith) (omega arith);
       }
 
-  -- runs from one on made one
+  -- runs from one on joined into one
   pub fill_parts : (xs : List ℕ) (s : ℕ) (ms ys : List ℕ) (vs us : List V) (v : V) (ws : List V) (end : ℕ) → length xs ≡ length vs → suc (length ms) ≡ length us → 0 < end
       → IsTable (xs ++ s ∷ (ms ++ ys)) (vs ++ (us ++ ws)) end
       → Stands (xs ++ s ∷ ys) (vs ++ v ∷ ws) end (filled (expansion (xs ++ s ∷ (ms ++ ys)) (vs ++ (us ++ ws)) end) s (get_or ys 0 end - s) v)
@@ -85,7 +85,7 @@ module _ {V : Type 0} where
         list = expansion-fill xs s ms ys vs us v ws end e e' left mid t.from_zero;
       }
 
-  -- two neighbours of one value made one
+  -- two neighbours with the same value joined
   pub join_parts : (xs : List ℕ) (s p : ℕ) (ys : List ℕ) (vs : List V) (v : V) (ws : List V) (end : ℕ) → length xs ≡ length vs → 0 < end
       → IsTable (xs ++ s ∷ p ∷ ys) (vs ++ v ∷ v ∷ ws) end
       → Stands (xs ++ s ∷ ys) (vs ++ v ∷ ws) end (expansion (xs ++ s ∷ p ∷ ys) (vs ++ v ∷ v ∷ ws) end)
@@ -104,7 +104,7 @@ module _ {V : Type 0} where
         list = sym (expansion-merge xs s p ys vs v ws end e (omega (arith, right.0)) (omega (arith, right.1.0)));
       }
 
-  -- text put into a run, also into the one of an empty list
+  -- text inserted into a run, which may be that of an empty list
   pub grow_parts : (xs : List ℕ) (s : ℕ) (ys : List ℕ) (vs : List V) (v : V) (ws : List V) (end q k : ℕ) → length xs ≡ length vs → Rise xs s → (0 < end → Rise (s ∷ ys) end) → (end ≡ 0 → ys ≡ []) → 0 < k
       → IsTable (xs ++ s ∷ ys) (vs ++ v ∷ ws) end → s ≤ q → q ≤ get_or ys 0 end
       → Stands (xs ++ s ∷ map (λ t. t + k) ys) (vs ++ v ∷ ws) (end + k) (inserted (expansion (xs ++ s ∷ ys) (vs ++ v ∷ ws) end) q k v)
@@ -124,7 +124,7 @@ module _ {V : Type 0} where
       rises_behind zero right none = let P : List ℕ → Type 0 = λ l. Rise (map (λ t. t + k) l) (zero + k) in subst P (sym (none refl)) tt
       rises_behind (suc n) right none = rise-map_add ys (suc n) k (right (omega arith)).1
 
-  -- text taken out of a run, of which something stays
+  -- text deleted from a run, of which something stays
   pub shrink_parts : (xs : List ℕ) (s : ℕ) (ys : List ℕ) (vs : List V) (v : V) (ws : List V) (end q k : ℕ) → length xs ≡ length vs → 0 < end
       → IsTable (xs ++ s ∷ ys) (vs ++ v ∷ ws) end → s + k < get_or ys 0 end → s ≤ q → q + k ≤ get_or ys 0 end
       → Stands (xs ++ s ∷ map (λ t. t - k) ys) (vs ++ v ∷ ws) (end - k) (deleted (expansion (xs ++ s ∷ ys) (vs ++ v ∷ ws) end) q k)
@@ -144,7 +144,7 @@ module _ {V : Type 0} where
         list = expansion-shrink xs s ys vs v ws end q k e left right.1 t.from_zero low high;
       }
 
-  -- a run taken away with its text, where there is another
+  -- a run deleted with its text, if there is another
   pub drop_parts : (xs : List ℕ) (s : ℕ) (ys : List ℕ) (vs : List V) (v : V) (ws : List V) (end k : ℕ) → length xs ≡ length vs → 0 < end → 0 < length xs + length ys
       → IsTable (xs ++ s ∷ ys) (vs ++ v ∷ ws) end → s + k ≡ get_or ys 0 end
       → Stands (xs ++ map (λ t. t - k) ys) (vs ++ ws) (end - k) (deleted (expansion (xs ++ s ∷ ys) (vs ++ v ∷ ws) end) s k)

@@ -1,4 +1,4 @@
--- The expansion of runs, taken apart at a run and put together again.
+-- The expansion of runs, split at a run and put together again.
 use Rattle.std.proofs.Common.{◌≡◌, ℕ, ◌+◌, ◌-◌, ◌<◌, ◌≤◌, zero, suc, List, [], ◌∷◌, ◌++◌, length, get_or, map, replicate, refl, sym, ap, ◌∙◌, arith, append_assoc, length-append, ⊎_elim}
 use Rattle.std.proofs.lemmas.List.{length-replicate, get_or_default}
 use Rattle.std.proofs.lemmas.Bool.{cases_lt}
@@ -45,7 +45,7 @@ module _ {V : Type 0} where
       rw (length-append (replicate (get_or xs 0 end - x) v) (expansion xs vs end), length-replicate (get_or xs 0 end - x) v)
       (omega (arith, h.0))
 
--- text put in or taken out before a run moves its start and the end alike
+-- text inserted or deleted before a run moves its start and the end alike
 pub rise-map_add : (xs : List ℕ) (end n : ℕ) → Rise xs end → Rise (map (λ s. s + n) xs) (end + n)
 rise-map_add [] end n h = tt
 rise-map_add (x ∷ []) end n h = (omega (arith, h.0), tt)
@@ -83,7 +83,7 @@ pub rise_positive : (xs : List ℕ) (end : ℕ) → 0 < length xs → Rise xs en
 rise_positive [] end l h = absurd (omega (arith, l))
 rise_positive (x ∷ xs) end l h = let le = rise_le xs end h.1 in omega (arith, h.0)
 
--- a later start is no lower, and past the last there is the end
+-- a later start is no lower, and the one past the last is the end
 pub rise_first : (xs : List ℕ) (end b : ℕ) → b ≤ length xs → Rise xs end → get_or xs 0 end ≤ get_or xs b end
 rise_first [] end b l h = omega arith
 rise_first (x ∷ xs) end zero l h = omega arith
@@ -101,7 +101,7 @@ rise_within [] end b h = omega arith
 rise_within (x ∷ xs) end zero h = rise_le (x ∷ xs) end h
 rise_within (x ∷ xs) end (suc b) h = rise_within xs end b h.1
 
--- a run that starts below where another one does comes first
+-- a run that starts below another one comes before it
 pub run_before : (xs : List ℕ) (end a b : ℕ) → Rise xs end → a < length xs → get_or xs a 0 < get_or xs b end → a < b
 run_before xs end a b h la low =
     ⊎_elim (λ o. o)

@@ -1,8 +1,8 @@
--- What is known of the range that a fill changes, before it is changed.
+-- The range that a fill changes, before it is changed.
 use Rattle.std.specs.Prelude.{◌≡◌, ◌≢◌, ℕ, ◌-◌, ◌<◌, ◌≤◌, List, Some, length, slice_get}
 use Rattle.run_styles.specs.Runs.{filled}
 
--- It suffices to set the values from one end up to the other, and neither the first of these is there already nor the last.
+-- It suffices to set the values between the two ends, and neither the first of these has the value already nor the last.
 pub record IsTrimmed {V : Type 0} (xs : List V) (place count : ℕ) (x : V) (ends : ℕ × ℕ) : Type 0 where
   pub some : ends.0 < ends.1
   pub within : ends.1 ≤ length xs

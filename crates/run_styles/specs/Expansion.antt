@@ -14,7 +14,7 @@ module _ {V : Type 0} where
   NeighboursDiffer (x ∷ []) = Unit {0}
   NeighboursDiffer (x ∷ y ∷ ys) = (x ≢ y) × NeighboursDiffer (y ∷ ys)
 
--- the test finds nothing equal but what is
+-- the test finds only equal values equal
 abbrev pub IsExact : {V : Type 0} → (V → V → Bool) → Type 0
 IsExact {V} eq = (x y : V) → eq x y ≡ true → x ≡ y
 
@@ -32,7 +32,7 @@ module _ {V : Type 0} where
     pub single : end ≡ 0 → length starts ≡ 1
 
 module _ {V : Type 0} where
-  -- a table of runs as long as can be, and the room for more that was promised
+  -- a table of runs that are as long as possible, and the room for more that was promised
   pub record AreRuns (eq : V → V → Bool) (starts : List ℕ) (end starts_room : ℕ) (values : List V) (values_room room : ℕ) : Type 0 where
     pub table : IsTable starts values end
     pub differ : NeighboursDiffer values

@@ -3,7 +3,7 @@ use Rattle.std.specs.Prelude.{◌≡◌, ◌≢◌, ℕ, ◌+◌, ◌-◌, ◌<�
 use Rattle.std.specs.Coded.{Coded, code_by, coded×, coded_list, coded_ℕ}
 use Rattle.split_vector.specs.Split.{most_room}
 
--- how many more starts of runs, and how many more values of runs, fit into the memory that there is
+-- how many more starts of runs, and how many more values of runs, fit in without an allocation
 pub record Spare : Type 0 where
   pub starts : ℕ
   pub values : ℕ
@@ -11,20 +11,21 @@ pub record Spare : Type 0 where
 abbrev pub spare : ℕ → ℕ → Spare
 spare starts values = record { starts = starts; values = values }
 
--- Of so many runs there is room for no more than what was asked for, `count`, or than what blocks of twice the size have. Where the memory
--- for `count` was there already, none came.
+-- With `runs` runs, the spare capacity is at most `count`, which was requested, or that of blocks of twice the size.
+-- If it was `count` before, it stays the same.
 pub record IsSpareFor (runs count : ℕ) (old new : Spare) : Type 0 where
   pub starts : new.starts ≤ most_room runs old.starts count
   pub values : new.values ≤ most_room runs old.values count
   pub starts_there : count ≤ old.starts → new.starts ≡ old.starts
   pub values_there : count ≤ old.values → new.values ≡ old.values
 
--- No memory came or went: with `was` runs before and `now` runs then, those that there are and those that fit in beside them are as many.
+-- No memory was allocated or freed: the runs and the spare capacity together are as many before (`was` runs) as
+-- afterwards (`now` runs).
 pub record IsSameMemory (was : ℕ) (old : Spare) (now : ℕ) (new : Spare) : Type 0 where
   pub starts : now + new.starts ≡ was + old.starts
   pub values : now + new.values ≡ was + old.values
 
--- the default value, the value at each place, how many more runs may come as they were asked for, and for how many there is memory
+-- the default value, the value at each place, how many more runs have been reserved, and for how many there is memory
 pub record Runs (V : Type 0) : Type 0 where
   pub default : V
   pub values : List V
@@ -40,7 +41,7 @@ module _ {V : Type 0} where
       code_by (V × (List V × (ℕ × (ℕ × ℕ)))) (coded× c (coded× (coded_list c) (coded× coded_ℕ (coded× coded_ℕ coded_ℕ))))
       (λ r. (r.default, (r.values, (r.room, (r.spare.starts, r.spare.values))))) (λ p. runs p.0 p.1.0 p.1.1.0 (spare p.1.1.1.0 p.1.1.1.1)) (λ _. refl)
 
-  -- xs with count places put in before the place, each with the value x
+  -- xs with count places inserted before the place, each with the value x
   abbrev pub inserted : List V → ℕ → ℕ → V → List V
   inserted xs place count x = take place xs ++ (replicate count x ++ drop place xs)
 
@@ -52,24 +53,24 @@ module _ {V : Type 0} where
   abbrev pub filled : List V → ℕ → ℕ → V → List V
   filled xs place count x = take place xs ++ (replicate count x ++ drop (place + count) xs)
 
-  -- what inserted places get: the default at both ends and where the value there is the default, else the value before
+  -- what inserted places get: the default at both ends and where the value there is the default, otherwise the value before
   abbrev pub inserted_value : (V → V → Bool) → V → List V → ℕ → V
   inserted_value eq d xs place =
       if place == 0 || (place == length xs || eq (slice_index_or xs place d) d) then d else slice_index_or xs (place - 1) d
 
-  -- how many runs of one value xs has; an empty list is one run
+  -- how many runs of equal values xs has; an empty list is one run
   abbrev pub run_count : (V → V → Bool) → List V → ℕ
   run_count eq [] = 1
   run_count eq (x ∷ []) = 1
   run_count eq (x ∷ y ∷ ys) = if eq x y then run_count eq (y ∷ ys) else run_count eq (y ∷ ys) + 1
 
-  -- from the start up to the place there is one value, and before the start another
+  -- from the start up to the place all values are equal, and the one before the start differs
   pub record IsRunStart (xs : List V) (place start : ℕ) : Type 0 where
     pub from : start ≤ place
     pub one_value : (k : ℕ) → start ≤ k → k ≤ place → slice_get xs k ≡ slice_get xs place
     pub longest : 0 < start → slice_get xs (start - 1) ≢ slice_get xs place
 
-  -- from the place up to the end there is one value, and at the end another, or the list is over
+  -- from the place up to the end all values are equal, and the one at the end differs, or the list ends there
   pub record IsRunEnd (xs : List V) (place end : ℕ) : Type 0 where
     pub behind : place < end
     pub within : end ≤ length xs

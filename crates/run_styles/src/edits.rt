@@ -8,7 +8,7 @@ use partitioning::{Partitioning, Place};
 use split_vector::SplitVector;
 use std::alloc::Allocator;
 
-/// Puts places in before the first of a list that is not empty, where they get the default.
+/// Inserts places before the first of a list that is not empty. They get the default.
 fn insert_at_start<P: Place, V: Copy + Eq, A: Allocator>(
     starts: &mut Partitioning<P, A>,
     values: &mut SplitVector<V, A>,
@@ -36,7 +36,7 @@ fn insert_at_start<P: Place, V: Copy + Eq, A: Allocator>(
     }
 }
 
-/// Puts places in behind the last of a list that is not empty, where they get the default.
+/// Inserts places behind the last of a list that is not empty. They get the default.
 fn insert_at_end<P: Place, V: Copy + Eq, A: Allocator>(
     starts: &mut Partitioning<P, A>,
     values: &mut SplitVector<V, A>,
@@ -65,7 +65,7 @@ fn insert_at_end<P: Place, V: Copy + Eq, A: Allocator>(
     }
 }
 
-/// Puts places in between two others, where they join one of their runs.
+/// Inserts places between two others. They join one of the two runs.
 fn insert_inside<P: Place, V: Copy + Eq, A: Allocator>(
     starts: &mut Partitioning<P, A>,
     values: &SplitVector<V, A>,
@@ -90,7 +90,7 @@ fn insert_inside<P: Place, V: Copy + Eq, A: Allocator>(
     }
 }
 
-/// Puts places in by the rule for inserted values.
+/// Inserts places by the rule for inserted values (`inserted_value`).
 pub(crate) fn insert_default<P: Place, V: Copy + Eq, A: Allocator>(
     starts: &mut Partitioning<P, A>,
     values: &mut SplitVector<V, A>,
@@ -126,7 +126,7 @@ pub(crate) fn insert_default<P: Place, V: Copy + Eq, A: Allocator>(
     }
 }
 
-/// Takes places away.
+/// Deletes places.
 pub(crate) fn delete_places<P: Place, V: Copy + Eq, A: Allocator>(
     starts: &mut Partitioning<P, A>,
     values: &mut SplitVector<V, A>,

@@ -1,8 +1,8 @@
 //! `RunStyles`: a list of values kept as runs, so that a call costs a look-up and the runs that it touches, however
-//! long the list is. Two neighbouring runs never have one value.
+//! long the list is. Two neighbouring runs never have the same value.
 //!
-//! A run is a start in a `Partitioning` and a value in a `SplitVector`. Room for runs is reserved first, and the calls
-//! that may add a run ask for it: `fill` and `insert_value` for two, `insert_space` for one.
+//! A run is a start in a `Partitioning` and a value in a `SplitVector`. Room for runs is reserved first. The calls that
+//! may add runs require it: `fill` and `insert_value` need room for two, `insert_space` for one.
 #![tactic(auto)]
 
 mod edits;

@@ -1,4 +1,4 @@
-//! `RunStyles` and its calls. A clause sees it as its default value, its list of values and its room for runs.
+//! `RunStyles` and its calls. A contract sees it as its default value, its list of values and its room for runs.
 ghost use Rattle.std.specs.Prelude.{◌≡◌, ◌≤◌, ◌<◌, ◌+◌, ◌↔◌, [], length, max, slice_get, Some, All, IsTrue, IfOk, IfNone, IfSome, OnOk, OnErr, IsOk};
 ghost use Rattle.run_styles.specs.Expansion.{IsExact};
 ghost use Rattle.run_styles.specs.Runs.{runs, spare, inserted, deleted, filled, inserted_value, run_count, IsSpareFor, IsSameMemory, IsRunStart, IsRunEnd, IsChangedRange};
@@ -12,13 +12,13 @@ use std::marker::Model;
 
 /// A list of values kept as runs.
 ///
-/// `P` is how places are kept, and bounds the length. Values are equal by `==`, which has to tell all values apart.
+/// `P` is the type of places, and bounds the length. `==` must tell all values apart.
 #[derive(Drop)]
 pub struct RunStyles<P: Place, V: Copy + Eq, A: Allocator = Global> {
     starts: Partitioning<P, A>,
     values: SplitVector<V, A>,
     default: V,
-    // How many more runs fit in, as reserved. What joined runs give back is not counted.
+    // How many more runs fit in, as reserved. Runs that are joined do not raise it.
     room: usize,
 }
 
@@ -37,12 +37,12 @@ impl<P: Place, V: Copy + Eq, A: Allocator> Model for RunStyles<P, V, A> {
 }
 
 impl<P: Place, V: Copy + Eq, A: Allocator + Copy> RunStyles<P, V, A> {
-    /// Returns an empty list, whose places will have the value `default` where a call names none. It has memory for the one run
-    /// of an empty list, and for no more.
+    /// Returns an empty list. Places that are inserted without a value get `default`. Allocates memory for the one run
+    /// of an empty list, and no more.
     ///
     /// # Errors
     ///
-    /// `AllocError` where the memory for the one run of an empty list is refused.
+    /// `AllocError` if the allocation fails.
     pub fn new(alloc: A, default: V) -> Result<Self, AllocError>
         requires exact { IsExact V.eq }
         ensures { IfOk result (λ s. s ≡ runs default [] 0 (spare 0 0)) }
@@ -69,7 +69,7 @@ impl<P: Place, V: Copy + Eq, A: Allocator> RunStyles<P, V, A> {
         self.starts.length()
     }
 
-    /// Returns the value at a place.
+    /// Returns the value at `place`.
     pub fn value_at(&self, place: usize) -> V
         requires { place < length self.now.values }
         ensures { slice_get self.now.values place ≡ Some result }
@@ -77,7 +77,7 @@ impl<P: Place, V: Copy + Eq, A: Allocator> RunStyles<P, V, A> {
         self.values.get(run_of(&self.starts, place))
     }
 
-    /// Returns where the run of one value begins that holds a place.
+    /// Returns where the run of equal values that holds `place` begins.
     pub fn start_run(&self, place: usize) -> usize
         requires { place < length self.now.values }
         ensures { IsRunStart self.now.values place result }
@@ -85,7 +85,7 @@ impl<P: Place, V: Copy + Eq, A: Allocator> RunStyles<P, V, A> {
         self.starts.start_of(run_of(&self.starts, place))
     }
 
-    /// Returns where the run of one value ends that holds a place: the first place behind it.
+    /// Returns where the run of equal values that holds `place` ends: the first place behind it.
     pub fn end_run(&self, place: usize) -> usize
         requires { place < length self.now.values }
         ensures { IsRunEnd self.now.values place result }
@@ -93,8 +93,8 @@ impl<P: Place, V: Copy + Eq, A: Allocator> RunStyles<P, V, A> {
         end_of(&self.starts, run_of(&self.starts, place))
     }
 
-    /// Returns where the run of one value begins that holds a place, and where it ends: the first place behind it. The run is
-    /// looked up once for both.
+    /// Returns where the run of equal values that holds `place` begins, and where it ends: the first place behind it.
+    /// Looks the run up once for both.
     pub fn run(&self, place: usize) -> (usize, usize)
         requires { place < length self.now.values }
         ensures start { IsRunStart self.now.values place result.0 }
@@ -104,26 +104,26 @@ impl<P: Place, V: Copy + Eq, A: Allocator> RunStyles<P, V, A> {
         (self.starts.start_of(run), end_of(&self.starts, run))
     }
 
-    /// Returns how many runs there are: 1 where the list is empty.
+    /// Returns how many runs there are: 1 for an empty list.
     pub fn runs(&self) -> usize
         ensures { result ≡ run_count V.eq self.now.values }
     {
         self.starts.count()
     }
 
-    /// Returns whether each place has the value.
+    /// Returns whether each place has `value`.
     pub fn is_all(&self, value: V) -> bool
         ensures { IsTrue result ↔ All (λ x. x ≡ value) self.now.values }
     {
         self.starts.length() == 0 || self.starts.count() == 1 && self.values.get(0) == value
     }
 
-    /// Makes room for `count` more runs. Where there is memory for so many starts, none is taken for starts, and likewise for
-    /// values: where there is for both, it cannot fail.
+    /// Makes room for `count` more runs. The starts need no allocation if memory for `count` more of them is there, and
+    /// likewise the values. If both need none, it cannot fail.
     ///
     /// # Errors
     ///
-    /// `AllocError` where the memory is refused. All is then as it was, but that there may be memory for more starts.
+    /// `AllocError` if an allocation fails. Nothing has changed then, except that memory for more starts may be there.
     pub fn reserve(&mut self, count: usize) -> Result<(), AllocError>
         ensures ok { OnOk result ((count ≤ self.new.room) × (self.new ≡ record self.old { room = self.new.room; spare = self.new.spare })) }
         ensures room_is_there { count ≤ self.old.room → IsOk result × (self.new ≡ self.old) }
@@ -143,8 +143,8 @@ impl<P: Place, V: Copy + Eq, A: Allocator> RunStyles<P, V, A> {
         Ok(())
     }
 
-    /// Sets `count` places from `place` on to a value. Returns the smallest range that holds all places that changed, as
-    /// its first place and its length, or `None` where none did. It takes at most two runs of room, and no memory.
+    /// Sets `count` places from `place` on to `value`. Returns the smallest range that holds all places that changed, as
+    /// its first place and its length, or `None` if none changed. Needs room for at most two runs, and does not allocate.
     pub fn fill(&mut self, place: usize, count: usize, value: V) -> Option<(usize, usize)>
         requires within { place + count ≤ length self.old.values }
         requires room { 2 ≤ self.old.room }
@@ -158,7 +158,7 @@ impl<P: Place, V: Copy + Eq, A: Allocator> RunStyles<P, V, A> {
         if count == 0 {
             return None;
         }
-        let _ = self.length(); // it says that the end is a `usize`
+        let _ = self.length(); // brings the fact that the end is a `usize`
         let end = place + count;
         let first = run_of(&self.starts, place);
         let last = run_near(&self.starts, end - 1, first);
@@ -173,7 +173,7 @@ impl<P: Place, V: Copy + Eq, A: Allocator> RunStyles<P, V, A> {
         ) else {
             return None;
         };
-        // What changes may begin behind the first of these runs, and end before the last.
+        // The places that change may begin behind the first of these runs, and end before the last.
         overwrite(
             &mut self.starts,
             &mut self.values,
@@ -187,8 +187,8 @@ impl<P: Place, V: Copy + Eq, A: Allocator> RunStyles<P, V, A> {
         Some((low, high - low))
     }
 
-    /// Puts `count` places in before `place`. They get the default at both ends of the list and where the value there is
-    /// the default, and else the value before. It takes at most one run of room, and no memory.
+    /// Inserts `count` places before `place`. They get the default at both ends of the list and where the value at
+    /// `place` is the default, and otherwise the value before. Needs room for at most one run, and does not allocate.
     pub fn insert_space(&mut self, place: usize, count: usize)
         requires within { place ≤ length self.old.values }
         requires fits { length self.old.values + count ≤ P.GREATEST }
@@ -211,7 +211,7 @@ impl<P: Place, V: Copy + Eq, A: Allocator> RunStyles<P, V, A> {
         self.room -= 1;
     }
 
-    /// Puts `count` places with a value in before `place`. It takes at most two runs of room, and no memory.
+    /// Inserts `count` places with `value` before `place`. Needs room for at most two runs, and does not allocate.
     pub fn insert_value(&mut self, place: usize, count: usize, value: V)
         requires within { place ≤ length self.old.values }
         requires fits { length self.old.values + count ≤ P.GREATEST }
@@ -229,7 +229,7 @@ impl<P: Place, V: Copy + Eq, A: Allocator> RunStyles<P, V, A> {
         let _ = self.fill(place, count, value);
     }
 
-    /// Takes `count` places away, from `place` on. It takes no room, and no memory.
+    /// Deletes `count` places from `place` on. Needs no room, and does not allocate.
     pub fn delete_range(&mut self, place: usize, count: usize)
         requires { place + count ≤ length self.old.values }
         ensures values { self.new.values ≡ deleted self.old.values place count }

@@ -1,6 +1,6 @@
-//! The steps that the calls of `RunStyles` consist of, over its two fields: the starts of the runs, and their values.
-//! Between the steps two neighbouring runs may have one value. No step takes memory: the cells of a block, those in use and
-//! the others, stay as many (`start_cells`, `value_cells`).
+//! The steps of the calls of `RunStyles`, over its two fields: the starts of the runs, and their values. Between the
+//! steps two neighbouring runs may have the same value. No step allocates: the number of cells of each block stays the
+//! same (`start_cells`, `value_cells`).
 ghost use Rattle.std.specs.Prelude.{ℕ, ◌≡◌, ◌≢◌, ◌⊎◌, ◌≤◌, ◌<◌, ◌+◌, ◌-◌, ◌^◌, [], ◌∷◌, ◌++◌, Some, length, take, drop, map, slice_get, slice_index, slice_index_or, insert, remove, IfNone, IfSome};
 ghost use Rattle.run_styles.specs.Expansion.{expansion, IsTable, IsExact, NeighboursDiffer};
 ghost use Rattle.run_styles.specs.Runs.{filled, deleted, inserted};
@@ -30,13 +30,13 @@ pub(crate) fn run_of<P: Place, A: Allocator>(starts: &Partitioning<P, A>, place:
     ensures from { slice_index starts.now.starts result ≤ place }
     ensures to { place < slice_index_or starts.now.starts (result + 1) starts.now.length }
 {
-    // The count bounds each index, so that one more than an index is a `usize`.
+    // Brings the bound on each index: one more than an index is a `usize`
     let _count = starts.count();
     let mut probes = Probes::new();
     starts.partition_of(place, &mut probes)
 }
 
-/// Returns the run that holds a place. It is looked up only where it is not the one that is likely.
+/// Returns the run that holds a place. Tries the run `likely` first, and looks the place up otherwise.
 pub(crate) fn run_near<P: Place, A: Allocator>(
     starts: &Partitioning<P, A>,
     place: usize,
@@ -56,9 +56,9 @@ pub(crate) fn run_near<P: Place, A: Allocator>(
     run_of(starts, place)
 }
 
-/// Returns the run that holds a place, which is likely the one where text last came or went, or a neighbour of it: edits come one
-/// behind the other, and undo goes back through them. It is looked up only where it is none of these, for which three starts are read
-/// at most, each once: that of the likely run, and then that of the run before it or those of the two behind it.
+/// Returns the run that holds a place. It is likely the run of the last edit, or a neighbour of it: edits follow one
+/// another, and undo goes back through them. The place is looked up only if it is in none of these. That reads at most
+/// three starts, each once: the start of the likely run, and then that of the run before it, or those of the two behind it.
 pub(crate) fn run_about<P: Place, A: Allocator>(starts: &Partitioning<P, A>, place: usize) -> usize
     requires { place < starts.now.length }
     ensures within { (result < length starts.now.starts) × (length starts.now.starts < 2 ^ 63) }
@@ -86,7 +86,7 @@ pub(crate) fn run_about<P: Place, A: Allocator>(starts: &Partitioning<P, A>, pla
     run_of(starts, place)
 }
 
-/// Returns a run that a place lies in or at the end of.
+/// Returns a run that holds a place, or ends at it.
 pub(crate) fn run_at<P: Place, A: Allocator>(starts: &Partitioning<P, A>, place: usize) -> usize
     requires { place ≤ starts.now.length }
     ensures within { result < length starts.now.starts }
@@ -176,7 +176,7 @@ pub(crate) fn end_at<P: Place, V: Copy, A: Allocator>(
     }
 }
 
-/// Makes a run start at a place that run `index` holds, and returns that run.
+/// Makes a run start at a place in the run `index`, and returns that run.
 pub(crate) fn start_at<P: Place, V: Copy, A: Allocator>(
     starts: &mut Partitioning<P, A>,
     values: &mut SplitVector<V, A>,
@@ -207,7 +207,7 @@ pub(crate) fn start_at<P: Place, V: Copy, A: Allocator>(
     index + 1
 }
 
-/// Returns the first run of a new run that begins with run `first`: the run before it, if that has the new run's value.
+/// Returns the first of the runs that a new run from `first` on replaces: the run before `first`, if it has the same value.
 pub(crate) fn widened_start<V: Copy + Eq, A: Allocator>(
     values: &SplitVector<V, A>,
     first: usize,
@@ -226,7 +226,7 @@ pub(crate) fn widened_start<V: Copy + Eq, A: Allocator>(
     }
 }
 
-/// Returns the end of a new run that ends before run `end`: behind that run, if it has the new run's value.
+/// Returns the end of the runs that a new run up to `end` replaces: behind the run `end`, if it has the same value.
 pub(crate) fn widened_end<V: Copy + Eq, A: Allocator>(
     values: &SplitVector<V, A>,
     end: usize,
@@ -246,7 +246,7 @@ pub(crate) fn widened_end<V: Copy + Eq, A: Allocator>(
     }
 }
 
-/// Puts one run in the place of those from `first` up to `end`, joined with the neighbours that have its value.
+/// Replaces the runs from `first` up to `end` by one, which is joined with the neighbours that have its value.
 pub(crate) fn replace_runs<P: Place, V: Copy + Eq, A: Allocator>(
     starts: &mut Partitioning<P, A>,
     values: &mut SplitVector<V, A>,
@@ -275,7 +275,7 @@ pub(crate) fn replace_runs<P: Place, V: Copy + Eq, A: Allocator>(
     join_runs(starts, values, from + 1, to);
 }
 
-/// Sets a range that is not empty to a value. Its first and its last place likely lie in these runs.
+/// Sets a range that is not empty to a value. Its first and its last place are likely in these runs.
 pub(crate) fn overwrite<P: Place, V: Copy + Eq, A: Allocator>(
     starts: &mut Partitioning<P, A>,
     values: &mut SplitVector<V, A>,
@@ -307,7 +307,7 @@ pub(crate) fn overwrite<P: Place, V: Copy + Eq, A: Allocator>(
     replace_runs(starts, values, first, last + 1 + (first - run), value);
 }
 
-/// Returns the first place from `place` on that has another value than this one, or the length.
+/// Returns the first place from `place` on whose value differs, or the length.
 fn next_other<P: Place, V: Copy + Eq, A: Allocator>(
     starts: &Partitioning<P, A>,
     values: &SplitVector<V, A>,
@@ -331,7 +331,7 @@ fn next_other<P: Place, V: Copy + Eq, A: Allocator>(
     }
 }
 
-/// Returns the place behind the last one before `end` that has another value than this one, or 0.
+/// Returns the place behind the last one before `end` whose value differs, or 0.
 fn last_other<P: Place, V: Copy + Eq, A: Allocator>(
     starts: &Partitioning<P, A>,
     values: &SplitVector<V, A>,
@@ -355,8 +355,8 @@ fn last_other<P: Place, V: Copy + Eq, A: Allocator>(
     }
 }
 
-/// Returns the ends of the smallest range that holds each place where setting `count` places to a value changes one. The
-/// first and the last of those places likely lie in these runs.
+/// Returns the ends of the smallest range that holds each place that changes when `count` places are set to a value.
+/// The first and the last of these `count` places are likely in these runs.
 pub(crate) fn changed_range<P: Place, V: Copy + Eq, A: Allocator>(
     starts: &Partitioning<P, A>,
     values: &SplitVector<V, A>,
@@ -383,7 +383,7 @@ pub(crate) fn changed_range<P: Place, V: Copy + Eq, A: Allocator>(
     Some((low, high))
 }
 
-/// Joins a run with the one before it, if both have one value.
+/// Joins a run with the one before it, if both have the same value.
 pub(crate) fn join_at<P: Place, V: Copy + Eq, A: Allocator>(
     starts: &mut Partitioning<P, A>,
     values: &mut SplitVector<V, A>,
@@ -409,7 +409,7 @@ pub(crate) fn join_at<P: Place, V: Copy + Eq, A: Allocator>(
     }
 }
 
-/// Takes a run away with its text, where there is another.
+/// Deletes a run with its text. There is another run.
 pub(crate) fn drop_run<P: Place, V: Copy, A: Allocator>(
     starts: &mut Partitioning<P, A>,
     values: &mut SplitVector<V, A>,
@@ -427,14 +427,14 @@ pub(crate) fn drop_run<P: Place, V: Copy, A: Allocator>(
     ensures start_cells { length starts.new.starts + starts.new.room ≡ length starts.old.starts + starts.old.room }
     ensures value_cells { length values.new.items + values.new.spare ≡ length values.old.items + values.old.spare }
 {
-    // The run before it, or the first, takes its places in, and then loses as many.
+    // The run before it, or the first, takes its places, and then loses as many.
     let joined = index.max(1);
     starts.remove(joined);
     starts.delete_text(joined - 1, count);
     values.delete(index, 1);
 }
 
-/// Takes the first places of a run away, and the run with them if it has no more, unless it is the only one.
+/// Deletes the first places of a run, and the run itself if no place is left, unless it is the only one.
 pub(crate) fn take_from<P: Place, V: Copy, A: Allocator>(
     starts: &mut Partitioning<P, A>,
     values: &mut SplitVector<V, A>,
@@ -458,14 +458,14 @@ pub(crate) fn take_from<P: Place, V: Copy, A: Allocator>(
     if count < whole {
         starts.delete_text(index, count);
     } else if starts.count() == 1 {
-        // The only run stays, with no place.
+        // The only run stays, without a place.
         starts.delete_text(0, count);
     } else {
         drop_run(starts, values, index, count);
     }
 }
 
-/// Takes `count` places away, from the start of a run on.
+/// Deletes `count` places, from the start of a run on.
 pub(crate) fn delete_runs<P: Place, V: Copy, A: Allocator>(
     starts: &mut Partitioning<P, A>,
     values: &mut SplitVector<V, A>,
@@ -494,7 +494,7 @@ pub(crate) fn delete_runs<P: Place, V: Copy, A: Allocator>(
     }
 }
 
-/// Puts a run of `count` places in before the first.
+/// Inserts a run of `count` places before the first.
 pub(crate) fn insert_first<P: Place, V: Copy, A: Allocator>(
     starts: &mut Partitioning<P, A>,
     values: &mut SplitVector<V, A>,
@@ -518,7 +518,7 @@ pub(crate) fn insert_first<P: Place, V: Copy, A: Allocator>(
     values.insert_reserved(0, value);
 }
 
-/// Puts a run of `count` places in behind the last.
+/// Inserts a run of `count` places behind the last.
 pub(crate) fn insert_last<P: Place, V: Copy, A: Allocator>(
     starts: &mut Partitioning<P, A>,
     values: &mut SplitVector<V, A>,
