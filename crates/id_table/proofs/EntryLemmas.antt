@@ -1,4 +1,4 @@
--- The entries that places and a slab make, and what a change of one value does to them.
+-- The entries that places and a slab make, and how a change of one value changes them.
 use Rattle.std.proofs.Common.{◌≡◌, ◌≢◌, ℕ, zero, suc, ◌+◌, ◌*◌, ◌<◌, ◌≤◌, true, cond, List, [], ◌∷◌, ◌++◌, length, map, get_or, Option, Some, None, is_some, count_by, refl, sym, ap, subst, ◌∙◌, arith}
 use Rattle.std.specs.Prelude.{IsSome, IfSome, IfNone}
 use Rattle.std.specs.List.{AllByRecursion, remove}
@@ -64,7 +64,7 @@ module _ {V : Type 0} where
   lower slab low floor next [] le h = omega (arith, le, h)
   lower slab low floor next (p ∷ ps) le h = (omega (arith, le, h.0), h.1, h.2, h.3)
 
-  -- What a look at the entries finds.
+  -- A look-up among the entries.
 
   entry_at : (slab : Slab V) (p : Place) (v : V) → get slab p.key ≡ Some v → entry_by slab p ≡ Some (entry p.id v)
   entry_at slab p v e = rw e refl
@@ -106,7 +106,7 @@ module _ {V : Type 0} where
       let v = some_of (get slab p.key) h.1 in
       rw (entries_cons slab p ps v.0 v.1, ne_eqb p.id id (nowhere 0 p (omega arith) (omega arith)), nothing_to_remove slab p.id next id ps h.3 (λ k d low high. nowhere (suc k) d (omega arith) (omega (arith, high)))) refl
 
-  -- Entries above an id are untouched by what is done at it.
+  -- A change at an id leaves the entries above it alone.
 
   with_above : (slab : Slab V) (floor next id : ℕ) (w : V) (ps : List Place) → id ≤ floor → InOrder slab floor next ps → with_value_at id w (entries_by slab ps) ≡ entries_by slab ps
   with_above slab floor next id w [] le h = refl
@@ -120,7 +120,7 @@ module _ {V : Type 0} where
       let v = some_of (get slab p.key) h.1 in
       rw (entries_cons slab p ps v.0 v.1, ne_eqb p.id id (λ k. omega (arith, k, le, h.0)), without_above slab p.id next id ps (omega (arith, le, h.0)) h.3) refl
 
-  -- One key changes: what other places have stays.
+  -- One key changes: the entries of other places stay.
   module _ (old new : Slab V) (key : ℕ) (others : (k : ℕ) → k ≢ key → get new k ≡ get old k) where
     entries_kept : (ps : List Place) → AllByRecursion (λ (q : Place). q.key ≢ key) ps → entries_by new ps ≡ entries_by old ps
     entries_kept [] apart = refl
@@ -153,7 +153,7 @@ module _ {V : Type 0} where
           (h.0, is_there (get new p.key) v.0 now, h.2, rest.1),
         )
 
-    -- that place goes
+    -- that place is removed
     pub removed : (floor next id : ℕ) (ps : List Place) (at : ℕ) (d : Place) → InOrder old floor next ps → at < length ps → (get_or ps at d).id ≡ id → (get_or ps at d).key ≡ key
         → (entries_by new (remove ps at) ≡ without_id id (entries_by old ps)) × InOrder new floor next (remove ps at)
     removed floor next id [] at d h lt same there = absurd (omega (arith, lt))
@@ -174,7 +174,7 @@ module _ {V : Type 0} where
           (h.0, is_there (get new p.key) v.0 now, all_without (λ (q : Place). q.key ≢ p.key) ps at h.2, rest.1),
         )
 
-    -- a place with that key comes behind all others, which have other keys
+    -- a place with that key is appended, where all others have other keys
     pub added : (w : V) → get new key ≡ Some w → get old key ≡ None → (floor next : ℕ) (ps : List Place) (p : Place) → p.id ≡ next → p.key ≡ key → InOrder old floor next ps
         → (entries_by new (ps ++ p ∷ []) ≡ entries_by old ps ++ entry next w ∷ []) × InOrder new floor (next + 1) (ps ++ p ∷ [])
     added w is was floor next [] p same there h = (
@@ -205,7 +205,7 @@ module _ {V : Type 0} where
   pub room_kept : (old new : Slab V) (count : ℕ) → new.slots ≡ old.slots → HasRoomFor new count → slab_len old + count ≤ new.capacity
   room_kept old new count same room = subst (λ (slots : List (Option V)). count_by is_some slots + count ≤ new.capacity) same room
 
-  -- The same of a whole table.
+  -- The same for a whole table.
   module _ (slab : Slab V) (ps : List Place) (capacity next room : ℕ) (table : IsTable slab ps capacity next room) where
     pub length_table : length (entries_by slab ps) ≡ length ps
     length_table = length_entries slab 0 next ps table.ordered
@@ -242,7 +242,7 @@ module _ {V : Type 0} where
     pub has_key : (id at : ℕ) (p : Place) → IsAt id ps at → p ≡ get_or ps at p → ContainsKey slab p.key
     has_key id at p is_at e = subst (λ (q : Place). ContainsKey slab q.key) (sym e) (key_there slab 0 next ps at p is_at.0 table.ordered)
 
-    -- the value at an id becomes another
+    -- the value of an id is replaced
     pub written_table : (id at : ℕ) (p : Place) (w : V) → IsAt id ps at → p ≡ get_or ps at p
         → (entries_by (with_value slab p.key w) ps ≡ with_value_at id w (entries_by slab ps)) × IsTable (with_value slab p.key w) ps capacity next room
     written_table id at p w is_at e =
@@ -254,7 +254,7 @@ module _ {V : Type 0} where
           record { ordered = r.1; all = same ∙ table.all; slots = rw same table.slots; places = table.places; few = table.few },
         )
 
-    -- the value at an id goes, and its place
+    -- the value of an id is removed, and its place
     pub removed_table : (id at : ℕ) (p : Place) (new : Slab V) → IsAt id ps at → p ≡ get_or ps at p → Updates slab new p.key None → slab_len new + 1 ≡ slab_len slab → new.capacity ≡ slab.capacity
         → (entries_by new (remove ps at) ≡ without_id id (entries_by slab ps)) × IsTable new (remove ps at) capacity next room
     removed_table id at p new is_at e u less same =
@@ -270,7 +270,7 @@ module _ {V : Type 0} where
           },
         )
 
-    -- a value comes behind all others, under the next id
+    -- a value is appended, under the next id
     pub added_table : (p : Place) (w : V) (new : Slab V) (wider left : ℕ) → p.id ≡ next → get slab p.key ≡ None → Updates slab new p.key (Some w) → slab_len new ≡ slab_len slab + 1 → new.capacity ≡ slab.capacity → wider ≡ capacity → left + 1 ≡ room
         → (entries_by new (ps ++ p ∷ []) ≡ entries_by slab ps ++ entry next w ∷ []) × IsTable new (ps ++ p ∷ []) wider (next + 1) left
     added_table p w new wider left id was u more same wide less =
@@ -286,7 +286,7 @@ module _ {V : Type 0} where
           },
         )
 
-    -- there is room for more in both
+    -- both have room for more
     pub wider_table : (new : Slab V) (wider left : ℕ) → new.slots ≡ slab.slots → slab_len slab + left ≤ new.capacity → length ps + left ≤ wider → wider ≤ 2 * (next + left)
         → (entries_by new ps ≡ entries_by slab ps) × IsTable new ps wider next left
     wider_table new wider left same slots places few = (

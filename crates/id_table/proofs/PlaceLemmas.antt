@@ -14,7 +14,7 @@ module _ (ps : List Place) (ordered : IsOrdered ps) (id : ℕ) where
   comparisons_rise : IsNonDecreasingBy (λ (p : Place). ordering_index (nat_cmp p.id id)) ps
   comparisons_rise i j d le lt = grind (arith, nat_tests, ordered i j d le lt)
 
-  -- a binary search ends at the id, or between those that differ from it
+  -- a binary search ends at the place of the id, or between those with other ids
   pub searched : (r : Result ℕ ℕ) → IsSearchInRange r (length ps) → IsBinarySearchResult (λ (p : Place). nat_cmp p.id id) ps r → record { found : IfSome (result_ok r) (IsAt id ps); missing : IfNone (result_ok r) (IsNowhere id ps) }
   searched (Ok at) in_range equal = record { found = (in_range, λ d. ranked _ id _ (sym (equal d))); missing = tt }
   searched (Err at) in_range parted =

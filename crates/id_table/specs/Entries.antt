@@ -7,7 +7,7 @@ pub record Entry (V : Type 0) : Type 0 where
   pub id : ℕ
   pub value : V
 
--- the values in the order of their ids, the id of the next one, and for how many more there is room
+-- the values in the order of their ids, the id of the next one, and how many more were reserved
 pub record Entries (V : Type 0) : Type 0 where
   pub entries : List (Entry V)
   pub next : ℕ
@@ -45,10 +45,10 @@ module _ {V : Type 0} where
   abbrev pub in_place_at : ℕ → V → Entry V → Entry V
   in_place_at id value e = if e.id == id then entry id value else e
 
-  -- another value at that id
+  -- the entries, with the value of the id replaced by this one
   abbrev pub with_value_at : ℕ → V → List (Entry V) → List (Entry V)
   with_value_at id value entries = map (in_place_at id value) entries
 
-  -- without the value of an id
+  -- the entries without that of the id
   abbrev pub without_id : ℕ → List (Entry V) → List (Entry V)
   without_id id entries = filter (λ (e : Entry V). not (e.id == id)) entries

@@ -1,4 +1,4 @@
--- How a table keeps its values. No public clause cites this module.
+-- How a table keeps its values. No public contract cites this module.
 use Rattle.std.specs.Prelude.{◌≡◌, ◌≢◌, ℕ, ◌+◌, ◌*◌, ◌<◌, ◌≤◌, List, [], ◌∷◌, length, filter_map, Option, option_map}
 use Rattle.std.specs.List.{AllByRecursion, AllWithin, HoldsAt}
 use Rattle.std.specs.List.Sorted.{IsNonDecreasingBy}
@@ -31,8 +31,8 @@ module _ {V : Type 0} where
   InOrder slab floor next (p ∷ ps) =
       (floor < p.id) × ContainsKey slab p.key × AllByRecursion (λ (q : Place). q.key ≢ p.key) ps × InOrder slab p.id next ps
 
-  -- The places and the slab belong together, no value lies anywhere else, and there is room in both; for places no more than
-  -- twice what was ever asked for.
+  -- The places and the slab belong together, and no value lies anywhere else. Both have the room that was reserved, and
+  -- the list of places is at most twice as large as was ever requested.
   pub record IsTable (slab : Slab V) (ps : List Place) (capacity next room : ℕ) : Type 0 where
     pub ordered : InOrder slab 0 next ps
     pub all : slab_len slab ≡ length ps

@@ -1,6 +1,6 @@
-//! `IdTable`, a container: values under rising ids, none of which is ever given twice.
+//! `IdTable`: values under rising ids, none of which is ever given twice.
 //!
-//! It takes memory in `reserve` alone.
+//! Only `reserve` allocates.
 #![tactic(auto)]
 
 mod table;

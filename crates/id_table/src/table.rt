@@ -9,7 +9,7 @@ use slab::Slab;
 use std::alloc::{AllocError, Global};
 use std::marker::Model;
 
-/// Where the value of an id lies in the slab.
+/// Where the slab holds the value of an id.
 #[derive(Clone, Copy)]
 struct Place {
     id: u32,
@@ -20,10 +20,10 @@ struct Place {
 #[derive(Drop)]
 pub struct IdTable<T> {
     slab: Slab<T>,
-    // By rising id.
+    // In rising order of the ids.
     order: Vec<Place>,
     next: u32,
-    // How many more values were asked for and fit in.
+    // How many more values were reserved.
     room: usize,
 }
 
@@ -42,7 +42,8 @@ impl<T> Model for IdTable<T> {
     ghost invariant = { λ t. IsTable t.slab t.order.items (vec_capacity t.order) t.next t.room };
 }
 
-/// Where an id stands in the order. The last one is looked at first, as what came last is asked for most.
+/// Returns where `id` stands in the order, if it does. Looks at the last place first, since the newest value is asked
+/// for most.
 fn position_of(order: &[Place], id: u32) -> Option<usize>
     requires { IsOrdered order.now }
     ensures found { IfSome result (IsAt id order.now) }
@@ -59,7 +60,7 @@ fn position_of(order: &[Place], id: u32) -> Option<usize>
 impl<T> IdTable<T> {
     ghost use Rattle.id_table.specs.Lends.{lends_value};
 
-    /// No value. Takes no memory.
+    /// Returns an empty table. Allocates nothing.
     pub fn new(alloc: Global) -> Self
         ensures { result ≡ table_of [] 1 0 }
     {
@@ -71,7 +72,7 @@ impl<T> IdTable<T> {
         }
     }
 
-    /// The id of the next value. The ids of all values rise, from 1 on, and are below it.
+    /// Returns the id that the next value gets. All ids so far are below it.
     #[tactic(auto, using(crate::proofs::EntryLemmas::ids_rise))]
     pub fn next(&self) -> u32
         ensures next { result ≡ self.now.next }
@@ -80,7 +81,7 @@ impl<T> IdTable<T> {
         self.next
     }
 
-    /// The number of values.
+    /// Returns the number of values.
     #[tactic(auto, using(crate::proofs::EntryLemmas::length_table))]
     pub fn len(&self) -> usize
         ensures { result ≡ length self.now.entries }
@@ -88,7 +89,7 @@ impl<T> IdTable<T> {
         self.order.len()
     }
 
-    /// Whether an id has a value.
+    /// Returns whether `id` has a value.
     #[tactic(auto, using(crate::proofs::EntryLemmas::table_ordered, crate::proofs::EntryLemmas::value_found, crate::proofs::EntryLemmas::value_missing))]
     pub fn contains(&self, id: u32) -> bool
         ensures { result ≡ is_some (value_at self.now.entries id) }
@@ -96,7 +97,7 @@ impl<T> IdTable<T> {
         position_of(&self.order, id).is_some()
     }
 
-    /// The value of an id, or `None` where there is none.
+    /// Returns the value of `id`, or `None` if it has none.
     #[tactic(auto, using(crate::proofs::EntryLemmas::table_ordered, crate::proofs::EntryLemmas::value_found, crate::proofs::EntryLemmas::value_missing))]
     pub fn get(&self, id: u32) -> Option<&T>
         ensures { option_copied result ≡ value_at self.now.entries id }
@@ -105,7 +106,7 @@ impl<T> IdTable<T> {
         self.slab.get(self.order[at].key)
     }
 
-    /// The value of an id, to be changed, or `None` where there is none. All others stay as they are.
+    /// Returns the value of `id` to write to, or `None` if it has none. No other value changes.
     #[tactic(auto, using(crate::proofs::EntryLemmas::table_ordered, crate::proofs::EntryLemmas::value_found, crate::proofs::EntryLemmas::value_missing))]
     pub fn get_mut(&mut self, id: u32) -> Option<&mut T>
         ensures* writes_back { sem 𝓛 (lends_value T.row self.entry id result) }
@@ -120,7 +121,7 @@ impl<T> IdTable<T> {
     ///
     /// # Errors
     ///
-    /// `AllocError` where memory is refused. All is then as it was.
+    /// `AllocError` if an allocation fails. Nothing has changed then.
     pub fn reserve(&mut self, count: usize) -> Result<(), AllocError>
         ensures ok { OnOk result (self.new ≡ record self.old { room = max self.old.room count }) }
         ensures room_is_there { count ≤ self.old.room → IsOk result × (self.new ≡ self.old) }
@@ -135,7 +136,7 @@ impl<T> IdTable<T> {
         Ok(())
     }
 
-    /// Puts a value behind all others. There must be room for it. Returns its id.
+    /// Inserts `value` behind all others, and returns its id. There must be room for it.
     pub fn insert_reserved(&mut self, value: T) -> u32
         requires room { 0 < self.old.room }
         requires ids { self.old.next + 1 < 2 ^ 32 }
@@ -152,7 +153,7 @@ impl<T> IdTable<T> {
         id
     }
 
-    /// Takes the value of an id out, or returns `None` where there is none. The order of the others stays.
+    /// Removes the value of `id` and returns it, or returns `None` if it has none. The others keep their order.
     #[tactic(auto, using(crate::proofs::EntryLemmas::table_ordered, crate::proofs::EntryLemmas::value_found, crate::proofs::EntryLemmas::value_missing))]
     pub fn remove(&mut self, id: u32) -> Option<T>
         ensures value { result ≡ value_at self.old.entries id }

@@ -1,4 +1,4 @@
--- The slab lends the value, and the entry of its id alone is another.
+-- The slab lends the value, and only the entry of its id changes.
 use Rattle.std.proofs.Common.{inl, rules, refl, sym, ◌∙◌}
 use Rattle.id_table.specs.Entries.{table_of}
 use Rattle.id_table.specs.Order.{IsAt}

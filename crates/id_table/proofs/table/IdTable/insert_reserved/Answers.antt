@@ -1,4 +1,4 @@
--- A place and a value come behind all others.
+-- A place and a value are appended.
 use Rattle.std.proofs.Common.{◌-◌, rules, refl}
 use Rattle.id_table.proofs.EntryLemmas.{added_table}
 use Rattle.id_table.proofs.table.IdTable.insert_reserved.Goals as goal

@@ -1,4 +1,4 @@
--- The place of the id goes, and the value with it.
+-- The place of the id is removed, and the value with it.
 use Rattle.std.proofs.Common.{List, rules, sym, ap, ◌∙◌}
 use Rattle.id_table.specs.Entries.{Entry, table_of}
 use Rattle.id_table.specs.Order.{IsAt}

@@ -1,4 +1,4 @@
--- Values and places are as they were.
+-- Values and places are unchanged.
 use Rattle.std.proofs.Common.{rules, ap, arith}
 use Rattle.std.specs.Prelude.{vec_capacity}
 use Rattle.slab.specs.Slab.{Slab}
