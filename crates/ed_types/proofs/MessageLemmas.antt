@@ -8,7 +8,7 @@ use Rattle.ed_types.specs.declared.kind.Kind.TheVariants as kinds
 use Rattle.ed_types.specs.Messages.{number_of, kind_of, kind_in, kind_among, groups}
 use Rattle.ed_types.specs.MessagesLaws.{EachKindIsFound, OnlyItsNumberFindsAKind}
 
--- what is found passes the test
+-- what `find` returns passes the test
 found_or_later : {X : Type 0} (p : X → Bool) (y x : X) (rest : Option X) (b : Bool) → p y ≡ b → (rest ≡ Some x → p x ≡ true) → cond b (Some y) rest ≡ Some x → p x ≡ true
 found_or_later p y x rest true passes later e = let same : y ≡ x = cc in cc
 found_or_later p y x rest false passes later e = later e

@@ -1,4 +1,4 @@
--- The messages: numbers, names and marks. The names and numbers are those of the documentation of Scintilla; the marks are
+-- The messages: numbers, names and marks. The names and numbers are those of Scintilla's documentation. The marks are
 -- this project's own.
 use Rattle.std.specs.Prelude.{ℕ, Bool, true, false, ◌==◌, List, [], ◌∷◌, find, Option, None, option_map}
 use Rattle.std.specs.Option.{option_or}
@@ -6,7 +6,7 @@ use Rattle.ed_types.specs.declared.kind.Kind.{Kind}
 use Rattle.ed_types.specs.declared.kind.Kind.TheVariants as kinds
 use Rattle.ed_types.specs.declared.marks.Columns.{Columns}
 
--- Marks, read aloud: a Query changes nothing; No memory is taken; the text is Edited; the message is Recorded.
+-- The marks, read aloud: a Query changes nothing; it allocates No memory; it Edits the text; it is Recorded.
 abbrev pub marks : Bool → Bool → Bool → Bool → Columns
 marks q n e r = record { q = q; n = n; e = e; r = r }
 

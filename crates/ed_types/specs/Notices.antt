@@ -1,7 +1,7 @@
 -- What a reply says.
 use Rattle.std.specs.Prelude.{ℕ, ℤ, List}
 
--- A note as a view hears it, with its text. [Scintilla: notifications]
+-- A note as a view gets it, with its text. [Scintilla: notifications]
 pub record Notice : Type 0 where
   pub view : ℕ
   pub code : ℕ
@@ -18,7 +18,7 @@ pub record Notice : Type 0 where
   pub l : ℤ
   pub text : List ℕ
 
--- The answer to a message: a value, a text, and notes in the order in which they are heard.
+-- The answer to a message: a value, a text, and notes in the order in which the views get them.
 pub record Response : Type 0 where
   pub value : ℤ
   pub text : List ℕ

@@ -5,7 +5,7 @@ ghost use Rattle.std.specs.Prelude.{◌≡◌, []};
 use std::alloc::Global;
 use std::marker::Model;
 
-/// A text or another run of bytes; any byte may stand in it, NUL too. Contracts see a list.
+/// A text or another run of bytes. Any byte may stand in it, including NUL. A contract sees it as a list.
 #[derive(Debug, Drop)]
 pub struct Bytes {
     bytes: Vec<u8>,
@@ -20,14 +20,14 @@ impl Model for Bytes {
 }
 
 impl Bytes {
-    /// These bytes. Takes no memory.
+    /// Wraps `bytes`. Allocates nothing.
     pub fn new(bytes: Vec<u8>) -> Self
         ensures { result ≡ bytes.items }
     {
         Bytes { bytes }
     }
 
-    /// No bytes. Takes no memory.
+    /// Returns an empty run of bytes. Allocates nothing.
     pub fn empty(alloc: Global) -> Self
         ensures { result ≡ [] }
     {
@@ -36,7 +36,7 @@ impl Bytes {
         }
     }
 
-    /// The bytes, lent.
+    /// Returns the bytes as a slice.
     pub fn as_slice(&self) -> &[u8]
         ensures { result.now ≡ self.now }
     {

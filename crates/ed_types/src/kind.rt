@@ -3,7 +3,7 @@
 ghost use Rattle.std.specs.Prelude.{◌≡◌};
 ghost use Rattle.ed_types.specs.Messages.{number_of, kind_of, kind_among, numbers_to_2033, numbers_to_2145, numbers_to_2199, numbers_to_2319, numbers_to_2504, numbers_to_4003};
 
-/// A message of the profile, named as in the documentation of Scintilla, with its number there.
+/// A message of the profile, by the name and the number that Scintilla's documentation gives it.
 #[derive(Clone, Copy, Debug, PartialEq, Eq)]
 pub enum Kind {
     /// `SCI_ADDTEXT`
@@ -297,14 +297,14 @@ pub enum Kind {
 }
 
 impl Kind {
-    /// The message's number.
+    /// Returns the number of the message, by Scintilla's documentation.
     pub fn number(self) -> u32
         ensures number { result ≡ number_of self }
     {
         self as u32
     }
 
-    /// The message with this number, if the profile has one.
+    /// Returns the message with this number, or `None` if the profile has no such message.
     pub fn from_number(number: u32) -> Option<Kind>
         ensures decoded { result ≡ kind_of number }
     {

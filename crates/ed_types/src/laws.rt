@@ -1,8 +1,8 @@
-//! Laws of the table of messages. Each is the contract of a function that does nothing.
+//! Laws of the table of messages. Each is the contract of a function with an empty body.
 
 ghost use Rattle.ed_types.specs.MessagesLaws.{EachKindIsFound, OnlyItsNumberFindsAKind};
 
-/// Each kind is found by its number, and by no other.
+/// The number of each kind decodes to that kind, and no other number does.
 pub fn kinds_and_numbers()
     ensures found { EachKindIsFound }
     ensures its_own { OnlyItsNumberFindsAKind }

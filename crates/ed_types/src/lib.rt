@@ -1,5 +1,5 @@
-//! What goes into the editing component and what comes out of it: messages, replies and their notes, refusals,
-//! limits, and the commands of scripts.
+//! The types at the border of the editing component: messages, replies and their notes, refusals, limits, and the
+//! commands of scripts.
 #![tactic(auto)]
 
 mod bytes;

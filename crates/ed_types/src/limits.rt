@@ -1,28 +1,28 @@
 //! Limits of a session.
 
-/// The greatest values that a session may reach. The constants are the greatest that `Session::with_limits` takes.
+/// The greatest values that a session may reach. The constants are the greatest that `Session::with_limits` accepts.
 #[derive(Clone, Copy, Debug, PartialEq, Eq)]
 pub struct Limits {
-    /// Bytes of a document, unless it was made for large texts.
+    /// The length of a document in bytes, unless it was made for large texts.
     pub doc_bytes: u64,
-    /// Bytes of a document that was made with the option for large texts.
+    /// The length in bytes of a document that was made with the option for large texts.
     pub large_bytes: u64,
-    /// Marker handles of one document, ever.
+    /// How many marker handles one document ever gives.
     pub handles: u64,
-    /// Document ids, ever; and view ids, ever.
+    /// How many document ids a session ever gives, and how many view ids.
     pub ids: u64,
-    /// References to one document: views attached to it and references held by callers.
+    /// How many references one document has: views attached to it and references held by callers.
     pub refs: u64,
-    /// Open views.
+    /// How many views are open at a time.
     pub views: u64,
-    /// Depth of undo groups.
+    /// How deeply undo groups may be nested.
     pub depth: u64,
 }
 
 impl Limits {
-    /// The greatest number of bytes of a document.
+    /// The greatest length of a document, in bytes.
     pub const DOC_BYTES: u64 = 0x7FFF_FFFF;
-    /// The greatest number of bytes of a document for large texts.
+    /// The greatest length of a document for large texts, in bytes.
     pub const LARGE_BYTES: u64 = 0x100_0000_0000;
     /// The greatest number of marker handles.
     pub const HANDLES: u64 = 0x7FFF_FFFF;

@@ -1,24 +1,24 @@
-//! The marks of messages.
+//! The marks of messages: what is promised of each, whatever its arguments.
 
 ghost use Rattle.std.specs.Prelude.{◌≡◌};
 ghost use Rattle.ed_types.specs.Messages.{marks_at, marks_of};
 
 use crate::kind::Kind;
 
-/// What is promised of a message whatever its arguments.
+/// What is promised of a message, whatever its arguments.
 #[derive(Clone, Copy, Debug, PartialEq, Eq)]
 pub struct Columns {
     /// A query: it changes nothing.
     pub q: bool,
-    /// It takes no memory (unless it is recorded and its view records).
+    /// It does not allocate (unless it is recorded and its view records).
     pub n: bool,
     /// It edits the text.
     pub e: bool,
-    /// It is recorded by a view that records.
+    /// A view that records records it.
     pub r: bool,
 }
 
-/// The marks of the message with this number; `None` where the profile has no such message.
+/// Returns the marks of the message with this number, or `None` if the profile has no such message.
 pub fn columns_of(number: u32) -> Option<Columns>
     ensures marked { result ≡ marks_at number }
 {
@@ -87,7 +87,7 @@ impl Columns {
 }
 
 impl Kind {
-    /// The marks of the message.
+    /// Returns the marks of this message.
     pub fn columns(self) -> Columns
         ensures marked { result ≡ marks_of self }
     {

@@ -2,28 +2,28 @@
 
 use thiserror::Error;
 
-/// Why a call is refused. A refused call has changed nothing. `refusal as u8` is the number that scripts print.
+/// Why a call is refused. A refused call has changed nothing. Scripts print `refusal as u8`.
 #[derive(Clone, Copy, Debug, PartialEq, Eq, Error)]
 pub enum Refusal {
-    /// A growth was refused.
+    /// An allocation failed.
     #[error("out of memory")]
     OutOfMemory = 1,
-    /// No view has that id now.
+    /// No view has that id.
     #[error("no such view")]
     NoSuchView = 2,
     /// The profile has no such message.
     #[error("unknown message")]
     UnknownMessage = 3,
-    /// No document has that id now, or the caller holds no reference to it.
+    /// No document has that id, or the caller holds no reference to it.
     #[error("no such document")]
     NoSuchDocument = 4,
-    /// The text would pass its limit after some step.
+    /// After some step the text would be longer than its limit.
     #[error("text too long")]
     TooLong = 5,
-    /// An argument is outside the range that the message states.
+    /// An argument is outside the range that the message documents.
     #[error("bad argument")]
     BadArgument = 6,
-    /// Handles, ids, references, the depth of groups or open views are used up.
+    /// The handles, the ids, the references, the depth of groups or the open views are used up.
     #[error("too many")]
     TooMany = 7,
 }

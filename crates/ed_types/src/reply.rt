@@ -8,41 +8,41 @@ use std::alloc::Global;
 use std::marker::Model;
 use std::ops::Range;
 
-/// A note: what a view is told. Fields that its code does not name are 0, and its text is empty.
+/// A note: a notification that a view gets. Fields that its code does not name are 0, and its text is empty.
 #[derive(Debug, Drop)]
 pub struct Note {
-    /// The view that is told.
+    /// The view that gets it.
     pub view: u32,
-    /// Which note, as 2008 for `SCN_MODIFIED`.
+    /// The number of the notification, such as 2008 for `SCN_MODIFIED`.
     pub code: u32,
-    /// The bits of `modificationType`.
+    /// The bits of Scintilla's `modificationType`.
     pub kind: u32,
-    /// A position, in bytes.
+    /// A position in bytes, from 0.
     pub position: i64,
     /// A length, in bytes.
     pub length: i64,
-    /// By how many lines the text grew.
+    /// By how many lines the text grew; negative if it shrank.
     pub lines: i64,
     /// A line, from 0.
     pub line: i64,
-    /// A fold level after a change.
+    /// The fold level after a change.
     pub now: i64,
-    /// A fold level before a change.
+    /// The fold level before a change.
     pub prev: i64,
     /// The token of a container's own undo step.
     pub token: i64,
-    /// The number of a recorded message.
+    /// The number of the recorded message.
     pub message: u32,
-    /// Its first argument, as it was sent.
+    /// The first argument of the recorded message, as it was sent.
     pub w: i64,
-    /// Its second argument, as it was sent.
+    /// The second argument of the recorded message, as it was sent.
     pub l: i64,
-    /// Where the note's text stands in the pool of its reply.
+    /// The range of the note's text in the pool of its reply, in bytes.
     pub text: Range<usize>,
 }
 
-/// The answer to a message: a value, a text, and notes in order. Notes share one pool of texts, so that a text that
-/// several views hear is kept once. Contracts see each note with its own text.
+/// The answer to a message: a value, a text, and notes in order. The notes share one pool of texts, so that a text that
+/// several views get is stored once. A contract sees each note with its own text.
 #[derive(Debug, Drop)]
 pub struct Reply {
     value: i64,
@@ -62,14 +62,14 @@ impl Model for Reply {
 }
 
 impl Reply {
-    /// A value and a text with no notes. Takes no memory.
+    /// Returns a reply with a value and a text, and no notes. Allocates nothing.
     pub fn quiet(alloc: Global, value: i64, text: Bytes) -> Self
         ensures { result ≡ record { value = value; text = text; notes = [] } }
     {
         Reply::new(value, text, Vec::new(alloc), Bytes::empty(alloc))
     }
 
-    /// A value, a text, and notes whose texts are ranges of `pool`. Takes no memory.
+    /// Returns a reply with a value, a text, and notes whose texts are ranges of `pool`. Allocates nothing.
     pub fn new(value: i64, text: Bytes, notes: Vec<Note>, pool: Bytes) -> Self
         ensures { result ≡ record { value = value; text = text; notes = heard_in pool notes.items } }
     {
@@ -81,28 +81,28 @@ impl Reply {
         }
     }
 
-    /// The value.
+    /// Returns the value of the answer.
     pub fn value(&self) -> i64
         ensures { result ≡ self.now.value }
     {
         self.value
     }
 
-    /// The text that was handed out; empty where the message hands out none.
+    /// Returns the text that the message handed out, or an empty one if it hands out none.
     pub fn text(&self) -> &[u8]
         ensures { result.now ≡ self.now.text }
     {
         self.text.as_slice()
     }
 
-    /// How many notes there are.
+    /// Returns the number of notes.
     pub fn note_count(&self) -> usize
         ensures { result ≡ length self.now.notes }
     {
         self.notes.len()
     }
 
-    /// A note, counted from 0, and its text.
+    /// Returns the note at `index`, counted from 0, and its text.
     pub fn note(&self, index: usize) -> (&Note, &[u8])
         requires { index < length self.now.notes }
         ensures { slice_get self.now.notes index ≡ Some (with_text result.0.now result.1.now) }
@@ -115,7 +115,7 @@ impl Reply {
     }
 }
 
-/// The bytes from `start` up to `end`, as far as there are any.
+/// Returns the bytes from `start` up to `end`, as far as there are any.
 fn part_of(bytes: &[u8], start: usize, end: usize) -> &[u8]
     ensures { result.now ≡ slice_range bytes.now start end }
 {

@@ -1,4 +1,4 @@
-//! Commands of scripts, what comes of them, and why a text is no script.
+//! Commands of scripts, their outcomes, and the faults of a script.
 
 use crate::message::Message;
 use crate::refusal::Refusal;
@@ -12,18 +12,18 @@ pub enum Command {
     OpenView,
     /// Closes a view.
     CloseView { view: u32 },
-    /// Sets the text of a view's document to that of a file; the first file is 1.
+    /// Replaces the text of a view's document by that of a file; the first file is 1.
     LoadFile { view: u32, file: u32 },
     /// Sends a message to a view.
     SendMessage { view: u32, message: Message },
-    /// Compares the value of the last command that is no `Expect`.
+    /// Compares the value of the last command that is no `Expect` with `value`.
     Expect { value: i64 },
 }
 
-/// What came of a command.
+/// The outcome of a command.
 #[derive(Debug, Drop)]
 pub enum Outcome {
-    /// A view was opened; its id.
+    /// A view was opened, with this id.
     Opened(u32),
     /// A view was closed.
     Closed,
@@ -31,46 +31,46 @@ pub enum Outcome {
     Replied(Reply),
     /// The command was refused, and changed nothing.
     Refused(Refusal),
-    /// Whether the expected value was met.
+    /// Whether the value was the expected one.
     Expected { met: bool, value: i64 },
 }
 
-/// Why a line is no line of a script.
+/// Why a line is not a line of a script.
 #[derive(Clone, Copy, Debug, PartialEq, Eq, Error)]
 pub enum Cause {
-    /// More than 65,536 bytes before its end.
+    /// The line has more than 65,536 bytes before its end.
     #[error("LineTooLong")]
     LineTooLong,
-    /// The last line has no LF; an empty script too.
+    /// The last line has no LF. An empty script has this fault, too.
     #[error("NoLineEnd")]
     NoLineEnd,
     /// Line 1 is not `sci 1` or `sci 2`.
     #[error("BadVersion")]
     BadVersion,
-    /// The bytes up to the first space or the line's end are no command of the version.
+    /// The bytes up to the first space or the end of the line are no command of the script's version.
     #[error("UnknownCommand")]
     UnknownCommand,
     /// A space, a number or an opening quote is missing, or something follows the last field.
     #[error("BadShape")]
     BadShape,
-    /// A number that is not written as this language writes it, or is out of range.
+    /// A number is not written in the form of this language, or is out of range.
     #[error("BadNumber")]
     BadNumber,
-    /// A wrong, unneeded or cut escape, a raw byte that needs one, or no closing quote.
+    /// An escape is wrong, unneeded or cut short, a raw byte needs one, or the closing quote is missing.
     #[error("BadText")]
     BadText,
 }
 
-/// Why bytes are no script, or a script was not made.
+/// Why bytes are not a script, or no script could be made of them.
 #[derive(Clone, Copy, Debug, PartialEq, Eq, Error)]
 pub enum ScriptFault {
-    /// More than 16 MiB.
+    /// The script has more than 16 MiB.
     #[error("script too long")]
     TooLong,
     /// The first line at fault, counted from 1, and its first cause.
     #[error("line {line}: {cause}")]
     BadLine { line: u64, cause: Cause },
-    /// A growth was refused.
+    /// An allocation failed.
     #[error("out of memory")]
     OutOfMemory,
 }
