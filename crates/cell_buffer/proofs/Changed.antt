@@ -63,7 +63,7 @@ extent_widened : (ps : List ℕ) (p : ℕ) → extent (ps ++ p ∷ []) ≡ widen
 extent_widened [] p = ap (λ n. Some (p, n)) (omega arith)
 extent_widened (q ∷ ps) p = ap (λ o. Some (q, unwrap_or o q + 1 - q)) (last_of ps p (Some q))
 
--- what differs where one item is another, and nothing behind it
+-- what differs if one item differs, and nothing behind it
 differing_at : (x y k : ℕ) (xs ys back : List ℕ) → length ys ≡ length xs → length xs ≡ k →
     differing 0 (xs ++ x ∷ back) (ys ++ y ∷ back) ≡ differing 0 xs ys ++ (if not (x == y) then k ∷ [] else [])
 differing_at x y k xs ys back l e =
@@ -85,7 +85,7 @@ range_before : (x k : ℕ) (xs ys back : List ℕ) → length ys ≡ length xs �
     changed_range (xs ++ x ∷ back) (ys ++ x ∷ back) ≡ extent (differing 0 xs ys)
 range_before x k xs ys back l e = range_at x x k xs ys back l e ∙ ap (λ b. if b then extent (differing 0 xs ys) else widened k (extent (differing 0 xs ys))) (eq-eqb x x refl)
 
--- one more item written behind those that are written already
+-- one more item written behind those that are written
 pub range_more : (xs done : List ℕ) (start i a : ℕ) → length done ≡ i → start + i < length xs →
     changed_range xs (overwritten xs start (done ++ a ∷ []))
     ≡ (if slice_index (overwritten xs start done) (start + i) == a then changed_range xs (overwritten xs start done) else widened (start + i) (changed_range xs (overwritten xs start done)))
@@ -113,7 +113,7 @@ range_more xs done start i a h l =
 pub range_of_none : (xs : List ℕ) → changed_range xs xs ≡ None
 range_of_none xs = ap extent (places xs xs refl ∙ same_differs_nowhere xs 0)
 
--- what is behind both lists alike has no part in it
+-- what stands behind both lists alike plays no part
 pub range_in_front : (xs ys zs : List ℕ) → length ys ≡ length xs → changed_range (xs ++ zs) (ys ++ zs) ≡ changed_range xs ys
 range_in_front xs ys zs l =
     ap extent (places (xs ++ zs) (ys ++ zs) (simp length-append (omega arith))
@@ -122,7 +122,7 @@ range_in_front xs ys zs l =
     ∙ append-nil (differing 0 xs ys)
     ∙ sym (places xs ys l))
 
--- what putting one more item there answers, by what was known before
+-- what `put` returns for one more item, by what was known before
 pub range_put : (xs done before : List ℕ) (so_far : Option (ℕ × ℕ)) (start i a : ℕ) → before ≡ overwritten xs start done → so_far ≡ changed_range xs before → length done ≡ i → start + i < length xs →
     (if slice_index before (start + i) == a then so_far else widened (start + i) so_far) ≡ changed_range xs (overwritten xs start (done ++ a ∷ []))
 range_put xs done before so_far start i a e s h l = rw (s, e) (sym (range_more xs done start i a h l))

@@ -11,7 +11,7 @@ deletion_cost : (place count gap moved gap' moved' : ℕ) → gap' ≡ gap_close
 deletion_cost place zero gap moved gap' moved' g m = record { cost = omega arith; at_an_end = λ h. absurd (omega arith) }
 deletion_cost place (suc n) gap moved gap' moved' g m = record { cost = grind arith; at_an_end = λ h. inl (grind arith) }
 
--- so many bytes and so many styles went in
+-- so many bytes and so many styles were inserted
 pub insertion_costs : (place count styles : ℕ) (old new : Buffer) →
     new.gaps ≡ (gap_after place count old.gaps.0, gap_after place styles old.gaps.1) →
     new.moved ≡ (moved_after place count old.gaps.0 old.moved.0, moved_after place styles old.gaps.1 old.moved.1) →
@@ -23,7 +23,7 @@ insertion_costs place count styles old new g m =
       no_styles = λ none. (ap (λ t. t.1) g ∙ ap (λ n. gap_after place n old.gaps.1) none, ap (λ t. t.1) m ∙ ap (λ n. moved_after place n old.gaps.1 old.moved.1) none);
     }
 
--- so many bytes and so many styles went out
+-- so many bytes and so many styles were deleted
 pub deletion_costs : (place count styles : ℕ) (old new : Buffer) →
     new.gaps ≡ (gap_closed place count old.gaps.0, gap_closed place styles old.gaps.1) →
     new.moved ≡ (moved_closed place count old.gaps.0 old.moved.0, moved_closed place styles old.gaps.1 old.moved.1) →

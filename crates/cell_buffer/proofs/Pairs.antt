@@ -1,4 +1,4 @@
--- Bytes and styles as cells: `paired` against take, drop, ++ and the words of the definitions.
+-- Bytes and styles as cells: `paired` with take, drop, ++ and the words of the definitions.
 use Rattle.std.proofs.Common.{◌≡◌, ◌≤◌, ◌<◌, ◌+◌, ◌-◌, ℕ, zero, suc, List, [], ◌∷◌, ◌++◌, length, take, drop, set, replicate, get_or, ◌⊎◌, inl, inr, refl, ap, sym, ◌∙◌, arith, append_assoc}
 use Rattle.std.specs.Prelude.{Some, min, slice_get}
 use Rattle.std.proofs.Math.Nat.{min-eq_left, min-eq_right}
@@ -73,14 +73,14 @@ pairs_behind [] (s ∷ ss) cs l = absurd (omega arith)
 pairs_behind (b ∷ bs) [] cs l = ap (λ t. plain_cell b ∷ t) (pairs_behind bs [] cs (omega arith))
 pairs_behind (b ∷ bs) (s ∷ ss) cs l = ap (λ t. record { byte = b; style = s } ∷ t) (pairs_behind bs ss cs (omega arith))
 
--- whether a style that is 0 is stored makes no difference
+-- it makes no difference whether a style that is 0 is stored
 pub zeros_stored : (bs ss : List ℕ) (n : ℕ) → paired bs (ss ++ replicate n 0) ≡ paired bs ss
 zeros_stored [] ss n = refl
 zeros_stored (b ∷ bs) [] zero = refl
 zeros_stored (b ∷ bs) [] (suc n) = ap (λ t. plain_cell b ∷ t) (zeros_stored bs [] n)
 zeros_stored (b ∷ bs) (s ∷ ss) n = ap (λ t. record { byte = b; style = s } ∷ t) (zeros_stored bs ss n)
 
--- styles put on the first cells
+-- styles set on the first cells
 pub restyled_pairs : (new bs ss : List ℕ) → length ss ≤ length bs → length new ≤ length ss → restyled new (paired bs ss) ≡ paired bs (new ++ drop (length new) ss)
 restyled_pairs [] bs ss h l = refl
 restyled_pairs (x ∷ new) bs [] h l = absurd (omega arith)
@@ -106,11 +106,11 @@ zero_style_read (b ∷ bs) [] (suc i) l h = zero_style_read bs [] i (omega arith
 zero_style_read (b ∷ bs) (s ∷ ss) zero l h = absurd (omega arith)
 zero_style_read (b ∷ bs) (s ∷ ss) (suc i) l h = zero_style_read bs ss i (omega arith) (omega arith)
 
--- the same count of items of two lists that are as long at least
+-- the first n items of two lists, both at least as long
 same_front : (n : ℕ) (bs ss : List ℕ) → n ≤ length ss → length ss ≤ length bs → length (take n ss) ≡ length (take n bs)
 same_front n bs ss l h = omega (arith, length-take-le n bs (omega arith), length-take-le n ss l)
 
--- bytes go in among those with a stored style, with style 0
+-- bytes are inserted among those with a stored style, with style 0
 pub inserted_among : (bs ss new : List ℕ) (p n : ℕ) → length ss ≤ length bs → n ≡ length new → p ≤ length ss →
     paired (inserted bs p new) (inserted ss p (replicate n 0)) ≡ edited_cells (Insert p new) (paired bs ss)
 inserted_among bs ss new p n h e l =
@@ -120,7 +120,7 @@ inserted_among bs ss new p n h e l =
     (rw (pairs_joined (take p bs) (take p ss) new (replicate n 0) (same_front p bs ss l h))
     (rw (zeros_stored new [] n, plain_pairs new, ← pairs_taken p bs ss, ← pairs_dropped p bs ss)))
 
--- bytes go in behind them
+-- bytes are inserted behind those
 pub inserted_behind : (bs ss new : List ℕ) (p : ℕ) → length ss ≤ p → p ≤ length bs →
     paired (inserted bs p new) ss ≡ edited_cells (Insert p new) (paired bs ss)
 inserted_behind bs ss new p h l =
@@ -131,7 +131,7 @@ inserted_behind bs ss new p h l =
     rw (pairs_behind (take p bs ++ new) ss (drop p bs) longer, pairs_behind (take p bs) ss new front, plain_pairs new)
     (rw (pairs_taken p bs ss, pairs_dropped p bs ss, all, none))
 
--- cells go out, with the styles that are stored for them
+-- cells are deleted, with the styles that are stored for them
 pub deleted_pairs : (bs ss : List ℕ) (p n : ℕ) → length ss ≤ length bs → p ≤ length ss →
     paired (deleted bs p n) (deleted ss p n) ≡ take p (paired bs ss) ++ drop (p + n) (paired bs ss)
 deleted_pairs bs ss p n h l =
@@ -144,11 +144,11 @@ dropped_alike ss p n m e l (inl more) =
     drop_all (p + m) ss (omega arith) ∙ sym (drop_all (p + n) ss (omega arith))
 dropped_alike ss p n m e l (inr fewer) = ap (λ k. drop (p + k) ss) (e ∙ min-eq_left fewer)
 
--- no more go out than there are
+-- no more are deleted than there are
 pub deleted_all : (ss : List ℕ) (p n m : ℕ) → m ≡ min n (length ss - p) → p ≤ length ss → deleted ss p m ≡ deleted ss p n
 deleted_all ss p n m e l = ap (λ t. take p ss ++ t) (dropped_alike ss p n m e l (cases_lt (length ss - p) n))
 
--- cells go out behind those with a stored style
+-- cells are deleted behind those with a stored style
 pub deleted_behind : (bs ss : List ℕ) (p n : ℕ) → length ss ≤ p → p ≤ length bs →
     paired (deleted bs p n) ss ≡ take p (paired bs ss) ++ drop (p + n) (paired bs ss)
 deleted_behind bs ss p n h l =

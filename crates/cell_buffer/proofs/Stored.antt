@@ -1,4 +1,4 @@
--- The bytes and the stored styles as cells: what is read of both, and what is done to both.
+-- The bytes and the stored styles as cells: how both are read and changed.
 use Rattle.std.proofs.Common.{◌≡◌, ◌≤◌, ◌<◌, ◌+◌, ◌-◌, ℕ, List, [], ◌∷◌, ◌++◌, length, take, drop, replicate, get_or, ap, ap₂, sym, ◌∙◌, arith, append-nil}
 use Rattle.std.specs.Prelude.{Some, min, slice_get, slice_range}
 use Rattle.std.proofs.lemmas.List.{length-append, length-take, length-drop, length-map, length-replicate, take_all, drop_all, take-append-le, drop-append-le}
@@ -20,7 +20,7 @@ pub plain_where_none_stored : (bs ss : List ℕ) → length ss ≡ 0 → paired 
 plain_where_none_stored bs [] e = plain_pairs bs ∙ ap plain_cells (sym (pairs_bytes bs []))
 plain_where_none_stored bs (s ∷ ss) e = absurd (omega arith)
 
--- zeros are stored behind what is stored
+-- zeros are stored behind the stored styles
 pub stored_further : (bs ss : List ℕ) (k n : ℕ) → k ≡ length ss → paired bs (inserted ss k (replicate n 0)) ≡ paired bs ss
 stored_further bs ss k n e =
     let front : take k ss ≡ ss = take_all k ss (omega arith) in

@@ -1,8 +1,8 @@
--- What a growth leaves of a block, and how large it becomes.
+-- What a growth keeps of a block, and how large the block becomes.
 use Rattle.std.specs.Prelude.{◌≡◌, ℕ, ◌+◌, ◌*◌, ◌≤◌, ◌⊎◌, length}
 use Rattle.split_vector.specs.Split.{Split}
 
--- all but the room is as it was
+-- nothing has changed except the spare capacity
 abbrev pub HasSameItems : Split ℕ → Split ℕ → Type 0
 HasSameItems old new = (new.items ≡ old.items) × (new.gap ≡ old.gap) × (new.moved ≡ old.moved)
 

@@ -1,4 +1,4 @@
--- What `Cells` end as, once bytes that they lent have come back.
+-- How `Cells` end, once bytes that they lent have come back.
 use Rattle.std.specs.Prelude.{◌≡◌, ℕ, ◌+◌, ⊤}
 use Rattle.std.specs.Borrow.{Fml, MutBor, follows_so}
 use mathlib.Core.Option.{none}
@@ -6,7 +6,7 @@ use Rattle.split_vector.specs.Split.{gap_beside}
 use Rattle.cell_buffer.specs.Buffer.{Buffer}
 use Rattle.cell_buffer.specs.contracts.cells.Cells.{the_row}
 
--- all is as it was, but that the gap of the bytes lies outside the lent range
+-- nothing has changed, except that the gap of the bytes lies outside the lent range
 abbrev pub lent_and_back : MutBor Buffer → ℕ → ℕ → Fml
 lent_and_back c start count =
     let now = c.now in

@@ -1,5 +1,5 @@
-//! `Cells` and its calls. A clause sees them as their `cells`, whether they keep styles (`keeps_styles`), of how many cells the styles
-//! are stored (`styled`), their `room`, and the `spare`, `gaps` and `moved` of both gap buffers.
+//! `Cells` and its calls. A contract sees its `cells`, whether it keeps styles (`keeps_styles`), for how many cells the
+//! styles are stored (`styled`), its `room`, and the `spare`, `gaps` and `moved` of both gap buffers.
 
 ghost use Rattle.std.specs.Prelude.{◌≡◌, ◌<◌, ◌≤◌, ◌+◌, ◌-◌, ◌^◌, true, false, ◌++◌, [], ◌∷◌, length, take, drop, replicate, min, max, slice_get, slice_range, vec_len, vec_capacity, IfOk, OnOk, OnErr, IsOk};
 ghost use Rattle.ed_model.specs.Text.{bytes_of, styles_of, plain_cells};
@@ -15,22 +15,25 @@ use split_vector::SplitVector;
 use std::alloc::{AllocError, Global};
 use std::marker::Model;
 
-/// How many styles are stored ahead of those that are set, so that styles that are set one behind the other seldom need it.
+/// How many styles are stored ahead of those that are set, so that `set_styles` at successive places seldom has to
+/// store any.
 const STYLED_AHEAD: usize = 4096;
 
-/// The cells of a document, each a byte and its style, in two gap buffers: editing at one place again costs little,
-/// however long the text. From `keep_styles` on there is memory for a style of each cell, and until then for none. Styles are stored
-/// as they are set, from the first cell on, and those behind them are 0: so the first style costs no walk over a long text, and what
-/// is typed behind all styles costs nothing among them.
+/// The cells of a document, each a byte and its style, in two gap buffers: successive edits at one place cost little,
+/// however long the text is.
+///
+/// From `keep_styles` on there is memory for a style of each cell, and until then for none. Styles are stored from the
+/// first cell on, up to those that were set; the styles behind them are 0. So the first style does not walk over a long
+/// text, and an insertion behind all stored styles moves none of them.
 #[derive(Drop)]
 pub struct Cells {
     bytes: SplitVector<u8>,
-    // Of the first cells; those behind are 0. Empty where no styles are kept.
+    // The styles of the first cells; the others are 0. Empty if no styles are kept.
     styles: SplitVector<u8>,
     keeps_styles: bool,
-    // Once more units of bytes than these were moved or written, a growth by little is paid for.
+    // A growth by a 64th is paid for once more than this many units of bytes have been moved or written.
     paid_from: u32,
-    // How many more cells were asked for and are there. Both blocks may hold more.
+    // How many more cells were reserved. Both blocks may hold more.
     room: usize,
 }
 
@@ -62,7 +65,7 @@ impl Cells {
     ghost use Rattle.std.specs.Borrow.{sem};
     ghost use Rattle.cell_buffer.specs.Lends.{lent_and_back};
 
-    /// No cells, no styles and no room. Takes no memory.
+    /// Returns an empty text without styles and without room. Allocates nothing.
     pub fn new(alloc: Global) -> Self
         ensures { result ≡ no_cells }
     {
@@ -75,7 +78,7 @@ impl Cells {
         }
     }
 
-    /// The number of cells, in bytes.
+    /// Returns the number of cells, which is the length of the text in bytes.
     #[tactic(auto, using(crate::proofs::Pairs::pairs_length))]
     pub fn len(&self) -> usize
         ensures len { result ≡ length self.now.cells }
@@ -84,18 +87,18 @@ impl Cells {
         self.bytes.len()
     }
 
-    /// How many more bytes are sure to fit in without more memory.
+    /// Returns how many more bytes are promised to fit in without an allocation.
     #[tactic(auto, using(crate::proofs::Pairs::pairs_length))]
     pub fn room(&self) -> usize
         ensures room { result ≡ self.now.room }
         ensures within { length self.now.cells + self.now.room < 2 ^ 63 }
     {
         let room = self.room;
-        let _ = self.bytes.spare(); // it says that the sum is small
+        let _ = self.bytes.spare(); // brings the fact that the sum is small
         room
     }
 
-    /// Whether there is memory for styles. If not, all are 0.
+    /// Returns whether there is memory for styles. Otherwise all styles are 0.
     #[tactic(auto, using(crate::proofs::Stored::plain_where_none_stored))]
     pub fn keeps_styles(&self) -> bool
         ensures keeps { result ≡ self.now.keeps_styles }
@@ -104,7 +107,7 @@ impl Cells {
         self.keeps_styles
     }
 
-    /// The byte at a place.
+    /// Returns the byte at `place`.
     #[tactic(auto, using(crate::proofs::Pairs::pairs_length, crate::proofs::Stored::cells_byte))]
     pub fn byte(&self, place: usize) -> u8
         requires { place < length self.now.cells }
@@ -113,7 +116,7 @@ impl Cells {
         self.bytes.get(place)
     }
 
-    /// The style of the byte at a place.
+    /// Returns the style of the byte at `place`.
     #[tactic(auto, using(crate::proofs::Pairs::pairs_length, crate::proofs::Pairs::stored_style_read, crate::proofs::Pairs::zero_style_read))]
     pub fn style(&self, place: usize) -> u8
         requires { place < length self.now.cells }
@@ -127,16 +130,18 @@ impl Cells {
         }
     }
 
-    /// Makes room for `count` more bytes, and for their styles where styles are kept, and gives none back. A block that is large
-    /// enough stays as it is: where both are, no memory is asked for. One that is too small grows to twice its size, or to what was
-    /// asked where that is more; but in a text of 262,144 bytes and more, for which at most a sixty-fourth part is asked, it grows by a
-    /// sixty-fourth part where that is paid for: at the first growth after one for more than that, and later where since the last
-    /// growth 64 times as many bytes were moved or written as the text had then. Its gap stays narrow so, and what is carried over it
-    /// is written near where it was read.
+    /// Makes room for `count` more bytes, and for their styles if styles are kept. Frees nothing. A block that is large
+    /// enough stays as it is; if both are, nothing is allocated.
+    ///
+    /// A block that is too small grows to twice its size, or to what was requested if that is more. The exception is a
+    /// text of 262,144 bytes or more for which at most a 64th of its length is requested. Its blocks grow by a 64th if
+    /// that is paid for: at the first growth after one for more than a 64th, and later once 64 times as many bytes were
+    /// moved or written as the text had at the last growth. The gap then stays narrow, so a move of the gap writes near
+    /// where it reads.
     ///
     /// # Errors
     ///
-    /// `AllocError` where memory is refused. All but `spare` is then as it was.
+    /// `AllocError` if an allocation fails. Then nothing has changed except `spare`.
     #[tactic(auto, using(crate::proofs::Pairs::pairs_length))]
     #[inline(always)]
     pub fn reserve(&mut self, count: usize) -> Result<(), AllocError>
@@ -157,7 +162,7 @@ impl Cells {
         self.grow(count)
     }
 
-    // Whether there is memory for `count` more bytes, and for their styles where styles are kept.
+    // Returns whether there is memory for `count` more bytes, and for their styles if styles are kept.
     #[inline(always)]
     #[tactic(auto, using(crate::proofs::Pairs::pairs_length))]
     fn fits(&self, count: usize) -> bool
@@ -176,7 +181,8 @@ impl Cells {
         count <= kept - self.bytes.len()
     }
 
-    // Takes memory for `count` more bytes, and for their styles, where there is too little. It stands apart, since it is rare.
+    // Allocates memory for `count` more bytes, and for their styles, of which there is too little. Out of line, since
+    // it is rare.
     #[inline(never)]
     #[tactic(auto, using(crate::proofs::Pairs::pairs_length))]
     fn grow(&mut self, count: usize) -> Result<(), AllocError>
@@ -203,11 +209,11 @@ impl Cells {
         Ok(())
     }
 
-    /// Keeps memory for styles from now on, all 0 so far, if there is none yet.
+    /// Allocates memory for styles, and keeps styles from now on, if it does not yet. All styles are 0 so far.
     ///
     /// # Errors
     ///
-    /// `AllocError` where memory is refused. All is then as it was.
+    /// `AllocError` if the allocation fails. Nothing has changed then.
     #[tactic(auto, using(crate::proofs::Pairs::pairs_length, crate::proofs::Stored::plain_where_none_stored))]
     pub fn keep_styles(&mut self) -> Result<(), AllocError>
         ensures ok { OnOk result (self.new ≡ record self.old { keeps_styles = true; spare = (self.old.spare.0, self.new.spare.1) }) }
@@ -220,7 +226,7 @@ impl Cells {
             return Ok(());
         }
         let len = self.bytes.len();
-        let _ = self.bytes.spare(); // it says that the sum is small
+        let _ = self.bytes.spare(); // brings the fact that the sum is small
         let Ok(()) = self.styles.reserve(len + self.room) else {
             return Err(AllocError);
         };
@@ -228,7 +234,7 @@ impl Cells {
         Ok(())
     }
 
-    /// Puts bytes in at a place, with style 0. There must be room for them.
+    /// Inserts `bytes` at `place`, with style 0. There must be room for them.
     #[tactic(auto, using(crate::proofs::Pairs::pairs_length, crate::proofs::Pairs::inserted_among, crate::proofs::Pairs::inserted_behind, crate::proofs::Stored::inserted_cells_length, crate::proofs::Costs::insertion_costs))]
     pub fn insert_reserved(&mut self, place: usize, bytes: &[u8])
         requires { (place ≤ length self.old.cells) × (length bytes.now ≤ self.old.room) }
@@ -249,7 +255,7 @@ impl Cells {
         self.room -= bytes.len();
     }
 
-    /// Deletes `count` cells from a place on. Their room can be used again.
+    /// Deletes `count` cells from `place` on. They become spare capacity.
     #[tactic(auto, using(crate::proofs::Pairs::pairs_length, crate::proofs::Stored::deleted_among, crate::proofs::Pairs::deleted_behind, crate::proofs::Stored::deleted_cells_length, crate::proofs::Stored::shrunk, crate::proofs::Costs::deletion_costs))]
     pub fn delete(&mut self, place: usize, count: usize)
         requires { place + count ≤ length self.old.cells }
@@ -263,7 +269,7 @@ impl Cells {
         ensures moved { self.new.moved ≡ (moved_closed place count self.old.gaps.0 self.old.moved.0, moved_closed place (styles_out self.old place count) self.old.gaps.1 self.old.moved.1) }
         ensures cost { CostsBoth place count (styles_out self.old place count) self.old self.new }
     {
-        let _ = self.bytes.len(); // it says that the sum is small
+        let _ = self.bytes.len(); // brings the fact that the sum is small
         self.bytes.delete(place, count);
         let styled = self.styles.len();
         if place < styled {
@@ -272,7 +278,8 @@ impl Cells {
         self.room += count;
     }
 
-    // Stores the styles of the cells before `end`, as far as they are not stored, and of some behind it: they are 0, as they were.
+    // Stores the styles of the cells before `end`, and of some behind it, unless they are stored already. The
+    // styles that it adds are 0, as they were.
     #[inline(always)]
     #[tactic(auto, using(crate::proofs::Pairs::pairs_length))]
     fn store_styles(&mut self, end: usize)
@@ -287,7 +294,7 @@ impl Cells {
         }
     }
 
-    // The same, where some are not stored. It stands apart, since it is rare.
+    // The slow path of `store_styles`, out of line since it is rare: some of these styles are not stored.
     #[inline(never)]
     #[tactic(auto, using(crate::proofs::Pairs::pairs_length, crate::proofs::Stored::stored_further, crate::proofs::Stored::stored_length))]
     fn store_more(&mut self, end: usize)
@@ -304,8 +311,9 @@ impl Cells {
             .insert_fill_reserved(styled, end + ahead - styled, 0);
     }
 
-    /// Puts `styles` on the cells from `start` on, and answers where the smallest range with all changed styles begins and how
-    /// long it is, if any changed. Styles must be kept. Nothing moves but the gap of the styles, where styles are stored that were not.
+    /// Sets the styles of the cells from `start` on to `styles`. Returns the smallest range with all changed styles, as
+    /// its start and its length, or `None` if none changed. Styles must be kept. The gap of the styles moves only if
+    /// some have to be stored.
     #[tactic(auto, using(crate::proofs::Pairs::pairs_length, crate::proofs::Pairs::overwritten_pairs, crate::proofs::Stored::changed_of_stored, crate::proofs::Pairs::overwritten_length))]
     pub fn set_styles(&mut self, start: usize, styles: &[u8]) -> Option<(usize, usize)>
         requires within { start + length styles.now ≤ length self.old.cells }
@@ -316,13 +324,14 @@ impl Cells {
         ensures len { length self.new.cells ≡ length self.old.cells }
         ensures changed { result ≡ changed_range (styles_of self.old.cells) (styles_of self.new.cells) }
     {
-        let _ = self.bytes.len(); // it says that the sum is small
+        let _ = self.bytes.len(); // brings the fact that the sum is small
         self.store_styles(start + styles.len());
         overwrite(&mut self.styles, start, styles)
     }
 
-    /// Puts one style on the `count` cells from `start` on, and answers where the smallest range with all changed styles begins
-    /// and how long it is, if any changed. Styles must be kept. What moves is as for `set_styles`.
+    /// Sets the styles of the `count` cells from `start` on to `style`. Returns the smallest range with all changed
+    /// styles, as its start and its length, or `None` if none changed. Styles must be kept. The gap of the styles moves
+    /// only if some have to be stored.
     #[tactic(auto, using(crate::proofs::Pairs::pairs_length, crate::proofs::Pairs::overwritten_pairs, crate::proofs::Stored::changed_of_stored, crate::proofs::Pairs::overwritten_length, std::proofs::lemmas::Grind::common_steps))]
     pub fn set_style_run(&mut self, start: usize, count: usize, style: u8) -> Option<(usize, usize)>
         requires within { start + count ≤ length self.old.cells }
@@ -333,12 +342,12 @@ impl Cells {
         ensures len { length self.new.cells ≡ length self.old.cells }
         ensures changed { result ≡ changed_range (styles_of self.old.cells) (styles_of self.new.cells) }
     {
-        let _ = self.bytes.len(); // it says that the sum is small
+        let _ = self.bytes.len(); // brings the fact that the sum is small
         self.store_styles(start + count);
         fill(&mut self.styles, start, count, style)
     }
 
-    /// Copies the bytes from `start` on into `target`, as many as it is long.
+    /// Copies the bytes from `start` on into `target`, whose length says how many.
     #[tactic(auto, using(crate::proofs::Pairs::pairs_length, crate::proofs::Pairs::pairs_bytes))]
     pub fn copy_text(&self, start: usize, target: &mut [u8])
         requires { start + length target.old ≤ length self.now.cells }
@@ -347,7 +356,7 @@ impl Cells {
         self.bytes.copy_out(start, target);
     }
 
-    // The `count` bytes from `start` on in two parts, of which the second is empty but where the gap lies among them.
+    // Returns the `count` bytes from `start` on in two parts. The second is empty unless the gap lies among them.
     #[inline(always)]
     #[tactic(auto, using(crate::proofs::Pairs::pairs_length, crate::proofs::Pairs::pairs_bytes, crate::proofs::Stored::range_before, crate::proofs::Stored::range_behind))]
     fn parts_of(&self, start: usize, count: usize) -> (&[u8], &[u8])
@@ -355,7 +364,7 @@ impl Cells {
         ensures joined { result.0.now ++ result.1.now ≡ slice_range (bytes_of self.now.cells) start (start + count) }
         ensures begun { 0 < count → 0 < length result.0.now }
     {
-        let _ = self.bytes.len(); // it says that the sum is small
+        let _ = self.bytes.len(); // brings the fact that the sum is small
         let end = start + count;
         let (before, behind) = self.bytes.halves();
         let gap = before.len();
@@ -368,11 +377,11 @@ impl Cells {
         (&before[start..], &behind[..end - gap])
     }
 
-    /// Appends the `count` bytes from `start` on to `target`, which gives no room back.
+    /// Appends the `count` bytes from `start` on to `target`. Its capacity never falls.
     ///
     /// # Errors
     ///
-    /// `AllocError` where memory is refused. `target` has then the same bytes.
+    /// `AllocError` if the allocation fails. `target` has the same bytes then.
     #[tactic(auto, using(crate::proofs::Pairs::pairs_length, crate::proofs::Pairs::pairs_bytes))]
     pub fn append_text_to(
         &self,
@@ -393,11 +402,12 @@ impl Cells {
         append_both(first, second, target)
     }
 
-    /// The `count` bytes from `start` on, in memory of their own, which has room for `spare` bytes more. Of no bytes none is taken.
+    /// Returns the `count` bytes from `start` on in a new `Vec` with room for `spare` more bytes. Allocates nothing if
+    /// `count` is 0.
     ///
     /// # Errors
     ///
-    /// `AllocError` where memory is refused, as it is where both are more than a `usize` holds.
+    /// `AllocError` if the allocation fails, which it does if `count + spare` exceeds a `usize`.
     #[tactic(auto, using(crate::proofs::Pairs::pairs_length, crate::proofs::Pairs::pairs_bytes))]
     pub fn text_to_vec(
         &self,
@@ -419,7 +429,7 @@ impl Cells {
         Ok(text)
     }
 
-    /// The bytes before the gap and those behind it. Nothing moves.
+    /// Returns the bytes before the gap and those behind it. The gap stays where it is.
     #[tactic(auto, using(crate::proofs::Pairs::pairs_bytes))]
     pub fn halves(&self) -> (&[u8], &[u8])
         ensures joined { result.0.now ++ result.1.now ≡ bytes_of self.now.cells }
@@ -428,7 +438,7 @@ impl Cells {
         self.bytes.halves()
     }
 
-    /// Lends the `count` bytes from `start` on as one slice. If the gap lies among them, it is moved to the nearer end.
+    /// Lends the `count` bytes from `start` on as one slice. If the gap lies among them, it moves to the nearer end first.
     #[tactic(auto, using(crate::proofs::Pairs::pairs_length, crate::proofs::Pairs::pairs_bytes))]
     pub fn lend(&mut self, start: usize, count: usize) -> &[u8]
         requires { start + count ≤ length self.old.cells }
@@ -438,15 +448,15 @@ impl Cells {
         self.bytes.lend(start, count)
     }
 
-    /// How many items insertions and deletions moved or wrote so far, among the bytes and among the styles, or
-    /// `u64::MAX` for any number above it. Growth and lending are not counted.
+    /// Returns how many items insertions and deletions have moved or written so far, among the bytes and among the
+    /// styles. Each count stays at `u64::MAX` once it is reached. Growth and lending are not counted.
     pub fn moved(&self) -> (u64, u64)
         ensures { result ≡ self.now.moved }
     {
         (self.bytes.moved(), self.styles.moved())
     }
 
-    /// How many items lie before the gap, of the bytes and of the styles.
+    /// Returns how many items lie before the gap, of the bytes and of the styles.
     pub fn gaps(&self) -> (usize, usize)
         ensures { result ≡ self.now.gaps }
     {
@@ -454,8 +464,8 @@ impl Cells {
     }
 }
 
-// The bytes in memory of their own, which has room for `spare` bytes more. The first and the last of them are read before memory is
-// asked for: where the text lies far away, it is on its way while the allocator works.
+// Copies `bytes` into a new `Vec` with room for `spare` more. The first and the last byte are read before the
+// allocation: a text that is not in the caches is fetched while the allocator works.
 fn copied(alloc: Global, bytes: &[u8], spare: usize) -> Result<Vec<u8>, AllocError>
     ensures bytes { IfOk result (λ copy. copy.items ≡ bytes.now) }
     ensures room { 0 < length bytes.now → IfOk result (λ copy. min (length bytes.now + spare) (2 ^ 64 - 1) ≤ vec_capacity copy) }
@@ -476,7 +486,7 @@ fn copied(alloc: Global, bytes: &[u8], spare: usize) -> Result<Vec<u8>, AllocErr
     Ok(copy)
 }
 
-// The same of one byte.
+// The case of `copied` for one byte.
 fn one_byte(alloc: Global, byte: u8, spare: usize) -> Result<Vec<u8>, AllocError>
     ensures byte { IfOk result (λ copy. copy.items ≡ byte ∷ []) }
     ensures room { IfOk result (λ copy. min (1 + spare) (2 ^ 64 - 1) ≤ vec_capacity copy) }

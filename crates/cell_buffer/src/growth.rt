@@ -1,7 +1,7 @@
-//! How blocks grow. A gap as wide as a large text costs: what is carried over it is written far from where it was read, and comes from
-//! memory where a narrow gap has it in the processor's caches. But each growth copies the text. So a block grows to twice its size, and by
-//! little only where the copies are few beside what else was done: once after much came at once, whose bytes were written just then, and
-//! then where gaps have moved over the whole text many times.
+//! How blocks grow. A gap as wide as a large text is slow: a move of the gap writes far from where it reads, and goes
+//! to memory where a narrow gap stays in the processor's caches. But each growth copies the text. So a block grows to
+//! twice its size, and by a 64th only where the copies are few beside the other work: once after a large insertion,
+//! whose bytes were written just then, and after that each time that gaps have moved over the whole text many times.
 
 ghost use Rattle.std.specs.Prelude.{◌≡◌, ◌≤◌, ◌<◌, ◌+◌, ◌-◌, ◌*◌, ◌^◌, ◌⊎◌, true, false, length, IsTrue, OnOk, OnErr, IsOk};
 ghost use Rattle.split_vector.specs.Split.{most_room, part_larger};
@@ -10,33 +10,33 @@ ghost use Rattle.cell_buffer.specs.Growing.{HasSameItems, IsDoubled};
 use split_vector::SplitVector;
 use std::alloc::AllocError;
 
-/// A text of fewer bytes stays mostly in the processor's caches, however wide its gaps are.
+/// A shorter text usually stays in the processor's caches, however wide its gaps are.
 const LARGE: usize = 262_144;
 
-/// No more than such a part of the text is little: `reserve_narrow` makes a block larger by as much. So many times the text's length has
-/// to be moved, too, before a growth by little is paid for.
+/// A request for at most this part of the text counts as little: `reserve_narrow` enlarges a block by as much. A growth
+/// by little is paid for once this many times the length of the text was moved.
 const PARTS: usize = 64;
 
-/// From which number of bytes moved on a growth by little is paid for is kept in units of so many bytes: so it takes four bytes, which
-/// find a place beside a `bool`.
+/// The unit of `paid_from`, in bytes. In units the number takes four bytes, which fit beside a `bool`.
 const UNIT: usize = 65_536;
 
-// How many units the bytes make: the greatest number of four bytes stands for any above it.
+// Returns how many units the bytes make, at most `u32::MAX`.
 fn units(bytes: u64) -> u32
     ensures { (result * 65536 ≤ bytes) × ((bytes < result * 65536 + 65536) ⊎ (result ≡ 2 ^ 32 - 1)) }
 {
     (bytes / UNIT as u64).min(u32::MAX as u64) as u32
 }
 
-// Whether the blocks of a text of so many bytes, of which so many were moved or written so far, grow by little for `count` more.
+// Returns whether the blocks of a text of `len` bytes, of which `moved` were moved or written so far, grow by little
+// for `count` more bytes.
 fn grows_by_little(len: usize, count: usize, moved: u64, paid_from: u32) -> bool
     ensures { IsTrue result → (262144 ≤ len) × (64 * count ≤ len) × (paid_from * 65536 + 65536 ≤ moved) }
 {
     len >= LARGE && count <= len / PARTS && units(moved) > paid_from
 }
 
-// From how many units on the next growth by little is paid for, after one for `count` more: at once where much came, and else once the
-// text was moved as many times as it has parts.
+// Returns from how many units on the next growth by little is paid for, after one for `count` more bytes: at once after
+// a large request, and otherwise once the text was moved `PARTS` times.
 fn paid_after(len: usize, count: usize, moved: u64) -> u32
     ensures { 64 * count ≤ len → (moved + 64 * len < result * 65536 + 2 * 65536) ⊎ (result ≡ 2 ^ 32 - 1) }
 {
@@ -48,8 +48,8 @@ fn paid_after(len: usize, count: usize, moved: u64) -> u32
     now.saturating_add(price)
 }
 
-// Makes room for `count` more items in a block. Where it is too small, it grows by a sixty-fourth part, or to what is needed where that
-// is more, if it is to grow by little, and else to twice its size. Where memory is refused, it is as it was.
+// Makes room for `count` more items in a block. A block that is too small grows by a 64th, or to what is needed if that
+// is more, if `by_little`, and otherwise to twice its size. If the allocation fails, nothing changes.
 fn grow_block(block: &mut SplitVector<u8>, count: usize, by_little: bool) -> Result<(), AllocError>
     ensures items { HasSameItems block.old block.new }
     ensures ok { OnOk result (count ≤ block.new.spare) }
@@ -68,12 +68,12 @@ fn grow_block(block: &mut SplitVector<u8>, count: usize, by_little: bool) -> Res
     }
 }
 
-/// Makes room for `count` more bytes in their block, and where styles are kept for a style of each byte in theirs. Both grow by little,
-/// where they are too small, if that is paid for, and else to twice their size.
+/// Makes room for `count` more bytes in their block, and for a style of each byte in the other if styles are kept. A
+/// block that is too small grows by little if that is paid for, and otherwise to twice its size.
 ///
 /// # Errors
 ///
-/// `AllocError` where memory is refused. The block of the bytes may then have grown, and all else is as it was.
+/// `AllocError` if an allocation fails. The block of the bytes may have grown then; nothing else has changed.
 pub(crate) fn grow_blocks(
     bytes: &mut SplitVector<u8>,
     styles: &mut SplitVector<u8>,
@@ -98,7 +98,7 @@ pub(crate) fn grow_blocks(
 {
     let len = bytes.len();
     let by_little = grows_by_little(len, count, bytes.moved(), *paid_from);
-    let _ = styles.spare(); // it says that the sum is small
+    let _ = styles.spare(); // brings the fact that the sum is small
     let Ok(()) = grow_block(bytes, count, by_little) else {
         return Err(AllocError);
     };

@@ -1,8 +1,8 @@
-//! Laws of what calls cost.
+//! Laws on the cost of calls.
 ghost use Rattle.cell_buffer.specs.SumLaws.{CostsAddUp};
 
-/// Over any list of insertions and deletions, no more bytes, and no more styles, are moved or written than the sum, call by call, of the gap's way to the
-/// place and of the items: what each call alone keeps to.
+/// Over any list of insertions and deletions, the number of bytes, and of styles, that are moved or written is at most the
+/// sum of each call's cost: the distance of the gap from the place, and the items. Each call alone keeps to that cost.
 pub fn costs_add_up()
     ensures { CostsAddUp }
 {}

@@ -1,18 +1,18 @@
-//! Styles written over others, and which of them changed.
+//! Overwriting of styles, and which of them changed.
 ghost use Rattle.std.specs.Prelude.{◌≡◌, ◌<◌, ◌≤◌, ◌+◌, ◌==◌, if◌then◌else◌, length, replicate, slice_set, slice_index};
 ghost use Rattle.ed_model.specs.Indicators.{changed_range};
 ghost use Rattle.cell_buffer.specs.Buffer.{overwritten, widened, range_between};
 
 use split_vector::SplitVector;
 
-/// A range by its start and its length, if there is one.
+/// A range as its start and its length, or `None`.
 pub type Range = Option<(usize, usize)>;
 
-// Where the first place lies that changed, and the end of the last. Where none changed yet, the end is 0. Two numbers stay in
-// registers from one place to the next, where a `Range` would be written and read.
+// The first place that changed, and the end of the last. If none has changed yet, the end is 0. Two numbers stay in
+// registers between two places, where a `Range` would be written and read.
 type Ends = (usize, usize);
 
-// The range between them.
+// Returns the range between the ends.
 fn between(ends: Ends) -> Range
     ensures { result ≡ range_between ends.0 ends.1 }
 {
@@ -23,14 +23,15 @@ fn between(ends: Ends) -> Range
     Some((first, end.saturating_sub(first)))
 }
 
-// Puts `style` at `place`, behind all places that changed so far, and answers the ends with that place, if another style was there.
+// Sets the style at `place`, which lies behind all places that changed so far. Returns the ends with that place, if its
+// style changed.
 #[inline(always)]
 fn put(styles: &mut SplitVector<u8>, place: usize, style: u8, ends: Ends) -> Ends
     requires { place < length styles.old.items }
     ensures styles { styles.new ≡ record styles.old { items = slice_set styles.old.items place style } }
     ensures changed { range_between result.0 result.1 ≡ (if slice_index styles.old.items place == style then range_between ends.0 ends.1 else widened place (range_between ends.0 ends.1)) }
 {
-    let _ = styles.len(); // it says that the place is small
+    let _ = styles.len(); // brings the fact that the place is small
     let was = styles.get(place);
     styles.set(place, style);
     if was == style {
@@ -43,13 +44,13 @@ fn put(styles: &mut SplitVector<u8>, place: usize, style: u8, ends: Ends) -> End
     (first, place + 1)
 }
 
-/// Puts `new` in place of the styles from `start` on, and answers the smallest range with all that changed.
+/// Replaces the styles from `start` on by `new`, and returns the smallest range with all that changed.
 pub(crate) fn overwrite(styles: &mut SplitVector<u8>, start: usize, new: &[u8]) -> Range
     requires { start + length new.now ≤ length styles.old.items }
     ensures styles { styles.new ≡ record styles.old { items = overwritten styles.old.items start new.now } }
     ensures changed { result ≡ changed_range styles.old.items styles.new.items }
 {
-    let _ = styles.len(); // it says that the places are small
+    let _ = styles.len(); // brings the fact that the places are small
     let mut ends = (0, 0);
     for i in 0..new.len() {
         ends = put(styles, start + i, new[i], ends);
@@ -57,13 +58,13 @@ pub(crate) fn overwrite(styles: &mut SplitVector<u8>, start: usize, new: &[u8]) 
     between(ends)
 }
 
-/// Puts `style` in place of `count` styles from `start` on, and answers the smallest range with all that changed.
+/// Replaces `count` styles from `start` on by `style`, and returns the smallest range with all that changed.
 pub(crate) fn fill(styles: &mut SplitVector<u8>, start: usize, count: usize, style: u8) -> Range
     requires { start + count ≤ length styles.old.items }
     ensures styles { styles.new ≡ record styles.old { items = overwritten styles.old.items start (replicate count style) } }
     ensures changed { result ≡ changed_range styles.old.items styles.new.items }
 {
-    let _ = styles.len(); // it says that the places are small
+    let _ = styles.len(); // brings the fact that the places are small
     let mut ends = (0, 0);
     for i in 0..count {
         ends = put(styles, start + i, style, ends);

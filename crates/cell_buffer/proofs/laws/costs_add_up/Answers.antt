@@ -1,4 +1,4 @@
--- One call after the other, the bytes and then the styles.
+-- Call by call, the bytes first and then the styles.
 use Rattle.std.proofs.Common.{arith, ◌+◌, ◌-◌, ◌≤◌, List, [], ◌∷◌}
 use Rattle.cell_buffer.specs.Buffer.{Buffer}
 use Rattle.cell_buffer.specs.SumLaws.{Edited, EachCosts, buffer_after, sum_of_costs}

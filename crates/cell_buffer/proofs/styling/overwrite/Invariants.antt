@@ -3,7 +3,7 @@ use Rattle.ed_model.specs.Indicators.{changed_range}
 use Rattle.cell_buffer.specs.Buffer.{overwritten, range_between}
 use Rattle.cell_buffer.proofs.styling.overwrite.Given as goal
 
--- the first `i` new styles are written, what changed by them is known, and nothing moved
+-- the first `i` new styles are written, the range of those that changed is known, and nothing moved
 abbrev pub invariant-loop-i : goal.invariant-loop-i
 invariant-loop-i l = record {
   items : l.styles.items ≡ overwritten l.initial.styles.items l.start (take l.i l.new);
