@@ -45,7 +45,7 @@ belongs_by_outlines (Container c t) bytes (ContainerStep token coalesce ∷ cs) 
 
 -- Whether a change joins.
 
--- sealed, saved here, in a group, a later step of its message, of a kind that belongs
+-- the decision, by: sealed, saved here, in a group, a later step of its message, of a kind that belongs
 abbrev pub decided : Bool → Bool → Bool → Bool → Bool → Bool
 decided s a g l b = not s && not a && (g || l || b)
 

@@ -1,4 +1,4 @@
--- The latest step of the text in the last transaction, looked for from the end; and how many steps that transaction has.
+-- The latest step of the text in the last transaction, searched from the end; and how many steps that transaction has.
 use Rattle.std.proofs.Common.{◌≡◌, ◌<◌, ◌+◌, ◌-◌, ℕ, suc, List, [], ◌∷◌, length, take, drop, get_or, refl, ap, ◌∙◌, arith, reverse, ℤ, Bool, true, false}
 use Rattle.std.specs.Prelude.{Option, Some, None, slice_range, if◌then◌else◌}
 use Rattle.std.proofs.lemmas.List.{length-take, length-drop, drop_more}
@@ -16,7 +16,7 @@ use Rattle.undo_history.proofs.Transactions.{changes_start, changes_join, last_c
 use Rattle.undo_history.proofs.Sealing.{entries_length}
 use Rattle.undo_history.proofs.Reading.{entry_read, bytes_range}
 
--- what is read where there is no record
+-- the value of a read past the records
 abbrev pub no_step : StepRecord
 no_step = record { kind = Text Insert 0; bytes_end = 0; starts = false; is_sealed = false }
 

@@ -171,7 +171,7 @@ redone_count all past count h boundary e =
     ap (λ t. transactions (reverse t)) a.front ∙ cut (take past all) a.next a.starts ∙ ap (λ t. t ++ transactions (reverse (take past all))) a.is_one in
     omega (arith, ap length new)
 
--- What is taken back and made again.
+-- What is reverted and made again.
 
 pub changes_to_undo : (all : List Entry) (past depth : ℕ) (save_point : Option ℕ) (collecting : Bool) →
     undo_changes (history_of all past save_point depth collecting) ≡ map inverse_change (map change_in (take (last_count (reverse (take past all))) (reverse (take past all))))

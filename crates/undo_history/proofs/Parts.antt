@@ -1,11 +1,11 @@
--- Parts read by their records: what a front, one part more, or another record in one place comes to.
+-- Parts read by their records: a front, one part more, or another record in one place.
 use Rattle.std.proofs.Common.{◌≡◌, ◌≤◌, ◌<◌, ◌-◌, ℕ, zero, suc, List, [], ◌∷◌, ◌++◌, length, take, drop, get_or, refl, ap, sym, ◌∙◌, arith}
 use Rattle.std.specs.Prelude.{slice_range}
 use Rattle.std.proofs.lemmas.List.{take-take, take-append-le}
 use Rattle.std.proofs.lemmas.Slice.{between_is}
 use Rattle.undo_history.specs.Records.{read_parts, last_end, EndsInOrder}
 
--- a part is the same where more stands behind it
+-- a part is the same if more comes behind it
 slice_of_front : {X : Type 0} → (n : ℕ) (xs : List X) (a e : ℕ) → e ≤ n → slice_range (take n xs) a e ≡ slice_range xs a e
 slice_of_front n xs a e h = between_is (take n xs) a e ∙ ap (λ t. drop a t) (take-take e n xs h) ∙ sym (between_is xs a e)
 
@@ -69,7 +69,7 @@ module _ {R X Y : Type 0} (end : R → ℕ) (value : R → List X → Y) where
   parts_push from [] r xs = refl
   parts_push from (q ∷ rs) r xs = ap (λ t. value q (slice_range xs from (end q)) ∷ t) (parts_push (end q) rs r xs)
 
-  -- what stands behind the last part does not count
+  -- what comes behind the last part plays no part
   pub parts_of_front : (from : ℕ) (rs : List R) (n : ℕ) (xs : List X) → EndsInOrder end from rs n → read_parts end value from rs (take n xs) ≡ read_parts end value from rs xs
   parts_of_front from [] n xs h = refl
   parts_of_front from (r ∷ rs) n xs h =

@@ -60,7 +60,7 @@ dropped_view rs bytes past count k depth save_point collecting h e =
     ap (λ t. history_of t past save_point depth collecting) same
     ∙ ap₂ (λ p f. history (transactions (reverse p)) (reverse (transactions (reverse f))) save_point depth collecting) (take-take past past es (omega arith)) nothing
 
--- nothing is undone where all is past
+-- nothing is undone if all is past
 pub all_past : (rs : List StepRecord) (bytes : List ℕ) (past depth : ℕ) (save_point : Option ℕ) (collecting : Bool) → length rs ≤ past →
     history_of (entries_in rs bytes) past save_point depth collecting ≡ without_undone (history_of (entries_in rs bytes) past save_point depth collecting)
 all_past rs bytes past depth save_point collecting h =
@@ -91,7 +91,7 @@ stored_ends : (kind : ChangeKind) (joins : Bool) (rs : List StepRecord) (bytes n
 stored_ends kind joins rs bytes new end h e =
     subst (λ n. EndsInOrder bytes_end 0 (rs ++ stored_record kind joins end ∷ []) n) (e ∙ sym (length-append bytes new)) (ends_push bytes_end 0 rs (stored_record kind joins end) (length bytes) h (omega arith))
 
--- nothing is left where nothing can be redone
+-- no entry is left if nothing can be redone
 pub none_left : (es : List Entry) → reverse (transactions (reverse es)) ≡ [] → es ≡ []
 none_left [] h = refl
 none_left (e ∷ es) h =
@@ -104,7 +104,7 @@ pub past_is_all : (rs : List StepRecord) (bytes : List ℕ) (past count : ℕ) �
 past_is_all rs bytes past count h e =
     length_left past (entries_in rs bytes) (omega (arith, entries_length rs bytes, h.there)) (none_left (drop past (entries_in rs bytes)) e) ∙ entries_length rs bytes
 
--- a change made as the definitions make it
+-- a change appended as the definitions say
 made : (joins : Bool) (c : Change) (ts : List Transaction) → (joins ≡ true → LastIsOpen ts) → pushed (entry c (not joins) false) ts ≡ with_change joins c ts
 made true c [] h = absurd (h refl)
 made true c (t ∷ ts) h = ap (λ s. record { changes = c ∷ t.changes; is_sealed = s } ∷ ts) (sym (h refl))

@@ -1,4 +1,4 @@
--- Whether undo and redo get to the save point.
+-- Whether undo and redo reach the save point.
 use Rattle.std.proofs.Common.{◌≡◌, ◌<◌, ◌+◌, ◌-◌, ℕ, List, [], ◌∷◌, length, drop, refl, ap, sym, ◌∙◌, arith, reverse, Bool}
 use Rattle.std.specs.Prelude.{Option}
 use Rattle.std.proofs.lemmas.List.{length-drop, length-reverse, drop_all}
@@ -40,7 +40,7 @@ module _ (rs : List StepRecord) (bytes : List ℕ) (past count depth : ℕ) (sav
       omega (arith, length-reverse (transactions (reverse rest)), transactions_some (reverse rest) (omega (arith, length-reverse rest, length-drop past (entries_in rs bytes), entries_length rs bytes))) in
       ap (λ n. is_number (n + 1) save_point) h.counted ∙ sym (redone_by now now.future some)
 
-  -- where there is nothing to redo
+  -- there is nothing to redo
   pub nothing_redone : past ≡ length rs → at_save_point (history_of (entries_in rs bytes) past save_point depth collecting) ≡ at_save_point (redone (history_of (entries_in rs bytes) past save_point depth collecting))
   nothing_redone all =
       let now = history_of (entries_in rs bytes) past save_point depth collecting in

@@ -1,4 +1,4 @@
--- What sealing comes to, and the tests of a history.
+-- The effect of sealing, and the tests of a history.
 use Rattle.std.proofs.Common.{◌≡◌, ◌≤◌, ◌<◌, ◌+◌, ◌-◌, ℕ, zero, suc, List, [], ◌∷◌, length, take, drop, set, get_or, refl, ap, ap₂, sym, ◌∙◌, arith, reverse, Bool, true, false}
 use Rattle.std.specs.Prelude.{Option, nat_lt, slice_range, if◌then◌else◌}
 use Rattle.std.proofs.lemmas.List.{length-reverse, length-drop}

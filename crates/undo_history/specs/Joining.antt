@@ -1,4 +1,4 @@
--- Which steps join, as the code tells it: by where steps were and how many bytes they have.
+-- Which steps join, as the code decides it: by the places of steps and the number of their bytes.
 use Rattle.std.specs.Prelude.{ℕ, ◌+◌, ◌==◌, nat_le, ◌&&◌, ◌||◌, Bool, true, false, length, Option, Some, None}
 use Rattle.ed_model.specs.Steps as model
 use Rattle.undo_history.specs.declared.records.StepKind.{StepKind}
@@ -24,7 +24,7 @@ by_kinds Insert Delete step earlier = false
 by_kinds Delete Insert step earlier = false
 by_kinds Delete Delete step earlier = nat_le step.count 2 && (step.place + step.count == earlier.place || step.place == earlier.place)
 
--- whether the step goes on with the earlier one
+-- whether the step continues the earlier one
 abbrev pub steps_go_on : StepOutline → StepOutline → Bool
 steps_go_on step earlier = by_kinds step.kind earlier.kind step earlier
 

@@ -2,8 +2,8 @@
 use Rattle.std.specs.Prelude.{◌≡◌, ◌≤◌, ℕ, true}
 use Rattle.ed_model.specs.History.{History, fresh_history}
 
--- the history; how many more steps and bytes are sure to fit; how many steps and bytes the blocks hold that were taken for them; and
--- for how many more of each there is memory
+-- the history; how many more steps and bytes are promised to fit in; how many steps and bytes the blocks hold at most;
+-- and how many more of each they hold
 pub record Kept : Type 0 where
   pub history : History
   pub step_room : ℕ
@@ -17,6 +17,6 @@ kept history steps bytes taken spare = record { history = history; step_room = s
 abbrev pub fresh : Kept
 fresh = kept fresh_history 0 0 (0, 0) (0, 0)
 
--- room for so many more steps, with so many bytes in all; a history that does not collect needs none
+-- there is room for `steps` more steps with `bytes` bytes in all; a history that does not collect needs none
 abbrev pub HasRoom : Kept → ℕ → ℕ → Type 0
 HasRoom k steps bytes = k.history.collecting ≡ true → (steps ≤ k.step_room) × (bytes ≤ k.byte_room)

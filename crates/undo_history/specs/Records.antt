@@ -1,5 +1,5 @@
--- How the records of a history are read. There is one for each step, oldest first. It names the end of the step's bytes among the
--- bytes of all steps, whether the step begins a transaction, and whether nothing joins its transaction behind it.
+-- The records of a history. There is one for each step, the oldest first. It has the end of the step's bytes among the
+-- bytes of all steps, whether the step begins a transaction, and whether its transaction is sealed behind it.
 use Rattle.std.specs.Prelude.{◌≡◌, ◌≤◌, ℕ, List, [], ◌∷◌, length, take, drop, reverse, slice_range, if◌then◌else◌, Option, Bool, true, false, zero, suc}
 use Rattle.ed_model.specs.History.{Change, TextStep, ContainerStep, Transaction, History}
 use Rattle.undo_history.specs.Steps.{step_of}
@@ -9,7 +9,7 @@ use Rattle.undo_history.specs.declared.records.StepRecord.{StepRecord}
 
 -- Parts that end where their records say, the first beginning at `from`.
 
--- what `value` makes of each record and its part of xs
+-- what `value` returns for each record and its part of xs
 abbrev pub read_parts : {R X Y : Type 0} → (R → ℕ) → (R → List X → Y) → ℕ → List R → List X → List Y
 read_parts end value from [] xs = []
 read_parts end value from (r ∷ rs) xs = value r (slice_range xs from (end r)) ∷ read_parts end value (end r) rs xs
@@ -61,12 +61,12 @@ alone e = record { changes = e.change ∷ []; is_sealed = e.is_sealed }
 abbrev pub joined : Entry → Transaction → Transaction
 joined e t = record { changes = e.change ∷ t.changes; is_sealed = e.is_sealed }
 
--- the transactions once the entry is made, the last first
+-- the transactions once the entry was appended, the last first
 abbrev pub pushed : Entry → List Transaction → List Transaction
 pushed e [] = alone e ∷ []
 pushed e (t ∷ ts) = if e.starts then alone e ∷ t ∷ ts else joined e t ∷ ts
 
--- the transactions of entries that stand latest first, the last first
+-- the transactions of entries, both with the latest first
 abbrev pub transactions : List Entry → List Transaction
 transactions [] = []
 transactions (e ∷ es) = pushed e (transactions es)
@@ -81,22 +81,22 @@ history_of all past save_point depth collecting = record {
   collecting = collecting;
 }
 
--- how many entries the last transaction has, where they stand latest first
+-- how many entries the last transaction has; the entries come latest first
 abbrev pub last_count : List Entry → ℕ
 last_count [] = 0
 last_count (e ∷ es) = if e.starts then 1 else suc (last_count es)
 
--- how many stand before the next that begins a transaction
+-- how many entries come before the next one that begins a transaction
 abbrev pub joined_count : List Entry → ℕ
 joined_count [] = 0
 joined_count (e ∷ es) = if e.starts then 0 else suc (joined_count es)
 
--- how many entries the first transaction has, where they stand oldest first
+-- how many entries the first transaction has; the entries come oldest first
 abbrev pub next_count : List Entry → ℕ
 next_count [] = 0
 next_count (e ∷ es) = suc (joined_count es)
 
--- the first of these, if there is one, begins a transaction
+-- the first entry, if there is one, begins a transaction
 abbrev pub BeginsOne : List Entry → Type 0
 BeginsOne [] = Unit {0}
 BeginsOne (e ∷ es) = e.starts ≡ true
@@ -108,7 +108,7 @@ LastIsOpen (t ∷ ts) = t.is_sealed ≡ false
 
 -- Sealing.
 
--- the list with another item at one place
+-- the list with the item at one place changed
 abbrev pub changed_at : {R : Type 0} → (R → R) → ℕ → List R → List R
 changed_at new i [] = []
 changed_at new zero (r ∷ rs) = new r ∷ rs
@@ -122,8 +122,8 @@ abbrev pub with_sealed : ℕ → List StepRecord → List StepRecord
 with_sealed zero rs = rs
 with_sealed (suc i) rs = changed_at sealed_record i rs
 
--- Each step has its bytes; the first begins a transaction, and so does the first of those to be redone; and there are `count`
--- transactions in the past.
+-- Each step has its bytes. The first step begins a transaction, and so does the first of those that can be redone. The
+-- past has `count` transactions.
 pub record IsInOrder (rs : List StepRecord) (bytes : List ℕ) (past count : ℕ) : Type 0 where
   pub ends : EndsInOrder bytes_end 0 rs (length bytes)
   pub begins : BeginsOne (entries_in rs bytes)
@@ -131,7 +131,7 @@ pub record IsInOrder (rs : List StepRecord) (bytes : List ℕ) (past count : ℕ
   pub there : past ≤ length rs
   pub counted : count ≡ length (transactions (reverse (take past (entries_in rs bytes))))
 
--- whether the first of these begins a transaction, or there is none
+-- whether the first entry begins a transaction; true if there is none
 abbrev pub begins_or_none : List Entry → Bool
 begins_or_none [] = true
 begins_or_none (e ∷ es) = e.starts

@@ -18,20 +18,20 @@ use split_vector::SplitVector;
 use std::alloc::{AllocError, Global};
 use std::marker::Model;
 
-/// The history of a document. Undo and redo move a boundary among the records; an append drops what lies behind it.
+/// The undo history of a document. Undo and redo move a boundary among the records; an append drops the records behind it.
 #[derive(Drop)]
 pub struct UndoHistory {
-    // The gap of both is behind all items, for they are appended, and the last ones deleted, alone.
+    // The gap of both stands behind all items, since items are only appended, or deleted at the end.
     steps: SplitVector<StepRecord>,
     bytes: SplitVector<u8>,
-    // How many steps are past; the others are to be redone.
+    // The number of past steps. The others can be redone.
     past: usize,
-    // How many transactions the past has.
+    // The number of past transactions.
     transactions: usize,
     save_point: Option<usize>,
     depth: u64,
     is_collecting: bool,
-    // How many more steps and bytes were asked for and are there. There may be room for more.
+    // How many more steps and bytes were reserved. The blocks may hold more.
     step_room: usize,
     byte_room: usize,
 }
@@ -62,7 +62,7 @@ impl Model for UndoHistory {
 }
 
 impl UndoHistory {
-    /// A fresh history. Takes no memory.
+    /// Returns a fresh history. Allocates nothing.
     pub fn new(alloc: Global) -> Self
         ensures { result ≡ fresh }
     {
@@ -79,15 +79,15 @@ impl UndoHistory {
         }
     }
 
-    /// Whether the document counts as unmodified.
+    /// Returns whether the document counts as unmodified.
     pub fn is_at_save_point(&self) -> bool
         ensures { result ≡ at_save_point self.now.history }
     {
         is_place(self.save_point, self.transactions)
     }
 
-    /// Whether the document counts as unmodified once an undo has taken back the last transaction; where there is none, whether it
-    /// does now.
+    /// Returns whether the document counts as unmodified after an undo of the last transaction. If there is none to
+    /// undo, returns whether it does now.
     #[inline]
     pub fn undo_gets_to_save_point(&self) -> bool
         ensures { result ≡ at_save_point (undone self.now.history) }
@@ -95,8 +95,8 @@ impl UndoHistory {
         is_place(self.save_point, self.transactions.saturating_sub(1))
     }
 
-    /// Whether the document counts as unmodified once a redo has made the next transaction again; where there is none, whether it
-    /// does now.
+    /// Returns whether the document counts as unmodified after a redo of the next transaction. If there is none to
+    /// redo, returns whether it does now.
     #[inline]
     pub fn redo_gets_to_save_point(&self) -> bool
         ensures { result ≡ at_save_point (redone self.now.history) }
@@ -107,41 +107,41 @@ impl UndoHistory {
         is_place(self.save_point, self.transactions + 1)
     }
 
-    /// Whether there is a transaction to undo, outside groups.
+    /// Returns whether there is a transaction to undo and no group is open.
     pub fn can_undo(&self) -> bool
         ensures { result ≡ can_undo self.now.history }
     {
         self.depth == 0 && self.transactions > 0
     }
 
-    /// Whether there is a transaction to redo, outside groups.
+    /// Returns whether there is a transaction to redo and no group is open.
     pub fn can_redo(&self) -> bool
         ensures { result ≡ can_redo self.now.history }
     {
         self.depth == 0 && self.past < self.steps.len()
     }
 
-    /// Whether steps are collected.
+    /// Returns whether steps are collected.
     pub fn is_collecting(&self) -> bool
         ensures { result ≡ self.now.history.collecting }
     {
         self.is_collecting
     }
 
-    /// How many groups are open.
+    /// Returns how many groups are open.
     pub fn depth(&self) -> u64
         ensures { result ≡ self.now.history.depth }
     {
         self.depth
     }
 
-    /// Makes room for so many more steps, with so many bytes in all, and gives none back. A block that is too small grows to
-    /// twice its size, or by what was asked where that is more, and one that is large enough stays as it is: where both are, no
-    /// memory is asked for. A history that does not collect takes none.
+    /// Makes room for `steps` more steps, with `bytes` bytes in all. Frees nothing. A block that is too small grows to
+    /// twice its size, or by what was requested if that is more. A block that is large enough stays as it is; if both
+    /// are, nothing is allocated. A history that does not collect allocates nothing.
     ///
     /// # Errors
     ///
-    /// `AllocError` where memory is refused. All but `taken` and `spare` is then as it was.
+    /// `AllocError` if an allocation fails. Then nothing has changed except `taken` and `spare`.
     #[inline(always)]
     pub fn reserve(&mut self, steps: usize, bytes: usize) -> Result<(), AllocError>
         ensures same { self.new.history ≡ self.old.history }
@@ -167,7 +167,8 @@ impl UndoHistory {
         self.grow(steps, bytes)
     }
 
-    // Takes memory for so many more steps, with so many bytes in all, where there is too little. It stands apart, since it is rare.
+    // Allocates memory for `steps` more steps with `bytes` bytes in all, of which there is too little. Out of line,
+    // since it is rare.
     #[inline(never)]
     fn grow(&mut self, steps: usize, bytes: usize) -> Result<(), AllocError>
         ensures same { self.new.history ≡ self.old.history }
@@ -191,7 +192,7 @@ impl UndoHistory {
         Ok(())
     }
 
-    /// Outside groups, seals the last transaction: nothing is added to it any more.
+    /// Seals the last transaction unless a group is open: no step joins it any more.
     pub fn seal_outside_groups(&mut self)
         ensures { self.new ≡ record self.old { history = sealed_outside_groups self.old.history } }
     {
@@ -200,8 +201,8 @@ impl UndoHistory {
         }
     }
 
-    /// Appends a container's own step, known by its token; one that is not of the kind that joins seals its transaction
-    /// outside groups. There must be room for a step with no bytes.
+    /// Appends a container's own step with this token. A step that does not coalesce seals its transaction, unless a
+    /// group is open. There must be room for a step without bytes.
     pub fn append_container_reserved(&mut self, token: i64, coalesce: bool)
         requires { HasRoom self.old 1 0 }
         ensures history { self.new.history ≡ with_container_step token coalesce self.old.history }
@@ -219,14 +220,14 @@ impl UndoHistory {
         }
     }
 
-    /// Makes this the save point: the document counts as unmodified here.
+    /// Makes this state the save point: the document counts as unmodified here.
     pub fn set_save_point(&mut self)
         ensures { self.new ≡ record self.old { history = saved self.old.history } }
     {
         self.save_point = Some(self.transactions);
     }
 
-    /// Opens a group: its steps are one transaction, with no step before it.
+    /// Opens a group. Its steps are one transaction, which no earlier step belongs to.
     pub fn begin_group(&mut self)
         requires { self.old.history.depth + 1 < 2 ^ 64 }
         ensures { self.new ≡ record self.old { history = group_begun self.old.history } }
@@ -235,7 +236,7 @@ impl UndoHistory {
         self.depth += 1;
     }
 
-    /// Closes a group, if one is open.
+    /// Closes the innermost group, if one is open.
     pub fn end_group(&mut self)
         ensures { self.new ≡ record self.old { history = group_ended self.old.history } }
     {
@@ -246,7 +247,7 @@ impl UndoHistory {
         self.seal_outside_groups();
     }
 
-    /// Forgets everything, and keeps the memory for what comes. This is the save point, and no group is open.
+    /// Forgets all steps, and keeps the memory. This state becomes the save point, and no group is open.
     pub fn empty(&mut self)
         ensures { self.new ≡ record self.old { history = emptied self.old.history; spare = self.old.taken } }
     {
@@ -258,7 +259,8 @@ impl UndoHistory {
         self.depth = 0;
     }
 
-    /// Turns collecting on or off. Off, everything is forgotten but whether the document counts as modified.
+    /// Turns the collection of steps on or off. When it is off, the history forgets all but whether the document counts
+    /// as modified.
     pub fn set_collecting(&mut self, on: bool)
         ensures { self.new ≡ record self.old { history = collecting_set on self.old.history; spare = if on then self.old.spare else self.old.taken } }
     {
@@ -274,8 +276,7 @@ impl UndoHistory {
         self.is_collecting = false;
     }
 
-    /// Moves the last transaction of the past to what can be redone, and seals the one before it. The caller takes its
-    /// changes back.
+    /// Moves the last past transaction to those that can be redone, and seals the one before it. The caller reverts its changes.
     pub fn undo(&mut self)
         ensures { self.new ≡ record self.old { history = undone self.old.history } }
     {
@@ -287,7 +288,7 @@ impl UndoHistory {
         seal(&mut self.steps, self.past);
     }
 
-    /// Moves the next transaction that can be redone to the past, sealed. The caller makes its changes again.
+    /// Moves the next transaction that can be redone to the past, and seals it. The caller makes its changes again.
     pub fn redo(&mut self)
         ensures { self.new ≡ record self.old { history = redone self.old.history } }
     {
@@ -300,15 +301,15 @@ impl UndoHistory {
         seal(&mut self.steps, self.past);
     }
 
-    /// How many changes an undo takes back: 0 where there is nothing to undo.
+    /// Returns how many changes an undo reverts: 0 if there is nothing to undo.
     pub fn undo_len(&self) -> usize
         ensures { result ≡ length (undo_changes self.now.history) }
     {
         count_before(all_steps(&self.steps), self.past)
     }
 
-    /// What was done by the change that an undo takes back at `index`, counted in the order in which it does so; its bytes,
-    /// lent; and whether it is the last. Takes no memory.
+    /// Returns the change that an undo reverts at `index`, counted from 0 in the order of reverting: what was done, its
+    /// bytes, and whether it is the last of its transaction. Allocates nothing.
     pub fn change_to_undo(&self, index: usize) -> LentChange
         requires { index < length (undo_changes self.now.history) }
         ensures change { slice_get (undo_changes self.now.history) index ≡ Some (inverse_change (change_of result.kind result.bytes.now)) }
@@ -326,15 +327,15 @@ impl UndoHistory {
         }
     }
 
-    /// How many changes a redo makes again: 0 where there is nothing to redo.
+    /// Returns how many changes a redo makes: 0 if there is nothing to redo.
     pub fn redo_len(&self) -> usize
         ensures { result ≡ length (redo_changes self.now.history) }
     {
         count_behind(all_steps(&self.steps), self.past)
     }
 
-    /// The change that a redo makes again at `index`, counted in the order in which it does so; its bytes, lent; and whether
-    /// it is the last. Takes no memory.
+    /// Returns the change that a redo makes at `index`, counted from 0 in the order of making: what is done, its bytes,
+    /// and whether it is the last of its transaction. Allocates nothing.
     pub fn change_to_redo(&self, index: usize) -> LentChange
         requires { index < length (redo_changes self.now.history) }
         ensures change { slice_get (redo_changes self.now.history) index ≡ Some (change_of result.kind result.bytes.now) }
@@ -352,7 +353,7 @@ impl UndoHistory {
         }
     }
 
-    // Appends a change, and answers whether it begins a transaction. There must be room for it.
+    // Appends a change, and returns whether it begins a transaction. There must be room for it.
     #[inline(always)]
     fn append(&mut self, later: bool, kind: ChangeKind, bytes: &[u8]) -> bool
         requires { HasRoom self.old 1 (length bytes.now) }
@@ -375,8 +376,8 @@ impl UndoHistory {
         !joined
     }
 
-    /// Appends a step of the text; `later` says that it is a later step of its message. Answers whether it begins a
-    /// transaction. There must be room for it.
+    /// Appends a step of the text, and returns whether it begins a transaction. `later` says that it is not the first
+    /// step of its message. There must be room for it.
     pub fn append_reserved(
         &mut self,
         later: bool,
@@ -401,8 +402,8 @@ impl UndoHistory {
         self.append(later, ChangeKind::Text { kind, place }, bytes)
     }
 
-    // Appends a step of the text in place of what was undone. It stands apart, since it is rare: a step that is typed behind all
-    // others is appended with no call.
+    // Appends a step of the text, and drops what was undone. Out of line, since it is rare: a step behind all others is
+    // appended without a call.
     #[inline(never)]
     fn append_instead(&mut self, later: bool, kind: StepKind, place: usize, bytes: &[u8]) -> bool
         requires { HasRoom self.old 1 (length bytes.now) }
@@ -420,7 +421,7 @@ impl UndoHistory {
         self.append(later, change, bytes)
     }
 
-    /// Whether a step would begin a transaction.
+    /// Returns whether a step would begin a transaction.
     pub fn begins_transaction(
         &self,
         later: bool,
@@ -433,7 +434,7 @@ impl UndoHistory {
         self.is_collecting && !self.joins(later, ChangeKind::Text { kind, place }, bytes)
     }
 
-    // Whether a change joins the last transaction; `later` says that it is a later step of its message.
+    // Returns whether a change joins the last transaction. `later` says that it is not the first step of its message.
     #[inline]
     fn joins(&self, later: bool, kind: ChangeKind, bytes: &[u8]) -> bool
         ensures { result ≡ joins later (change_of kind bytes.now) self.now.history }
@@ -451,7 +452,7 @@ impl UndoHistory {
         belongs(kind, bytes.len(), find_latest_step(steps, self.past))
     }
 
-    // Drops what was undone, and a save point that could be reached only by redoing it.
+    // Drops what was undone, and the save point if only a redo could reach it.
     #[inline(always)]
     fn drop_future(&mut self)
         ensures dropped { self.new ≡ record self.old { history = without_future self.old.history; spare = self.new.spare } }
@@ -464,7 +465,7 @@ impl UndoHistory {
         }
     }
 
-    // Drops what was undone. Mostly there is nothing.
+    // Drops what was undone. There is usually nothing.
     #[inline(always)]
     fn drop_undone(&mut self)
         ensures dropped { self.new ≡ record self.old { history = without_undone self.old.history; spare = self.new.spare } }
@@ -476,7 +477,7 @@ impl UndoHistory {
         }
     }
 
-    // Deletes what was undone.
+    // The slow path of `drop_undone`, out of line: something was undone.
     #[inline(never)]
     fn delete_undone(&mut self)
         ensures dropped { self.new ≡ record self.old { history = without_undone self.old.history; spare = self.new.spare } }
@@ -489,7 +490,7 @@ impl UndoHistory {
         self.bytes.delete(kept, bytes - kept);
     }
 
-    // Appends a change, to the last transaction or as one of its own. Nothing is there to be redone.
+    // Appends a change, to the last transaction or as a new one. There is nothing to redo.
     #[inline(always)]
     fn push(&mut self, joined: bool, kind: ChangeKind, bytes: &[u8])
         requires last { self.old.history.future ≡ [] }
@@ -518,7 +519,7 @@ impl UndoHistory {
     }
 }
 
-// Whether the save point is that behind so many transactions.
+// Returns whether the save point is the state behind so many transactions.
 fn is_place(save_point: Option<usize>, transactions: usize) -> bool
     ensures { result ≡ is_number transactions save_point }
 {
@@ -528,7 +529,8 @@ fn is_place(save_point: Option<usize>, transactions: usize) -> bool
     }
 }
 
-// Whether a save point can no longer be reached from a past of `past` transactions. Mostly it can, and then nothing is written.
+// Returns whether a past of `past` transactions can no longer reach the save point. It usually can, and nothing is
+// written then.
 #[inline(always)]
 fn is_lost(past: usize, save_point: Option<usize>) -> bool
     ensures lost { result ≡ true → reachable past save_point ≡ None }
@@ -540,7 +542,7 @@ fn is_lost(past: usize, save_point: Option<usize>) -> bool
     }
 }
 
-// How many transactions there are once a change has joined the last one, or has begun another.
+// Returns the number of transactions once a change has joined the last one, or has begun another.
 fn transactions_after(count: usize, joined: bool) -> usize
     requires { count < 2 ^ 63 }
     ensures { result ≡ (if joined then count else count + 1) }

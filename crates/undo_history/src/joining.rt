@@ -1,4 +1,4 @@
-//! Which changes join the last transaction.
+//! Which changes join the last transaction: successive typing, and successive deletions of single characters.
 
 ghost use Rattle.std.specs.Prelude.{◌≡◌, ◌≤◌, ℕ, List, length, reverse, take};
 ghost use Rattle.ed_model.specs.History.{latest_text_step, first_changes};
@@ -7,7 +7,7 @@ ghost use Rattle.undo_history.specs.Records.{EndsInOrder, bytes_end, entries_in,
 
 use crate::records::{ChangeKind, StepKind, StepOutline, StepRecord, bytes_before};
 
-/// Whether a step goes on with the typing, or the deleting of one character after another, that the earlier step was.
+/// Returns whether `step` continues the typing, or the deletion of single characters, of `earlier`.
 pub fn goes_on(step: StepOutline, earlier: StepOutline) -> bool
     ensures { result ≡ steps_go_on step earlier }
 {
@@ -24,7 +24,8 @@ pub fn goes_on(step: StepOutline, earlier: StepOutline) -> bool
     }
 }
 
-/// Whether a change with so many bytes belongs to a transaction by its kind, if this is the latest step of the text there.
+/// Returns whether a change with `count` bytes belongs to a transaction by its kind, if `latest` is the latest step of
+/// the text there.
 pub fn belongs(kind: ChangeKind, count: usize, latest: Option<StepOutline>) -> bool
     ensures { result ≡ belongs_after kind count latest }
 {
@@ -37,7 +38,7 @@ pub fn belongs(kind: ChangeKind, count: usize, latest: Option<StepOutline>) -> b
     }
 }
 
-/// The latest step of the text in the last transaction of the first `past` steps.
+/// Returns the latest step of the text in the last transaction of the first `past` steps.
 #[inline]
 pub fn find_latest_step(steps: &[StepRecord], past: usize) -> Option<StepOutline>
     requires { past ≤ length steps.now }

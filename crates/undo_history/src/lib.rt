@@ -1,5 +1,4 @@
-//! The undo history of a document: which steps were made, which of them are undone and redone as one, and where the
-//! document was saved.
+//! The undo history of a document: its steps, the transactions that are undone and redone as one, and the save point.
 #![tactic(auto)]
 
 mod history;

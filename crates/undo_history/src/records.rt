@@ -1,5 +1,5 @@
-//! How a history is stored: one record a step, with marks where a transaction begins and where it is sealed, and the bytes of
-//! all steps in one block.
+//! The storage of a history: one record for each step, with marks where a transaction begins and where it is sealed,
+//! and one block for the bytes of all steps.
 
 ghost use Rattle.std.specs.Prelude.{◌≡◌, ◌≤◌, ◌<◌, ◌+◌, ◌^◌, length, take, Some, map, slice_get};
 ghost use Rattle.undo_history.specs.Records.{last_end, bytes_end, change_of, HasItsBytes, EndsInOrder, with_sealed};
@@ -7,71 +7,71 @@ ghost use Rattle.undo_history.specs.Reading.{changes_in};
 
 use split_vector::SplitVector;
 
-/// Whether a step of the text puts bytes in or deletes them.
+/// Whether a step of the text inserts bytes or deletes them.
 #[derive(Clone, Copy, Debug, PartialEq, Eq)]
 pub enum StepKind {
-    /// Bytes were put in.
+    /// Bytes were inserted.
     Insert,
     /// Bytes were deleted.
     Delete,
 }
 
-/// What a change was; the bytes of a step stand apart.
+/// What a change did. The bytes of a step are stored elsewhere.
 #[derive(Clone, Copy)]
 pub enum ChangeKind {
-    /// A step of the text at a place, in bytes.
+    /// A step of the text at `place`, in bytes from 0.
     Text { kind: StepKind, place: usize },
-    /// A container's own step, known by its token. The mark comes first, so that a record has 32 bytes, and not 40.
+    /// A container's own step with its token. `coalesce` comes first, so that a record has 32 bytes and not 40.
     Container { coalesce: bool, token: i64 },
 }
 
-/// A change as a history lends it. A container's step has no bytes.
+/// A change, with its bytes lent by the history. A container's step has no bytes.
 #[derive(Clone, Copy)]
 pub struct LentChange<'a> {
     /// What was done.
     pub kind: ChangeKind,
-    /// The bytes of that step.
+    /// The bytes that the step inserted or deleted.
     pub bytes: &'a [u8],
-    /// Whether it is the last of its transaction to be performed.
+    /// Whether it is the last change of its transaction that is performed.
     pub is_last: bool,
 }
 
-/// A change as it is stored: without its bytes, and with its marks.
+/// A change as it is stored: with its marks, and without its bytes.
 #[derive(Clone, Copy)]
 pub struct StepRecord {
     /// What was done.
     pub kind: ChangeKind,
-    /// Where its bytes end among the bytes of all steps.
+    /// Where its bytes end in the block with the bytes of all steps.
     pub bytes_end: usize,
     /// Whether it begins a transaction.
     pub starts: bool,
-    /// Whether nothing joins its transaction behind it.
+    /// Whether the transaction is sealed behind it: no later step joins.
     pub is_sealed: bool,
 }
 
 /// A step of the text without its bytes.
 #[derive(Clone, Copy)]
 pub struct StepOutline {
-    /// Whether bytes were put in or deleted.
+    /// Whether bytes were inserted or deleted.
     pub kind: StepKind,
-    /// Where, in bytes from the text's start.
+    /// The place, in bytes from 0.
     pub place: usize,
-    /// How many bytes.
+    /// The number of bytes.
     pub count: usize,
 }
 
-/// All records of a vector whose gap is behind them: they are appended, and the last ones deleted, alone.
+/// Returns all records. Their gap stands behind them, since records are only appended, or deleted at the end.
 pub fn all_steps(steps: &SplitVector<StepRecord>) -> &[StepRecord]
     requires { steps.now.gap ≡ length steps.now.items }
     ensures steps { result.now ≡ steps.now.items }
     ensures within { length steps.now.items < 2 ^ 63 }
 {
-    let _ = steps.len(); // it says that there are few enough
+    let _ = steps.len(); // brings the bound on the number of steps
     let (before, _) = steps.halves();
     before
 }
 
-/// All bytes of a vector whose gap is behind them.
+/// Returns all bytes of a vector whose gap stands behind them.
 pub fn all_bytes(bytes: &SplitVector<u8>) -> &[u8]
     requires { bytes.now.gap ≡ length bytes.now.items }
     ensures { result.now ≡ bytes.now.items }
@@ -80,19 +80,19 @@ pub fn all_bytes(bytes: &SplitVector<u8>) -> &[u8]
     before
 }
 
-/// The place behind all items of a vector whose gap stands there. It is read as the gap's, so that what is put in there is put in
-/// with no look whether the gap has to move.
+/// Returns the place behind all items of a vector whose gap stands there. It is read as the gap, so that an insertion
+/// there needs no check whether the gap has to move.
 #[inline(always)]
 pub fn end_of<T: Copy>(items: &SplitVector<T>) -> usize
     requires { items.now.gap ≡ length items.now.items }
     ensures end { result ≡ length items.now.items }
     ensures within { length items.now.items + items.now.spare < 2 ^ 63 }
 {
-    let _ = items.len(); // it says that the sum is small
+    let _ = items.len(); // brings the fact that the sum is small
     items.gap()
 }
 
-/// How many bytes the first `count` changes have.
+/// Returns how many bytes the first `count` changes have.
 #[tactic(auto, using(crate::proofs::Parts::last_end_read))]
 pub fn bytes_before(steps: &[StepRecord], count: usize) -> usize
     requires { count ≤ length steps.now }
@@ -104,7 +104,7 @@ pub fn bytes_before(steps: &[StepRecord], count: usize) -> usize
     steps[count - 1].bytes_end
 }
 
-/// What a change was, and its bytes.
+/// Returns what the change at `index` did, and its bytes.
 pub fn change_at<'a>(steps: &[StepRecord], bytes: &'a [u8], index: usize) -> (ChangeKind, &'a [u8])
     requires there { index < length steps.now }
     requires in_order { EndsInOrder bytes_end 0 steps.now (length bytes.now) }
@@ -117,7 +117,7 @@ pub fn change_at<'a>(steps: &[StepRecord], bytes: &'a [u8], index: usize) -> (Ch
     (step.kind, bytes_by_kind(step.kind, part))
 }
 
-// The bytes of a change of a kind, of those that are stored with it: a container's step has none.
+// Returns the bytes of a change among those that are stored with it: a container's step has none.
 fn bytes_by_kind(kind: ChangeKind, stored: &[u8]) -> &[u8]
     ensures change { change_of kind result.now ≡ change_of kind stored.now }
     ensures bytes { HasItsBytes kind result.now }

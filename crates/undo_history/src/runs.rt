@@ -1,11 +1,11 @@
-//! How many steps the transactions on either side of a place have.
+//! The lengths of the transactions on either side of a place.
 
 ghost use Rattle.std.specs.Prelude.{◌≡◌, ◌≤◌, ◌<◌, ◌+◌, ℕ, List, length, reverse, take, drop};
 ghost use Rattle.undo_history.specs.Records.{entries_in, last_count, next_count, begins_or_none};
 
 use crate::records::StepRecord;
 
-/// How many steps the last transaction of the first `past` steps has: 0 where there are none.
+/// Returns how many steps the last transaction of the first `past` steps has: 0 if there is none.
 #[inline]
 pub fn count_before(steps: &[StepRecord], past: usize) -> usize
     requires { past ≤ length steps.now }
@@ -19,7 +19,7 @@ pub fn count_before(steps: &[StepRecord], past: usize) -> usize
     past
 }
 
-/// How many steps the first transaction behind the first `past` steps has: 0 where there is none.
+/// Returns how many steps the first transaction behind the first `past` steps has: 0 if there is none.
 #[inline]
 pub fn count_behind(steps: &[StepRecord], past: usize) -> usize
     requires { past ≤ length steps.now }
@@ -36,7 +36,7 @@ pub fn count_behind(steps: &[StepRecord], past: usize) -> usize
     steps.len() - past
 }
 
-/// Whether the step at `place` is the last of its transaction.
+/// Returns whether the step at `place` is the last of its transaction.
 pub fn is_last_of_next(steps: &[StepRecord], place: usize) -> bool
     requires { place < length steps.now }
     ensures { (bytes : List ℕ) → result ≡ begins_or_none (drop (place + 1) (entries_in steps.now bytes)) }
