@@ -1,4 +1,4 @@
--- The first byte of a text tells what has to follow for its first character to be longer than a byte.
+-- The first byte of a text determines what must follow for its first character to be longer than a byte.
 use Rattle.std.proofs.Common.{◌≡◌, ℕ, zero, suc, ◌<◌, ◌≤◌, Bool, true, false, ◌==◌, ◌||◌, ◌&&◌, cond, nat_lt, nat_le, if◌then◌else◌, drop, List, [], ◌∷◌, length, Some, None, inl, inr, refl, sym, arith}
 use Rattle.std.specs.List.{find}
 use Rattle.std.proofs.lemmas.Bool.{true≢false, cases_Bool, and_parts, and_from, and_left, and_right, or_cases, or_left, or_right, eqb-true, eq-eqb, leb-true, le-leb, lt-leb, ltb-true}
@@ -6,7 +6,7 @@ use Rattle.ed_model.specs.Matches.{is_from_to}
 use Rattle.ed_model.specs.Characters.{sequences, begins_with, sequence_length, character_length}
 use Rattle.char_cut.specs.Following.{following_among, following_of}
 
--- so long is a text's first character where these ranges follow its first byte
+-- the length of the first character of a text, if its first byte demands these ranges
 abbrev pub sized : List (ℕ × ℕ) → List ℕ → ℕ
 sized rs bs = if begins_with bs rs then suc (length rs) else 1
 
@@ -80,7 +80,7 @@ by_first_byte b bs =
 
 -- What follows.
 
--- what holds of all that follows in each row, and of nothing, holds of what follows any byte
+-- a test that holds for what follows in each row, and for nothing
 abbrev pub in_each_row : (List (ℕ × ℕ) → Bool) → List (List (ℕ × ℕ)) → Bool
 in_each_row test [] = true
 in_each_row test ([] ∷ rows) = in_each_row test rows
@@ -96,7 +96,7 @@ follows_any test b ((r ∷ rs) ∷ rows) none each =
       | inr hasnt ↦ rw hasnt (follows_any test b rows none parts.1)
     ]
 
--- LF, and the bytes from 0x80 to 0xBF, are those that may follow; no byte has to follow them
+-- LF and the bytes from 0x80 to 0xBF are those that may follow; nothing must follow them
 abbrev pub is_follower : ℕ → Bool
 is_follower b = b == 10 || is_from_to 0x80 0xBF b
 
@@ -135,7 +135,7 @@ pub record BeginsWithFollower (text : List ℕ) : Type 0 where
   pub is : text ≡ first ∷ rest
   pub follows : is_follower first ≡ true
 
--- where these ranges follow, there are as many bytes, and each is one that may follow
+-- if these ranges follow, there are as many bytes, and each is one that may follow
 pub enough_follow : (bs : List ℕ) (rs : List (ℕ × ℕ)) → begins_with bs rs ≡ true → length rs ≤ length bs
 enough_follow bs [] h = omega arith
 enough_follow [] (r ∷ rs) h = absurd (true≢false (sym h))

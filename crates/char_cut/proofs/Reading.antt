@@ -1,4 +1,4 @@
--- What is read of a text in two halves.
+-- Reads of a text in two halves.
 use Rattle.std.proofs.Common.{◌≡◌, ℕ, zero, suc, ◌+◌, ◌-◌, ◌<◌, ◌≤◌, Bool, true, false, ◌&&◌, drop, List, [], ◌∷◌, ◌++◌, length, slice_get, Some, None, refl, sym, ap, ◌∙◌, arith, length-append, add-one}
 use Rattle.std.proofs.lemmas.List.{length-replicate}
 use Rattle.std.proofs.lemmas.Option.{none-some, same_Some}
@@ -8,7 +8,7 @@ use Rattle.char_cut.specs.Places.{start_of, end_of}
 use Rattle.char_cut.proofs.Followers.{sized, by_first_byte}
 use Rattle.char_cut.proofs.Walk.{end_within, end_behind_place, cut_after_is, cut_after_end, cut_before_is, cut_before_start}
 
--- Bytes that have to follow.
+-- Bytes that must follow.
 
 rest_at : (text : List ℕ) (p b : ℕ) → slice_get text p ≡ Some b → drop p text ≡ b ∷ drop (suc p) text
 rest_at [] p b h = absurd (none-some b h)

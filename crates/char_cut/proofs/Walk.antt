@@ -1,8 +1,9 @@
--- The cuts of a text, found by the bytes about a place.
+-- The cuts of a text, found by the bytes around a place.
 --
--- A text is walked from its start, character after character. A place inside a character is found by looking back: the
--- byte there is part of the character that begins one, two or three bytes before it and reaches past it, or else is the
--- first of one. This holds since no byte inside a character is the first of a longer one (`first_character`).
+-- The proof walks a text from its start, character by character. A place inside a character is found by looking back:
+-- the byte there belongs to the character that begins one, two or three bytes before it and reaches past it, or
+-- otherwise is the first of one. This holds since no byte inside a character is the first of a longer one
+-- (`first_character`).
 use Rattle.std.proofs.Common.{◌≡◌, ℕ, zero, suc, ◌+◌, ◌-◌, ◌<◌, ◌≤◌, Bool, nat_lt, nat_le, drop, reverse, unwrap_or, List, [], ◌∷◌, length, Some, None, inl, inr, refl, sym, ap, ◌∙◌, arith, zero-add}
 use Rattle.std.specs.List.{find}
 use Rattle.std.specs.Option.{option_or}
@@ -42,7 +43,7 @@ back_in_first text (suc (suc (suc zero))) is l =
     rw (is.alone 2 (omega arith) (omega arith), is.alone 1 (omega arith) (omega arith), lt-ltb 3 (character_length text) l) refl
 back_in_first text (suc (suc (suc (suc i)))) is l = absurd (omega (arith, is.short))
 
--- a character behind the first one is told by what is behind the first one
+-- a character behind the first one depends only on what is behind the first one
 reaches_behind : (text : List ℕ) (i n k : ℕ) → IsCharacter n text → n ≡ character_length text → n ≤ i → 0 < k → reaches text i k ≡ reaches (drop n text) (i - n) k
 reaches_behind text i n k is e h some =
     elim (cases_lt (i - n) k) [
@@ -84,7 +85,7 @@ end_behind text i n is e h =
 
 -- The walk.
 
--- the walk goes on behind the bytes that are left of a character
+-- the walk continues behind the rest of a character
 skipped : (p left : ℕ) (text : List ℕ) → left ≤ length text → cuts_from p left text ≡ cuts_from (p + left) 0 (drop left text)
 skipped p zero text l = let e : p + 0 ≡ p = omega arith in rw e refl
 skipped p (suc left) [] l = absurd (omega arith)
@@ -92,7 +93,7 @@ skipped p (suc left) (b ∷ bs) l =
     let e : (p + 1) + left ≡ p + suc left = omega arith in
     rw (← e) (skipped (p + 1) left bs (omega arith))
 
--- the first cut, and the walk from behind the first character on
+-- the first cut, and then the walk from behind the first character
 walked : (p b : ℕ) (bs : List ℕ) (n : ℕ) → n ≡ character_length (b ∷ bs) → cuts_from p 0 (b ∷ bs) ≡ p ∷ cuts_from (p + n) 0 (drop n (b ∷ bs))
 walked p b bs zero e = absurd (omega (arith, first_character b bs))
 walked p b bs (suc m) e =
@@ -103,7 +104,7 @@ walked p b bs (suc m) e =
 
 -- Cuts above and below a place.
 
--- no cut is past the end, ..
+-- no cut is past the end
 none_above : (p left q : ℕ) (text : List ℕ) → p + length text ≤ q → find (nat_lt q) (cuts_from p left text) ≡ None
 none_above p left q [] h = rw (le-ltb q p (omega arith)) refl
 none_above p zero q (b ∷ bs) h = rw (le-ltb q p (omega arith)) (none_above (p + 1) (character_length (b ∷ bs) - 1) q bs (omega arith))
@@ -112,7 +113,7 @@ none_above p (suc left) q (b ∷ bs) h = none_above (p + 1) left q bs (omega ari
 last_of : (test : ℕ → Bool) (cut : ℕ) (later : List ℕ) → find test (reverse (cut ∷ later)) ≡ option_or (find test (reverse later)) (find test (cut ∷ []))
 last_of test cut later = ap (find test) (reverse-append (cut ∷ []) later) ∙ find-append test (reverse later) (cut ∷ [])
 
--- .. and none before the start
+-- no cut is before the start
 none_below : (p left q : ℕ) (text : List ℕ) → q ≤ p → find (λ cut. nat_lt cut q) (reverse (cuts_from p left text)) ≡ None
 none_below p left q [] h = rw (le-ltb p q h) refl
 none_below p zero q (b ∷ bs) h =
@@ -125,7 +126,7 @@ first_cut : (p q : ℕ) (text : List ℕ) → q < p → find (nat_lt q) (cuts_fr
 first_cut p q [] h = rw (lt-ltb q p h) refl
 first_cut p q (b ∷ bs) h = rw (lt-ltb q p h) refl
 
--- the next cut is the end of the character that the place lies in; `fuel` bounds the length of the text
+-- the next cut is the end of the character at the place; `fuel` bounds the length of the text
 next_cut : (fuel p i q : ℕ) (text : List ℕ) → length text ≤ fuel → q ≡ p + i → i < length text → find (nat_lt q) (cuts_from p 0 text) ≡ Some (p + end_of text i)
 next_cut zero p i q text f e l = absurd (omega arith)
 next_cut (suc fuel) p i q [] f e l = absurd (omega arith)
@@ -142,7 +143,7 @@ next_cut (suc fuel) p i q (b ∷ bs) f e l =
           next_cut fuel (p + n) (i - n) q rest (omega (arith, is.some)) (omega arith) (omega arith) ∙ ap Some past
     ])
 
--- the last cut before a place is the start of the character that the byte before it is part of
+-- the last cut before a place is the start of the character that the byte before it belongs to
 last_cut : (fuel p i q : ℕ) (text : List ℕ) → length text ≤ fuel → q ≡ p + i + 1 → i < length text → find (λ cut. nat_lt cut q) (reverse (cuts_from p 0 text)) ≡ Some (p + start_of text i)
 last_cut zero p i q text f e l = absurd (omega arith)
 last_cut (suc fuel) p i q [] f e l = absurd (omega arith)
@@ -162,7 +163,7 @@ last_cut (suc fuel) p i q (b ∷ bs) f e l =
           rw (last_cut fuel (p + n) (i - n) q rest (omega (arith, is.some)) (omega arith) (omega arith)) (ap Some here)
     ]
 
--- a character ends in the text
+-- the end of a character is in the text
 pub end_within : (fuel i : ℕ) (text : List ℕ) → length text ≤ fuel → i < length text → end_of text i ≤ length text
 end_within zero i text f l = absurd (omega arith)
 end_within (suc fuel) i [] f l = absurd (omega arith)
@@ -178,7 +179,7 @@ end_within (suc fuel) i (b ∷ bs) f l =
           omega (arith, is.within, end_behind (b ∷ bs) i n is refl behind)
     ]
 
--- .. and behind each place in it
+-- that end is behind each place in the character
 pub end_behind_place : (fuel i : ℕ) (text : List ℕ) → length text ≤ fuel → i < length text → i < end_of text i
 end_behind_place zero i text f l = absurd (omega arith)
 end_behind_place (suc fuel) i [] f l = absurd (omega arith)
@@ -194,7 +195,7 @@ end_behind_place (suc fuel) i (b ∷ bs) f l =
           omega (arith, end_behind (b ∷ bs) i n is refl behind)
     ]
 
--- What the look at the bytes about a place answers.
+-- What the bytes around a place determine.
 
 pub cut_after_is : (text : List ℕ) (p : ℕ) → p < length text → cut_after text p ≡ end_of text p
 cut_after_is text p l =

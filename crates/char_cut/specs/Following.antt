@@ -1,10 +1,10 @@
--- What follows the first byte of a character.
+-- What must follow the first byte of a character.
 use Rattle.std.specs.Prelude.{ℕ, zero, suc, ◌+◌, ◌==◌, nat_lt, ◌||◌, Bool, false, List, [], ◌∷◌, replicate, slice_get, if◌then◌else◌, Option, Some, None}
 use Rattle.ed_model.specs.Characters.{sequences}
 use Rattle.ed_model.specs.Matches.{is_from_to}
 use Rattle.char_cut.specs.declared.sequences.Following.{Following}
 
--- the ranges behind the first one, of the first of these rows whose first range has the byte
+-- of the first row whose first range has the byte: the ranges behind that one
 abbrev pub following_among : ℕ → List (List (ℕ × ℕ)) → List (ℕ × ℕ)
 following_among b [] = []
 following_among b ([] ∷ rows) = following_among b rows
@@ -24,7 +24,7 @@ abbrev pub is_some_from_to : ℕ → ℕ → Option ℕ → Bool
 is_some_from_to low high None = false
 is_some_from_to low high (Some b) = is_from_to low high b
 
--- whether as many bytes behind the place stands one that has to follow, or none has to
+-- whether the byte that must stand so many bytes behind the place stands there; true if none must
 abbrev pub follows_at : ℕ → ℕ → ℕ → List ℕ → ℕ → ℕ → Bool
 follows_at count least greatest text place behind =
     nat_lt count behind

@@ -1,3 +1,3 @@
--- Definitions that the contracts of private functions cite; those of the public ones are of ed_model.
+-- Definitions that the contracts of private functions cite; those of public functions are in ed_model.
 pub mod Following
 pub mod Places

@@ -1,4 +1,4 @@
-//! The cuts about a place.
+//! The cuts around a place.
 
 ghost use Rattle.std.specs.Prelude.{◌≡◌, ◌++◌, ◌+◌, ◌<◌, ◌≤◌, length};
 ghost use Rattle.ed_model.specs.Characters.{cut_before, cut_after};
@@ -6,14 +6,14 @@ ghost use Rattle.char_cut.specs.Places.{reaches, start_of};
 
 use crate::sequences::character_length;
 
-// Whether a character begins so many bytes before the place and reaches past it.
+// Returns whether a character begins `back` bytes before `place` and reaches past it.
 fn is_inside(first: &[u8], second: &[u8], place: usize, back: usize) -> bool
     ensures { result ≡ reaches (first.now ++ second.now) place back }
 {
     back <= place && back < character_length(first, second, place - back)
 }
 
-// Where the character begins that the byte at the place is part of.
+// Returns where the character begins that the byte at `place` belongs to.
 fn character_start(first: &[u8], second: &[u8], place: usize) -> usize
     ensures start { result ≡ start_of (first.now ++ second.now) place }
     ensures within { result ≤ place }
@@ -30,8 +30,8 @@ fn character_start(first: &[u8], second: &[u8], place: usize) -> usize
     place
 }
 
-/// Returns the last place before this one at which the text may be cut, or 0 for the start. `first` and `second` are the
-/// halves of the text, of which at most seven bytes are read.
+/// Returns the last cut before `place`, in bytes from 0, or 0 for the start of the text. `first` and `second` are the
+/// halves of the text. At most seven of their bytes are read.
 #[tactic(auto, using(crate::proofs::Reading::before_in_halves, crate::proofs::Reading::before_start))]
 pub fn before(first: &[u8], second: &[u8], place: usize) -> usize
     requires { place ≤ length first.now + length second.now }
@@ -45,8 +45,8 @@ pub fn before(first: &[u8], second: &[u8], place: usize) -> usize
     character_start(first, second, place - 1)
 }
 
-/// Returns the first place behind this one at which the text may be cut, or the text's length for its end. `first` and
-/// `second` are the halves of the text, of which at most seven bytes are read.
+/// Returns the first cut behind `place`, in bytes from 0, or the length of the text for its end. `first` and `second`
+/// are the halves of the text. At most seven of their bytes are read.
 #[tactic(auto, using(crate::proofs::Reading::after_in_halves, crate::proofs::Reading::after_end))]
 pub fn after(first: &[u8], second: &[u8], place: usize) -> usize
     requires { place ≤ length first.now + length second.now }

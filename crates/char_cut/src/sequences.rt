@@ -1,10 +1,10 @@
-//! The first character of what follows a place.
+//! The length of the first character behind a place.
 
 ghost use Rattle.std.specs.Prelude.{◌≡◌, ◌++◌, ◌+◌, ◌<◌, ◌≤◌, IsTrue, length, drop, slice_get};
 ghost use Rattle.ed_model.specs.Characters.{begins_with, character_length};
 ghost use Rattle.char_cut.specs.Following.{ranges, following_of, follows_at};
 
-/// What has to follow the first byte of a character: so many bytes, the first of them in a range of its own, the others
+/// What must follow the first byte of a character: so many bytes, the first of them in a range of its own, the others
 /// from 0x80 to 0xBF.
 #[derive(Clone, Copy)]
 struct Following {
@@ -13,7 +13,7 @@ struct Following {
     greatest: u8,
 }
 
-// What follows the byte, by the rows of Unicode's table of well-formed sequences.
+// Returns what must follow the byte, by Unicode's table of well-formed UTF-8 byte sequences.
 fn following_of(first: u8) -> Following
     ensures ranges { ranges result ≡ following_of first }
     ensures few { result.count ≤ 3 }
@@ -38,7 +38,7 @@ fn following_of(first: u8) -> Following
     }
 }
 
-// The byte at the place, where there is one.
+// Returns the byte at `place`, if there is one.
 fn byte_at(first: &[u8], second: &[u8], place: usize) -> Option<u8>
     ensures { result ≡ slice_get (first.now ++ second.now) place }
 {
@@ -48,7 +48,7 @@ fn byte_at(first: &[u8], second: &[u8], place: usize) -> Option<u8>
     second.get(place - first.len()).copied()
 }
 
-// Whether so many bytes behind the place stands one that has to follow, or none has to.
+// Returns whether the byte that must stand `behind` bytes behind `place` stands there. If none must, returns true.
 fn follows(first: &[u8], second: &[u8], place: usize, rest: Following, behind: usize) -> bool
     ensures { result ≡ follows_at rest.count rest.least rest.greatest (first.now ++ second.now) place behind }
 {
@@ -68,7 +68,7 @@ fn follows(first: &[u8], second: &[u8], place: usize, rest: Following, behind: u
     }
 }
 
-// Whether all that has to follow the byte at the place does.
+// Returns whether everything follows that must follow the byte at `place`.
 #[tactic(auto, using(crate::proofs::Reading::all_tests))]
 fn all_follow(first: &[u8], second: &[u8], place: usize, rest: Following) -> bool
     requires { rest.count ≤ 3 }
@@ -79,7 +79,7 @@ fn all_follow(first: &[u8], second: &[u8], place: usize, rest: Following) -> boo
         && follows(first, second, place, rest, 3)
 }
 
-/// The length of the first character of what follows the place, in bytes; 1 at the end of the text.
+/// Returns the length in bytes of the first character from `place` on, or 1 at the end of the text.
 #[tactic(auto, using(crate::proofs::Reading::length_nowhere, crate::proofs::Reading::length_alone, crate::proofs::Reading::length_followed))]
 pub(crate) fn character_length(first: &[u8], second: &[u8], place: usize) -> usize
     ensures { result ≡ character_length (drop place (first.now ++ second.now)) }
