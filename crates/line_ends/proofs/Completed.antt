@@ -1,4 +1,4 @@
--- What is unwanted of a text in which nothing is missing.
+-- The unwanted bytes of a text in which nothing is missing.
 use Rattle.std.proofs.Common.{◌≡◌, ℕ, ◌+◌, Bool, true, false, cond, ◌==◌, ◌||◌, ◌&&◌, List, [], ◌∷◌, ◌++◌, length, take, drop, refl, ap, ◌∙◌, sym, arith, append_assoc, length-append}
 use Rattle.std.specs.Prelude.{count_by, not}
 use Rattle.std.proofs.lemmas.Bool.{true≢false, or_from, and_right, eqb-true}
@@ -10,7 +10,7 @@ use Rattle.ed_model.specs.LineEnds.{begins_with_line_feed, lacks_return, lacks_f
 use Rattle.ed_model.specs.proved.Lists.{inserted_between}
 use Rattle.line_ends.specs.Conversion.{completed}
 
--- the text with what is missing, byte by byte
+-- the text with the missing bytes, byte by byte
 abbrev put : Bool → Bool → ℕ → List ℕ → List ℕ
 put true y b rest = 13 ∷ b ∷ rest
 put false true b rest = b ∷ 10 ∷ rest
@@ -46,7 +46,7 @@ fills to (b ∷ bs) f p front e = go (lacks_return f to b) (lacks_feed to b bs) 
 completed_is : (to : LineEnd) (text : List ℕ) → completed to text ≡ filled false to text
 completed_is to text = fills to text false 0 [] refl
 
--- Where CRLF is wanted, nothing is unwanted.
+-- If CRLF is wanted, nothing is unwanted.
 
 pub none_unwanted : (text : List ℕ) (f : Bool) (p : ℕ) → unwanted_from p f CrLf text ≡ []
 none_unwanted [] f p = refl
@@ -58,7 +58,7 @@ none_unwanted (b ∷ bs) f p =
 pub none_of_both : (text : List ℕ) → length (unwanted_from 0 false CrLf (completed CrLf text)) ≡ 0
 none_of_both text = ap length (none_unwanted (completed CrLf text) false 0)
 
--- How often a byte stands in a text.
+-- How often a byte occurs in a text.
 
 abbrev many : ℕ → List ℕ → ℕ
 many byte [] = 0
@@ -71,9 +71,9 @@ many_is byte bs = is_count_by (many byte) (λ x. x == byte) refl (λ x xs. go (x
     go true n = refl
     go false n = omega arith
 
--- Where CR is wanted, each LF.
+-- If CR is wanted, each LF is unwanted.
 
--- one more byte, that is unwanted or not
+-- one more byte, which is unwanted or not
 counted : (to : LineEnd) (b : ℕ) (bs : List ℕ) (p n : ℕ) (f u : Bool) → is_unwanted f to b bs ≡ u → ((q : ℕ) → length (unwanted_from q (b == 13) to bs) ≡ n)
     → length (unwanted_from p f to (b ∷ bs)) ≡ cond u 1 0 + n
 counted to b bs p n f u e rest =
@@ -99,7 +99,7 @@ feeds (b ∷ bs) f p =
     of_byte : (g x : Bool) → ((b == 10) && g && true) ≡ x → is_unwanted g Cr b (filled (b == 13) Cr bs) ≡ x
     of_byte g x e = ap (λ z. z || ((b == 10) && g && true)) (and_right ((b == 13) && begins_with_line_feed (filled (b == 13) Cr bs)) false refl) ∙ e
 
-    -- a CR that is put in
+    -- a CR that is inserted
     of_return : is_unwanted false Cr 13 (b ∷ filled (b == 13) Cr bs) ≡ false
     of_return = ap (λ z. z || false) (and_right (true && (b == 10)) false refl)
 
@@ -115,9 +115,9 @@ feeds (b ∷ bs) f p =
 pub all_feeds : (text : List ℕ) → length (unwanted_from 0 false Cr (completed Cr text)) ≡ count_by (λ x. x == 10) text
 all_feeds text = ap (λ t. length (unwanted_from 0 false Cr t)) (completed_is Cr text) ∙ feeds text false 0 ∙ many_is 10 text
 
--- Where LF is wanted, each CR.
+-- If LF is wanted, each CR is unwanted.
 
--- what comes first stays first
+-- the first byte stays the first
 still_feed : (bs : List ℕ) (f : Bool) → begins_with_line_feed bs ≡ true → begins_with_line_feed (filled f Lf bs) ≡ true
 still_feed [] f e = absurd (true≢false (sym e))
 still_feed (b ∷ bs) f e =
@@ -143,7 +143,7 @@ returns (b ∷ bs) f g p =
         or_none true = refl
         or_none false = refl
 
-    -- an LF that is put in
+    -- an LF that is inserted
     of_feed : (h : Bool) → is_unwanted h Lf 10 (filled (b == 13) Lf bs) ≡ false
     of_feed h = and_right (true && h) false refl
 

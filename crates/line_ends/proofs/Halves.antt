@@ -1,4 +1,4 @@
--- Bytes of a text in two halves.
+-- The bytes of a text in two halves.
 use Rattle.std.proofs.Common.{◌≡◌, ℕ, ◌+◌, ◌-◌, ◌<◌, ◌≤◌, false, ◌==◌, List, ◌++◌, length, get_or, slice_range, inl, inr, ap, ◌∙◌, arith, length-append}
 use Rattle.std.proofs.lemmas.Option.{slice_get_past, slice_get-get_or}
 use Rattle.std.proofs.lemmas.Bool.{cases_lt}
@@ -32,7 +32,7 @@ stands_nowhere byte xs ys p i h e l = stands_past byte (xs ++ ys) p (omega (arit
 abbrev pub Quiet : List ℕ → ℕ → ℕ → Type 0
 Quiet text from to = (k : ℕ) → from ≤ k → k < to → is_end (get_or text k 0) ≡ false
 
--- what stands in a part of one half stands in the text
+-- a part of one half without line ends is such a part of the text
 pub quiet_in_first : (xs ys : List ℕ) (from to c : ℕ) → c ≤ length (slice_range xs from to)
     → ((k : ℕ) → k < c → is_end (get_or (slice_range xs from to) k 0) ≡ false) → Quiet (xs ++ ys) from (from + c)
 quiet_in_first xs ys from to c l quiet k a b =
@@ -49,7 +49,7 @@ quiet_in_second xs ys from to c place p l quiet k a b =
     let w : i < length (slice_range ys from to) = omega arith in
     rw (e, get_or-append-add xs ys (from + i) 0, ← (read_part ys from to i w)) (quiet i (omega arith))
 
--- what is left of the first, and a part of the second
+-- so is the rest of the first half with a part of the second
 pub quiet_across : (xs ys : List ℕ) (from c d : ℕ) → from ≤ length xs → c ≤ length (slice_range xs from (length xs)) → length xs ≤ from + c
     → ((k : ℕ) → k < c → is_end (get_or (slice_range xs from (length xs)) k 0) ≡ false)
     → d ≤ length ys → ((k : ℕ) → k < d → is_end (get_or ys k 0) ≡ false)

@@ -1,4 +1,4 @@
--- The insertions of a conversion, one after another.
+-- The insertions of a conversion, one by one.
 use Rattle.std.proofs.Common.{◌≡◌, ℕ, suc, ◌+◌, ◌<◌, ◌≤◌, Bool, true, false, ◌==◌, ◌||◌, ◌&&◌, inl, inr, List, [], ◌∷◌, ◌++◌, length, get_or, take, drop, refl, ap, ◌∙◌, sym, arith, append_assoc, length-append}
 use Rattle.std.specs.Prelude.{not}
 use Rattle.std.proofs.lemmas.Bool.{true≢false, or_parts, or_cases, and_parts, eqb-true, not-true}
@@ -11,7 +11,7 @@ use Rattle.line_ends.specs.Conversion.{follows_return, lone_feed, lone_return, m
 use Rattle.line_ends.proofs.Halves.{stands_at, Quiet}
 use Rattle.line_ends.proofs.Walk.{follows_next, begins_is, along_quiet, quiet_lone}
 
--- what is put in about one byte, and the rest
+-- the insertions around one byte, and the rest
 abbrev about : LineEnd → List ℕ → ℕ → Bool → Bool → List Step
 about to text p x y = missing_at p x y ++ missing_from (p + 1 + length (missing_at p x y)) (get_or text p 0 == 13) to (drop (p + 1) text)
 
@@ -34,7 +34,7 @@ split_at : (to : LineEnd) (text : List ℕ) (p : ℕ) (x y : Bool) → p < lengt
 split_at to text p x y h a b =
     split to text p h ∙ ap (λ x. about to text p x (lone_return to text p)) a ∙ ap (λ y. about to text p x y) b
 
--- nothing is missing about a byte
+-- nothing is missing around a byte
 pub missing_on : (to : LineEnd) (text : List ℕ) (p : ℕ) → p < length text → (lone_feed to text p || lone_return to text p) ≡ false
     → missing_in to text p ≡ missing_in to text (p + 1)
 missing_on to text p h none =
@@ -46,7 +46,7 @@ missing_on to text p h none =
     add_none : (n : ℕ) → n + 0 ≡ n
     add_none n = omega arith
 
--- nor where no line end stands
+-- nothing is missing where no line end stands
 pub missing_along : (to : LineEnd) (text : List ℕ) (from end : ℕ) → from ≤ end → end ≤ length text → Quiet text from end
     → missing_in to text from ≡ missing_in to text end
 missing_along to text from end a b quiet =
@@ -55,7 +55,7 @@ missing_along to text from end a b quiet =
 pub missing_end : (to : LineEnd) (text : List ℕ) (p : ℕ) → length text ≤ p → missing_in to text p ≡ []
 missing_end to text p h = ap (missing_from p (follows_return 0 text p) to) (drop_all p text h)
 
--- a CR is put in front of a lone LF ..
+-- a CR is inserted before a lone LF
 feed_byte : (to : LineEnd) (text : List ℕ) (p : ℕ) → p < length text → lone_feed to text p ≡ true → get_or text p 0 ≡ 10
 feed_byte to text p h lone =
     let b = and_parts (stands 10 text p) (not (follows_return 0 text p)) (and_parts (stands 10 text p && not (follows_return 0 text p)) (is_feed_foreign to) lone).0 in
@@ -88,7 +88,7 @@ put_before to text p h lone =
     add_none : (n : ℕ) → n + 0 ≡ n
     add_none n = omega arith
 
--- .. and an LF behind a lone CR
+-- an LF is inserted behind a lone CR
 no_flag : (q : ℕ) (to : LineEnd) (bs : List ℕ) → begins_with_line_feed bs ≡ false → (f g : Bool) → missing_from q f to bs ≡ missing_from q g to bs
 no_flag q to [] none f g = refl
 no_flag q to (b ∷ bs) none f g =
@@ -118,7 +118,7 @@ put_behind to text p h feed lone =
     ∙ ap (λ f. Insert (p + 1) (10 ∷ []) ∷ missing_from (p + 1 + 1) f to rest) (sym flag)
     ∙ ap (λ t. Insert (p + 1) (10 ∷ []) ∷ missing_from (p + 1 + 1) (follows_return 0 new (p + 1 + 1)) to t) (sym behind)
 
--- so the next insertion is about the next lone byte
+-- so the next insertion is next to the next lone byte
 pub before_feed : (to : LineEnd) (text : List ℕ) (start p : ℕ) → IsNextLone to text start p → stands 10 text p ≡ true → IsNextMissing to text start p 13
 before_feed to text start p next here = record {
   behind = next.behind;
@@ -152,7 +152,7 @@ behind_return to text start p next none = record {
           | inr second ↦ second
         ]
 
--- How many there are.
+-- The number of insertions.
 
 same_count : (to : LineEnd) (bs : List ℕ) (f : Bool) (p q : ℕ) → length (missing_from p f to bs) ≡ length (missing_from q f to bs)
 same_count to [] f p q = refl

@@ -1,4 +1,4 @@
--- A text turned piece by piece.
+-- A text converted piece by piece.
 use Rattle.std.proofs.Common.{◌≡◌, ℕ, zero, suc, ◌+◌, ◌-◌, ◌<◌, ◌≤◌, Bool, true, false, cond, ◌==◌, ◌||◌, ◌&&◌, List, [], ◌∷◌, ◌++◌, length, get_or, take, drop, slice_range, ◌*◌, refl, ap, subst, ◌∙◌, sym, arith, append_assoc, append-nil, length-append}
 use Rattle.std.proofs.lemmas.Bool.{true≢false, or_parts, and_right}
 use Rattle.std.proofs.lemmas.List.{drop_all, drop_more, drop-drop, take_rest, length-take-le, length-drop}
@@ -7,12 +7,12 @@ use Rattle.ed_model.specs.declared.plan.LineEnd.TheVariants.{CrLf, Cr, Lf}
 use Rattle.ed_model.specs.LineEnds.{line_end_bytes, begins_with_line_feed, converted, converted_after}
 use Rattle.line_ends.specs.Conversion.{is_end, end_bytes}
 
--- what stands behind a CR, but for an LF
+-- what comes behind a CR, unless that is an LF
 no_flag : (to : LineEnd) (bs : List ℕ) → begins_with_line_feed bs ≡ false → (f : Bool) → converted_after f to bs ≡ converted_after false to bs
 no_flag to [] none f = refl
 no_flag to (b ∷ bs) none f = rw none refl
 
--- the bytes in front of a line end
+-- the bytes before a line end
 quiet_front : (to : LineEnd) (bs : List ℕ) (n : ℕ) → n ≤ length bs → ((k : ℕ) → k < n → is_end (get_or bs k 0) ≡ false)
     → converted to bs ≡ take n bs ++ converted to (drop n bs)
 quiet_front to bs zero l quiet = refl
@@ -63,7 +63,7 @@ alone_at_end bs n x l = and_right x (begins_with_line_feed (drop (n + 1) bs)) (a
 pub not_alone : (bs : List ℕ) (n : ℕ) (y : Bool) → (get_or bs n 0 == 13) ≡ false → ((get_or bs n 0 == 13) && y) ≡ false
 not_alone bs n y e = ap (λ x. x && y) e
 
--- a CRLF
+-- a line end of two bytes, CRLF
 pub with_two : (to : LineEnd) (bs : List ℕ) (n : ℕ) → n + 1 < length bs → ((k : ℕ) → k < n → is_end (get_or bs k 0) ≡ false)
     → get_or bs n 0 ≡ 13 → get_or bs (n + 1) 0 ≡ 10
     → converted to bs ≡ take n bs ++ end_bytes 2 to ++ converted to (drop (n + 2) bs)
@@ -91,7 +91,7 @@ short_end (suc count) CrLf = omega arith
 short_end (suc count) Cr = omega arith
 short_end (suc count) Lf = omega arith
 
--- The loops: what is left behind a piece.
+-- The loops: what remains behind a piece.
 
 abbrev pub Pieces : List ℕ → ℕ → ℕ → Type 0
 Pieces bs quiet count = (to : LineEnd) → converted to bs ≡ take quiet bs ++ end_bytes count to ++ converted to (drop (quiet + count) bs)
@@ -117,7 +117,7 @@ within_on bytes place quiet count l w =
     let size : length (slice_range bytes place (length bytes)) ≡ length bytes - place = ap length (take_rest bytes place) ∙ length-drop place bytes in
     omega arith
 
--- what is copied of it
+-- what is copied of a piece
 front_on : (bytes : List ℕ) (place quiet : ℕ) → slice_range bytes place (place + quiet) ≡ take quiet (drop place bytes)
 front_on bytes place quiet = let n : place + quiet - place ≡ quiet = omega arith in ap (λ k. take k (drop place bytes)) n
 

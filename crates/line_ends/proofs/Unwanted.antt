@@ -1,4 +1,4 @@
--- The deletions of a conversion, one after another.
+-- The deletions of a conversion, one by one.
 use Rattle.std.proofs.Common.{◌≡◌, ℕ, zero, suc, ◌+◌, ◌-◌, ◌<◌, ◌≤◌, Bool, true, false, ◌==◌, ◌||◌, ◌&&◌, inl, inr, List, [], ◌∷◌, ◌++◌, length, get_or, take, drop, slice_range, refl, ap, ◌∙◌, sym, arith}
 use Rattle.std.proofs.lemmas.Bool.{true≢false, or_cases, or_from, and_parts, and_right, eqb-true, le-ltb}
 use Rattle.std.proofs.lemmas.List.{drop_more, drop_all, drop_at, length-take-le}
@@ -11,7 +11,7 @@ use Rattle.line_ends.specs.Conversion.{follows_return, spare_feed, spare_return,
 use Rattle.line_ends.proofs.Halves.{stands_at, Quiet}
 use Rattle.line_ends.proofs.Walk.{follows_next, begins_is, quiet_spare}
 
--- what is deleted of one byte, and the rest
+-- the deletion of one byte, and the rest
 abbrev about : LineEnd → List ℕ → ℕ → Bool → List Step
 about to text p u = unwanted_at p (get_or text p 0) u ++ unwanted_from (place_after p u) (get_or text p 0 == 13) to (drop (p + 1) text)
 
@@ -56,14 +56,14 @@ unwanted_first to text start =
 pub unwanted_end : (start : ℕ) (to : LineEnd) (text : List ℕ) (p : ℕ) → length text ≤ p → unwanted_since start to text p ≡ []
 unwanted_end start to text p h = ap (unwanted_from p (follows_return start text p) to) (drop_all p text h)
 
--- one that is unwanted
+-- one unwanted byte
 no_flag : (q : ℕ) (bs : List ℕ) (f g : Bool) → unwanted_from q f Lf bs ≡ unwanted_from q g Lf bs
 no_flag q [] f g = refl
 no_flag q (b ∷ bs) f g =
     let same : ((b == 10) && f && false) ≡ ((b == 10) && g && false) = and_right ((b == 10) && f) false refl ∙ sym (and_right ((b == 10) && g) false refl) in
     ap (λ x. unwanted_at q b (((b == 13) && begins_with_line_feed bs && true) || x) ++ unwanted_from (place_after q (((b == 13) && begins_with_line_feed bs && true) || x)) (b == 13) Lf bs) same
 
--- whether the byte was a CR does not matter for the rest
+-- it does not matter for the rest whether the byte was a CR
 flag_of_rest : (to : LineEnd) (f : Bool) (b q : ℕ) (bs : List ℕ) → is_unwanted f to b bs ≡ true → unwanted_from q (b == 13) to bs ≡ unwanted_from q false to bs
 flag_of_rest Lf f b q bs e = no_flag q bs (b == 13) false
 flag_of_rest CrLf f b q bs e =

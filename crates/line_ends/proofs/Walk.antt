@@ -1,4 +1,4 @@
--- Going along a text from its quiet places to the next line end.
+-- The walk along a text from a stretch without line ends to the next one.
 use Rattle.std.proofs.Common.{◌≡◌, ℕ, zero, suc, ◌+◌, ◌-◌, ◌<◌, ◌≤◌, false, ◌==◌, ◌||◌, List, [], ◌∷◌, length, get_or, drop, refl, ap, ◌∙◌, arith}
 use Rattle.std.proofs.lemmas.Bool.{lt-ltb, or_parts}
 use Rattle.ed_model.specs.declared.plan.LineEnd.{LineEnd}
@@ -20,7 +20,7 @@ begins_is [] (suc p) = refl
 begins_is (b ∷ bs) zero = refl
 begins_is (b ∷ bs) (suc p) = begins_is bs p
 
--- a function of places that is the same at each and at the next one
+-- a function of places that has the same value at each place and at the next one
 pub along : (f : ℕ → List Step) (n p : ℕ) → ((k : ℕ) → p ≤ k → k < p + n → f k ≡ f (k + 1)) → f p ≡ f (p + n)
 along f zero p h = let e : p + 0 ≡ p = omega arith in rw e refl
 along f (suc n) p h =
@@ -33,7 +33,7 @@ along_quiet f text from to w l quiet on =
     let e : from + (to - from) ≡ to = omega arith in
     along f (to - from) from (λ k a b. on k (omega arith) (quiet k a (omega arith))) ∙ ap f e
 
--- where no CR or LF stands, none is lone or unwanted
+-- if the byte at the place is no CR or LF, it is neither lone nor unwanted
 pub quiet_lone : (to : LineEnd) (text : List ℕ) (p : ℕ) → p < length text → is_end (get_or text p 0) ≡ false
     → (lone_feed to text p || lone_return to text p) ≡ false
 quiet_lone to text p h quiet =

@@ -1,4 +1,4 @@
--- How long a text becomes by the steps of a conversion.
+-- The length of a text during the steps of a conversion.
 use Rattle.std.proofs.Common.{◌≡◌, ℕ, zero, suc, ◌+◌, ◌-◌, ◌<◌, ◌≤◌, Bool, true, false, ◌==◌, ◌||◌, ◌&&◌, List, [], ◌∷◌, ◌++◌, length, min, refl, ap, ◌∙◌, sym, arith, length-append}
 use Rattle.std.specs.Prelude.{nat_le, nat_lt}
 use Rattle.std.proofs.Math.Nat.{min-le_left}
@@ -9,7 +9,7 @@ use Rattle.ed_model.specs.LineEnds.{lacks_return, lacks_feed, missing_at, missin
 use Rattle.ed_model.specs.Edits.{stays_within, has_steps}
 use Rattle.line_ends.specs.Conversion.{completed}
 
--- insertions, or deletions, of a byte each
+-- steps that each insert, or each delete, a byte
 abbrev Puts : List Step → Type 0
 Puts [] = Unit {0}
 Puts (Insert p bytes ∷ steps) = (length bytes ≡ 1) × Puts steps
@@ -37,7 +37,7 @@ unwanted_takes to (b ∷ bs) f p = go (is_unwanted f to b bs) (unwanted_takes to
     go true rest = (refl, rest p)
     go false rest = rest (p + 1)
 
--- a test for the greater says it for both
+-- a test of the greater one covers both
 both_within : (a b limit : ℕ) → a ≤ b → (nat_le a limit && nat_le b limit) ≡ nat_le b limit
 both_within a b limit h = go (nat_le b limit) refl
   where
@@ -56,7 +56,7 @@ both_within' a b limit h = go (nat_le a limit) refl
     go true e = let w = leb-true a limit e in le-leb b limit (omega arith)
     go false e = refl
 
--- deletions alone: the first leaves the longest text
+-- if all steps delete, the text is longest after the first
 abbrev taken_within : ℕ → ℕ → ℕ → Bool
 taken_within limit n zero = true
 taken_within limit n (suc d) = nat_le (n - 1) limit
@@ -76,7 +76,7 @@ takes_within limit n (Delete p bytes ∷ steps) t =
         same false = refl
     go (suc d) = both_within' (n - 1) (n - 1 - 1) limit (omega arith)
 
--- insertions, and then deletions: the last insertion leaves the longest text
+-- if insertions come before deletions, the text is longest after the last insertion
 abbrev made_within : ℕ → ℕ → ℕ → ℕ → Bool
 made_within limit n zero d = taken_within limit n d
 made_within limit n (suc m) d = nat_le (n + suc m) limit
@@ -109,7 +109,7 @@ within : (limit : ℕ) (to : LineEnd) (text : List ℕ) → stays_within limit (
 within limit to text =
     puts_within limit (length text) (missing_from 0 false to text) (unwanted_from 0 false to (completed to text)) (missing_puts to text false 0) (unwanted_takes to (completed to text) false 0)
 
--- where something is put in ..
+-- something is inserted
 pub some_within : (limit n : ℕ) (to : LineEnd) (text : List ℕ) → length text ≡ n → 0 < puts_of to text
     → stays_within limit n (conversion_steps to text) ≡ nat_le (n + puts_of to text) limit
 some_within limit n to text size some = ap (λ k. stays_within limit k (conversion_steps to text)) (sym size) ∙ within limit to text ∙ ap (λ k. made_within limit k (puts_of to text) (takes_of to text)) size ∙ go (puts_of to text) some
@@ -118,7 +118,7 @@ some_within limit n to text size some = ap (λ k. stays_within limit k (conversi
     go zero h = absurd (omega arith)
     go (suc m) h = refl
 
--- .. and where nothing is
+-- nothing is inserted
 pub rest_within : (limit n : ℕ) (to : LineEnd) (text : List ℕ) → length text ≡ n → puts_of to text ≡ 0
     → stays_within limit n (conversion_steps to text) ≡ ((takes_of to text == 0) || nat_le (n - 1) limit)
 rest_within limit n to text size none =
@@ -142,7 +142,7 @@ some_there to text n most e h =
     let some : 0 < puts_of to text = omega (arith, e, min-le_left (puts_of to text) most) in
     lt-ltb 0 n h ∙ sym (steps_there to text ∙ ap (λ x. x || nat_lt 0 (takes_of to text)) (lt-ltb 0 (puts_of to text) some))
 
--- A sum within a limit, tested without the sum.
+-- The test of a sum against a limit, without the sum.
 
 pub beside : (n m limit : ℕ) → m ≤ limit → nat_le n (limit - m) ≡ nat_le (n + m) limit
 beside n m limit h = go (nat_le (n + m) limit) refl
@@ -154,7 +154,7 @@ beside n m limit h = go (nat_le (n + m) limit) refl
 pub not_beside : (n m limit : ℕ) → limit < m → nat_le (n + m) limit ≡ false
 not_beside n m limit h = lt-leb (n + m) limit (omega arith)
 
--- The text in two halves, and the counts as they were found.
+-- The text in two halves, with the counts of the code.
 
 pub some_kept : (limit : ℕ) (to : LineEnd) (first second : List ℕ) (m : ℕ) → m ≡ puts_of to (first ++ second) → 0 < m
     → nat_le (length first + length second + m) limit ≡ stays_within limit (length (first ++ second)) (conversion_steps to (first ++ second))

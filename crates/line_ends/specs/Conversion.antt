@@ -1,4 +1,4 @@
--- Turning line ends into one kind, from a place of the text on.
+-- The conversion of line ends to one kind, from a place of the text on.
 use Rattle.std.specs.Prelude.{◌≡◌, ℕ, zero, suc, ◌+◌, ◌-◌, ◌<◌, ◌≤◌, ◌==◌, nat_lt, not, ◌&&◌, ◌||◌, Bool, true, false, List, [], ◌∷◌, length, drop, slice_range}
 use Rattle.ed_model.specs.declared.plan.LineEnd.{LineEnd}
 use Rattle.ed_model.specs.Text.{line_feed, carriage_return, stands}
@@ -8,30 +8,30 @@ use Rattle.ed_model.specs.LineEnds.{is_feed_foreign, is_return_foreign, is_feed_
 abbrev pub is_end : ℕ → Bool
 is_end byte = byte == line_feed || byte == carriage_return
 
--- whether a CR stands in front of the place, in the text from `start` on
+-- whether a CR stands right before the place, in the text from `start` on
 abbrev pub follows_return : ℕ → List ℕ → ℕ → Bool
 follows_return start text place = nat_lt start place && stands carriage_return text (place - 1)
 
--- the insertions that are to be made from the place on
+-- the insertions from the place on
 abbrev pub missing_in : LineEnd → List ℕ → ℕ → List Step
 missing_in to text place = missing_from place (follows_return 0 text place) to (drop place text)
 
--- the deletions that are to be made from the place on, as if the text began there
+-- the deletions from the place on, as if the text began there
 abbrev pub unwanted_in : LineEnd → List ℕ → ℕ → List Step
 unwanted_in to text place = unwanted_from place false to (drop place text)
 
--- the text with what was missing
+-- the text with the missing bytes inserted
 abbrev pub completed : LineEnd → List ℕ → List ℕ
 completed to text = after_steps (missing_from 0 false to text) text
 
--- whether a lone LF, or a lone CR, stands at the place that is of another kind than wanted
+-- whether a lone LF, or a lone CR, of an unwanted kind stands at the place
 abbrev pub lone_feed : LineEnd → List ℕ → ℕ → Bool
 lone_feed to text place = stands line_feed text place && not (follows_return 0 text place) && is_feed_foreign to
 
 abbrev pub lone_return : LineEnd → List ℕ → ℕ → Bool
 lone_return to text place = stands carriage_return text place && not (stands line_feed text (place + 1)) && is_return_foreign to
 
--- whether the CR, or the LF, of a CRLF stands at the place that is unwanted, in the text from `start` on
+-- whether the CR, or the LF, of a CRLF stands at the place and is unwanted, in the text from `start` on
 abbrev pub spare_return : LineEnd → List ℕ → ℕ → Bool
 spare_return to text place = stands carriage_return text place && stands line_feed text (place + 1) && is_return_unwanted to
 
@@ -42,20 +42,20 @@ spare_feed start to text place = stands line_feed text place && follows_return s
 abbrev pub unwanted_since : ℕ → LineEnd → List ℕ → ℕ → List Step
 unwanted_since start to text place = unwanted_from place (follows_return start text place) to (drop place text)
 
--- the first lone byte from `start` on stands at the place
+-- the place is that of the first lone byte from `start` on
 pub record IsNextLone (to : LineEnd) (text : List ℕ) (start place : ℕ) : Type 0 where
   pub behind : start ≤ place
   pub within : place < length text
   pub lone : (lone_feed to text place || lone_return to text place) ≡ true
   pub none_between : missing_in to text start ≡ missing_in to text place
 
--- the insertion of this byte at this place is the next one; those behind it are those of the text with it
+-- the next step inserts this byte at this place; the steps behind it are those of the text with that byte
 pub record IsNextMissing (to : LineEnd) (text : List ℕ) (start place byte : ℕ) : Type 0 where
   pub behind : start ≤ place
   pub within : place ≤ length text
   pub steps : missing_in to text start ≡ Insert place (byte ∷ []) ∷ missing_in to (edited (Insert place (byte ∷ [])) text) (place + 1)
 
--- the deletion of the byte at this place is the next one; those behind it are those of the text without it
+-- the next step deletes the byte at this place; the steps behind it are those of the text without that byte
 pub record IsNextUnwanted (to : LineEnd) (text : List ℕ) (start place : ℕ) : Type 0 where
   pub behind : start ≤ place
   pub within : place < length text
@@ -63,7 +63,7 @@ pub record IsNextUnwanted (to : LineEnd) (text : List ℕ) (start place : ℕ) :
       unwanted_in to text start
       ≡ Delete place (slice_range text place (place + 1)) ∷ unwanted_in to (edited (Delete place (slice_range text place (place + 1))) text) place
 
--- For pastes: the bytes of a line end in the place of one of so many bytes, where none stands for the end of the text.
+-- For pastes: the bytes that replace a line end of so many bytes, where 0 stands for the end of the text.
 abbrev pub end_bytes : ℕ → LineEnd → List ℕ
 end_bytes zero to = []
 end_bytes (suc count) to = line_end_bytes to

@@ -1,4 +1,4 @@
-//! How many steps a conversion has.
+//! The number of steps of a conversion.
 
 ghost use Rattle.std.specs.Prelude.{◌≡◌, ◌==◌, ◌+◌, ◌<◌, ◌≤◌, ◌++◌, false, min, nat_le, nat_lt, length, count_by};
 ghost use Rattle.ed_model.specs.Edits.{has_steps, stays_within};
@@ -8,7 +8,7 @@ ghost use Rattle.line_ends.specs.Conversion.{completed};
 use crate::finding::next_lone;
 use ed_model::LineEnd;
 
-// How many bytes a conversion to this kind of line end puts in, counted up to so many: the text is read no further.
+// Returns how many bytes a conversion to `to` inserts, but at most `most`: it stops reading once that many are found.
 fn missing_up_to(first: &[u8], second: &[u8], to: LineEnd, most: usize) -> usize
     ensures count { result ≡ min (length (missing_from 0 false to (first.now ++ second.now))) most }
     ensures few { result ≤ length first.now + length second.now }
@@ -25,7 +25,7 @@ fn missing_up_to(first: &[u8], second: &[u8], to: LineEnd, most: usize) -> usize
     count
 }
 
-/// How many bytes a conversion to this kind of line end puts in.
+/// Returns how many bytes a conversion to the line end `to` inserts. `first` and `second` are the halves of the text.
 pub fn count_missing(first: &[u8], second: &[u8], to: LineEnd) -> usize
     ensures count { result ≡ length (missing_from 0 false to (first.now ++ second.now)) }
     ensures few { result ≤ length first.now + length second.now }
@@ -33,15 +33,15 @@ pub fn count_missing(first: &[u8], second: &[u8], to: LineEnd) -> usize
     missing_up_to(first, second, to, usize::MAX)
 }
 
-// How often the byte stands in the slice.
+// Returns how often the byte occurs in the slice.
 fn count_byte(byte: u8, bytes: &[u8]) -> usize
     ensures { result ≡ count_by (λ x. x == byte) bytes.now }
 {
     bytes.iter().filter(|x| **x == byte).count()
 }
 
-/// How many bytes it then deletes, once those are put in: where CR is wanted as many as there are LFs, and where LF is as
-/// many as there are CRs.
+/// Returns how many bytes a conversion to the line end `to` deletes, after its insertions: for CR each LF, for LF each
+/// CR, and for CRLF none.
 pub fn count_unwanted(first: &[u8], second: &[u8], to: LineEnd) -> usize
     ensures count { result ≡ length (unwanted_from 0 false to (completed to (first.now ++ second.now))) }
     ensures few { result ≤ length first.now + length second.now }
@@ -53,14 +53,15 @@ pub fn count_unwanted(first: &[u8], second: &[u8], to: LineEnd) -> usize
     }
 }
 
-/// Whether a conversion to this kind of line end changes the text.
+/// Returns whether a conversion to the line end `to` changes the text.
 pub fn has_conversion(first: &[u8], second: &[u8], to: LineEnd) -> bool
     ensures { result ≡ has_steps (conversion_steps to (first.now ++ second.now)) }
 {
     missing_up_to(first, second, to, 1) > 0 || count_unwanted(first, second, to) > 0
 }
 
-/// Whether such a conversion has more than one step. Of a text with many line ends it reads the first ones alone.
+/// Returns whether a conversion to the line end `to` has more than one step. In a text with many line ends it reads only
+/// the first ones.
 pub fn has_several(first: &[u8], second: &[u8], to: LineEnd) -> bool
     ensures { result ≡ nat_lt 1 (length (conversion_steps to (first.now ++ second.now))) }
 {
@@ -68,7 +69,7 @@ pub fn has_several(first: &[u8], second: &[u8], to: LineEnd) -> bool
     missing > 1 || missing + count_unwanted(first, second, to) > 1
 }
 
-// Whether a text of so many bytes keeps the limit with so many more.
+// Returns whether a text of `size` bytes stays within the limit with `added` more.
 #[tactic(auto, using(crate::proofs::Within::beside, crate::proofs::Within::not_beside))]
 fn keeps_limit(size: u64, added: u64, limit: u64) -> bool
     ensures { result ≡ nat_le (size + added) limit }
@@ -76,8 +77,8 @@ fn keeps_limit(size: u64, added: u64, limit: u64) -> bool
     added <= limit && size <= limit - added
 }
 
-/// Whether no step of a conversion leaves a text of more bytes than the limit. All that is missing is put in first, so that
-/// the text is then at its longest.
+/// Returns whether the text has at most `limit` bytes after each step of a conversion. All insertions come first, so
+/// the text is longest after the last of them.
 pub fn conversion_stays_within(first: &[u8], second: &[u8], to: LineEnd, limit: u64) -> bool
     ensures { result ≡ stays_within limit (length (first.now ++ second.now)) (conversion_steps to (first.now ++ second.now)) }
 {

@@ -1,4 +1,4 @@
-//! The next step of a conversion.
+//! The search for the next step of a conversion.
 
 ghost use Rattle.std.specs.Prelude.{◌≡◌, ◌+◌, ◌<◌, ◌≤◌, ◌++◌, ◌||◌, [], length, MatchOption};
 ghost use Rattle.ed_model.specs.LineEnds.{is_feed_foreign as feed_foreign, is_feed_unwanted as feed_unwanted, is_return_foreign as return_foreign, is_return_unwanted as return_unwanted};
@@ -7,7 +7,8 @@ ghost use Rattle.line_ends.specs.Conversion.{IsNextLone, IsNextMissing, IsNextUn
 use crate::reading::{is_at, next_end};
 use ed_model::LineEnd;
 
-// Whether an LF alone, or a CR alone, is of another kind than wanted; and whether the LF, or the CR, of a CRLF is unwanted.
+// Four tests by the wanted line end: whether a lone LF, or a lone CR, is of another kind; and whether the LF, or the
+// CR, of a CRLF is unwanted.
 
 fn is_feed_foreign(to: LineEnd) -> bool
     ensures { result ≡ feed_foreign to }
@@ -45,14 +46,14 @@ fn is_return_unwanted(to: LineEnd) -> bool
     }
 }
 
-// Whether a CR stands in front of the place, in the text from `start` on.
+// Returns whether a CR stands before `place`, in the text from `start` on.
 fn is_behind_return(first: &[u8], second: &[u8], start: usize, place: usize) -> bool
     ensures { result ≡ follows_return start (first.now ++ second.now) place }
 {
     start < place && is_at(b'\r', first, second, place - 1)
 }
 
-// Whether a lone LF stands at the place, that is of another kind than wanted.
+// Returns whether a lone LF of an unwanted kind stands at `place`.
 fn is_lone_feed(first: &[u8], second: &[u8], place: usize, to: LineEnd) -> bool
     ensures { result ≡ lone_feed to (first.now ++ second.now) place }
 {
@@ -61,7 +62,7 @@ fn is_lone_feed(first: &[u8], second: &[u8], place: usize, to: LineEnd) -> bool
         && is_feed_foreign(to)
 }
 
-// Whether a lone CR stands at the place, that is of another kind than wanted.
+// Returns whether a lone CR of an unwanted kind stands at `place`.
 fn is_lone_return(first: &[u8], second: &[u8], place: usize, to: LineEnd) -> bool
     requires { place < length first.now + length second.now }
     ensures { result ≡ lone_return to (first.now ++ second.now) place }
@@ -71,7 +72,7 @@ fn is_lone_return(first: &[u8], second: &[u8], place: usize, to: LineEnd) -> boo
         && is_return_foreign(to)
 }
 
-// Whether a lone byte of either kind stands at the place, that is of another kind than wanted.
+// Returns whether a lone LF or CR of an unwanted kind stands at `place`.
 fn is_lone(first: &[u8], second: &[u8], place: usize, to: LineEnd) -> bool
     requires { place < length first.now + length second.now }
     ensures { result ≡ (lone_feed to (first.now ++ second.now) place || lone_return to (first.now ++ second.now) place) }
@@ -79,7 +80,7 @@ fn is_lone(first: &[u8], second: &[u8], place: usize, to: LineEnd) -> bool
     is_lone_feed(first, second, place, to) || is_lone_return(first, second, place, to)
 }
 
-// Whether the CR of a CRLF stands at the place, and is unwanted.
+// Returns whether the CR of a CRLF stands at `place`, and is unwanted.
 fn is_spare_return(first: &[u8], second: &[u8], place: usize, to: LineEnd) -> bool
     requires { place < length first.now + length second.now }
     ensures { result ≡ spare_return to (first.now ++ second.now) place }
@@ -89,7 +90,7 @@ fn is_spare_return(first: &[u8], second: &[u8], place: usize, to: LineEnd) -> bo
         && is_return_unwanted(to)
 }
 
-// Whether the LF of a CRLF stands at the place, in the text from `start` on, and is unwanted.
+// Returns whether the LF of a CRLF stands at `place`, in the text from `start` on, and is unwanted.
 fn is_spare_feed(first: &[u8], second: &[u8], start: usize, place: usize, to: LineEnd) -> bool
     ensures { result ≡ spare_feed start to (first.now ++ second.now) place }
 {
@@ -98,7 +99,7 @@ fn is_spare_feed(first: &[u8], second: &[u8], start: usize, place: usize, to: Li
         && is_feed_unwanted(to)
 }
 
-// Whether an unwanted byte of a CRLF stands at the place, in the text from `start` on.
+// Returns whether an unwanted byte of a CRLF stands at `place`, in the text from `start` on.
 fn is_spare(first: &[u8], second: &[u8], start: usize, place: usize, to: LineEnd) -> bool
     requires { place < length first.now + length second.now }
     ensures { result ≡ (spare_return to (first.now ++ second.now) place || spare_feed start to (first.now ++ second.now) place) }
@@ -106,7 +107,7 @@ fn is_spare(first: &[u8], second: &[u8], start: usize, place: usize, to: LineEnd
     is_spare_return(first, second, place, to) || is_spare_feed(first, second, start, place, to)
 }
 
-/// The first place from `from` on of an LF or CR that another byte is missing about.
+/// Returns the first place from `from` on of an LF or CR that lacks its other byte.
 pub(crate) fn next_lone(first: &[u8], second: &[u8], from: usize, to: LineEnd) -> Option<usize>
     requires { from ≤ length first.now + length second.now }
     ensures { MatchOption result (missing_in to (first.now ++ second.now) from ≡ []) (λ place. IsNextLone to (first.now ++ second.now) from place) }
@@ -121,8 +122,8 @@ pub(crate) fn next_lone(first: &[u8], second: &[u8], from: usize, to: LineEnd) -
     None
 }
 
-/// The first place from `from` on at which a byte is missing, and that byte, where each line end is to be of this kind: a CR
-/// in front of a lone LF, or an LF behind a lone CR. With it put in, the next one is looked for from behind it on.
+/// Returns the place of the next insertion of a conversion to `to`, from `from` on in bytes, and the byte to insert: a CR
+/// before a lone LF, or an LF behind a lone CR. After the insertion the search continues right behind the inserted byte.
 pub fn next_missing(first: &[u8], second: &[u8], from: usize, to: LineEnd) -> Option<(usize, u8)>
     requires { from ≤ length first.now + length second.now }
     ensures { MatchOption result (missing_in to (first.now ++ second.now) from ≡ []) (λ found. IsNextMissing to (first.now ++ second.now) from found.0 found.1) }
@@ -135,13 +136,13 @@ pub fn next_missing(first: &[u8], second: &[u8], from: usize, to: LineEnd) -> Op
     }
 }
 
-/// The first place from `from` on of an unwanted byte: the LF of a CRLF where CR is wanted, or its CR where LF is. Bytes in
-/// front of `from` are not looked at. With it deleted, the next one is looked for from the same place on.
+/// Returns the place of the next deletion of a conversion to `to`, from `from` on in bytes: the LF of a CRLF if `to` is CR,
+/// or its CR if `to` is LF. Bytes before `from` are not read. After the deletion the search continues at the same place.
 pub fn next_unwanted(first: &[u8], second: &[u8], from: usize, to: LineEnd) -> Option<usize>
     requires { from ≤ length first.now + length second.now }
     ensures { MatchOption result (unwanted_in to (first.now ++ second.now) from ≡ []) (λ place. IsNextUnwanted to (first.now ++ second.now) from place) }
 {
-    // Where CRLF is wanted, neither of its bytes is unwanted.
+    // If CRLF is wanted, neither of its bytes is unwanted.
     if let LineEnd::CrLf = to {
         return None;
     }

@@ -1,4 +1,4 @@
-//! Line ends of a text, and how they are turned into one kind.
+//! Line ends of a text, and their conversion to one kind.
 //!
 //! ```text
 //! text        a CR b CR LF c LF d
@@ -7,10 +7,11 @@
 //! for CR      a CR b CR LF c CR LF d         a CR was missing, and two LFs are unwanted
 //! ```
 //!
-//! In a document each byte that comes or goes is a step of its own: first what is missing is put in, left to right, then
-//! what is unwanted is deleted, left to right. So the next step is found from the place of the last one on, in the text as
-//! it then is, which is handed in as two slices, as a gap buffer has it. A text that is pasted is turned as it is copied.
-//! Which steps are made, and what a pasted text is turned into, is said by `ed_model`: `conversion_steps` and `converted`.
+//! In a document each byte that is inserted or deleted is a step of its own. First the missing bytes are inserted from
+//! left to right, and then the unwanted ones are deleted from left to right. So the search for the next step starts at
+//! the place of the last one, in the text as that step left it. The text is given as two slices, as a gap buffer has
+//! it. A text that is pasted is converted as it is copied. `ed_model` defines the steps (`conversion_steps`) and the
+//! converted text (`converted`).
 #![tactic(auto)]
 
 mod counting;

@@ -1,4 +1,4 @@
-//! Texts with their line ends turned, as they are pasted.
+//! Conversion of the line ends of a text that is pasted.
 
 ghost use Rattle.std.specs.Prelude.{◌≡◌, ◌+◌, ◌*◌, ◌<◌, ◌≤◌, ◌++◌, length, take, drop, vec_len, vec_capacity};
 ghost use Rattle.ed_model.specs.LineEnds.{converted};
@@ -7,14 +7,14 @@ ghost use Rattle.line_ends.specs.Conversion.{end_bytes};
 use crate::reading::quiet_bytes;
 use ed_model::LineEnd;
 
-// The bytes in front of a text's first line end, and how many it has itself: none, if there is none.
+// How many bytes come before a text's first line end, and how many that line end has: 0 if there is none.
 #[derive(Clone, Copy)]
 struct Piece {
     quiet: usize,
     end: usize,
 }
 
-// What comes in the place of a line end of so many bytes: nothing, if there is none.
+// Returns the bytes that replace a line end of `count` bytes: nothing if `count` is 0.
 #[tactic(auto, using(crate::proofs::Pasted::some_end, crate::proofs::Pasted::no_end))]
 fn bytes_of_end(count: usize, to: LineEnd) -> &'static [u8]
     ensures { result.now ≡ end_bytes count to }
@@ -29,7 +29,7 @@ fn bytes_of_end(count: usize, to: LineEnd) -> &'static [u8]
     }
 }
 
-// The text's first piece; the others are those of the rest.
+// Returns the first piece of the text. The other pieces are those of the rest.
 fn next_piece(bytes: &[u8]) -> Piece
     ensures within { result.quiet + result.end ≤ length bytes.now }
     ensures on { 0 < length bytes.now → 0 < result.quiet + result.end }
@@ -46,7 +46,7 @@ fn next_piece(bytes: &[u8]) -> Piece
     Piece { quiet, end: 1 }
 }
 
-/// How many bytes the text has once each line end is of this kind.
+/// Returns how many bytes the text has once each line end is `to`.
 pub fn converted_len(bytes: &[u8], to: LineEnd) -> usize
     ensures length { result ≡ length (converted to bytes.now) }
     ensures few { result ≤ 2 * length bytes.now }
@@ -61,7 +61,7 @@ pub fn converted_len(bytes: &[u8], to: LineEnd) -> usize
     length
 }
 
-/// Appends the text with each line end turned into this kind, for which there is room.
+/// Appends the text to `target`, with each line end converted to `to`. There must be room for it.
 pub fn convert_into(bytes: &[u8], to: LineEnd, target: &mut Vec<u8>)
     requires { vec_len target.old + length (converted to bytes.now) ≤ vec_capacity target.old }
     ensures { target.new.items ≡ target.old.items ++ converted to bytes.now }
@@ -75,7 +75,7 @@ pub fn convert_into(bytes: &[u8], to: LineEnd, target: &mut Vec<u8>)
     }
 }
 
-// Appends bytes, for which there is room.
+// Appends bytes. There must be room for them.
 fn append(target: &mut Vec<u8>, bytes: &[u8])
     requires { vec_len target.old + length bytes.now ≤ vec_capacity target.old }
     ensures items { target.new.items ≡ target.old.items ++ bytes.now }

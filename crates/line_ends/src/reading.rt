@@ -1,4 +1,4 @@
-//! Reading a text that is handed in as two slices: single bytes, and the next CR or LF.
+//! Reads of a text in two slices: single bytes, and the next CR or LF.
 
 ghost use Rattle.std.specs.Prelude.{◌≡◌, ℕ, ◌+◌, ◌<◌, ◌≤◌, ◌++◌, true, false, length, slice_index};
 ghost use Rattle.ed_model.specs.Text.{stands};
@@ -6,7 +6,7 @@ ghost use Rattle.line_ends.specs.Conversion.{is_end};
 
 use memchr::memchr2;
 
-// Whether this byte stands at the place.
+// Returns whether `byte` stands at `place`.
 #[tactic(auto, using(crate::proofs::Halves::stands_in_front, crate::proofs::Halves::stands_behind, crate::proofs::Halves::stands_nowhere))]
 pub(crate) fn is_at(byte: u8, first: &[u8], second: &[u8], place: usize) -> bool
     ensures { result ≡ stands byte (first.now ++ second.now) place }
@@ -18,7 +18,7 @@ pub(crate) fn is_at(byte: u8, first: &[u8], second: &[u8], place: usize) -> bool
     behind < second.len() && second[behind] == byte
 }
 
-// How many bytes stand in front of the first CR or LF: all, if there is none.
+// Returns how many bytes come before the first CR or LF: all, if there is none.
 pub(crate) fn quiet_bytes(bytes: &[u8]) -> usize
     ensures within { result ≤ length bytes.now }
     ensures quiet { (k : ℕ) → k < result → is_end (slice_index bytes.now k) ≡ false }
@@ -30,7 +30,7 @@ pub(crate) fn quiet_bytes(bytes: &[u8]) -> usize
     }
 }
 
-// The first place from `from` on where a CR or LF stands, or the text's length.
+// Returns the first place from `from` on of a CR or LF, or the length of the text.
 pub(crate) fn next_end(first: &[u8], second: &[u8], from: usize) -> usize
     requires { from ≤ length first.now + length second.now }
     ensures within { (from ≤ result) × (result ≤ length first.now + length second.now) }
