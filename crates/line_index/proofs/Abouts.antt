@@ -1,4 +1,5 @@
--- The lines about a step, as numbers: what its edits make of a list with an item for each line, and how many lines they bring.
+-- The lines around a step, as numbers: the effect of its edits on a list with an item for each line, and how many lines
+-- they insert.
 use Rattle.std.proofs.Common.{◌≡◌, ℕ, zero, suc, ◌+◌, ◌-◌, ◌<◌, ◌≤◌, cond, List, [], ◌∷◌, ◌++◌, length, map, take, drop, get_or, replicate, fold, eqb, leb, ltb, refl, sym, ap, ap₂, ◌∙◌, inl, inr, arith, subst, append_assoc, length-append, zero-add, length-take, length-drop}
 use Rattle.std.specs.List.{range_with_len}
 use Rattle.std.proofs.lemmas.Bool.{cases_lt, cases_eq, eq-eqb, ne_eqb, lt-ltb, le-ltb, le-leb, lt-leb}
@@ -14,7 +15,7 @@ use Rattle.line_index.specs.StepEdits.{joined, came, settled, settling, last_at,
 use Rattle.line_index.proofs.Settling.{edits_in_turn, settled_is, joined_to_last, none_joined}
 use Rattle.line_index.proofs.Keyed.{Carries, by_keys, carries_both, carries_none, carries_on, carries_same, carries_behind, map_range_same, map_range_moved}
 
--- the lines about a step follow one another, and the others are as many afterwards as before
+-- the lines around a step follow one another, and the others are as many afterwards as before
 pub record AreAbout (c : LineChange) (lines news : ℕ) : Type 0 where
   pub old_one : c.old_lines.at ≤ c.old_lines.one_behind
   pub old_two : c.old_lines.one_behind ≤ c.old_lines.two_behind
@@ -27,7 +28,7 @@ pub record AreAbout (c : LineChange) (lines news : ℕ) : Type 0 where
   pub before_new : c.before ≤ c.new_lines.at + 1
   pub others : lines + c.new_lines.two_behind ≡ news + c.old_lines.two_behind
 
--- the last old lines that come to the new ones
+-- the last old lines that move to the new ones
 
 pub chosen :
     (before o0 o1 o2 n0 n1 n2 k r : ℕ) → (k < before → k ≡ r) → (before ≤ k → k ≤ o0 → n0 ≡ r) → (before ≤ k → o0 < k → k ≤ o1 → n1 ≡ r)
@@ -124,7 +125,7 @@ lasts_are o0 o1 o2 n0 n1 n2 a b c d =
       ]
     ]
 
--- lines that settle on one behind those that are settled, or on none
+-- lines that move to a new line behind those that are done, or to none
 
 record Zone {R : Type 0} (t : List R → R) (next line count : ℕ) (rows out : List R) : Type 0 where
   carries : Carries t next (line + 1 - next) (replicate count line) rows out
@@ -158,7 +159,7 @@ zone_at t j next line count rows a b h =
       | inr behind ↦ (replicate (line - next) (t []) ++ t rows ∷ [], zone_behind t j next line rows behind)
     ])
 
--- the lines in front of a step, and those that settle on its first new line, which may be the last of those
+-- the lines before a step, and those that move to its first new line, which may be the last of those
 record Front {R : Type 0} (t : List R → R) (before line count : ℕ) (front rows out : List R) : Type 0 where
   carries : Carries t 0 (line + 1) (range_with_len 0 before ++ replicate count line) (front ++ rows) out
   edits : (rest : List R) → after_edits t (settled before line count) (front ++ (rows ++ rest)) ≡ out ++ rest
@@ -236,7 +237,7 @@ module _ (c : LineChange) (lines news : ℕ) (a : AreAbout c lines news) where
   lasts : Lasts o0 o1 o2 n0 n1 n2 first next
   lasts = lasts_are o0 o1 o2 n0 n1 n2 a.old_one a.old_two a.new_one a.new_two
 
-  -- the lines that come to each
+  -- the old lines that move to each new line
   abbrev come_at : ℕ
   come_at = first + 1 - c.before
 
@@ -323,7 +324,7 @@ module _ (c : LineChange) (lines news : ℕ) (a : AreAbout c lines news) where
       made
       ∙ sym (edits_in_turn t (s0 ++ s1) s2 rows ∙ ap (after_edits t s2) (edits_in_turn t s0 s1 rows ∙ ap (after_edits t s1) step0 ∙ step1) ∙ step2)
 
-  -- the edits carry rows to the lines to which the old lines come
+  -- the edits carry each row to the new line of its old one
   pub settling_carries : {R : Type 0} (t : List R → R) → JoinsRows t → (rows : List R) → length rows ≡ lines → by_keys t 0 news (map (line_after c) (range_with_len 0 lines)) rows ≡ after_edits t (settling c.before c.old_lines c.new_lines) rows
   settling_carries {R} t j rows h =
       let front : List R = take c.before rows in
@@ -360,7 +361,7 @@ fresh_both : (xs ys : List LineEdit) → fresh_lines (xs ++ ys) ≡ fresh_lines 
 fresh_both [] ys = omega arith
 fresh_both (x ∷ xs) ys = omega (arith, fresh_both xs ys)
 
--- the edits that settle lines fit, and leave so many
+-- the edits name lines that exist, and leave the right number of lines
 pub record Fits (lines left fresh : ℕ) (edits : List LineEdit) : Type 0 where
   pub fit : FitLines lines edits
   pub count : lines_left lines edits ≡ left
@@ -382,7 +383,7 @@ pub came_fits : (lines line count : ℕ) → line ≤ lines → Fits lines (line
 came_fits lines line zero h = record { fit = tt; count = omega arith; few = refl }
 came_fits lines line (suc n) h = rw (ne_eqb (suc n) 0 (λ e. omega arith)) (record { fit = (h, tt); count = refl; few = omega arith })
 
--- how many fresh lines come where old ones settle
+-- how many fresh lines are inserted where old ones move
 abbrev fresh_at : ℕ → ℕ → ℕ → ℕ
 fresh_at next line count = cond (eqb count 0) (line + 1 - next) (line - next)
 
@@ -436,11 +437,11 @@ module _ (c : LineChange) (lines news : ℕ) (a : AreAbout c lines news) where
       (fits_both lines mid0 mid1 (fresh_at c.before p0 k0) (fresh_at (p0 + 1) p1 k1) (fresh_at c.before p0 k0 + fresh_at (p0 + 1) p1 k1) (settled c.before p0 k0) (settled (p0 + 1) p1 k1) refl one two) three in
       rw left at all
 
-  -- the edits name lines that there are
+  -- the edits name lines that exist
   pub settling_fits : FitLines lines (settling c.before c.old_lines c.new_lines)
   settling_fits = settling_all.fit
 
-  -- fresh lines come up to the last of the step
+  -- fresh lines are inserted up to the last line of the step
   pub settling_few : fresh_lines (settling c.before c.old_lines c.new_lines) + c.before ≤ c.new_lines.two_behind + 1
   settling_few =
       omega (
@@ -452,7 +453,7 @@ module _ (c : LineChange) (lines news : ℕ) (a : AreAbout c lines news) where
         fresh_upto (n1 c lines news a + 1) (n2 c lines news a) (come_two c lines news a) (omega (arith, a)),
       )
 
-  -- .. but not all where no line starts before it
+  -- the first of them is not fresh if no line starts before the step
   pub settling_fewer : c.before ≡ 0 → fresh_lines (settling c.before c.old_lines c.new_lines) ≤ c.new_lines.two_behind
   settling_fewer e =
       omega (

@@ -1,4 +1,4 @@
--- Line starts that are put in part after part.
+-- Line starts inserted part by part.
 use Rattle.std.proofs.Common.{◌≡◌, ℕ, ◌+◌, ◌-◌, ◌<◌, ◌≤◌, Bool, true, false, List, [], ◌∷◌, ◌++◌, length, get_or, take, drop, insert, refl, sym, ap, ◌∙◌, inl, inr, arith, append_assoc, append-nil, length-append, length-drop}
 use Rattle.std.specs.Int.{bit_at}
 use Rattle.std.proofs.lemmas.Bool.{cases_lt, cases_order}
@@ -11,7 +11,7 @@ use Rattle.partitioning.specs.Partitions.{Partitions}
 use Rattle.line_index.specs.Index.{IsFree, CanAdd, WereAdded, MarkStarts, starts_near}
 use Rattle.line_index.proofs.StartLists.{near_lie, near_apart, no_near, one_near}
 
--- behind the starts that were put in, others can be
+-- more starts can be inserted behind those that were inserted
 module _ (types : LineEndTypes) (text : List ℕ) (base : ℕ) (starts now : List ℕ) (end from mid last to at next : ℕ) (free : IsFree starts end from to at)
     (a : from ≤ mid) (b : mid ≤ last) (d : last ≤ to)
     (line : next ≡ at + length (starts_near types text base from mid))
@@ -93,7 +93,7 @@ added_both types text base from mid last at next behind was now later w a b p q 
       line = omega (arith, size, p.line, q.line);
     }
 
--- where no line starts there is none to put in
+-- where no line starts, there is nothing to insert
 pub added_none :
     (types : LineEndTypes) (text : List ℕ) (base : ℕ) (from to at : ℕ) (was : Partitions) → ((k : ℕ) → from ≤ k → k < to → is_line_start types text (k - base) ≡ false)
     → WereAdded types text base from to at at was was
@@ -130,7 +130,7 @@ added_here types text base place at was now here h on e f r =
       line = omega (arith, size);
     }
 
--- of 64 places, those up to one were gone through, and the marks that are left are of others
+-- of 64 places, those up to one are done, and the marks that are left are of later ones
 pub record AreSeen (types : LineEndTypes) (text : List ℕ) (base : ℕ) (place first line left : ℕ) (was now : Partitions) : Type 0 where
   pub seen : ℕ
   pub low : place ≤ seen

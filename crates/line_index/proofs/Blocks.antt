@@ -50,7 +50,7 @@ one_counted text from p lines more a l e h =
     (counted_at Default text (from + 1) (p + 1) lines (get_or text p 0 == 10 || (get_or text p 0 == 13 && not (get_or text (p + 1) 0 == 10)))
     (omega arith) (starts_behind text p l) h)
 
--- the same where line ends of Unicode count, behind a byte that two others stand in front of
+-- the same if line ends of Unicode count, behind a byte that two others precede
 abbrev pub ends_wide : ℕ → ℕ → ℕ → ℕ → Bool
 ends_wide third second byte next =
     byte == 10 || (byte == 13 && not (next == 10)) || ((byte == 0x85 && second == 0xC2) || ((byte == 0xA8 || byte == 0xA9) && second == 0x80 && third == 0xE2))
@@ -93,7 +93,7 @@ pub at_most_one : (here : Bool) (more : ℕ) → more ≡ cond here 1 0 → more
 at_most_one true more e = omega arith
 at_most_one false more e = omega arith
 
--- the places from one up to another and from there on
+-- the places from one up to another, and those from there on
 pub block_counted :
     (types : LineEndTypes) (text : List ℕ) (from mid to lines more : ℕ) → from ≤ mid → mid ≤ to → lines ≡ length (starts_within types text from mid)
     → more ≡ length (starts_within types text mid to) → lines + more ≡ length (starts_within types text from to)
@@ -108,13 +108,13 @@ block_counted types text from mid to lines more a b e h =
 abbrev pub BlocksCounted : List ℕ → ℕ → ℕ → ℕ → Type 0
 BlocksCounted text from blocks lines = lines ≡ length (starts_within Default text (from + 1) (from + blocks * 192 + 1))
 
--- the same, where the end of the blocks is known
+-- the same, if the end of the blocks is known
 counted_to :
     (text : List ℕ) (from blocks to lines : ℕ) → to ≡ from + blocks * 192 → BlocksCounted text from blocks lines
     → lines ≡ length (starts_within Default text (from + 1) (to + 1))
 counted_to text from blocks to lines e h = rw e h
 
--- and one more block is counted
+-- one more block is counted
 pub next_counted :
     (text : List ℕ) (from blocks place lines more : ℕ) → place ≡ from + blocks * 192 → BlocksCounted text from blocks lines
     → more ≡ length (starts_within Default text (place + 1) (place + 192 + 1)) → BlocksCounted text from (blocks + 1) (lines + more)

@@ -13,7 +13,7 @@ use Rattle.line_index.specs.Change.{near_lines}
 use Rattle.partitioning.specs.Partitions.{ArePartitions, IsLastAtMost}
 use Rattle.line_index.proofs.StepLists.{none_below_zero}
 
--- of rising starts an earlier one is not above a later one, nor above itself
+-- of rising starts, an earlier one is not above a later one, nor above itself
 not_above : (starts : List ℕ) → IsStrictlyIncreasing starts → (j k : ℕ) → j ≤ k → k < length starts → slice_index starts j ≤ slice_index starts k
 not_above starts rising j k h l =
     elim (cases_lt j k) [
@@ -33,7 +33,7 @@ line_of_last starts end place r sound last =
     let back : r + 1 - 1 ≡ r = omega arith in
     omega (arith, count_is 0 place starts (r + 1) (climbs starts end sound) (omega (arith, last.within)) (λ _. rw back last.at_most) (λ l. last.last (r + 1) (omega arith) l))
 
--- .. also where the place was kept down to the greatest number, past which no start lies
+-- the lines of a place and of the two behind it, if the last was cut down to the greatest number, past which no start lies
 pub line_of_last_capped :
     (starts : List ℕ) (end place capped r : ℕ) → ArePartitions starts end → end < 2 ^ 64
     → capped ≡ min place (2 ^ 64 - 1) → IsLastAtMost starts capped r → line_of starts place ≡ r
@@ -60,12 +60,12 @@ next_behind starts end place line sound low inside high = record {
   last = λ k a b. omega (arith, not_above starts sound.rising (line + 1) k (omega arith) b);
 }
 
--- where a line holds a place, no line but the next starts at the place behind
+-- if a line holds a place, only the next line can start at the place behind it
 pub none_past_next : (starts : List ℕ) (end place line behind : ℕ) → ArePartitions starts end → IsLastAtMost starts place line → behind ≤ place + 1 → (k : ℕ) → line + 1 < k → k < length starts → behind < slice_index starts k
 none_past_next starts end place line behind sound last near k a b =
     omega (arith, last.last (line + 1) (omega arith) (omega arith), sound.rising (line + 1) (omega arith), not_above starts sound.rising (line + 1 + 1) k (omega arith) b)
 
--- .. so it is that line or the next
+-- so the place behind it is on that line or on the next
 pub next_holds : (starts : List ℕ) (place line : ℕ) → line + 1 < length starts → slice_index starts (line + 1) ≤ place → ((k : ℕ) → line + 1 < k → k < length starts → place < slice_index starts k) → IsLastAtMost starts place (line + 1)
 next_holds starts place line within low high = record {
   within = within;
@@ -98,7 +98,7 @@ below_is_upto place s h =
       | inr more ↦ le-ltb s place more ∙ sym (lt-leb s (place - 1) (omega arith))
     ]
 
--- as many lines start in front of a place as there are up to that of the byte before it
+-- as many lines start before a place as there are up to that of the byte before it
 pub lines_in_front : (starts : List ℕ) (end place line : ℕ) → ArePartitions starts end → 0 < place → line ≡ line_of starts (place - 1) → line + 1 ≡ count_before place starts
 lines_in_front starts end place line sound h e =
     let same : count_before place starts ≡ count_by (λ s. leb s (place - 1)) starts = count_agree (λ s. ltb s place) (λ s. leb s (place - 1)) starts (λ s. below_is_upto place s h) in

@@ -1,4 +1,4 @@
--- The first bytes of a text have no more lines than all.
+-- The first bytes of a text have no more lines than all of it.
 use Rattle.std.proofs.Common.{◌≡◌, ℕ, zero, suc, ◌+◌, ◌-◌, ◌<◌, ◌≤◌, ◌==◌, Bool, true, false, List, length, take, refl, ap, sym, ◌∙◌, inl, inr, arith, length-append}
 use Rattle.std.proofs.lemmas.Bool.{ne_eqb, true≢false, cases_lt}
 use Rattle.std.proofs.lemmas.List.{length-take-le}
@@ -17,7 +17,7 @@ use Rattle.line_index.proofs.StartLists.{starts_apart, one_start, no_starts}
 stands_at_first : (byte : ℕ) (bytes : List ℕ) (n k : ℕ) → k < n → stands byte (take n bytes) k ≡ stands byte bytes k
 stands_at_first byte bytes n k h = ap (is_number byte) (slice_get_take n bytes k h)
 
--- a line starts at a place of both texts or of none, where the same bytes stand in front and an LF behind in both or in none
+-- a line starts at a place of both texts or of neither, if the same bytes precede it and an LF follows in both or in neither
 alike : (types : LineEndTypes) (text other : List ℕ) (p : ℕ) → (0 < p → (byte k : ℕ) → k < p → stands byte text k ≡ stands byte other k) → stands 10 text p ≡ stands 10 other p
     → is_line_start types text p ≡ is_line_start types other p
 alike types text other zero front here = refl
@@ -37,13 +37,13 @@ alike types text other (suc q) front here =
     )
     refl
 
--- in front of the end of the first bytes the same lines start
+-- the same lines start before the end of the first bytes
 same_in_front : (types : LineEndTypes) (bytes : List ℕ) (n : ℕ) → n ≤ length bytes → starts_within types (take n bytes) 0 n ≡ starts_within types bytes 0 n
 same_in_front types bytes n l =
     filter_range_agree (is_line_start types bytes) (is_line_start types (take n bytes)) 0 (n - 0)
     (λ k a b. sym (alike types (take n bytes) bytes k (λ some byte i h. stands_at_first byte bytes n i (omega arith)) (stands_at_first 10 bytes n k (omega arith))))
 
--- where a line starts between two places, there is one
+-- if a line starts between two places, there is such a line
 some_within : (types : LineEndTypes) (text : List ℕ) (from to k : ℕ) → from ≤ k → k < to → is_line_start types text k ≡ true → 1 ≤ length (starts_within types text from to)
 some_within types text from to k a b here =
     omega (
@@ -68,7 +68,7 @@ stands_inside byte text p e =
       | inr past ↦ absurd (true≢false (sym e ∙ ap (is_number byte) (slice_get_past text p past)))
     ]
 
--- a line that starts at the end of the first bytes starts there in all of them too, or behind the LF that stands there
+-- a line that starts at the end of the first bytes also starts there in the whole text, or behind the LF that stands there
 some_at_end : (types : LineEndTypes) (bytes : List ℕ) (n : ℕ) → n ≤ length bytes → is_line_start types (take n bytes) n ≡ true → (b : Bool) → stands 10 bytes n ≡ b
     → 1 ≤ length (starts_within types bytes n (length bytes + 1))
 some_at_end types bytes n l here true e =

@@ -1,4 +1,4 @@
--- What an insertion does to line starts, call by call.
+-- The effect of an insertion on line starts, call by call.
 use Rattle.std.proofs.Common.{◌≡◌, ℕ, ◌+◌, ◌-◌, ◌<◌, ◌≤◌, min, max, List, ◌++◌, length, take, drop, map, refl, ap, ◌∙◌, arith}
 use Rattle.ed_model.specs.declared.plan.LineEndTypes.{LineEndTypes}
 use Rattle.ed_model.specs.Lines.{line_starts, line_of, line_count}

@@ -1,4 +1,4 @@
--- A step that takes no line start away and brings none leaves the lines near its end as they were.
+-- A step that removes no line start and inserts none leaves the lines near its end as they were.
 use Rattle.std.proofs.Common.{◌≡◌, ℕ, ◌+◌, ◌-◌, ◌<◌, ◌≤◌, min, max, List, [], ◌++◌, length, take, drop, map, refl, sym, ap, ◌∙◌, arith, append-nil}
 use Rattle.std.proofs.lemmas.Bool.Decides.{nat_tests}
 use Rattle.std.proofs.lemmas.List.{nil_from_length}
@@ -10,7 +10,7 @@ use Rattle.line_index.specs.Index.{index, last_touched, starts_within}
 use Rattle.line_index.proofs.StepLists.{Insertion, Deletion, range_about, counted_about, stays_about}
 use Rattle.line_index.proofs.TouchedStarts.{touched_near, touched_in, touched_out}
 
--- where nothing was taken away and there are as many starts as before, none was found
+-- if nothing was removed and there are as many starts as before, none was found
 none_found :
     (f : ℕ → ℕ) (starts found new : List ℕ) (i j : ℕ) → i ≤ j → j ≤ length starts → i ≡ j → length new ≡ length starts
     → take i starts ++ found ++ map f (drop j starts) ≡ new → new ≡ take i starts ++ map f (drop j starts)

@@ -1,4 +1,4 @@
--- Rows that go to the lines that their keys name: part by part.
+-- Rows that move to the lines that their keys name, part by part.
 use Rattle.std.proofs.Common.{◌≡◌, ◌≢◌, ℕ, zero, suc, ◌+◌, ◌-◌, ◌<◌, ◌≤◌, List, [], ◌∷◌, ◌++◌, length, map, filter, zip, replicate, eqb, refl, sym, ap, ap₂, ◌∙◌, inl, inr, arith, one-add, append-nil, length-append}
 use Rattle.std.specs.List.{range_with_len, AllByRecursion}
 use Rattle.std.proofs.lemmas.Bool.{cases_eq, eq-eqb, ne_eqb}
@@ -25,7 +25,7 @@ map_range_moved f a b (suc n) h =
     let here : f a ≡ b = omega (arith, h a (omega arith) (omega arith)) in
     ap₂ (λ z l. z ∷ l) here (map_range_moved f (a + 1) (b + 1) n (λ k l m. omega (arith, h k (omega arith) (omega arith))))
 
--- the rows whose key is a line, and for each line what they make together
+-- the rows whose key is a line, and the row of each line from all of its rows
 abbrev pub keyed : {R : Type 0} → ℕ → List ℕ → List R → List R
 keyed {R} line keys rows = map (λ (e : ℕ × R). e.1) (filter (λ (e : ℕ × R). eqb e.0 line) (zip keys rows))
 
@@ -41,7 +41,7 @@ on_keys key line (o ∷ old) (r ∷ rows) =
       | inr other ↦ rw (ne_eqb (key o) line other) (on_keys key line old rows)
     ]
 
--- carry is by the lines to which old starts come
+-- carry moves rows by the lines of the old starts
 pub carried_by_keys : {R : Type 0} (t : List R → R) (moved : ℕ → ℕ) (old new : List ℕ) (rows : List R) → carried t moved old new rows ≡ by_keys t 0 (length new) (map (λ o. line_of new (moved o)) old) rows
 carried_by_keys t moved old new rows = map_range_agree _ _ 0 (length new) (λ k a b. ap t (on_keys (λ o. line_of new (moved o)) k old rows))
 
@@ -66,7 +66,7 @@ keyed_all line [] (suc n) h = absurd (omega arith)
 keyed_all line (r ∷ rows) zero h = absurd (omega arith)
 keyed_all line (r ∷ rows) (suc n) h = rw (eq-eqb line line refl) (ap (λ l. r ∷ l) (keyed_all line rows n (omega arith)))
 
--- The rows go to the n lines from `at` on, and make those of `out`.
+-- The rows move to the n lines from `at` on, and give the rows `out`.
 pub record Carries {R : Type 0} (t : List R → R) (at n : ℕ) (ks : List ℕ) (rows out : List R) : Type 0 where
   pub low : AllByRecursion (λ k. at ≤ k) ks
   pub high : AllByRecursion (λ k. k < at + n) ks
@@ -103,18 +103,18 @@ carries_both t at n at' m total ks ls rows rest out later e f a b =
           (ap₂ (λ x y. x ++ y) (first ∙ a.made) (second ∙ behind));
     }
 
--- none go nowhere
+-- no rows move nowhere
 pub carries_none : {R : Type 0} (t : List R → R) (at : ℕ) → Carries t at 0 [] [] []
 carries_none t at = record { low = tt; high = tt; long = refl; made = refl }
 
 fresh_made : {R : Type 0} (t : List R → R) (at n : ℕ) → by_keys t at n [] [] ≡ replicate n (t [])
 fresh_made t at n = map_range_same (λ line. t (keyed line [] [])) (t []) at n (λ k a b. refl)
 
--- lines to which none come
+-- lines to which no row moves
 pub carries_fresh : {R : Type 0} (t : List R → R) (at n : ℕ) → Carries t at n [] [] (replicate n (t []))
 carries_fresh t at n = record { low = tt; high = tt; long = refl; made = fresh_made t at n }
 
--- all go to one line
+-- all rows move to one line
 pub carries_on : {R : Type 0} (t : List R → R) (line count : ℕ) (rows : List R) → length rows ≡ count → Carries t line 1 (replicate count line) rows (t rows ∷ [])
 carries_on t line count rows h =
     record {
@@ -124,7 +124,7 @@ carries_on t line count rows h =
       made = ap (λ l. t l ∷ []) (keyed_all line rows count h);
     }
 
--- each goes to a line of its own
+-- each row moves to a line of its own
 pub carries_same : {R : Type 0} (t : List R → R) → JoinsRows t → (at n : ℕ) (rows : List R) → length rows ≡ n → Carries t at n (range_with_len at n) rows rows
 carries_same t j at zero [] h = carries_none t at
 carries_same t j at zero (r ∷ rows) h = absurd (omega arith)
@@ -133,7 +133,7 @@ carries_same {R} t j at (suc n) (r ∷ rows) h =
     let one : Carries t at 1 (at ∷ []) (r ∷ []) (r ∷ []) = rw (j.alone r) at (carries_on t at 1 (r ∷ []) refl) in
     carries_both t at 1 (at + 1) n (suc n) (at ∷ []) (range_with_len (at + 1) n) (r ∷ []) rows (r ∷ []) rows refl (sym (one-add n)) one (carries_same t j (at + 1) n rows (omega arith))
 
--- all go to one line, and fresh ones come before it
+-- all rows move to one line, and fresh lines are inserted before it
 pub carries_behind : {R : Type 0} (t : List R → R) (next line count : ℕ) (rows : List R) → next ≤ line → length rows ≡ count → Carries t next (line + 1 - next) (replicate count line) rows (replicate (line - next) (t []) ++ t rows ∷ [])
 carries_behind t next line count rows h l =
     carries_both t next (line - next) line 1 (line + 1 - next) [] (replicate count line) [] rows (replicate (line - next) (t [])) (t rows ∷ []) (omega arith) (omega arith)

@@ -27,14 +27,14 @@ pub clear_false : (b : Bool) (m : ℕ) → m ≡ cond b 1 0 → m ≡ 0 → b �
 clear_false true m e z = absurd (omega arith)
 clear_false false m e z = refl
 
--- where a bit of the sum of two marks is clear, it is clear in both
+-- a clear bit of the union of two marks is clear in both
 pub clear_first : (a b k : ℕ) → bit_at (bit_or a b) k ≡ 0 → bit_at a k ≡ 0
 clear_first a b k h = omega (arith, bit_at_or a b k)
 
 pub clear_second : (a b k : ℕ) → bit_at (bit_or a b) k ≡ 0 → bit_at b k ≡ 0
 clear_second a b k h = omega (arith, bit_at_or a b k)
 
--- the marks without one that is set are fewer
+-- the marks without one of their bits are fewer
 pub cleared_smaller : (m k : ℕ) → m < 2 ^ 64 → k < 64 → bit_at m k ≡ 1 → bit_and m (2 ^ 64 - 1 - 1 * 2 ^ k % 2 ^ 64) < m
 cleared_smaller m k fits l there =
     let small : 2 ^ k < 2 ^ 64 = omega (arith, two-pow-succ k, pow_pos k, pow_mono {i = suc k} {j = 64} (omega arith)) in
@@ -43,11 +43,11 @@ cleared_smaller m k fits l there =
     let both : bit_and (2 ^ k) m ≡ 1 * 2 ^ k = and_comm _ _ ∙ and_pow m k ∙ ap (λ x. x * 2 ^ k) there in
     subst (λ x. bit_and m (2 ^ 64 - 1 - x) < m) (sym one) (omega (arith, and_comm m (2 ^ 64 - 1 - 2 ^ k), pow_pos k))
 
--- bit k of a mark is clear where the byte at k is another one
+-- bit k of a mark is clear unless the byte at k is the one
 abbrev pub Unmarked : ℕ → List ℕ → ℕ → ℕ → Type 0
 Unmarked byte bytes at marks = (k : ℕ) → k < 64 → bit_at marks k ≡ 0 → (get_or bytes (at + k) 0 == byte) ≡ false
 
--- where both marks are clear, no line ends
+-- if both marks are clear, no line ends there
 pub no_end_unmarked :
     (types : LineEndTypes) (bytes : List ℕ) (at a b : ℕ) → types ≡ Default → Unmarked 10 bytes at a → Unmarked 13 bytes at b
     → (k : ℕ) → k < 64 → bit_at (bit_or a b) k ≡ 0 → may_end types (get_or bytes (at + k) 0) ≡ false

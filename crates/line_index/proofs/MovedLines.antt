@@ -1,4 +1,4 @@
--- Each old line comes to the new line on which its start, moved, lies.
+-- Each old line moves to the new line of its start, moved by the step.
 use Rattle.std.proofs.Common.{◌≡◌, ℕ, ◌+◌, ◌-◌, ◌<◌, ◌≤◌, min, max, List, ◌++◌, length, get_or, take, drop, map, refl, sym, ap, ◌∙◌, inl, inr, arith, length-append, length-drop}
 use Rattle.std.proofs.lemmas.Bool.{cases_lt, lt-ltb, le-ltb}
 use Rattle.std.proofs.lemmas.List.{length-take-le, length-map, get_or-take, get_or-drop, get_or-map, get_or-append-add}
@@ -18,7 +18,7 @@ use Rattle.line_index.proofs.Abouts.{AreAbout, chosen, settling_few, settling_fe
 use Rattle.line_index.proofs.StartLists.{starts_lie}
 use Rattle.line_index.proofs.StepLists.{Insertion, Deletion, at_most, behind, lines_before_some, none_below_zero, first_line_is, found_in, found_out, longer, shorter, range}
 
--- a place among what was deleted, or at its end, falls to the deletion's place
+-- a place among what was deleted, or at its end, moves to the place of the deletion
 fallen : (place count s : ℕ) → place ≤ s → s ≤ place + count → moved_back place count s ≡ place
 fallen place count s h l =
     elim (cases_lt s (place + count)) [
@@ -63,7 +63,7 @@ module _ (types : LineEndTypes) (old new : List ℕ) (p e e' i j from to : ℕ) 
   new_size : length news ≡ length front + (length olds - j)
   new_size = ap length (sym law) ∙ length-append front (map f (drop j olds)) ∙ omega (arith, length-map (drop j olds) f, length-drop j olds)
 
-  -- the new starts in front of those that moved
+  -- the new starts before those that moved
   new_front : (k : ℕ) → k < length front → get_or news k 0 ≡ get_or front k 0
   new_front k l = ap (λ xs. get_or xs k 0) (sym law) ∙ get_or-append front (map f (drop j olds)) 0 k l
 
@@ -73,7 +73,7 @@ module _ (types : LineEndTypes) (old new : List ℕ) (p e e' i j from to : ℕ) 
       new_front k (omega (arith, length-append (take i olds) (starts_within types new from to)))
       ∙ get_or-append (take i olds) (starts_within types new from to) 0 k m ∙ get_or-take i olds k 0 l
 
-  -- .. and those
+  -- the new starts that moved
   new_back : (n : ℕ) → j + n < length olds → get_or news (length front + n) 0 ≡ f (get_or olds (j + n) 0)
   new_back n l =
       let m : n < length (drop j olds) = omega (arith, length-drop j olds) in
@@ -83,7 +83,7 @@ module _ (types : LineEndTypes) (old new : List ℕ) (p e e' i j from to : ℕ) 
   front_some : 0 < length front
   front_some = omega (arith, length-append (take i olds) (starts_within types new from to), front_kept, within)
 
-  -- the last start in front
+  -- the last start before them
   front_last : get_or news (length front - 1) 0 ≤ e' + 2
   front_last =
       let size = length-append (take i olds) (starts_within types new from to) in
@@ -98,7 +98,7 @@ module _ (types : LineEndTypes) (old new : List ℕ) (p e e' i j from to : ℕ) 
             rw at (omega (arith, new_kept (i - 1) (omega (arith, within)), at_most types old (p - 1) (i - 1) (omega (arith, within)) (omega (arith, a))))
       ]
 
-  -- so they are the lines up to that of the third byte behind the step
+  -- so these are the lines up to that of the third byte behind the step
   front_lines : line_of news (e' + 2) + 1 ≡ length front
   front_lines =
       let same : length front + 0 ≡ length front = omega arith in
@@ -193,7 +193,7 @@ module _ (types : LineEndTypes) (old new : List ℕ) (p e e' i j from to : ℕ) 
   pub found_lines : line_of news (e' + 2) + 1 ≡ i + length (starts_within types new from to)
   found_lines = omega (arith, front_lines, front_kept, length-append (take i olds) (starts_within types new from to))
 
-  -- no more fresh lines come than were found
+  -- at most as many fresh lines are inserted as starts were found
   pub few_fresh : (end : ℕ) → (p ≡ 0 → i ≡ 1) → fresh_lines (settling (count_before p olds) (near_lines olds e) (near_lines news e')) ≤ length (starts_within types new from to)
   few_fresh end first =
       elim (cases_lt 0 p) [

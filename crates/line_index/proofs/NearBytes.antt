@@ -1,4 +1,4 @@
--- The bytes near a step tell where lines start about it.
+-- The bytes near a step determine where lines start around it.
 use Rattle.std.proofs.Common.{◌≡◌, ℕ, ◌+◌, ◌-◌, ◌<◌, ◌≤◌, min, max, List, length, take, drop, slice_get, slice_range, refl, sym, ap, ◌∙◌, inl, inr, arith, ◌++◌, append-nil, length-append, length-take, length-drop}
 use Rattle.std.proofs.lemmas.Bool.{cases_lt, ne_eqb}
 use Rattle.std.proofs.lemmas.List.{take_all, take_min, take-append-le, drop-append-le}
@@ -11,7 +11,7 @@ use Rattle.line_index.specs.Index.{bytes_near, starts_near, starts_within}
 use Rattle.line_index.proofs.StartLists.{near_is_within}
 
 module _ (types : LineEndTypes) (place count : ℕ) (near text : List ℕ) (same : near ≡ bytes_near place count text) where
-  -- what stands there
+  -- the byte at a place near the step
   stands_near : (j k : ℕ) → k ≡ place - 3 + j → j < place + count + 3 - (place - 3) → slice_get near j ≡ slice_get text k
   stands_near j k e h = rw same (slice_get_take (place + count + 3 - (place - 3)) (drop (place - 3) text) j h ∙ slice_get_drop (place - 3) text j k e)
 

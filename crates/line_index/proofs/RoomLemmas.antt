@@ -15,7 +15,7 @@ use Rattle.line_index.specs.RoomLaws.{lines_for_insertion, lines_for_deletion, I
 use Rattle.line_index.proofs.StartLists.{starts_apart, one_start, no_starts}
 use Rattle.line_index.proofs.StepLists.{Insertion, Deletion, deletion_is, range_about, counted_about, found_in, found_out}
 
--- no more numbers pass a test than there are
+-- at most as many numbers pass a test as there are
 few_pass : (p : ℕ → Bool) (a n : ℕ) → length (filter p (range_with_len a n)) ≤ n
 few_pass p a zero = omega arith
 few_pass p a (suc n) = one_passes (p a) a n (filter p (range_with_len (a + 1) n)) (few_pass p (a + 1) n)
@@ -27,7 +27,7 @@ few_pass p a (suc n) = one_passes (p a) a n (filter p (range_with_len (a + 1) n)
 pub few_starts : (types : LineEndTypes) (text : List ℕ) (from to : ℕ) → length (starts_within types text from to) ≤ to - from
 few_starts types text from to = few_pass (is_line_start types text) from (to - from)
 
--- the starts within the bytes that came
+-- the starts within the inserted bytes
 same_bytes : (place k : ℕ) (bytes text : List ℕ) → place ≤ length text → k < length bytes → slice_get (edited (Insert place bytes) text) (place + k) ≡ slice_get bytes k
 same_bytes place k bytes text h l =
     let size : length (take place text) ≡ place = length-take-le place text h in
@@ -73,7 +73,7 @@ own_starts types bytes l =
       length-append (starts_within types bytes 3 (length bytes)) (starts_within types bytes (length bytes) (length bytes + 1)),
     )
 
--- how many starts are found about an insertion
+-- how many starts are found around an insertion
 pub few_found_in :
     (types : LineEndTypes) (place : ℕ) (bytes text : List ℕ) → place ≤ length text
     → length (starts_within types (edited (Insert place bytes) text) (max place 1) (min (place + length bytes + 3) (length (edited (Insert place bytes) text) + 1))) ≤ lines_for_insertion types bytes
@@ -100,7 +100,7 @@ few_found_in types place bytes text h =
           )
     ]
 
--- .. and about a deletion
+-- how many starts are found around a deletion
 pub few_found_out : (types : LineEndTypes) (place : ℕ) (new : List ℕ) → length (starts_within types new (max place 1) (min (place + 3) (length new + 1))) ≤ lines_for_deletion
 few_found_out types place new = omega (arith, few_starts types new (max place 1) (min (place + 3) (length new + 1)))
 
@@ -141,7 +141,7 @@ few_deleted types place count text h =
       few_found_out types place new,
     )
 
--- the lines of bytes, counted one start after another
+-- the lines of some bytes, counted one start after another
 
 counted_none : (types : LineEndTypes) (bytes : List ℕ) (from next : ℕ) → ((k : ℕ) → from ≤ k → k < next → is_line_start types (bytes ++ []) k ≡ false) → 0 ≡ length (starts_within types bytes from next)
 counted_none types bytes from next none = sym (ap length (no_starts types bytes from next (λ k a b. rw (append-nil bytes) at (none k a b))))
@@ -150,7 +150,7 @@ counted_none types bytes from next none = sym (ap length (no_starts types bytes 
 pub counted_nothing : (types : LineEndTypes) (bytes : List ℕ) (place : ℕ) (here : Bool) → here ≡ is_line_start types (bytes ++ []) place → here ≡ false → 0 ≡ length (starts_within types bytes place (place + 1))
 counted_nothing types bytes place here e off = counted_none types bytes place (place + 1) (λ k a b. let same : k ≡ place = omega arith in rw same (sym e ∙ off))
 
--- none starts behind it up to the next
+-- no line starts behind it up to the next start
 pub counted_next :
     (types : LineEndTypes) (bytes : List ℕ) (from place next lines more : ℕ) → from ≤ place → place < next → ((k : ℕ) → place < k → k < next → is_line_start types (bytes ++ []) k ≡ false)
     → lines ≡ length (starts_within types bytes from place) → more ≡ length (starts_within types bytes place (place + 1)) → lines + more ≡ length (starts_within types bytes from next)
@@ -166,7 +166,7 @@ counted_next types bytes from place next lines more a l none e f =
       counted_none types bytes (place + 1) next (λ k b c. none k (omega arith) c),
     )
 
--- none starts in front of the first
+-- no line starts before the first start
 pub counted_past :
     (types : LineEndTypes) (bytes : List ℕ) (from first to lines : ℕ) → from ≤ first → first ≤ to → ((k : ℕ) → from ≤ k → k < first → is_line_start types (bytes ++ []) k ≡ false)
     → lines ≡ length (starts_within types bytes first to) → lines ≡ length (starts_within types bytes from to)
@@ -179,12 +179,12 @@ counted_past types bytes from first to lines a b none e =
       counted_none types bytes from first none,
     )
 
--- .. and nowhere
+-- no line starts anywhere
 pub counted_nowhere :
     (types : LineEndTypes) (bytes : List ℕ) (from first to : ℕ) → first ≡ to → ((k : ℕ) → from ≤ k → k < first → is_line_start types (bytes ++ []) k ≡ false) → 0 ≡ length (starts_within types bytes from to)
 counted_nowhere types bytes from first to e none = counted_none types bytes from to (λ k a b. none k a (omega arith))
 
--- those up to a place and those from there on are all
+-- the starts up to a place and those from there on are all
 pub counted_all : (types : LineEndTypes) (bytes : List ℕ) (lines more mid end : ℕ) → end ≡ length bytes + 1 → mid ≤ end → lines ≡ length (starts_within types bytes 0 mid) → more ≡ length (starts_within types bytes mid end) → lines + more ≡ line_count types bytes
 counted_all types bytes lines more mid end e a h g =
     let same : end - 0 ≡ length bytes + 1 = omega arith in

@@ -29,7 +29,7 @@ all_from text place = starts_within Unicode text place (length text + 1)
 abbrev count_inside : List ℕ → ℕ → ℕ → ℕ
 count_inside text place next = length (starts_within Unicode text (place + 1) next)
 
--- the next line comes after one more, ..
+-- by the default setting, the next line is one line further
 next_line : (text : List ℕ) (place next n : ℕ) → is_line_start Default text place ≡ true → place < next → ((k : ℕ) → place < k → k < next → is_line_start Default text k ≡ false) → starts_upto Default text place ≡ n → starts_upto Default text next ≡ n + 1
 next_line text place next n here a none e =
     omega (
@@ -42,7 +42,7 @@ next_line text place next n here a none e =
       ap length (no_starts Default text (place + 1) next (λ k l m. none k (omega arith) m)),
     )
 
--- .. and where more line ends count, after those inside it too
+-- if line ends of Unicode count, it comes after the lines inside this one, too
 next_line_inside : (text : List ℕ) (place next n : ℕ) → is_line_start Default text place ≡ true → place < next → starts_upto Unicode text place ≡ n → starts_upto Unicode text next ≡ n + count_inside text place next + 1
 next_line_inside text place next n here a e =
     omega (
@@ -54,7 +54,7 @@ next_line_inside text place next n here a e =
       ap length (one_start Unicode text place (still_starts text place here)),
     )
 
--- the starts from a line's on, counted
+-- the number of starts from a line's start on
 count_on : (text : List ℕ) (place next : ℕ) → is_line_start Default text place ≡ true → place < next → next ≤ length text + 1 → length (all_from text place) ≡ count_inside text place next + 1 + length (all_from text next)
 count_on text place next here a b =
     omega (
@@ -63,13 +63,13 @@ count_on text place next here a b =
       length-append (place ∷ starts_within Unicode text (place + 1) next) (all_from text next),
     )
 
--- what the edits make of the rows from a line on, where those in front are done
+-- the effect of the edits on the rows from a line on; those before it are done
 record Regroups {R : Type 0} (t : List R → R) (new : LineEndTypes) (at n : ℕ) (counts keys : List ℕ) (rows : List R) : Type 0 where
   out : List R
   carries : Carries t at n keys rows out
   edits : (done : List R) → length done ≡ at → after_edits t (all_inside_edits new at counts) (done ++ rows) ≡ done ++ out
 
--- lines inside others are joined to these
+-- lines inside others are joined to them
 abbrev Joined : {R : Type 0} → (List R → R) → List ℕ → List ℕ → ℕ → ℕ → List R → Type 0
 Joined t text starts place at rows =
     Regroups t Default at (length starts) (lines_inside text starts) (map (line_of (line_starts Default text)) (all_from text place)) rows
@@ -131,7 +131,7 @@ all_joined {R} t j text (start ∷ starts) place at (r ∷ rows) lines e h =
     joined_step t j text start starts place at r (take c rows) (drop c rows) lines e (omega (arith, length-take c rows)) rest in
     rw (take-append-drop c rows) at made
 
--- fresh lines come behind each
+-- fresh lines are inserted behind each
 abbrev Came : {R : Type 0} → (List R → R) → List ℕ → List ℕ → ℕ → ℕ → List R → Type 0
 Came t text starts place at rows =
     Regroups t Unicode at (length (all_from text place)) (lines_inside text starts) (map (line_of (line_starts Unicode text)) starts) rows
@@ -205,7 +205,7 @@ setting_edits_carry stay t j Default Unicode text rows h =
     let keys : by_keys t 0 (line_count Unicode text) (map (line_of (line_starts Unicode text)) (line_starts Default text)) rows ≡ made.out = rw (all_from_first text) at made.carries.made in
     carried_by_keys t (λ s. s) (line_starts Default text) (line_starts Unicode text) rows ∙ keys ∙ sym (made.edits [] refl)
 
--- the lines of which each has so many others inside
+-- the number of lines, of which each has so many others inside
 abbrev all_lines : List ℕ → ℕ
 all_lines [] = 0
 all_lines (count ∷ counts) = count + 1 + all_lines counts
@@ -219,7 +219,7 @@ outer_lines : (text starts : List ℕ) → length (lines_inside text starts) ≡
 outer_lines text [] = refl
 outer_lines text (start ∷ starts) = ap suc (outer_lines text starts)
 
--- the edits fit, leave so many lines, and bring so many
+-- the edits name lines that exist, leave so many lines, and insert so many
 joins_fit : (lines at : ℕ) (counts : List ℕ) → at + all_lines counts ≡ lines → Fits lines (at + length counts) 0 (all_inside_edits Default at counts)
 joins_fit lines at [] e = record { fit = tt; count = omega arith; few = refl }
 joins_fit lines at (count ∷ counts) e =

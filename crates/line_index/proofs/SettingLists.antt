@@ -1,5 +1,5 @@
--- The line starts of a text by both settings of line ends: each start where those of Unicode do not count is one where
--- they do, and others lie between.
+-- The line starts of a text under both settings of line ends: each start of the smaller setting is one of the larger,
+-- and others may lie between.
 use Rattle.std.proofs.Common.{◌≡◌, ℕ, zero, suc, ◌+◌, ◌-◌, ◌<◌, ◌≤◌, Bool, true, false, cond, ◌==◌, ◌||◌, ◌&&◌, not, List, [], ◌∷◌, ◌++◌, length, get_or, map, filter, replicate, count_by, leb, refl, sym, ap, ap₂, ◌∙◌, inl, inr, arith, take, drop, append-nil, length-append}
 use Rattle.std.specs.List.{range_with_len}
 use Rattle.std.proofs.lemmas.Bool.{true≢false, cases_lt, cases_order}
@@ -29,11 +29,11 @@ fewer_ends false true b u h = absurd (true≢false h)
 fewer_ends false false true u h = absurd (true≢false h)
 fewer_ends false false false u h = refl
 
--- a start stays one where more line ends count
+-- a start stays one if more line ends count
 pub still_starts : (text : List ℕ) (k : ℕ) → is_line_start Default text k ≡ true → is_line_start Unicode text k ≡ true
 still_starts text k h = more_ends (k == 0) (stands 10 text (k - 1)) (stands 13 text (k - 1) && not (stands 10 text k)) (unicode_end_before text k) h
 
--- and where none starts then, none does with fewer
+-- where no line starts then, none does with fewer line ends
 pub none_starts : (text : List ℕ) (k : ℕ) → is_line_start Unicode text k ≡ false → is_line_start Default text k ≡ false
 none_starts text k h = fewer_ends (k == 0) (stands 10 text (k - 1)) (stands 13 text (k - 1) && not (stands 10 text k)) (unicode_end_before text k) h
 
@@ -58,7 +58,7 @@ abbrev pub AreLines : List ℕ → ℕ → List ℕ → Type 0
 AreLines text place [] = place ≡ length text + 1
 AreLines text place (start ∷ starts) = IsLine text start place (next_of text starts) × AreLines text (next_of text starts) starts
 
--- the starts from a place on where no line need start
+-- the starts from a place on, which need not be a start itself
 record AreLinesBehind (text : List ℕ) (place : ℕ) (starts : List ℕ) : Type 0 where
   low : place ≤ next_of text starts
   high : next_of text starts ≤ length text + 1
@@ -94,7 +94,7 @@ lines_behind text place zero e = record {
 lines_behind text place (suc n) e =
     one_more_line text place (filter (is_line_start Default text) (range_with_len (place + 1) n)) (is_line_start Default text place) refl (lines_behind text (place + 1) n (omega arith))
 
--- the line starts of a text are such, from its beginning on
+-- the line starts of a text, from its beginning on
 pub lines_from_first : (text : List ℕ) → AreLines text 0 (line_starts Default text)
 lines_from_first text =
     let all : AreLinesBehind text 0 (line_starts Default text) = lines_behind text 0 (length text + 1) (omega arith) in
@@ -144,7 +144,7 @@ line_within types text start next place n here none a b c e =
     line_of_start types text place n (omega arith)
     (omega (arith, ap length up, length-append first (starts_within types text start (place + 1)), ap length apart, length-append more (starts_within types text (start + 1) (place + 1)), ap length one, ap length rest))
 
--- what each number of a range makes the same makes the same of those that pass a test
+-- if a function has the same value at each number of a range, it has it at those that pass a test
 pub map_passing_same : (p : ℕ → Bool) (f : ℕ → ℕ) (y a n : ℕ) → ((k : ℕ) → a ≤ k → k < a + n → f k ≡ y) → map f (filter p (range_with_len a n)) ≡ replicate (length (filter p (range_with_len a n))) y
 map_passing_same p f y a zero h = refl
 map_passing_same p f y a (suc n) h = one (p a) (filter p (range_with_len (a + 1) n)) (h a (omega arith) (omega arith)) (map_passing_same p f y (a + 1) n (λ k l m. h k (omega arith) (omega arith)))
@@ -153,7 +153,7 @@ map_passing_same p f y a (suc n) h = one (p a) (filter p (range_with_len (a + 1)
     one true rest e r = ap₂ (λ z l. z ∷ l) e r
     one false rest e r = r
 
--- so of the starts from one place up to another
+-- so it has at the starts from one place up to another
 pub map_within_same : (types : LineEndTypes) (text : List ℕ) (f : ℕ → ℕ) (y from to : ℕ) → ((k : ℕ) → from ≤ k → k < to → f k ≡ y) → map f (starts_within types text from to) ≡ replicate (length (starts_within types text from to)) y
 map_within_same types text f y from to h = map_passing_same (is_line_start types text) f y from (to - from) (λ k a b. h k a (omega arith))
 
@@ -181,7 +181,7 @@ next_is text next b found =
           ap (next_of text) none ∙ end
     ]
 
--- so one line's number is known
+-- so the number of one line is known
 pub inside_on : (text : List ℕ) (start next count : ℕ) → is_line_start Default text start ≡ true → start < next → next ≤ length text + 1 → ((k : ℕ) → start < k → k < next → is_line_start Default text k ≡ false)
     → (next < length text + 1 → is_line_start Default text next ≡ true) → count ≡ length (starts_within Unicode text (start + 1) next)
     → lines_inside text (starts_within Default text start (length text + 1)) ≡ count ∷ lines_inside text (starts_within Default text next (length text + 1))
@@ -190,7 +190,7 @@ inside_on text start next count here a b none found e =
     ∙ ap (λ n. length (starts_within Unicode text (start + 1) n) ∷ lines_inside text (starts_within Default text next (length text + 1))) (next_is text next b found)
     ∙ ap (λ c. c ∷ lines_inside text (starts_within Default text next (length text + 1))) (sym e)
 
--- one more start is met that is none where fewer line ends count
+-- one more start that does not count in the smaller setting
 pub one_more_inside : (text : List ℕ) (start place next : ℕ) → start < place → is_line_start Default text place ≡ false → ((k : ℕ) → start < k → k < place → is_line_start Default text k ≡ false) → ((k : ℕ) → place + 1 ≤ k → k < next → is_line_start Unicode text k ≡ false)
     → (k : ℕ) → start < k → k < next → is_line_start Default text k ≡ false
 one_more_inside text start place next a here front behind k l m =
@@ -200,7 +200,7 @@ one_more_inside text start place next a here front behind k l m =
       | inr (inr above) ↦ none_starts text k (behind k (omega arith) m)
     ]
 
--- where all starts but the first are gone, the first is left
+-- if all starts but the first are removed, the first is left
 pub only_first : (types : LineEndTypes) (text : List ℕ) → take 1 (line_starts types text) ++ drop (length (line_starts types text)) (line_starts types text) ≡ 0 ∷ []
 only_first types text = alone (line_starts types text) (some_line types text) (first_line_start types text)
   where
@@ -212,7 +212,7 @@ only_first types text = alone (line_starts types text) (some_line types text) (f
     alone [] h e = absurd (omega arith)
     alone (x ∷ xs) h e = rw (e, gone xs) refl
 
--- All starts but the first are gone, and those of the text go in: behind 0, up to the end.
+-- All starts but the first are removed, and those of the text are to be inserted: behind 0, up to the end.
 pub only_first_free : (types : LineEndTypes) (text : List ℕ) (to : ℕ) → to ≡ length text + 1 → IsFree (take 1 (line_starts types text) ++ drop (length (line_starts types text)) (line_starts types text)) (length text) 1 to 1
 only_first_free types text to e =
     rw (only_first types text) record {
@@ -224,7 +224,7 @@ only_first_free types text to e =
       to_end = omega arith;
     }
 
--- with these, the text has all of its starts by the other setting
+-- with these, the text has all of its starts under the other setting
 pub first_and_others : (old new : LineEndTypes) (text : List ℕ) (to : ℕ) → to ≡ length text + 1
     → take 1 (take 1 (line_starts old text) ++ drop (length (line_starts old text)) (line_starts old text)) ++ starts_near new text 0 1 to ++ drop 1 (take 1 (line_starts old text) ++ drop (length (line_starts old text)) (line_starts old text))
     ≡ line_starts new text
@@ -236,7 +236,7 @@ first_and_others old new text to e =
     ∙ ap (starts_within new text 1) e)
     ∙ sym (all_within new text ∙ starts_apart new text 0 1 (length text + 1) (omega arith) (omega arith) ∙ ap (λ l. l ++ starts_within new text 1 (length text + 1)) (one_start new text 0 refl)))
 
--- and there is room for them
+-- there is room for these starts
 pub others_fit : (old new : LineEndTypes) (text : List ℕ) (to room left : ℕ) → to ≡ length text + 1 → line_count new text ≤ line_count old text + room → left ≡ room + (line_count old text - 1) → length (starts_near new text 0 1 to) ≤ left
 others_fit old new text to room left e h r =
     let all = ap length (first_and_others old new text to e) in
@@ -244,7 +244,7 @@ others_fit old new text to room left e h r =
     let front : List ℕ = take 1 (line_starts old text) ++ drop (length (line_starts old text)) (line_starts old text) in
     omega (arith, all, one, length-append (take 1 front ++ starts_near new text 0 1 to) (drop 1 front), length-append (take 1 front) (starts_near new text 0 1 to), length-take-le 1 front (omega arith), some_line old text)
 
--- So they can be put in where the index was that of the text, ..
+-- So they can be inserted if the index was that of the text.
 pub can_set :
     (old new : LineEndTypes) (text starts : List ℕ) (count to room : ℕ) (now : Partitions) → starts ≡ line_starts old text → count ≡ length starts → to ≡ length text + 1 → now.starts ≡ take 1 starts ++ drop count starts → now.length ≡ length text
     → now.room ≡ room + (count - 1) → line_count new text ≤ length starts + room → CanAdd new text 0 1 to 1 now
@@ -257,7 +257,7 @@ can_set old new text starts count to room now s c e cut long left fits =
       room = others_fit old new text to room now.room e (omega arith) (omega arith);
     }
 
--- .. and are then all of its starts
+-- They are then all starts of the text.
 pub all_set :
     (old new : LineEndTypes) (text starts : List ℕ) (count to : ℕ) (now later : List ℕ) → starts ≡ line_starts old text → count ≡ length starts → to ≡ length text + 1 → now ≡ take 1 starts ++ drop count starts
     → later ≡ take 1 now ++ starts_near new text 0 1 to ++ drop 1 now → later ≡ line_starts new text
@@ -266,7 +266,7 @@ all_set old new text starts count to now later s c e cut added =
     let first : now ≡ take 1 (line_starts old text) ++ drop (length (line_starts old text)) (line_starts old text) = cut ∙ rw (s, counted) refl in
     added ∙ rw first (first_and_others old new text to e)
 
--- no edits are none of one line, ..
+-- no edits for one line are no edits at all
 pub no_middle : (types : LineEndTypes) (line count : ℕ) (done : List LineEdit) (rest : List ℕ) → done ++ all_inside_edits types line (count ∷ rest) ≡ [] → inside_edits types line count ≡ []
 no_middle types line count (e ∷ done) rest none = absurd (omega (arith, ap length none))
 no_middle types line count [] rest none = front (inside_edits types line count) (all_inside_edits types (line_past types line count) rest) none
@@ -275,7 +275,7 @@ no_middle types line count [] rest none = front (inside_edits types line count) 
     front [] xs e = refl
     front (y ∷ ys) xs e = absurd (omega (arith, ap length e))
 
--- .. and afterwards a line's number is at most its start, as it was
+-- afterwards a line's number is at most its start, as before
 pub past_low : (types : LineEndTypes) (line count past start next : ℕ) → past ≡ line_past types line count → line ≤ start → count < next - start → start < next → past ≤ next
 past_low Default line count past start next e a b d = omega arith
 past_low Unicode line count past start next e a b d = omega arith

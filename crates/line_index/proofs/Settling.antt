@@ -1,4 +1,4 @@
--- What the edits that settle old lines on a new one make of a list with an item for each line.
+-- The effect of the edits that move old lines to a new one, on a list with an item for each line.
 use Rattle.std.proofs.Common.{◌≡◌, ℕ, zero, suc, ◌+◌, ◌-◌, ◌<◌, ◌≤◌, List, [], ◌∷◌, ◌++◌, length, drop, replicate, refl, sym, ap, ◌∙◌, arith, append_assoc, length-append}
 use Rattle.std.proofs.lemmas.Bool.{ne_eqb, le-ltb, lt-ltb}
 use Rattle.std.proofs.lemmas.List.{take_at, drop_at, replicate_more}
@@ -27,7 +27,7 @@ pub came_is : {R : Type 0} (t : List R → R) (done rest : List R) (line count :
 came_is t done rest line zero d = refl
 came_is t done rest line (suc n) d = rw (ne_eqb (suc n) 0 (λ e. omega arith), take_at done rest line d, drop_at done rest line d) refl
 
--- a line behind those that are settled
+-- a new line behind those that are done
 pub settled_is : {R : Type 0} (t : List R → R) → JoinsRows t → (done zs rest : List R) (next line : ℕ) → length done ≡ next → next ≤ line → after_edits t (settled next line (length zs)) (done ++ (zs ++ rest)) ≡ done ++ ((replicate (line - next) (t []) ++ t zs ∷ []) ++ rest)
 settled_is t j done [] rest next line d h =
     let more : line + 1 - next ≡ line - next + 1 = omega arith in
@@ -41,10 +41,10 @@ settled_is {R} t j done (y ∷ ys) rest next line d h =
     ∙ came_is t done (t (y ∷ ys) ∷ rest) next (line - next) d
     ∙ ap (λ l. done ++ l) (sym (append_assoc (replicate (line - next) (t [])) (t (y ∷ ys) ∷ []) rest)))
 
--- one of those that are settled
+-- a new line that is done already
 pub joined_to_last : {R : Type 0} (t : List R → R) → JoinsRows t → (done : List R) (z : R) (zs rest : List R) (next line : ℕ) → length done ≡ line → line < next → after_edits t (settled next line (length zs)) (done ++ ((z ∷ zs) ++ rest)) ≡ done ++ (t (z ∷ zs) ∷ rest)
 joined_to_last t j done z zs rest next line d h = rw (lt-ltb line next h) (joined_is t j done z zs rest line d)
 
--- none come to one of those
+-- no old line moves to a line that is done
 pub none_joined : {R : Type 0} (t : List R → R) (rows : List R) (next line : ℕ) → line < next → after_edits t (settled next line 0) rows ≡ rows
 none_joined t rows next line h = rw (lt-ltb line next h) refl

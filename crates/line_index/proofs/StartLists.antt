@@ -1,4 +1,4 @@
--- Lists of line starts: one is taken away, and those between places are cut apart.
+-- Lists of line starts: removing one, and splitting those between places.
 use Rattle.std.proofs.Common.{◌≡◌, ℕ, zero, suc, ◌+◌, ◌-◌, ◌<◌, ◌≤◌, Bool, true, false, cond, List, [], ◌∷◌, ◌++◌, length, get_or, take, drop, filter, remove, refl, sym, ap, ◌∙◌, arith, add-one, le_refl}
 use Rattle.std.specs.List.{range_with_len}
 use Rattle.std.proofs.lemmas.List.{length-take-le}
@@ -14,7 +14,7 @@ drop_suc zero xs = refl
 drop_suc (suc line) [] = refl
 drop_suc (suc line) (x ∷ xs) = drop_suc line xs
 
--- one more start is taken away
+-- one more start is removed
 pub removed_next : (xs : List ℕ) (first line : ℕ) → first ≤ line → line < length xs → remove (take first xs ++ drop line xs) first ≡ take first xs ++ drop (line + 1) xs
 removed_next xs first line h l =
     let size : length (take first xs) ≡ first = length-take-le first xs (omega arith) in
@@ -38,7 +38,7 @@ pub starts_lie : (types : LineEndTypes) (text : List ℕ) (from to k : ℕ) → 
 starts_lie types text from to k o h =
     let lie = passing_lie (is_line_start types text) from (to - from) k h in (lie.0, omega (arith, lie.1))
 
--- line starts between places, cut in two
+-- line starts between places, split in two
 pub starts_apart : (types : LineEndTypes) (text : List ℕ) (from mid to : ℕ) → from ≤ mid → mid ≤ to → starts_within types text from to ≡ starts_within types text from mid ++ starts_within types text mid to
 starts_apart types text from mid to a b =
     let test : ℕ → Bool = is_line_start types text in
@@ -63,7 +63,7 @@ one_more types text from place next a b here none =
     (starts_apart types text place (place + 1) next (omega arith) (omega arith)
     ∙ rw (one_start types text place here, no_starts types text (place + 1) next none) refl)
 
--- The same of starts that are told by the bytes near them.
+-- The same for starts that the bytes near them determine.
 
 pub near_lie : (types : LineEndTypes) (near : List ℕ) (base from to k : ℕ) → from ≤ to → k < length (starts_near types near base from to) → (from ≤ get_or (starts_near types near base from to) k 0) × (get_or (starts_near types near base from to) k 0 < to)
 near_lie types near base from to k o h =
@@ -84,7 +84,7 @@ one_near types near base place e =
     let one : place + 1 - place ≡ 1 = omega arith in
     rw (one, e) refl
 
--- they are those of the text, where the same four bytes stand about each place
+-- they are those of the text, if the same four bytes stand around each place
 pub near_is_within : (types : LineEndTypes) (near text : List ℕ) (base from to : ℕ) → ((k : ℕ) → from ≤ k → k < to → is_line_start types near (k - base) ≡ is_line_start types text k) → starts_near types near base from to ≡ starts_within types text from to
 near_is_within types near text base from to same =
     filter_range_agree (is_line_start types text) (λ place. is_line_start types near (place - base)) from (to - from) (λ k a b. sym (same k a (omega arith)))

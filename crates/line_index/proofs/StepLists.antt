@@ -1,5 +1,5 @@
--- Line starts about a step: which stay, which are taken away, and that the ones found in the new text are those that were
--- missing.
+-- Line starts around a step: which of them stay, which are removed, and why the ones found in the new text are exactly
+-- the missing ones.
 use Rattle.std.proofs.Common.{◌≡◌, ℕ, zero, suc, ◌+◌, ◌-◌, ◌<◌, ◌≤◌, min, max, List, [], ◌∷◌, ◌++◌, length, get_or, take, drop, slice_range, map, filter, count_by, leb, ltb, Bool, refl, sym, ap, subst, ◌∙◌, inl, inr, arith, append_assoc, length-append, length-drop, append-nil}
 use Rattle.std.specs.List.{range_with_len}
 use Rattle.std.proofs.lemmas.Bool.{cases_lt, cases_eq, le-leb, le-ltb}
@@ -46,7 +46,7 @@ rest_of (suc i) (x ∷ xs) ys h = rest_of i xs ys (omega arith)
 pub moved_behind : (f : ℕ → ℕ) (i n : ℕ) (xs ys : List ℕ) → n ≡ i → i ≤ length xs → map_from f n (take i xs ++ ys) ≡ take i xs ++ map f ys
 moved_behind f i n xs ys e h = rw (e, front_of i xs ys h, rest_of i xs ys h) refl
 
--- .. and others are put in between
+-- others are inserted between
 pub put_between : (i : ℕ) (xs mid ys : List ℕ) → i ≤ length xs → take i (take i xs ++ ys) ++ mid ++ drop i (take i xs ++ ys) ≡ take i xs ++ mid ++ ys
 put_between i xs mid ys h = rw (front_of i xs ys h, rest_of i xs ys h) refl
 
@@ -54,7 +54,7 @@ map_same : (xs : List ℕ) → map (λ s. s) xs ≡ xs
 map_same [] = refl
 map_same (x ∷ xs) = ap (λ l. x ∷ l) (map_same xs)
 
--- as many numbers pass, where each passes as the one of the other list does
+-- as many numbers pass, if each passes exactly if that of the other list does
 counts_agree : (xs ys : List ℕ) (r t : ℕ → Bool) → length xs ≡ length ys → ((k : ℕ) → k < length xs → r (get_or xs k 0) ≡ t (get_or ys k 0)) → count_by r xs ≡ count_by t ys
 counts_agree [] [] r t e same = refl
 counts_agree [] (y ∷ ys) r t e same = absurd (omega arith)
@@ -63,8 +63,8 @@ counts_agree (x ∷ xs) (y ∷ ys) r t e same =
     let first : r x ≡ t y = same 0 (omega arith) in
     rw (count-cons r x xs, count-cons t y ys, first, counts_agree xs ys r t (omega arith) (λ k l. same (suc k) (omega arith))) refl
 
--- About a step that ends at e, in the old text: i is the line behind that of the byte before the step, and j the line behind
--- that of a place q at its end or behind it, up to which line starts may hang on what the step did.
+-- Around a step that ends at e, in the old text: i is the line behind that of the byte before the step, and j the line
+-- behind that of a place q at its end or behind it. No line start behind q depends on the step.
 module _ (types : LineEndTypes) (text : List ℕ) (p e q i j : ℕ) (o : p ≤ e) (past : e ≤ q)
     (a : i ≡ line_of (line_starts types text) (p - 1) + 1) (b : j ≡ line_of (line_starts types text) q + 1) where
   abbrev starts : List ℕ
@@ -111,7 +111,7 @@ module _ (types : LineEndTypes) (text : List ℕ) (p e q i j : ℕ) (o : p ≤ e
         to_end = g;
       }
 
-  -- something stays of the partition in which the step is, whatever is taken out up to e
+  -- something stays of the partition of the step, however much is deleted up to e
   loses : (count end : ℕ) → p + count ≡ e → e ≤ end → CanLose (take i starts ++ drop j starts) end (i - 1) count
   loses count end c d =
       let same : ℕ → ℕ = λ s. s in
@@ -130,7 +130,7 @@ module _ (types : LineEndTypes) (text : List ℕ) (p e q i j : ℕ) (o : p ≤ e
         before_end = omega (arith, here);
       }
 
-  -- where none is taken away, a place behind the step is on the line on which it was, if the starts move as it does
+  -- if none is removed, a place behind the step stays on its line, provided the starts move as it does
   stays : (f : ℕ → ℕ) (x x' : ℕ) → i ≡ j → p ≤ x → p ≤ x' → ((s : ℕ) → q < s → leb (f s) x' ≡ leb s x) → line_of (kept f) x' ≡ line_of starts x
   stays f x x' same g h moves =
       let size : length (kept f) ≡ length starts = omega (arith, length-append (take i starts) (map f (drop j starts)), length-map (drop j starts) f, length-drop j starts, front_size, range) in
@@ -183,8 +183,8 @@ front_starts types step text new i from a c =
           rw (starts_before_first types p text, lines_before_some types step text i a (omega arith), same, no_starts types new p p (λ k l m. absurd (omega arith))) (append-nil (take i starts))
     ]
 
--- Where the law of the step says that the new starts are those before it, those about it and the moved ones behind it, they are the
--- starts that were kept, with the ones that were found between them.
+-- By the law of the step, the new starts are those before it, those around it and the moved ones behind it. So they are
+-- the starts that were kept, with the found ones between them.
 pub found_all :
     (types : LineEndTypes) (step : Step) (text new mid : List ℕ) (f : ℕ → ℕ) (n i j from to : ℕ)
     → line_starts types new ≡ starts_before (place_of step) (line_starts types text) ++ mid ++ map f (starts_from (end_of step + 3) (line_starts types text))
@@ -204,7 +204,7 @@ found_all types step text new mid f n i j from to law about a b c d g =
     starts_from_others types (end_of step + 3) text ∙ ap (λ k. drop k starts) (first_line_behind_is types step text ∙ sym b) in
     sym (law ∙ rw (cut, last, ← (append_assoc (starts_before p starts) (starts_within types new p from) (starts_within types new from to)), front_starts types step text new i from a c) refl)
 
--- The same for a list that is that of the old text's line starts.
+-- The same for a list that equals the old text's line starts.
 
 pub range_about :
     (types : LineEndTypes) (text starts : List ℕ) (p e q i j : ℕ) → starts ≡ line_starts types text → p ≤ e → e ≤ q
@@ -232,13 +232,13 @@ pub counted_about : (f : ℕ → ℕ) (starts found new : List ℕ) (i j : ℕ) 
 counted_about f starts found new i j a b e =
     omega (arith, ap length e, length-append (take i starts ++ found) (map f (drop j starts)), length-append (take i starts) found, length-map (drop j starts) f, length-drop j starts, length-take-le i starts (omega arith))
 
--- what was found takes no more room than the lines of the new text
+-- the found starts need no more room than the lines of the new text
 pub fits_about :
     (f : ℕ → ℕ) (starts found new : List ℕ) (i j room : ℕ) → i ≤ j → j ≤ length starts → take i starts ++ found ++ map f (drop j starts) ≡ new
     → length new ≤ length starts + room → length found ≤ room + (j - i)
 fits_about f starts found new i j room a b e h = omega (arith, counted_about f starts found new i j a b e)
 
--- .. and what is left of the room is as much less
+-- the remaining room is smaller by as much
 pub left_about :
     (f : ℕ → ℕ) (starts found new : List ℕ) (i j room left : ℕ) → i ≤ j → j ≤ length starts → take i starts ++ found ++ map f (drop j starts) ≡ new
     → left + length found ≡ room + (j - i) → left + length new ≡ room + length starts
@@ -256,7 +256,7 @@ pub record Insertion (place count : ℕ) (text : List ℕ) (i : Index) : Type 0 
 pub insertion_is : (place count : ℕ) (near old bytes : List ℕ) (i : Index) → IsInsertion place count near old bytes i → Insertion place count (edited (Insert place bytes) old) i
 insertion_is place count near old bytes i w = record { old = old; bytes = bytes; counted = w.counted; within = w.within; index = w.index; edited = refl }
 
--- the new starts, where the index was that of a text to which bytes came
+-- the new starts, if the index was that of a text into which bytes were inserted
 module _ (types : LineEndTypes) (place count end room : ℕ) (text starts : List ℕ) (w : Insertion place count text (index types starts end room)) where
   pub longer : length text ≡ end + count
   longer = omega (arith, ap length w.edited, length-inserted place w.bytes w.old, w.counted, w.index.length)
@@ -283,7 +283,7 @@ module _ (types : LineEndTypes) (place count end room : ℕ) (text starts : List
       (found_all types (Insert place w.bytes) w.old text (starts_about types place place w.bytes w.old) (λ s. s + count) count i j from to law_in about_in
       (rw w.index.starts at a) (rw w.index.starts at b) c d (omega (arith, longer, w.within, w.index.length)))
 
--- A deletion, with the bytes that went.
+-- A deletion, with the deleted bytes.
 pub record Deletion (place count : ℕ) (text : List ℕ) (i : Index) : Type 0 where
   pub old : List ℕ
   pub bytes : List ℕ
@@ -299,7 +299,7 @@ deletion_is place count near old i w =
     let counted : length bytes ≡ count = omega (arith, w.within) in
     record { old = old; bytes = bytes; counted = counted; within = w.within; index = w.index; edited = rw counted refl }
 
--- .. and where it was that of a text from which some went
+-- the new starts, if the index was that of a text from which bytes were deleted
 module _ (types : LineEndTypes) (place count end room : ℕ) (text starts : List ℕ) (w : Deletion place count text (index types starts end room)) where
   pub shorter : length text + count ≡ end
   shorter = omega (arith, ap length w.edited, length-deleted_within place w.bytes w.old (omega (arith, w.within, w.counted)), w.counted, w.index.length, w.within)

@@ -31,7 +31,7 @@ stands_behind byte xs ys p i h e l =
 pub stands_nowhere : (byte : ℕ) (xs ys : List ℕ) (p i : ℕ) → length xs ≤ p → i ≡ p - length xs → length ys ≤ i → stands byte (xs ++ ys) p ≡ false
 stands_nowhere byte xs ys p i h e l = ap (is_number byte) (slice_get_past (xs ++ ys) p (omega (arith, length-append xs ys)))
 
--- places that no line end stands in front of
+-- places without a line end before them
 
 no_end_of : (a b u c d e n f g h : Bool) → (a || b || (u && (c || d || e))) ≡ false → (a || (b && n) || (u && ((c && f) || ((d || e) && g && h)))) ≡ false
 no_end_of true b u c d e n f g h none = absurd (true≢false none)
@@ -63,7 +63,7 @@ none_in_quiet : (types : LineEndTypes) (text : List ℕ) (from to : ℕ) → to 
 none_in_quiet types text from to w quiet k a b =
     no_start_behind types text (k - 1) k (omega arith) (omega arith) (quiet (k - 1) (omega arith) (omega arith))
 
--- what stands in a part of one half stands in the text
+-- what stands in a part of the first half stands in the text
 in_first : (types : LineEndTypes) (xs ys : List ℕ) (from to c : ℕ) → c ≤ length (slice_range xs from to) → ((k : ℕ) → k < c → may_end types (get_or (slice_range xs from to) k 0) ≡ false) → Quiet types (xs ++ ys) from (from + c)
 in_first types xs ys from to c l quiet k a b =
     let i : ℕ = k - from in
@@ -78,7 +78,7 @@ in_second types xs ys from to c place p l quiet k a b =
     let w : i < length (slice_range ys from to) = omega arith in
     rw (e, get_or-append-add xs ys (from + i) 0, ← (read_part ys from to i w)) (quiet i (omega arith))
 
--- so no line starts behind the bytes of a part of the first half, ..
+-- no line starts behind the bytes of a part of the first half
 pub none_in_first : (types : LineEndTypes) (xs ys : List ℕ) (from to c : ℕ) → c ≤ length (slice_range xs from to) → ((k : ℕ) → k < c → may_end types (get_or (slice_range xs from to) k 0) ≡ false) → (k : ℕ) → from < k → k < from + c + 1 → is_line_start types (xs ++ ys) k ≡ false
 none_in_first types xs ys from to c l quiet k a b =
     elim (cases_lt 0 c) [
@@ -88,7 +88,7 @@ none_in_first types xs ys from to c l quiet k a b =
       | inr none ↦ absurd (omega arith)
     ]
 
--- .. of the second, ..
+-- no line starts behind the bytes of a part of the second half
 pub none_in_second : (types : LineEndTypes) (xs ys : List ℕ) (from to c place : ℕ) → place ≡ length xs + from → c ≤ length (slice_range ys from to) → ((k : ℕ) → k < c → may_end types (get_or (slice_range ys from to) k 0) ≡ false) → (k : ℕ) → place < k → k < place + c + 1 → is_line_start types (xs ++ ys) k ≡ false
 none_in_second types xs ys from to c place p l quiet k a b =
     elim (cases_lt 0 c) [
@@ -98,7 +98,7 @@ none_in_second types xs ys from to c place p l quiet k a b =
       | inr none ↦ absurd (omega arith)
     ]
 
--- .. and of what is left of the first and a part of the second
+-- no line starts behind the bytes of the rest of the first half and a part of the second
 pub none_across :
     (types : LineEndTypes) (xs ys : List ℕ) (from c to d : ℕ) → from ≤ length xs → c ≤ length (slice_range xs from (length xs)) → length xs ≤ from + c
     → ((k : ℕ) → k < c → may_end types (get_or (slice_range xs from (length xs)) k 0) ≡ false)
@@ -120,14 +120,14 @@ none_on types text from place next front here behind k a b =
       | inr (inr above) ↦ behind k above b
     ]
 
--- marks of bytes of the first half tell where no line starts behind them, ..
+-- marks of bytes of the first half show where no line starts behind them
 pub marked_in_first :
     (types : LineEndTypes) (xs ys : List ℕ) (at place marks : ℕ) → place ≡ at + 1 → at + 64 ≤ length xs
     → ((k : ℕ) → k < 64 → bit_at marks k ≡ 0 → may_end types (get_or xs (at + k) 0) ≡ false) → MarkStarts types (xs ++ ys) place marks
 marked_in_first types xs ys at place marks e l unmarked k b clear =
     no_start_behind types (xs ++ ys) (at + k) (place + k) (omega arith) (omega (arith, length-append xs ys)) (rw (get_or-append xs ys 0 (at + k) (omega arith)) (unmarked k b clear))
 
--- .. and of the second
+-- marks of bytes of the second half do, too
 pub marked_in_second :
     (types : LineEndTypes) (xs ys : List ℕ) (at place marks : ℕ) → place ≡ length xs + at + 1 → at + 64 ≤ length ys
     → ((k : ℕ) → k < 64 → bit_at marks k ≡ 0 → may_end types (get_or ys (at + k) 0) ≡ false) → MarkStarts types (xs ++ ys) place marks

@@ -1,4 +1,4 @@
--- Which line starts hang on a step: where line ends of Unicode do not count, those behind its end only move.
+-- Which line starts depend on a step: if line ends of Unicode do not count, those behind its end only move.
 use Rattle.std.proofs.Common.{◌≡◌, ℕ, ◌+◌, ◌-◌, ◌<◌, ◌≤◌, min, max, List, [], ◌++◌, length, take, drop, slice_get, map, ltb, leb, refl, sym, ap, ◌∙◌, arith, append_assoc, length-append, append-nil}
 use Rattle.std.proofs.lemmas.Bool.{ne_eqb}
 use Rattle.std.proofs.lemmas.Bool.Decides.{nat_tests}
@@ -17,22 +17,22 @@ use Rattle.line_index.specs.Index.{index, last_touched, starts_within}
 use Rattle.line_index.proofs.StartLists.{starts_apart, no_starts}
 use Rattle.line_index.proofs.StepLists.{Insertion, Deletion, found_in, found_out, longer, shorter}
 
--- it lies at the step's end, or up to two bytes behind it
+-- the last such place is the step's end, or up to two bytes behind it
 pub touched_near : (types : LineEndTypes) (end : ℕ) → (end ≤ last_touched types end) × (last_touched types end ≤ end + 2)
 touched_near Default end = (omega arith, omega arith)
 touched_near Unicode end = (omega arith, omega arith)
 
--- .. and moves with that
+-- it moves with the step's end
 pub touched_moves : (types : LineEndTypes) (end count : ℕ) → last_touched types (end + count) ≡ last_touched types end + count
 touched_moves Default end count = refl
 touched_moves Unicode end count = omega arith
 
--- .. and this is its line
+-- its line
 pub last_line_is : (types : LineEndTypes) (starts : List ℕ) (end : ℕ) (near : NearLines) → near ≡ near_lines starts end → last_line types near + 1 ≡ line_of starts (last_touched types end) + 1
 last_line_is Default starts end near e = ap (λ (n : NearLines). n.at + 1) e
 last_line_is Unicode starts end near e = ap (λ (n : NearLines). n.two_behind + 1) e
 
--- as many starts lie in front of a place as there are lines up to that of the place before it
+-- as many starts lie before a place as there are lines up to that of the place before it
 upto : (types : LineEndTypes) (text : List ℕ) (q s : ℕ) → s ≡ q + 1 → count_before s (line_starts types text) ≡ line_of (line_starts types text) q + 1
 upto types text q s e =
     let starts : List ℕ = line_starts types text in
@@ -45,7 +45,7 @@ rest_is types text q s to e a b =
     ap (λ k. drop k (line_starts types text)) (sym (upto types text q s e))
     ∙ sym (starts_from_others types s text) ∙ starts_from_is types text s (to - s) (omega arith)
 
--- .. up to another place, and those of the lines behind that
+-- those up to another place, and those of the lines behind that
 rest_apart :
     (types : LineEndTypes) (text : List ℕ) (q s q' s' : ℕ) → s ≡ q + 1 → s' ≡ q' + 1 → s ≤ s'
     → drop (line_of (line_starts types text) q + 1) (line_starts types text) ≡ starts_within types text s s' ++ drop (line_of (line_starts types text) q' + 1) (line_starts types text)
@@ -55,7 +55,7 @@ rest_apart types text q s q' s' e f a =
     ∙ starts_apart types text s s' to a (omega arith)
     ∙ ap (λ l. starts_within types text s s' ++ l) (sym (rest_is types text q' s' to f (omega arith) (omega arith)))
 
--- whether a line starts at a place is told by two bytes, where line ends of Unicode do not count
+-- whether a line starts at a place depends on two bytes, if line ends of Unicode do not count
 start_by_two : (text other : List ℕ) (p q : ℕ) → 0 < p → 0 < q → slice_get text (p - 1) ≡ slice_get other (q - 1) → slice_get text p ≡ slice_get other q → is_line_start Default text p ≡ is_line_start Default other q
 start_by_two text other p q a b one here = rw (ne_eqb p 0 (λ e. omega arith), ne_eqb q 0 (λ e. omega arith), one, here) refl
 
@@ -119,7 +119,7 @@ module _ (place count end room : ℕ) (text starts : List ℕ) (w : Deletion pla
       start_by_two w.old text (place + count + 1 + k) (place + 1 + k) (omega arith) (omega arith)
       (byte_out k (place + count + 1 + k - 1) (place + 1 + k - 1) (omega arith) (omega arith)) (byte_out (k + 1) (place + count + 1 + k) (place + 1 + k) (omega arith) (omega arith))
 
--- the new starts, of which those at the places that hang on the step are found anew
+-- the new starts, of which those that depend on the step are found again
 pub touched_in :
     (types : LineEndTypes) (place count end room : ℕ) (text starts : List ℕ) (w : Insertion place count text (index types starts end room)) (i j from to : ℕ)
     → i ≡ line_of starts (place - 1) + 1 → j ≡ line_of starts (last_touched types place) + 1 → from ≡ max place 1

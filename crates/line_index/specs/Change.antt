@@ -1,4 +1,4 @@
--- What a step does to lines: which new line each old one comes to.
+-- The effect of a step on lines: to which new line each old one moves.
 use Rattle.std.specs.Prelude.{◌≡◌, ℕ, ◌+◌, ◌-◌, ◌<◌, nat_lt, nat_le, if◌then◌else◌, List, length, slice_index}
 use Rattle.ed_model.specs.declared.plan.LineEndTypes.{LineEndTypes}
 use Rattle.ed_model.specs.declared.plan.LineEndTypes.TheVariants.{Default, Unicode}
@@ -13,25 +13,25 @@ abbrev pub near_lines : List ℕ → ℕ → NearLines
 near_lines starts place =
     record { at = line_of starts place; one_behind = line_of starts (place + 1); two_behind = line_of starts (place + 2) }
 
--- of these lines, that of the last place at which a line start may hang on the step
+-- of these lines, that of the last place whose line start may depend on the step
 abbrev pub last_line : LineEndTypes → NearLines → ℕ
 last_line Default lines = lines.at
 last_line Unicode lines = lines.two_behind
 
--- the lines about a step, before it: how many start in front of its place, and those at the end of what it takes away
+-- the lines around a step, before it: how many start before its place, and those at the end of what it deletes
 abbrev pub lines_about : ℕ → ℕ → List ℕ → LinesAbout
 lines_about place end starts = record { before = count_before place starts; old_lines = near_lines starts end }
 
--- what the step did to lines, told by those and by the new ones at the end of what it put in; the text is now so long
+-- the effect of the step on lines, by those and by the new ones at the end of what it inserted; the text now has this length
 abbrev pub change_since : LinesAbout → ℕ → List ℕ → ℕ → LineChange
 change_since about new_end starts length =
     record { before = about.before; old_lines = about.old_lines; new_lines = near_lines starts new_end; length = length }
 
--- what a step at `place` did, which put text that ends at `new_end` in the place of what ended at `old_end`
+-- the effect of a step at `place` that replaced text up to `old_end` by text up to `new_end`
 abbrev pub change_about : ℕ → ℕ → ℕ → List ℕ → List ℕ → ℕ → LineChange
 change_about place old_end new_end old new length = change_since (lines_about place old_end old) new_end new length
 
--- the new line that an old one comes to
+-- the new line to which an old one moves
 abbrev pub line_after : LineChange → ℕ → ℕ
 line_after change line =
     if nat_lt line change.before then line
@@ -40,11 +40,11 @@ line_after change line =
     else (if nat_le line change.old_lines.two_behind then change.new_lines.two_behind
     else line - change.old_lines.two_behind + change.new_lines.two_behind)))
 
--- an insertion of `count` bytes moves a start at the place, or behind it, on
+-- an insertion of `count` bytes moves each start at the place, or behind it
 abbrev pub moved_on : ℕ → ℕ → ℕ → ℕ
 moved_on place count start = if nat_lt start place then start else start + count
 
--- each old line comes to the new line on which its start, moved, lies
+-- each old line moves to the new line of its start, moved by the step
 abbrev pub MovesLines : (ℕ → ℕ) → List ℕ → List ℕ → LineChange → Type 0
 MovesLines moved old new change =
     (line : ℕ) → line < length old → line_after change line ≡ line_of new (moved (slice_index old line))

@@ -1,4 +1,4 @@
--- Bytes that line ends have.
+-- The bytes of line ends.
 use Rattle.std.specs.Prelude.{ℕ, Bool, ◌==◌, ◌||◌, ◌&&◌}
 use Rattle.ed_model.specs.declared.plan.LineEndTypes.{LineEndTypes}
 use Rattle.ed_model.specs.Lines.{knows_unicode}

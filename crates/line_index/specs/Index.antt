@@ -23,12 +23,12 @@ pub record IsIndexOf (text : List ℕ) (i : Index) : Type 0 where
   pub starts : i.starts ≡ line_starts i.types text
   pub length : i.length ≡ length text
 
--- the bytes of a text about what a step put in, with up to three on each side: all that a step reads
+-- the bytes of a text that a step inserted, with up to three on each side: all that a step reads
 abbrev pub bytes_near : ℕ → ℕ → List ℕ → List ℕ
 bytes_near place count text = slice_range text (place - 3) (place + count + 3)
 
--- The index is that of a text into which so many bytes were put at the place. These bytes are near them now, and there is
--- room for the new lines.
+-- The index is that of a text into which `count` bytes were inserted at the place. `near` are now the bytes around
+-- them, and there is room for the new lines.
 pub record IsInsertion (place count : ℕ) (near old bytes : List ℕ) (i : Index) : Type 0 where
   pub counted : length bytes ≡ count
   pub within : place ≤ length old
@@ -42,8 +42,8 @@ pub record WasInserted (place count : ℕ) (near : List ℕ) (i : Index) : Type 
   pub bytes : List ℕ
   pub is : IsInsertion place count near old bytes i
 
--- The index is that of a text from which so many bytes were deleted from the place on. These bytes are near it now, and
--- there is room for the new lines.
+-- The index is that of a text from which `count` bytes were deleted from the place on. `near` are now the bytes around
+-- it, and there is room for the new lines.
 pub record IsDeletion (place count : ℕ) (near old : List ℕ) (i : Index) : Type 0 where
   pub within : place + count ≤ length old
   pub index : IsIndexOf old i
@@ -59,12 +59,12 @@ pub record WasDeleted (place count : ℕ) (near : List ℕ) (i : Index) : Type 0
 abbrev pub starts_within : LineEndTypes → List ℕ → ℕ → ℕ → List ℕ
 starts_within types text from to = filter (is_line_start types text) (range_with_len from (to - from))
 
--- the same, told by the bytes near those places alone, of which the first stands at `base`
+-- the same places, by the bytes around them alone, of which the first stands at `base`
 abbrev pub starts_near : LineEndTypes → List ℕ → ℕ → ℕ → ℕ → List ℕ
 starts_near types near base from to = filter (λ place. is_line_start types near (place - base)) (range_with_len from (to - from))
 
--- the start of line `at` is the first that can lie from `from` up to `to`, and none does: the starts in front are below
--- `from`, the others at `to` or behind it
+-- the start of line `at` is the first that can lie from `from` up to `to`, and none does: the starts before it are
+-- below `from`, the others at `to` or behind it
 pub record IsFree (starts : List ℕ) (end from to at : ℕ) : Type 0 where
   pub not_first : 0 < at
   pub within : at ≤ length starts
@@ -73,25 +73,25 @@ pub record IsFree (starts : List ℕ) (end from to at : ℕ) : Type 0 where
   pub order : from ≤ to
   pub to_end : to ≤ end + 1
 
--- the line starts from one place up to another can be put in before line `at`: none is there yet, and there is room for
+-- the line starts from `from` up to `to` can be inserted before line `at`: none is there yet, and there is room for
 -- them
 pub record CanAdd (types : LineEndTypes) (near : List ℕ) (base from to at : ℕ) (was : Partitions) : Type 0 where
   pub free : IsFree was.starts was.length from to at
   pub room : length (starts_near types near base from to) ≤ was.room
 
--- they were put in there, and `next` is the line behind them
+-- they were inserted there, and `next` is the line behind them
 pub record WereAdded (types : LineEndTypes) (near : List ℕ) (base from to at next : ℕ) (was now : Partitions) : Type 0 where
   pub starts : now.starts ≡ take at was.starts ++ starts_near types near base from to ++ drop at was.starts
   pub end : now.length ≡ was.length
   pub room : now.room + length (starts_near types near base from to) ≡ was.room
   pub line : next ≡ at + length (starts_near types near base from to)
 
--- of the 64 places from one on, a line can start at those alone whose bit is set
+-- of the 64 places from this one on, only those whose bit is set can be line starts
 abbrev pub MarkStarts : LineEndTypes → List ℕ → ℕ → ℕ → Type 0
 MarkStarts types text place marks = (k : ℕ) → k < 64 → bit_at marks k ≡ 0 → is_line_start types text (place + k) ≡ false
 
--- The last place at which a line start may hang on a step that ends at `end`: whether one stands at a place is told by the byte
--- in front of it and the one behind it, and where line ends of Unicode count, by three in front.
+-- The last place whose line start may depend on a step that ends at `end`. Whether a line starts at a place depends on
+-- the byte before it and the one behind it, and if line ends of Unicode count, on the three before it.
 abbrev pub last_touched : LineEndTypes → ℕ → ℕ
 last_touched Default end = end
 last_touched Unicode end = end + 2

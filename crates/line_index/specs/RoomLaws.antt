@@ -1,14 +1,14 @@
--- How many lines a step adds at most, for which room has to be there.
+-- How many lines a step adds at most. It requires room for them.
 use Rattle.std.specs.Prelude.{ℕ, ◌+◌, ◌≤◌, List, ◌++◌, length, take, drop}
 use Rattle.ed_model.specs.declared.plan.LineEndTypes.{LineEndTypes}
 use Rattle.ed_model.specs.Lines.{line_count}
 use Rattle.ed_model.specs.Steps.{Step, Insert, Delete, edited}
 
--- an insertion: as many lines as the bytes have by themselves and five, as ends may come about on either side
+-- an insertion: as many lines as the bytes have on their own and five, since line ends may form on either side
 abbrev pub lines_for_insertion : LineEndTypes → List ℕ → ℕ
 lines_for_insertion types bytes = line_count types bytes + 5
 
--- a deletion: three, as an end may come about of what it brings together
+-- a deletion: three, since a line end may form of the bytes that it brings together
 abbrev pub lines_for_deletion : ℕ
 lines_for_deletion = 3
 
@@ -16,7 +16,7 @@ abbrev pub lines_for_step : LineEndTypes → Step → ℕ
 lines_for_step types (Insert place bytes) = lines_for_insertion types bytes
 lines_for_step types (Delete place bytes) = lines_for_deletion
 
--- they add no more
+-- steps add no more lines than that
 abbrev pub InsertionAddsFewLines : Type 0
 InsertionAddsFewLines =
     (types : LineEndTypes) (place : ℕ) (bytes text : List ℕ) → place ≤ length text

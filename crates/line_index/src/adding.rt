@@ -1,4 +1,4 @@
-//! Line starts of a text, put in among the partitions: those at one place, and those among 64.
+//! Insertion of line starts among the partitions: one at a given place, and those among 64 places.
 
 ghost use Rattle.std.specs.Prelude.{◌≡◌, ℕ, ◌+◌, ◌-◌, ◌≤◌, ◌<◌, ◌++◌, false, length, IfSome};
 ghost use Rattle.ed_model.specs.Lines.{is_line_start};
@@ -9,7 +9,7 @@ use crate::marks::{lowest, marks, without};
 use ed_model::LineEndTypes;
 use partitioning::{Partitioning, Place};
 
-/// Marks of the 64 places from `place` on, where they lie up to `to` and the bytes in front of them in one half.
+/// Returns marks of the 64 places from `place` on, if they lie up to `to` and the bytes before them in one half.
 #[inline(always)]
 pub(crate) fn marks_near(
     types: LineEndTypes,
@@ -35,8 +35,8 @@ pub(crate) fn marks_near(
     Some(marks(types, before, front))
 }
 
-/// The place behind the 64 that were marked, from `place` on, or where no mark was set, the first behind them where a line
-/// starts, up to `to`: a line end far away is searched for.
+/// Returns the place behind the 64 that were marked from `place` on. If no mark was set, returns the first place behind
+/// them up to `to` where a line starts: a line end far away is searched for.
 pub(crate) fn place_behind(
     types: LineEndTypes,
     before: &[u8],
@@ -56,7 +56,7 @@ pub(crate) fn place_behind(
     }
 }
 
-/// Puts the start of a line at `place` in before line `first`, if one starts there, and returns the line behind it. The
+/// Inserts a line start at `place` before line `first`, if a line starts there, and returns the line behind it. The
 /// first byte of `before` stands at `base`.
 pub(crate) fn add_at<P: Place>(
     starts: &mut Partitioning<P>,
@@ -70,7 +70,7 @@ pub(crate) fn add_at<P: Place>(
     requires { (base ≤ place) × CanAdd types (before.now ++ after.now) base place (place + 1) first starts.old }
     ensures { WereAdded types (before.now ++ after.now) base place (place + 1) first result starts.old starts.new }
 {
-    let _ = starts.count(); // it says that the number of lines is small
+    let _ = starts.count(); // brings the fact that the number of lines is small
     if starts_at(types, before, after, place - base) {
         starts.insert_reserved(first, place);
         return first + 1;
@@ -78,8 +78,8 @@ pub(crate) fn add_at<P: Place>(
     first
 }
 
-/// Puts the line starts among the 64 places from `place` on in before line `first`, and returns the line behind them. The
-/// first byte of `before` stands at `base`.
+/// Inserts the line starts among the 64 places from `place` on before line `first`, and returns the line behind them.
+/// The first byte of `before` stands at `base`.
 pub(crate) fn add_marked<P: Place>(
     starts: &mut Partitioning<P>,
     types: LineEndTypes,
@@ -95,7 +95,7 @@ pub(crate) fn add_marked<P: Place>(
     requires base { base ≤ place }
     ensures { WereAdded types (before.now ++ after.now) base place (place + 64) first result starts.old starts.new }
 {
-    let _ = starts.length(); // it says that the text is not too long
+    let _ = starts.length(); // brings the fact that the text is not too long
     let mut line = first;
     let mut left = marks;
     'adding: while left != 0 {

@@ -1,9 +1,9 @@
-//! What a step does to lines, for what is kept of each line.
+//! The effect of a step on lines, for everything that is kept of each line.
 
 ghost use Rattle.std.specs.Prelude.{◌≡◌, ◌<◌, ◌^◌, ◌-◌, ◌+◌};
 ghost use Rattle.line_index.specs.Change.{line_after};
 
-/// The lines of a place and of the two places behind it.
+/// The lines of a place and of the two places behind it, counted from 0.
 #[derive(Clone, Copy, Debug, PartialEq, Eq)]
 pub struct NearLines {
     /// The line of the place.
@@ -14,35 +14,35 @@ pub struct NearLines {
     pub two_behind: usize,
 }
 
-/// What is looked up of lines before a step.
+/// What is looked up before a step.
 #[derive(Clone, Copy, Debug, PartialEq, Eq)]
 pub struct LinesAbout {
-    /// How many lines start in front of the step.
+    /// How many lines start before the step.
     pub before: usize,
-    /// The lines at the end of what the step takes away, which for an insertion is its place.
+    /// The lines at the end of what the step deletes; of an insertion, at its place.
     pub old_lines: NearLines,
 }
 
-/// Which new line each old one comes to, after a step.
+/// The effect of a step on lines: the new line to which each old line moves.
 ///
-/// Old lines from `before - 1` up to `old_lines.two_behind` are those about the step, and new lines up to
-/// `new_lines.two_behind` stand in their place. The others are as they were.
+/// The lines around the step are the old ones from `before - 1` up to `old_lines.two_behind`. The new lines up to
+/// `new_lines.two_behind` replace them. All other lines stay as they are.
 #[derive(Clone, Copy, Debug, PartialEq, Eq)]
 pub struct LineChange {
-    /// How many old lines start in front of the step. They keep their numbers.
+    /// How many old lines start before the step. They keep their numbers.
     pub before: usize,
-    /// The old lines at the end of what the step took away, which for an insertion is its place.
+    /// The old lines at the end of what the step deleted; of an insertion, at its place.
     pub old_lines: NearLines,
-    /// The new lines at the end of what the step put in, which for a deletion is its place.
+    /// The new lines at the end of what the step inserted; of a deletion, at its place.
     pub new_lines: NearLines,
-    /// How long the text is now, in bytes. Where none is left, what was kept of lines is gone, and the one line is fresh.
+    /// The length of the text after the step, in bytes. If it is 0, all rows of lines are dropped, and the one line is fresh.
     pub length: usize,
 }
 
 impl LineChange {
-    /// The new line that an old line comes to: the one on which its start lies, moved by the step. Old lines that come
-    /// to one new line are joined there, and a new line to which none comes is fresh. The sum of `line` and
-    /// `new_lines.two_behind` must be a `usize`, as it is of lines.
+    /// Returns the new line to which the old line `line` moves: the line of its start, moved by the step. Old lines
+    /// that move to the same new line are joined there, and a new line to which none moves is fresh. The sum of `line`
+    /// and `new_lines.two_behind` must be a `usize`, which it is for lines of an index.
     pub fn line_after(&self, line: usize) -> usize
         requires { line + self.now.new_lines.two_behind < 2 ^ 64 }
         ensures { result ≡ line_after self.now line }

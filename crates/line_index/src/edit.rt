@@ -1,12 +1,12 @@
-//! What becomes of lines, for what is kept of each: a row of markers, a flag, a start among those shown.
+//! Edits of lines, for what is kept of each: a row of markers, a flag, a start among the visible lines.
 
-/// One thing that becomes of lines, counted from 0.
+/// One edit of the lines, which are counted from 0.
 #[derive(Clone, Copy, Debug, PartialEq, Eq)]
 pub enum LineEdit {
-    /// `count` fresh lines come before line `line`, or behind the last one.
+    /// Inserts `count` fresh lines before line `line`, or behind the last one.
     Come { line: usize, count: usize },
-    /// The `count` lines behind line `line` are joined to it.
+    /// Joins the `count` lines behind line `line` to it.
     Join { line: usize, count: usize },
-    /// No text is left: all lines go, and one fresh line comes.
+    /// No text is left: removes all lines, and inserts one fresh line.
     Restart,
 }

@@ -1,4 +1,4 @@
-//! What a step does to lines, as edits: a short list, for which no memory is taken.
+//! The effect of a step on lines, as a short list of edits that needs no allocation.
 
 ghost use Rattle.std.specs.Prelude.{◌≡◌, ◌+◌, ◌-◌, ◌^◌, ◌≤◌, ◌<◌, ◌∷◌, ◌++◌, [], true, length};
 ghost use Rattle.line_index.specs.StepEdits.{SmallLines, came, edits_of, follows, joined, leaves_lines, last_at, last_one_behind, settled};
@@ -7,7 +7,7 @@ use crate::change::{LineChange, NearLines};
 use crate::edit::LineEdit;
 use std::marker::Model;
 
-// How many edits there are at most: two for each of three places.
+// The most edits of a step: two for each of three places.
 const MOST: usize = 6;
 
 // A few edits, in the order in which they are made.
@@ -29,7 +29,7 @@ impl Model for FewEdits {
 }
 
 impl FewEdits {
-    // No edits. What stands in the place of edits is all zeros, which is soon written.
+    // Returns no edits. Unused places are all zeros, which is fast to write.
     #[inline(always)]
     fn none() -> Self
         ensures { result ≡ [] }
@@ -40,7 +40,7 @@ impl FewEdits {
         }
     }
 
-    // Appends one.
+    // Appends an edit.
     fn push(&mut self, edit: LineEdit)
         requires { length self.old < 6 }
         ensures { self.new ≡ self.old ++ edit ∷ [] }
@@ -49,7 +49,7 @@ impl FewEdits {
         self.count += 1;
     }
 
-    // The edits, the first one first.
+    // Returns the edits, the first one first.
     fn as_slice(&self) -> &[LineEdit]
         ensures { result.now ≡ self.now }
     {
@@ -60,7 +60,7 @@ impl FewEdits {
 /// The edits of a step, in the order in which they are made.
 #[derive(Drop)]
 pub struct LineEdits {
-    // Nothing where there is none, as after a step inside a line: that is written at once.
+    // `None` if there are no edits, as after a step inside a line. That is fast to write.
     few: Option<FewEdits>,
 }
 
@@ -74,7 +74,7 @@ impl Model for LineEdits {
 }
 
 impl LineEdits {
-    /// The edits, the first one first.
+    /// Returns the edits, the first one first.
     #[inline]
     pub fn as_slice(&self) -> &[LineEdit]
         ensures { result.now ≡ self.now }
@@ -86,7 +86,7 @@ impl LineEdits {
     }
 }
 
-// The `count` lines behind the line are joined to it, if there are some.
+// Joins the `count` lines behind the line to it, if there are any.
 fn join(edits: &mut FewEdits, line: usize, count: usize)
     requires { length edits.old < 6 }
     ensures edits { edits.new ≡ edits.old ++ joined line count }
@@ -97,7 +97,7 @@ fn join(edits: &mut FewEdits, line: usize, count: usize)
     }
 }
 
-// Fresh lines come before the line, if there are some.
+// Inserts fresh lines before the line, if there are any.
 fn come(edits: &mut FewEdits, line: usize, count: usize)
     requires { length edits.old < 6 }
     ensures edits { edits.new ≡ edits.old ++ came line count }
@@ -108,7 +108,7 @@ fn come(edits: &mut FewEdits, line: usize, count: usize)
     }
 }
 
-// The next `count` old lines settle on a new line, where those in front of `next` are settled.
+// Moves the next `count` old lines to a new line. The new lines before `next` are done.
 fn settle(edits: &mut FewEdits, next: usize, line: usize, count: usize)
     requires room { length edits.old ≤ 4 }
     requires small { line < 2 ^ 63 }
@@ -125,7 +125,7 @@ fn settle(edits: &mut FewEdits, next: usize, line: usize, count: usize)
     }
 }
 
-// The last old line that comes to the new line of the step's end.
+// Returns the last old line that moves to the new line of the step's end.
 fn last_line_at(old: &NearLines, new: &NearLines) -> usize
     ensures { result ≡ last_at old.now new.now }
 {
@@ -138,7 +138,7 @@ fn last_line_at(old: &NearLines, new: &NearLines) -> usize
     }
 }
 
-// The last old line that comes to the new line of the place one byte behind the step's end.
+// Returns the last old line that moves to the new line of the place one byte behind the step's end.
 fn last_line_one_behind(old: &NearLines, new: &NearLines) -> usize
     ensures { result ≡ last_one_behind old.now new.now }
 {
@@ -149,7 +149,7 @@ fn last_line_one_behind(old: &NearLines, new: &NearLines) -> usize
     }
 }
 
-// Whether it is the line, or the one behind it.
+// Returns whether `other` is the line, or the one behind it.
 #[inline(always)]
 fn is_next(line: usize, other: usize) -> bool
     requires { line < 2 ^ 63 }
@@ -160,9 +160,9 @@ fn is_next(line: usize, other: usize) -> bool
 }
 
 impl LineChange {
-    /// Whether the step left the lines as they were: those about it have their old numbers, and each of them is the one
-    /// before it, or follows it. There is then no edit. It is told by a few comparisons, and true of an ordinary step
-    /// inside a line.
+    /// Returns whether the step left the lines as they were: those around it keep their numbers, and each of them is
+    /// the one before it, or follows it. There is then no edit. This takes a few comparisons, and holds for an ordinary
+    /// step inside a line.
     #[inline(always)]
     pub fn is_quiet(&self) -> bool
         requires { SmallLines self.now.old_lines }
@@ -183,8 +183,8 @@ impl LineChange {
             && is_next(old.one_behind, old.two_behind)
     }
 
-    /// The edits that make of what was kept of each old line what is to be kept of each new one. An ordinary step inside
-    /// a line has none.
+    /// Returns the edits that turn what was kept of the old lines into what is to be kept of the new ones. An ordinary
+    /// step inside a line has none.
     #[inline]
     pub fn edits(&self) -> LineEdits
         requires { SmallLines self.now.old_lines × SmallLines self.now.new_lines }
@@ -198,8 +198,8 @@ impl LineChange {
         }
     }
 
-    // The same of lines that are not as they were. It stands apart, so that a quiet step makes ready only what it returns,
-    // and takes a copy, so that a quiet step needs no place in memory for what became of the lines.
+    // The slow path of `edits`, out of line, so that a quiet step does not pay for the list. It takes a copy of `self`,
+    // so that a quiet step keeps its `LineChange` in registers.
     #[inline(never)]
     fn edits_about(self) -> FewEdits
         requires { SmallLines self.old_lines × SmallLines self.new_lines }
@@ -212,7 +212,7 @@ impl LineChange {
         }
         let old = &self.old_lines;
         let new = &self.new_lines;
-        // one new line holds all three places, as where a line end was typed inside a line
+        // one new line holds all three places, as after a line end was typed inside a line
         if new.one_behind == new.at && new.two_behind == new.at {
             let count = (old.two_behind + 1).saturating_sub(self.before);
             settle(&mut edits, self.before, new.at, count);

@@ -1,4 +1,4 @@
-//! Reading a text that is handed in as two slices: single bytes, line ends, and the next line start.
+//! Reads of a text in two slices: single bytes, line ends, and the next line start.
 
 ghost use Rattle.std.specs.Prelude.{◌≡◌, ℕ, ◌+◌, ◌≤◌, ◌<◌, ◌++◌, true, false, length, slice_index};
 ghost use Rattle.ed_model.specs.Text.{stands};
@@ -8,7 +8,7 @@ ghost use Rattle.line_index.specs.Ends.{may_end};
 use ed_model::LineEndTypes;
 use memchr::memchr2;
 
-// Whether this byte stands at the place.
+// Returns whether `byte` stands at `place`.
 #[tactic(auto, using(crate::proofs::TextBytes::stands_in_front, crate::proofs::TextBytes::stands_behind, crate::proofs::TextBytes::stands_nowhere))]
 fn is_at(byte: u8, before: &[u8], after: &[u8], place: usize) -> bool
     ensures { result ≡ stands byte (before.now ++ after.now) place }
@@ -20,7 +20,7 @@ fn is_at(byte: u8, before: &[u8], after: &[u8], place: usize) -> bool
     behind < after.len() && after[behind] == byte
 }
 
-// Whether line ends of Unicode count.
+// Returns whether line ends of Unicode count.
 fn counts_unicode(types: LineEndTypes) -> bool
     ensures { result ≡ knows_unicode types }
 {
@@ -30,7 +30,7 @@ fn counts_unicode(types: LineEndTypes) -> bool
     }
 }
 
-// Whether U+0085, U+2028 or U+2029 ends in front of the place.
+// Returns whether U+0085, U+2028 or U+2029 ends right before `place`.
 fn unicode_ends(before: &[u8], after: &[u8], place: usize) -> bool
     ensures { result ≡ unicode_end_before (before.now ++ after.now) place }
 {
@@ -45,7 +45,7 @@ fn unicode_ends(before: &[u8], after: &[u8], place: usize) -> bool
         && is_at(0xE2, before, after, three)
 }
 
-// Whether a line end stands in front of the place.
+// Returns whether a line end stands right before `place`.
 fn line_ends(types: LineEndTypes, before: &[u8], after: &[u8], place: usize) -> bool
     ensures { result ≡ line_end_before types (before.now ++ after.now) place }
 {
@@ -59,14 +59,14 @@ fn line_ends(types: LineEndTypes, before: &[u8], after: &[u8], place: usize) -> 
     counts_unicode(types) && unicode_ends(before, after, place)
 }
 
-/// Whether a line starts at the place.
+/// Returns whether a line starts at `place`.
 pub(crate) fn starts_at(types: LineEndTypes, before: &[u8], after: &[u8], place: usize) -> bool
     ensures { result ≡ is_line_start types (before.now ++ after.now) place }
 {
     place == 0 || line_ends(types, before, after, place)
 }
 
-/// How long the line end is that stands in front of a line's start, in bytes.
+/// Returns the length in bytes of the line end before a line's start.
 pub(crate) fn end_length(before: &[u8], after: &[u8], start: usize) -> usize
     ensures { result ≡ line_end_length (before.now ++ after.now) start }
 {
@@ -89,10 +89,11 @@ pub(crate) fn end_length(before: &[u8], after: &[u8], start: usize) -> usize
     }
 }
 
-// Up to how many bytes are looked at one by one: a search by vectors takes longer to begin.
+// Up to this many bytes are tested one by one: a vectorized search takes longer to begin.
 const FEW: usize = 16;
 
-// Whether the byte may be the last one of a line end. Most bytes are greater than those two, as one comparison tells.
+// Returns whether the byte may be the last one of a line end. Most bytes are greater than CR and LF, which one
+// comparison decides.
 fn may_be_last(types: LineEndTypes, byte: u8) -> bool
     ensures { result ≡ may_end types byte }
 {
@@ -102,7 +103,7 @@ fn may_be_last(types: LineEndTypes, byte: u8) -> bool
     }
 }
 
-// How many bytes from the first on cannot be the last one of a line end.
+// Returns how many bytes from the first on cannot be the last one of a line end.
 fn quiet_bytes(types: LineEndTypes, bytes: &[u8]) -> usize
     ensures within { result ≤ length bytes.now }
     ensures quiet { (k : ℕ) → k < result → may_end types (slice_index bytes.now k) ≡ false }
@@ -113,7 +114,7 @@ fn quiet_bytes(types: LineEndTypes, bytes: &[u8]) -> usize
     }
 }
 
-// The same where line ends of Unicode do not count.
+// Like `quiet_bytes`, if line ends of Unicode do not count.
 fn quiet_by_default(bytes: &[u8]) -> usize
     ensures within { result ≤ length bytes.now }
     ensures quiet { (k : ℕ) → k < result → may_end LineEndTypes.Default (slice_index bytes.now k) ≡ false }
@@ -124,7 +125,7 @@ fn quiet_by_default(bytes: &[u8]) -> usize
     }
 }
 
-// The same, by a look at each byte.
+// Like `quiet_bytes`, by a test of each byte.
 fn quiet_one_by_one(types: LineEndTypes, bytes: &[u8]) -> usize
     ensures within { result ≤ length bytes.now }
     ensures quiet { (k : ℕ) → k < result → may_end types (slice_index bytes.now k) ≡ false }
@@ -137,7 +138,7 @@ fn quiet_one_by_one(types: LineEndTypes, bytes: &[u8]) -> usize
     bytes.len()
 }
 
-// The byte at the place.
+// Returns the byte at `place`.
 #[inline(always)]
 fn byte_at(before: &[u8], after: &[u8], place: usize) -> u8
     requires { place < length before.now + length after.now }
@@ -151,7 +152,8 @@ fn byte_at(before: &[u8], after: &[u8], place: usize) -> u8
     }
 }
 
-// Whether a line may start behind the byte at the place: it may be the last one of a line end, and is no CR of a CR LF.
+// Returns whether a line may start behind the byte at `place`: it may be the last one of a line end, and is not the CR
+// of a CR LF.
 #[inline(always)]
 fn may_start_behind(types: LineEndTypes, before: &[u8], after: &[u8], place: usize) -> bool
     requires { place < length before.now + length after.now }
@@ -161,7 +163,7 @@ fn may_start_behind(types: LineEndTypes, before: &[u8], after: &[u8], place: usi
     may_be_last(types, byte) && (byte != b'\r' || !is_at(b'\n', before, after, place + 1))
 }
 
-// The first place behind `place`, up to `to`, where a line may start, by a look at each byte.
+// Returns the first place behind `place`, up to `to`, where a line may start, by a test of each byte.
 fn next_of_few(types: LineEndTypes, before: &[u8], after: &[u8], place: usize, to: usize) -> usize
     requires { (place < to) × (to ≤ length before.now + length after.now + 1) }
     ensures within { (place < result) × (result ≤ to) }
@@ -177,7 +179,7 @@ fn next_of_few(types: LineEndTypes, before: &[u8], after: &[u8], place: usize, t
     to
 }
 
-// The same, where many bytes lie between. It stands apart, so that a look at few saves no registers.
+// Like `next_of_few`, for many bytes. Out of line, so that the search among few bytes saves no registers.
 #[inline(never)]
 fn next_of_many(types: LineEndTypes, before: &[u8], after: &[u8], place: usize, to: usize) -> usize
     requires { (place < to) × (to ≤ length before.now + length after.now + 1) }
@@ -199,7 +201,7 @@ fn next_of_many(types: LineEndTypes, before: &[u8], after: &[u8], place: usize, 
     place + quiet_bytes(types, &after[place - middle..last - middle]) + 1
 }
 
-/// The first place behind `place`, up to `to`, where a line may start: none starts between.
+/// Returns the first place behind `place`, up to `to`, where a line may start. No line starts between the two.
 pub(crate) fn next_place(
     types: LineEndTypes,
     before: &[u8],
@@ -217,7 +219,7 @@ pub(crate) fn next_place(
     next_of_many(types, before, after, place, to)
 }
 
-/// The first place from `from` up to `to` where a line may start: none starts between.
+/// Returns the first place from `from` up to `to` where a line may start. No line starts between the two.
 pub(crate) fn first_place(
     types: LineEndTypes,
     before: &[u8],
@@ -235,7 +237,7 @@ pub(crate) fn first_place(
     next_place(types, before, after, from - 1, to)
 }
 
-/// The first place from `from` up to `to` where a line starts, or `to`.
+/// Returns the first place from `from` up to `to` where a line starts, or `to`.
 pub(crate) fn next_start(
     types: LineEndTypes,
     before: &[u8],

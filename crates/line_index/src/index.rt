@@ -13,9 +13,9 @@ use partitioning::{Partitioning, Place, Probes};
 use std::alloc::{AllocError, Global};
 use std::marker::Model;
 
-/// Where the lines of a text start.
+/// The places where the lines of a text start.
 ///
-/// The starts are the partitions of the text: those behind a step move with it at no cost of their own.
+/// The starts are the partitions of the text: those behind a step move with it at no further cost.
 #[derive(Drop)]
 pub struct LineIndex<P: Place> {
     pub(crate) starts: Partitioning<P>,
@@ -31,11 +31,11 @@ impl<P: Place> Model for LineIndex<P> {
 }
 
 impl<P: Place> LineIndex<P> {
-    /// Returns the index of the empty text, which has one line. It takes memory for its start, and for no more.
+    /// Returns the index of the empty text, which has one line. Allocates memory for its start, and no more.
     ///
     /// # Errors
     ///
-    /// `AllocError` where the memory for its start is refused.
+    /// `AllocError` if the allocation fails.
     pub fn new(alloc: Global, types: LineEndTypes) -> Result<Self, AllocError>
         ensures index { IfOk result (λ t. (t.types ≡ types) × IsIndexOf [] t) }
         ensures room { IfOk result (λ t. t.room ≡ 0) }
@@ -68,7 +68,7 @@ impl<P: Place> LineIndex<P> {
         self.starts.length()
     }
 
-    /// Returns where the line starts.
+    /// Returns where the line starts, in bytes from 0. Lines are counted from 0.
     pub fn start(&self, line: usize) -> usize
         requires { line < length self.now.starts }
         ensures start { result ≡ slice_index self.now.starts line }
@@ -77,8 +77,8 @@ impl<P: Place> LineIndex<P> {
         self.starts.start_of(line)
     }
 
-    /// Returns where the end of the line begins, or for the last line the end of the text. `before` and `after` are the
-    /// halves of the text, of which at most two bytes are read.
+    /// Returns where the line end of `line` begins, in bytes from 0, or for the last line the end of the text. `before`
+    /// and `after` are the halves of the text. At most two of their bytes are read.
     pub fn end(&self, line: usize, before: &[u8], after: &[u8]) -> usize
         requires line { line < length self.now.starts }
         requires text { IsIndexOf (before.now ++ after.now) self.now }
@@ -92,8 +92,8 @@ impl<P: Place> LineIndex<P> {
         self.length()
     }
 
-    /// Returns the line that holds the place: the last that starts there or before it, and the last of all for a place
-    /// past the end. Each start that it reads is counted in `probes`.
+    /// Returns the line that holds `place`: the last one that starts at `place` or before it. For a place past the end
+    /// this is the last of all. Counts each start that it reads in `probes`.
     pub fn line_of(&self, place: usize, probes: &mut Probes) -> usize
         ensures line { result ≡ line_of self.now.starts place }
         ensures within { result < length self.now.starts }
@@ -108,7 +108,7 @@ impl<P: Place> LineIndex<P> {
     ///
     /// # Errors
     ///
-    /// `AllocError` where the memory is refused. All is then as it was.
+    /// `AllocError` if the allocation fails. Nothing has changed then.
     #[inline(always)]
     pub fn reserve(&mut self, count: usize) -> Result<(), AllocError>
         ensures ok { OnOk result ((count ≤ self.new.room) × (self.new ≡ record self.old { room = self.new.room })) }

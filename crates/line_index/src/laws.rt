@@ -1,4 +1,4 @@
-//! Laws, each a public function that does nothing, whose contract says what holds of all texts, steps and rows.
+//! Laws, each a public function with an empty body, whose contract states what holds of all texts, steps and rows.
 
 ghost use Rattle.ed_model.specs.Rows.{Flags, Row};
 ghost use Rattle.line_index.specs.Settings.{SettingsBringAll, SettingsBringFewLines, SettingsCarryRows, SettingsFitLines};
@@ -6,8 +6,8 @@ ghost use Rattle.line_index.specs.StepEdits.{EditsBringFewLines, EditsCarryRows,
 
 use ed_model::single_rows;
 
-/// The edits of what a step did to lines make of the rows of the old lines those of the new ones, and so with a view's
-/// flags. They name lines that there are, and bring no more fresh ones than there has to be room for.
+/// The edits of a step turn the rows of the old lines into those of the new ones, and likewise a view's flags. They
+/// name lines that exist, and insert at most as many fresh lines as room is required for.
 pub fn edits_of_steps()
     ensures rows { EditsCarryRows Row }
     ensures flags { EditsCarryRows Flags }
@@ -15,9 +15,9 @@ pub fn edits_of_steps()
     ensures few { EditsBringFewLines }
 {}
 
-/// The edits of another setting of line ends make of the rows of the lines those that the model regroups them to, and so
-/// with a view's flags. They name lines that there are. There are no more lines afterwards than there were and come fresh,
-/// and these together are no more than the text has bytes, and one.
+/// The edits of another setting of line ends turn the rows of the lines into those that the model regroups them to, and
+/// likewise a view's flags. They name lines that exist. Afterwards there are at most as many lines as before and fresh
+/// ones together, and these are at most as many as the text has bytes, and one.
 pub fn edits_of_settings()
     ensures rows { SettingsCarryRows Row }
     ensures flags { SettingsCarryRows Flags }

@@ -1,17 +1,17 @@
-//! Where the lines of a text start, kept up to date by the bytes about each step alone.
+//! The places where the lines of a text start. A step updates them from the bytes around it alone.
 //!
 //! ```text
 //! text     a CR LF b CR c LF d        four lines
 //! starts   0       3    5    7        length 8
 //! ```
 //!
-//! Whether a line starts at a place is told by the three bytes in front of it and the one behind it, or by one on each side
-//! where line ends of Unicode do not count. So a step asks only about the places from where it is to two bytes behind its
-//! end, or to its end; the starts in front stay, and those behind move with the text. The text itself is kept elsewhere, and
-//! handed in as two slices, as a gap buffer has it.
+//! Whether a line starts at a place depends on the three bytes before it and the one behind it, or on one byte on each
+//! side if line ends of Unicode do not count. So a step tests only the places up to two bytes behind its end, or up to
+//! its end. The starts before it stay, and those behind it move with the text. The text itself is kept elsewhere, and
+//! given as two slices, as a gap buffer has it.
 //!
-//! Contracts see the kind of line ends, the starts, the length, and for how many more lines there is room. What the
-//! starts have to be is said by `ed_model`: `line_starts` of the text.
+//! Contracts see the kind of line ends, the starts, the length, and the room for more lines. `ed_model` defines what
+//! the starts are: `line_starts` of the text.
 #![tactic(auto)]
 
 mod adding;

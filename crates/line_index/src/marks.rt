@@ -7,7 +7,7 @@ ghost use Rattle.line_index.specs.Ends.{may_end};
 use ed_model::LineEndTypes;
 use std::simd::prelude::*;
 
-// Bit k is clear where byte k of the 64 from `at` on is another one.
+// Returns marks: bit k is clear unless byte k of the 64 from `at` on is `byte`.
 #[inline(always)]
 fn marks_of(byte: u8, bytes: &[u8], at: usize) -> u64
     requires { at + 64 ≤ length bytes.now }
@@ -18,7 +18,7 @@ fn marks_of(byte: u8, bytes: &[u8], at: usize) -> u64
         .to_bitmask()
 }
 
-/// Bit k is clear where byte k of the 64 from `at` on cannot be the last one of a line end.
+/// Returns marks: bit k is clear if byte k of the 64 from `at` on cannot be the last one of a line end.
 pub(crate) fn marks(types: LineEndTypes, bytes: &[u8], at: usize) -> u64
     requires { at + 64 ≤ length bytes.now }
     ensures { (k : ℕ) → k < 64 → bit_at result k ≡ 0 → may_end types (slice_index bytes.now (at + k)) ≡ false }
@@ -33,7 +33,7 @@ pub(crate) fn marks(types: LineEndTypes, bytes: &[u8], at: usize) -> u64
     }
 }
 
-/// The lowest bit that is set.
+/// Returns the lowest bit that is set.
 #[inline(always)]
 pub(crate) fn lowest(marks: u64) -> usize
     requires { marks ≢ 0 }
@@ -44,7 +44,7 @@ pub(crate) fn lowest(marks: u64) -> usize
     marks.trailing_zeros() as usize
 }
 
-/// The marks without a bit that is set.
+/// Returns the marks without one of their bits.
 #[inline(always)]
 pub(crate) fn without(marks: u64, bit: usize) -> u64
     requires within { bit < 64 }

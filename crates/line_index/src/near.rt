@@ -3,8 +3,8 @@
 ghost use Rattle.std.specs.Prelude.{◌≡◌, ◌+◌, ◌≤◌, ◌++◌, length};
 ghost use Rattle.line_index.specs.Index.{bytes_near};
 
-/// Of the halves of a text, lends what a step reads that put `count` bytes in at `place`, or for a count of 0 one that
-/// deleted some there: those bytes and up to three on each side, in two halves.
+/// Lends the bytes that a step reads, in two halves: the `count` bytes that it inserted at `place`, and up to three on
+/// each side. After a deletion `count` is 0. `before` and `after` are the halves of the text, which the step has changed.
 #[inline(always)]
 pub fn near_step<'a>(
     before: &'a [u8],

@@ -1,4 +1,4 @@
-//! How much room steps need.
+//! The room that steps need.
 
 ghost use Rattle.std.specs.Prelude.{◌≡◌, ◌≤◌, ◌<◌, ◌+◌, ◌-◌, ◌==◌, ◌||◌, ◌&&◌, not, if◌then◌else◌, length};
 ghost use Rattle.ed_model.specs.Lines.{line_count};
@@ -10,21 +10,21 @@ use crate::halves::{first_place, next_place, starts_at};
 use crate::unicode_blocks;
 use ed_model::LineEndTypes;
 
-// How many bytes are tested at once: so few that a counter of one byte holds how many lines start behind them, since a
-// vector has many such counters.
+// How many bytes are tested at once: few enough that a counter of one byte holds the number of line starts behind them,
+// since a vector register has many such counters.
 pub(crate) const BLOCK: usize = 192;
 
-// How many blocks a row has: so many that its bytes are three pages, since shorter rows took longer.
+// How many blocks a row has. Its bytes are three pages; shorter rows were slower.
 const BLOCKS: usize = 64;
 
 // How many bytes a row has.
 const ROW: usize = BLOCKS * BLOCK;
 
-// How many bytes the longest line end has: a line may start up to so many places behind a byte because of it.
+// The length of the longest line end in bytes: it can make a line start up to so many places behind a byte.
 const LONGEST_END: usize = 3;
 
-// How many lines end with the byte, where line ends of Unicode do not count: 1 or 0. No branch is taken, so that many
-// bytes are tested at once.
+// Returns how many lines end with the byte, 1 or 0, if line ends of Unicode do not count. It has no branch, so that
+// many bytes are tested at once.
 fn ends_with(byte: u8, next: u8) -> u8
     ensures { result ≡ (if byte == line_feed || (byte == carriage_return && not (next == line_feed)) then 1 else 0) }
 {
@@ -35,7 +35,7 @@ fn ends_with(byte: u8, next: u8) -> u8
     }
 }
 
-// How many lines start behind the bytes of the block from `from` on, which another byte follows.
+// Returns how many lines start behind the bytes of the block from `from` on. Another byte follows the block.
 fn lines_behind_block(bytes: &[u8], from: usize) -> usize
     requires { from + 192 < length bytes.now }
     ensures lines { result ≡ length (starts_within LineEndTypes.Default bytes.now (from + 1) (from + 192 + 1)) }
@@ -48,8 +48,8 @@ fn lines_behind_block(bytes: &[u8], from: usize) -> usize
     lines as usize
 }
 
-// How many lines start behind the bytes of four rows from `from` on, which another byte follows. The rows are gone
-// through side by side, since memory comes faster from four places than from one.
+// Returns how many lines start behind the bytes of four rows from `from` on. Another byte follows them. The rows are
+// read side by side, since memory is faster from four places than from one.
 fn lines_behind_rows(bytes: &[u8], from: usize) -> usize
     requires { from + 49152 < length bytes.now }
     ensures lines { result ≡ length (starts_within LineEndTypes.Default bytes.now (from + 1) (from + 49152 + 1)) }
@@ -66,8 +66,8 @@ fn lines_behind_rows(bytes: &[u8], from: usize) -> usize
     first + second + third + fourth
 }
 
-// How many lines start at the bytes' beginning and behind those of whole groups of four rows, and how many bytes these
-// have.
+// Returns how many lines start at the first byte and behind the bytes of whole groups of four rows, and how many bytes
+// these groups have.
 fn lines_behind_groups(bytes: &[u8]) -> (usize, usize)
     ensures lines { result.0 ≡ length (starts_within LineEndTypes.Default bytes.now 0 (result.1 + 1)) }
     ensures few { result.0 ≤ result.1 + 1 }
@@ -82,7 +82,7 @@ fn lines_behind_groups(bytes: &[u8]) -> (usize, usize)
     (lines, place)
 }
 
-// The same for whole blocks: first in groups, then one by one.
+// Like `lines_behind_groups`, for whole blocks: first in groups, then one by one.
 fn lines_behind_blocks(bytes: &[u8]) -> (usize, usize)
     ensures lines { result.0 ≡ length (starts_within LineEndTypes.Default bytes.now 0 (result.1 + 1)) }
     ensures few { result.0 ≤ result.1 + 1 }
@@ -96,7 +96,7 @@ fn lines_behind_blocks(bytes: &[u8]) -> (usize, usize)
     (lines, place)
 }
 
-// How many lines start at the place: 1 or 0.
+// Returns how many lines start at `place`: 1 or 0.
 fn lines_at(types: LineEndTypes, bytes: &[u8], place: usize) -> usize
     ensures lines { result ≡ length (starts_within types bytes.now place (place + 1)) }
     ensures few { result ≤ 1 }
@@ -108,7 +108,7 @@ fn lines_at(types: LineEndTypes, bytes: &[u8], place: usize) -> usize
     }
 }
 
-// How many lines start from one place up to another, one after the other. It stands apart, since mostly there is none.
+// Returns how many lines start from `from` up to `to`, one after the other. Out of line, since there is usually none.
 #[inline(never)]
 fn count_from(types: LineEndTypes, bytes: &[u8], from: usize, to: usize) -> usize
     requires { (from ≤ to) × (to ≤ length bytes.now + 1) }
@@ -124,7 +124,7 @@ fn count_from(types: LineEndTypes, bytes: &[u8], from: usize, to: usize) -> usiz
     lines
 }
 
-/// How many lines start from one place up to another.
+/// Returns how many lines start from `from` up to `to`.
 #[inline(always)]
 pub(crate) fn count_starts(types: LineEndTypes, bytes: &[u8], from: usize, to: usize) -> usize
     requires { (from ≤ to) × (to ≤ length bytes.now + 1) }
@@ -141,8 +141,8 @@ pub(crate) fn count_starts(types: LineEndTypes, bytes: &[u8], from: usize, to: u
     count_from(types, bytes, place, to)
 }
 
-// How many lines start at the bytes' beginning and behind those of whole blocks, and how many bytes these have. Mostly they
-// are few and no block, and no call is made.
+// Returns how many lines start at the first byte and behind the bytes of whole blocks, and how many bytes these blocks
+// have. There is usually no whole block, and no call is made.
 #[inline(always)]
 fn lines_seen(types: LineEndTypes, bytes: &[u8]) -> (usize, usize)
     ensures lines { result.0 ≡ length (starts_within types bytes.now 0 (result.1 + 1)) }
@@ -158,7 +158,7 @@ fn lines_seen(types: LineEndTypes, bytes: &[u8]) -> (usize, usize)
     }
 }
 
-/// Returns how many lines the bytes have by themselves.
+/// Returns how many lines the bytes have on their own.
 pub fn lines_in(types: LineEndTypes, bytes: &[u8]) -> usize
     ensures lines { result ≡ line_count types bytes.now }
     ensures within { result ≤ length bytes.now + 1 }
@@ -167,9 +167,9 @@ pub fn lines_in(types: LineEndTypes, bytes: &[u8]) -> usize
     lines + count_starts(types, bytes, behind + 1, bytes.len() + 1)
 }
 
-/// Returns for how many lines there has to be room before the bytes are put in: as many as they have by themselves and
-/// five. At the front of the bytes and behind them line ends may come about, and a line may start at each place that is
-/// told by bytes of both sides; the first line of the bytes is one of these.
+/// Returns for how many lines an insertion of the bytes requires room: as many as they have on their own and five. Line
+/// ends may form at the front of the bytes and behind them, and each place that depends on bytes of both sides may
+/// become a line start. The first line of the bytes is one of these.
 pub fn lines_for_insertion(types: LineEndTypes, bytes: &[u8]) -> usize
     ensures lines { result ≡ lines_for_insertion types bytes.now }
     ensures within { result ≤ length bytes.now + 6 }
@@ -177,15 +177,14 @@ pub fn lines_for_insertion(types: LineEndTypes, bytes: &[u8]) -> usize
     lines_in(types, bytes) + 2 * LONGEST_END - 1
 }
 
-/// Returns for how many lines there has to be room before bytes are deleted: three, as a line end may come about of what
-/// comes together.
+/// Returns for how many lines a deletion requires room: three, since a line end may form of the bytes that it brings together.
 pub const fn lines_for_deletion() -> usize
     ensures { result ≡ lines_for_deletion }
 {
     LONGEST_END
 }
 
-/// No step adds more lines than that, and the first of some bytes have no more lines than all of them.
+/// No step adds more lines than that, and the first bytes of a text have no more lines than all of it.
 pub fn room_for_steps()
     ensures insertion { InsertionAddsFewLines }
     ensures deletion { DeletionAddsFewLines }

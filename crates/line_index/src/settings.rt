@@ -1,4 +1,4 @@
-//! Another setting of line ends: what it does to the lines of a text, and the starts that the text has by it.
+//! Another setting of line ends: its effect on the lines of a text, and the starts that the text then has.
 
 ghost use Rattle.std.specs.Prelude.{◌≡◌, ℕ, ◌+◌, ◌-◌, ◌^◌, ◌≤◌, ◌<◌, ◌++◌, true, false, [], length, IsOk, OnOk, IfOk, ◌*◌, vec_len, vec_capacity};
 ghost use Rattle.ed_model.specs.declared.plan.LineEndTypes.TheVariants.{Default, Unicode};
@@ -15,8 +15,8 @@ use ed_model::LineEndTypes;
 use partitioning::Place;
 use std::alloc::{AllocError, Global};
 
-// A line starts at `start`. Returns how many lines start inside it where line ends of Unicode count, and where the next
-// one starts, or `end`, the place past the text's end.
+// A line starts at `start`. Returns how many lines start inside it if line ends of Unicode count, and where the next
+// one starts, or `end`, the place past the end of the text.
 fn count_inside(before: &[u8], after: &[u8], start: usize, end: usize) -> (usize, usize)
     requires { (start < end) × (end ≡ length before.now + length after.now + 1) }
     ensures lines { result.0 ≡ length (starts_within Unicode (before.now ++ after.now) (start + 1) result.1) }
@@ -37,7 +37,7 @@ fn count_inside(before: &[u8], after: &[u8], start: usize, end: usize) -> (usize
     (lines, end)
 }
 
-// Appends what becomes of a line that has so many inside, if it has some.
+// Appends the edit of a line that has `count` others inside, if `count` is not 0.
 fn push_inside(
     edits: &mut Vec<LineEdit>,
     types: LineEndTypes,
@@ -64,7 +64,7 @@ fn push_inside(
     Ok(())
 }
 
-// The line behind one that has so many inside, and behind these.
+// Returns the line behind one that has `count` others inside, and behind these.
 fn line_past(types: LineEndTypes, line: usize, count: usize) -> usize
     requires { line + count + 1 < 2 ^ 64 }
     ensures { result ≡ line_past types line count }
@@ -75,7 +75,7 @@ fn line_past(types: LineEndTypes, line: usize, count: usize) -> usize
     }
 }
 
-// Appends what becomes of all lines of the text. These are gone through one by one, each as far as the next.
+// Appends the edits of all lines of the text. Reads each line as far as the next one.
 fn push_all_inside(
     edits: &mut Vec<LineEdit>,
     types: LineEndTypes,
@@ -101,7 +101,7 @@ fn push_all_inside(
     Ok(())
 }
 
-/// Returns how many fresh lines come by the edits.
+/// Returns how many fresh lines the edits insert.
 pub fn fresh_lines(edits: &[LineEdit]) -> usize
     requires { fresh_lines edits.now < 2 ^ 64 }
     ensures { result ≡ fresh_lines edits.now }
@@ -118,13 +118,13 @@ pub fn fresh_lines(edits: &[LineEdit]) -> usize
 }
 
 impl<P: Place> LineIndex<P> {
-    /// Returns what it does to the lines, as edits, if these line ends count from now on: where more of them count, fresh
-    /// lines come, where fewer do, lines are joined, and the same ones do nothing. `before` and `after` are the halves of
-    /// the text, which is read once. The index stays as it is.
+    /// Returns the effect on the lines of the setting `types`, as edits: if it adds line ends of Unicode, fresh lines
+    /// are inserted; if it removes them, lines are joined; the same setting has no edits. `before` and `after` are the
+    /// halves of the text, which is read once. The index does not change.
     ///
     /// # Errors
     ///
-    /// `AllocError` where the memory for the edits is refused. No edits need none.
+    /// `AllocError` if the allocation of the edits fails. No edits need none.
     pub fn edits_for_types(
         &self,
         alloc: Global,
@@ -146,8 +146,8 @@ impl<P: Place> LineIndex<P> {
         Ok(edits)
     }
 
-    /// Lets these line ends count from now on: the starts are those that the text has by them. `before` and `after` are
-    /// the halves of the text. There must be room for the fresh lines that come.
+    /// Sets which line ends count. The starts become those that the text has under `types`. `before` and `after` are
+    /// the halves of the text. There must be room for the fresh lines.
     pub fn set_types(&mut self, types: LineEndTypes, before: &[u8], after: &[u8])
         requires text { IsIndexOf (before.now ++ after.now) self.old }
         requires room { line_count types (before.now ++ after.now) ≤ length self.old.starts + self.old.room }

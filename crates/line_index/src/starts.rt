@@ -1,4 +1,4 @@
-//! Line starts among the partitions: finding them, and taking some away and putting others in about a step.
+//! Line starts among the partitions: finding them, and removing and inserting them around a step.
 
 ghost use Rattle.std.specs.Prelude.{ℕ, ◌≡◌, ◌+◌, ◌-◌, ◌^◌, ◌≤◌, ◌<◌, ◌++◌, IsTrue, IfSome, false, min, length, take, drop, slice_index};
 ghost use Rattle.ed_model.specs.Lines.{line_of};
@@ -15,7 +15,7 @@ use crate::halves::next_place;
 use ed_model::LineEndTypes;
 use partitioning::{Partitioning, Place, Probes};
 
-// The line that holds the place.
+// Returns the line that holds `place`.
 pub(crate) fn line_at<P: Place>(
     starts: &Partitioning<P>,
     place: usize,
@@ -27,11 +27,12 @@ pub(crate) fn line_at<P: Place>(
     ensures few { (k : ℕ) → IsFloorLog k (length starts.now.starts) → probes.new ≤ probes.old + (2 + k) }
     ensures many { (k : ℕ) → IsFloorLog k (length starts.now.starts) → counted probes.old k ≤ probes.new }
 {
-    let _ = starts.count(); // it says that the starts rise
+    let _ = starts.count(); // brings the fact that the starts rise
     starts.partition_of(place, probes)
 }
 
-// Whether this line, which starts at the place or before it, holds the place: it is the last, or the next starts behind.
+// Returns whether `line`, which starts at `place` or before it, holds `place`: it is the last, or the next starts
+// behind `place`.
 #[tactic(auto, using(crate::proofs::Finding::last_of_all))]
 fn reaches<P: Place>(starts: &Partitioning<P>, line: usize, place: usize) -> bool
     requires { (line < length starts.now.starts) × (slice_index starts.now.starts line ≤ place) }
@@ -42,15 +43,16 @@ fn reaches<P: Place>(starts: &Partitioning<P>, line: usize, place: usize) -> boo
     line + 1 == count || place < starts.start_of(line + 1)
 }
 
-// So many lines in front of a likely one, and as many from the second behind it on, are searched before all are: what is changed all
-// over lies a few lines from the last change. One start tells whether the line is among them, and five more at most tell which it is.
+// Before all lines are searched, this many before a likely one are, and as many from the second behind it on: a change
+// at many places continues a few lines from the last one. One start decides whether the line is among them, and at most
+// five more decide which it is.
 const ABOUT: usize = 32;
 
-// Among no more lines than these, a look-up among all reads hardly more starts, and none in vain.
+// Among so few lines, a look-up among all reads hardly more starts, and none in vain.
 const FEW: usize = 2 * ABOUT;
 
-// The line that holds the place, where the likely line, if it is there, starts behind the place. It stands out of line, since mostly
-// the likely line holds the place, or the next one does.
+// Returns the line that holds `place`, if the likely line starts behind `place` or does not exist. Out of line, since
+// the likely line or the next one usually holds `place`.
 #[inline(never)]
 fn line_in_front<P: Place>(starts: &Partitioning<P>, place: usize, likely: usize) -> usize
     requires { likely < length starts.now.starts → place < slice_index starts.now.starts likely }
@@ -67,8 +69,9 @@ fn line_in_front<P: Place>(starts: &Partitioning<P>, place: usize, likely: usize
     starts.partition_of(place, &mut probes)
 }
 
-// The line that holds the place, where this line starts at the place or before it. Where no more than so many lines are behind it, the
-// start that tells whether the line is among these is that of the last line of all. It stands out of line, as above.
+// Returns the line that holds `place`, if `line` starts at `place` or before it. Near the end of the text, the start
+// that decides whether the line is near is that of the last line of all. Out of line, since the likely line or the next
+// one usually holds `place`.
 #[inline(never)]
 fn line_behind<P: Place>(starts: &Partitioning<P>, place: usize, line: usize) -> usize
     requires { (line < length starts.now.starts) × (slice_index starts.now.starts line ≤ place) }
@@ -88,8 +91,8 @@ fn line_behind<P: Place>(starts: &Partitioning<P>, place: usize, line: usize) ->
     starts.partition_of(place, &mut probes)
 }
 
-// The line that holds the place. It is looked up only where it is neither the line that is likely nor the next one. To tell this, no
-// start is read twice.
+// Returns the line that holds `place`. Looks it up only if it is neither the likely line nor the next one. No start is
+// read twice for this.
 fn line_from<P: Place>(starts: &Partitioning<P>, place: usize, likely: usize) -> usize
     ensures { IsLastAtMost starts.now.starts place result }
 {
@@ -106,7 +109,7 @@ fn line_from<P: Place>(starts: &Partitioning<P>, place: usize, likely: usize) ->
     line_behind(starts, place, next + 1)
 }
 
-// The line that holds the place, which is likely this line or the next.
+// Returns the line that holds `place`, which is likely this line or the next.
 pub(crate) fn likely_line<P: Place>(starts: &Partitioning<P>, place: usize, likely: usize) -> usize
     ensures line { result ≡ line_of starts.now.starts place }
     ensures within { result < length starts.now.starts }
@@ -116,14 +119,14 @@ pub(crate) fn likely_line<P: Place>(starts: &Partitioning<P>, place: usize, like
     line_from(starts, place, likely)
 }
 
-// The line that holds the place, which is this line or the next.
+// Returns the line that holds `place`, which is this line or the next.
 fn line_or_next<P: Place>(starts: &Partitioning<P>, line: usize, place: usize) -> usize
     requires line { line < length starts.now.starts }
     requires low { slice_index starts.now.starts line ≤ place }
     requires high { (k : ℕ) → line + 1 < k → k < length starts.now.starts → place < slice_index starts.now.starts k }
     ensures { IsLastAtMost starts.now.starts place result }
 {
-    let _ = starts.count(); // it says that the number of lines is small
+    let _ = starts.count(); // brings the fact that the number of lines is small
     if reaches(starts, line, place) {
         line
     } else {
@@ -131,16 +134,16 @@ fn line_or_next<P: Place>(starts: &Partitioning<P>, line: usize, place: usize) -
     }
 }
 
-// How many lines start in front of the place, where this is the line of the byte before it.
+// Returns how many lines start before `place`, if `line` is that of the byte before it.
 pub(crate) fn lines_before<P: Place>(starts: &Partitioning<P>, place: usize, line: usize) -> usize
     requires { line ≡ line_of starts.now.starts (place - 1) }
     ensures { result ≡ count_before place starts.now.starts }
 {
-    let _ = starts.count(); // it says that the first line starts at 0
+    let _ = starts.count(); // brings the fact that the first line starts at 0
     if place == 0 { 0 } else { line + 1 }
 }
 
-// The line that holds the place, which is this line or the next, where that starts at `next`.
+// Returns the line that holds `place`, which is this line or the next. The next one starts at `next`.
 #[inline(always)]
 #[tactic(auto, using(crate::proofs::Finding::next_behind, crate::proofs::Finding::next_holds))]
 fn line_up_to<P: Place>(starts: &Partitioning<P>, line: usize, next: usize, place: usize) -> usize
@@ -150,12 +153,12 @@ fn line_up_to<P: Place>(starts: &Partitioning<P>, line: usize, next: usize, plac
     requires high { (k : ℕ) → line + 1 < k → k < length starts.now.starts → place < slice_index starts.now.starts k }
     ensures { IsLastAtMost starts.now.starts place result }
 {
-    let _ = starts.count(); // it says that the starts rise
+    let _ = starts.count(); // brings the fact that the starts rise
     if place < next { line } else { line + 1 }
 }
 
-// The lines of a place and of the two behind it, of which the last is `last`, where this line holds a place in front of
-// them, and this line and the next hold all three. Each start is read once.
+// Returns the lines of a place and of the two behind it, of which the last is `last`. `line` holds a place before it,
+// and `line` and the next one hold all three. Each start is read once.
 #[inline(always)]
 fn few_lines<P: Place>(
     starts: &Partitioning<P>,
@@ -170,7 +173,7 @@ fn few_lines<P: Place>(
     ensures lines { IfSome result (λ lines. lines ≡ near_lines starts.now.starts place) }
     ensures within { IfSome result (λ lines. lines.two_behind < length starts.now.starts) }
 {
-    let _ = starts.length(); // it says that no line starts past the greatest number
+    let _ = starts.length(); // brings the fact that no line starts past the greatest number
     let count = starts.count();
     if line >= count || starts.start_of(line) > front {
         return None;
@@ -200,7 +203,7 @@ fn few_lines<P: Place>(
     })
 }
 
-// The lines of a place and of the two behind it, of which the first is likely this line or the next.
+// Returns the lines of a place and of the two behind it, of which the first is likely this line or the next.
 pub(crate) fn lines_near<P: Place>(
     starts: &Partitioning<P>,
     place: usize,
@@ -211,8 +214,8 @@ pub(crate) fn lines_near<P: Place>(
     ensures small_lines { SmallLines result }
     ensures small { length starts.now.starts + starts.now.room < 2 ^ 63 }
 {
-    let _ = starts.count(); // it says that the number of lines is small
-    let _ = starts.length(); // it says that no line starts past the greatest number
+    let _ = starts.count(); // brings the fact that the number of lines is small
+    let _ = starts.length(); // brings the fact that no line starts past the greatest number
     let last = place.saturating_add(2);
     let at = line_from(starts, place, likely);
     if reaches(starts, at, last) {
@@ -231,9 +234,9 @@ pub(crate) fn lines_near<P: Place>(
     }
 }
 
-// The line of the byte in front of a step, and the lines near the end of what it takes away, wherever they are. The line
-// before the likely one is tried first: undo goes backwards through a text. It stands apart, since mostly they are those
-// of the last step, or behind them.
+// Returns the line of the byte before a step, and the lines near the end of what it deletes, wherever they are. Tries
+// the line before the likely one first, since undo goes backwards through a text. Out of line, since they are usually
+// the lines of the last step, or behind them.
 #[inline(never)]
 fn lines_anywhere<P: Place>(
     starts: &Partitioning<P>,
@@ -247,7 +250,7 @@ fn lines_anywhere<P: Place>(
     ensures lines { result.1 ≡ near_lines starts.now.starts end }
     ensures within { result.1.two_behind < length starts.now.starts }
 {
-    let _ = starts.count(); // it says that the starts rise
+    let _ = starts.count(); // brings the fact that the starts rise
     let before = likely.saturating_sub(1);
     if let Some(lines) = few_lines(starts, front, end, end.saturating_add(2), before) {
         return (before, lines);
@@ -256,8 +259,8 @@ fn lines_anywhere<P: Place>(
     (line, lines_near(starts, end, line))
 }
 
-// The line of the byte in front of a step, and the lines near the end of what it takes away. Mostly they are one line,
-// which is likely this one, or the step is at a line's end, of this one or the next.
+// Returns the line of the byte before a step, and the lines near the end of what it deletes. They are usually one line,
+// which is likely this one, or the step is at the end of this line or the next.
 #[inline(always)]
 pub(crate) fn lines_at_step<P: Place>(
     starts: &Partitioning<P>,
@@ -273,7 +276,7 @@ pub(crate) fn lines_at_step<P: Place>(
     ensures small_lines { SmallLines result.1 }
     ensures small { length starts.now.starts + starts.now.room < 2 ^ 63 }
 {
-    let _ = starts.count(); // it says that the number of lines is small
+    let _ = starts.count(); // brings the fact that the number of lines is small
     let last = end.saturating_add(2);
     if let Some(lines) = few_lines(starts, front, end, last, likely) {
         return (likely, lines);
@@ -282,13 +285,14 @@ pub(crate) fn lines_at_step<P: Place>(
     if let Some(lines) = few_lines(starts, front, end, last, next) {
         return (next, lines);
     }
-    // taken apart, so that the lines found above need no place in memory
+    // Destructured, so that the lines found above stay in registers.
     let (line, lines) = lines_anywhere(starts, front, end, likely);
     (line, lines)
 }
 
-// The lines near a step's end, after it, where there were so many lines, of which so many starts were taken away. They stay,
-// where none was and there are as many lines as before. Of lines that came, the last is likely the one.
+// Returns the lines near a step's end, after it. The text had `lines` lines, and `went` of their starts were removed.
+// The lines stay if none was removed and there are as many as before. If lines were inserted, the last of them is
+// likely the one.
 #[inline(always)]
 pub(crate) fn lines_after_step<P: Place>(
     starts: &Partitioning<P>,
@@ -313,12 +317,12 @@ pub(crate) fn lines_after_step<P: Place>(
     if let Some(lines) = few_lines(starts, end, end, end.saturating_add(2), likely) {
         return lines;
     }
-    // named, so that the lines told above need no place in memory
+    // Bound to a local, so that the lines found above stay in registers.
     let lines = lines_near(starts, end, likely);
     lines
 }
 
-// Takes the starts of the lines from `first` up to `last` away.
+// Removes the starts of the lines from `first` up to `last`.
 #[inline(always)]
 #[tactic(auto, using(crate::proofs::StartLists::removed_next))]
 pub(crate) fn remove_starts<P: Place>(starts: &mut Partitioning<P>, first: usize, last: usize)
@@ -332,8 +336,8 @@ pub(crate) fn remove_starts<P: Place>(starts: &mut Partitioning<P>, first: usize
     }
 }
 
-// Puts the line starts from `from` up to `to` in before line `first`, and returns the line behind them. It stands apart,
-// since mostly there is none.
+// Inserts the line starts from `from` up to `to` before line `first`, and returns the line behind them. Out of line,
+// since there is usually none.
 #[inline(never)]
 fn add_from<P: Place>(
     starts: &mut Partitioning<P>,
@@ -364,9 +368,9 @@ fn add_from<P: Place>(
     line
 }
 
-// Puts the line starts from `from` up to `to` in before line `first`, told by the bytes about those places alone, of which
-// the first stands at `base`. There is none there yet, and there must be room for them. Mostly no line starts in all of it,
-// as one look at the bytes tells, or behind the last of them alone, as where a line end was typed.
+// Inserts the line starts from `from` up to `to` before line `first`, by the bytes around those places alone, of which
+// the first stands at `base`. There are no such starts yet, and there must be room for them. Usually no line starts
+// there, which one look at the bytes decides, or one line starts behind the last of them, as after a line end was typed.
 #[inline(always)]
 pub(crate) fn add_starts<P: Place>(
     starts: &mut Partitioning<P>,

@@ -1,4 +1,4 @@
-//! Steps: what an insertion or a deletion does to the lines about it.
+//! Steps: the effect of an insertion or a deletion on the lines around it.
 
 ghost use Rattle.std.specs.Prelude.{◌≡◌, ℕ, ◌+◌, ◌-◌, ◌^◌, ◌≤◌, ◌<◌, ◌++◌, List, min, length, take, drop};
 ghost use Rattle.ed_model.specs.Steps.{Insert, edited, moved_back};
@@ -12,9 +12,9 @@ use crate::starts::{add_starts, lines_after_step, lines_at_step, lines_before, r
 use ed_model::LineEndTypes;
 use partitioning::{Partitioning, Place};
 
-// The place up to which a step is looked at: the one behind the last at which a line start may hang on it, or past the
-// text's end. Where line ends of Unicode do not count, starts behind the step's end only move, as one does behind an LF
-// in front of which a CR is put.
+// Returns the place up to which a step tests for line starts: one behind the last that may depend on the step, or past
+// the end of the text. If line ends of Unicode do not count, the starts behind the step's end only move. An example is
+// the start behind an LF that gets a CR before it.
 #[inline(always)]
 fn look_to(types: LineEndTypes, end: usize, length: usize) -> usize
     requires { (end ≤ length) × (length < 2 ^ 63) }
@@ -26,7 +26,7 @@ fn look_to(types: LineEndTypes, end: usize, length: usize) -> usize
     }
 }
 
-// The last of the lines whose starts may hang on a step.
+// Returns the last of the lines whose starts may depend on a step.
 #[inline(always)]
 fn last_near(types: LineEndTypes, lines: &NearLines) -> usize
     ensures { result ≡ last_line types lines.now }
@@ -37,8 +37,8 @@ fn last_near(types: LineEndTypes, lines: &NearLines) -> usize
     }
 }
 
-// Puts `count` bytes into the text at `place`, and the line starts about them in the place of those that were there. The
-// halves are those of the bytes near them. It goes into its caller, so that what became of the lines is not handed on.
+// Inserts `count` bytes at `place`, and replaces the line starts around them. The halves are those of the bytes near
+// them. Inlined into its caller, so that the `LineChange` is not copied.
 #[inline(always)]
 fn put_in<P: Place>(
     starts: &mut Partitioning<P>,
@@ -83,8 +83,8 @@ fn put_in<P: Place>(
     }
 }
 
-// Takes `count` bytes out of the text from `place` on, and puts the line starts about them in the place of those that
-// were there. The halves are those of the bytes near the place. It goes into its caller as `put_in` does.
+// Deletes `count` bytes from `place` on, and replaces the line starts around them. The halves are those of the bytes
+// near the place. Inlined into its caller, like `put_in`.
 #[inline(always)]
 fn take_out<P: Place>(
     starts: &mut Partitioning<P>,
@@ -103,7 +103,7 @@ fn take_out<P: Place>(
     ensures lines { (result.old_lines.two_behind < length starts.old.starts) × (result.new_lines.two_behind < length starts.new.starts) }
     ensures small { SmallLines result.old_lines × SmallLines result.new_lines }
 {
-    let _ = starts.length(); // it says that the text is not too long
+    let _ = starts.length(); // brings the fact that the text is not too long
     let edited = starts.step_at();
     let lines = starts.count();
     let (line, old_lines) = lines_at_step(starts, place.saturating_sub(1), place + count, edited);
@@ -129,10 +129,9 @@ fn take_out<P: Place>(
 }
 
 impl<P: Place> LineIndex<P> {
-    /// Brings the index up to date after `count` bytes were put in at `place`, and returns what became of the lines.
-    /// `before` and `after` are the halves of those bytes and up to three on each side, which are all that may be read:
-    /// the text from three bytes in front of the place to three behind what came. There must be room for the new lines,
-    /// and the text must be shorter than 2^63 bytes.
+    /// Updates the index after `count` bytes were inserted at `place`, and returns the effect on the lines. `before` and
+    /// `after` are the halves of those bytes with up to three on each side (`near_step`), which are all that is read.
+    /// There must be room for the new lines (`lines_for_insertion`), and the text must be shorter than 2^63 bytes.
     #[inline(always)]
     pub fn inserted(
         &mut self,
@@ -155,9 +154,10 @@ impl<P: Place> LineIndex<P> {
         put_in(&mut self.starts, self.types, place, count, before, after)
     }
 
-    /// Brings the index up to date after `count` bytes were deleted from `place` on, and returns what became of the
-    /// lines. `before` and `after` are the halves of the up to six bytes about the place, which are all that may be read.
-    /// A deletion may join two parts of a line end of Unicode, so there must be room for the lines that a deletion needs.
+    /// Updates the index after `count` bytes were deleted from `place` on, and returns the effect on the lines.
+    /// `before` and `after` are the halves of the up to six bytes around the place (`near_step`), which are all that is
+    /// read. A deletion may join two parts of a line end of Unicode, so there must be room for new lines
+    /// (`lines_for_deletion`).
     #[inline(always)]
     pub fn deleted(&mut self, place: usize, count: usize, before: &[u8], after: &[u8]) -> LineChange
         requires was { WasDeleted place count (before.now ++ after.now) self.old }

@@ -1,4 +1,4 @@
-//! Counting lines where line ends of Unicode count: many bytes are tested at once.
+//! Counting of lines if line ends of Unicode count: many bytes are tested at once.
 
 ghost use Rattle.std.specs.Prelude.{◌≡◌, ◌≤◌, ◌<◌, ◌+◌, ◌==◌, ◌||◌, ◌&&◌, not, if◌then◌else◌, length};
 ghost use Rattle.ed_model.specs.declared.plan.LineEndTypes.TheVariants.{Unicode};
@@ -8,7 +8,7 @@ ghost use Rattle.line_index.specs.Index.{starts_within};
 use crate::room::{BLOCK, count_starts};
 use ed_model::LineEndTypes;
 
-// How many lines end with the byte, which two others stand in front of and one behind: 1 or 0. No branch is taken, so
+// Returns how many lines end with the byte, 1 or 0, by the two bytes before it and the one behind. It has no branch, so
 // that many bytes are tested at once.
 fn ends_with(third: u8, second: u8, byte: u8, next: u8) -> u8
     ensures { result ≡ (if byte == line_feed || (byte == carriage_return && not (next == line_feed)) || ((byte == 0x85 && second == 0xC2) || ((byte == 0xA8 || byte == 0xA9) && second == 0x80 && third == 0xE2)) then 1 else 0) }
@@ -19,8 +19,7 @@ fn ends_with(third: u8, second: u8, byte: u8, next: u8) -> u8
     if known | next_line | separator { 1 } else { 0 }
 }
 
-// How many lines start behind the bytes of the block from `from` on, which two other bytes stand in front of and one
-// behind.
+// Returns how many lines start behind the bytes of the block from `from` on. Two bytes stand before it and one behind.
 fn lines_behind_block(bytes: &[u8], from: usize) -> usize
     requires { (2 ≤ from) × (from + 192 < length bytes.now) }
     ensures lines { result ≡ length (starts_within Unicode bytes.now (from + 1) (from + 192 + 1)) }
@@ -38,8 +37,8 @@ fn lines_behind_block(bytes: &[u8], from: usize) -> usize
     lines as usize
 }
 
-/// How many lines start at the bytes' beginning and behind those of whole blocks, and how many bytes these have, with the
-/// two in front of the first block.
+/// Returns how many lines start at the first byte and behind the bytes of whole blocks, and how many bytes these blocks
+/// have, with the two before the first block.
 pub(crate) fn lines_behind_blocks(bytes: &[u8]) -> (usize, usize)
     ensures lines { result.0 ≡ length (starts_within Unicode bytes.now 0 (result.1 + 1)) }
     ensures few { result.0 ≤ result.1 + 1 }

@@ -1,4 +1,4 @@
-//! A whole step whose bytes come piece after piece: what is looked up before it, and what became of lines by all of it.
+//! A whole step whose bytes are inserted piece by piece: what is looked up before it, and its effect on lines.
 
 ghost use Rattle.std.specs.Prelude.{◌≡◌};
 ghost use Rattle.line_index.specs.Change.{change_since, lines_about};
@@ -10,8 +10,8 @@ use crate::starts::{likely_line, lines_before, lines_near};
 use partitioning::Place;
 
 impl<P: Place> LineIndex<P> {
-    /// Looks up the lines about a step at `place`, before it is made. It takes away the bytes up to `end`, which for an
-    /// insertion is its place.
+    /// Looks up the lines around a step at `place`, before the step is made. The step deletes the bytes up to `end`; of
+    /// an insertion, `end` is its place.
     pub fn lines_about(&self, place: usize, end: usize) -> LinesAbout
         ensures about { result ≡ lines_about place end self.now.starts }
         ensures small { SmallLines result.old_lines }
@@ -24,9 +24,10 @@ impl<P: Place> LineIndex<P> {
         }
     }
 
-    /// Returns what a step did to lines, once it is made, also where its bytes came piece after piece: `about` was looked
-    /// up before it, and what it put in ends at `end`, which for a deletion is its place. What the pieces did one by one
-    /// is not the same: a line whose start is moved on by the first piece is joined to nothing by the next.
+    /// Returns the effect of a step on lines, once it is made; its bytes may have come piece by piece. `about` was
+    /// looked up before it, and what it inserted ends at `end`, which is its place if it deletes. The effects of the
+    /// single pieces do not add up to this: a line whose start the first piece moves on is not joined to anything by
+    /// the next.
     pub fn change_since(&self, about: LinesAbout, end: usize) -> LineChange
         ensures change { result ≡ change_since about end self.now.starts self.now.length }
         ensures small { SmallLines result.new_lines }

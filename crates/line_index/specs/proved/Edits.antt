@@ -1,4 +1,4 @@
--- How many lines there are after an edit, and how many come by it.
+-- How many lines there are after an edit, and how many it inserts.
 use Rattle.std.proofs.Common.{◌≡◌, ◌≤◌, ◌+◌, ℕ, List, length, refl, arith}
 use Rattle.std.proofs.lemmas.List.{length-append, length-take, length-drop, length-replicate}
 use Rattle.line_index.specs.declared.edit.LineEdit.{LineEdit}
@@ -11,7 +11,7 @@ length_after_edit together rows (Come line count) h = simp (length-append, lengt
 length_after_edit together rows (Join line count) h = simp (length-append, length-take, length-drop) (omega arith)
 length_after_edit together rows Restart h = refl
 
--- no more lines come by an edit than fresh ones
+-- an edit adds at most its fresh lines
 pub edit_adds : (lines : ℕ) (edit : LineEdit) → lines_after_edit lines edit ≤ lines + fresh_by edit
 edit_adds lines (Come line count) = omega arith
 edit_adds lines (Join line count) = omega arith

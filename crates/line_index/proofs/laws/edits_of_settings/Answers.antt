@@ -1,4 +1,4 @@
--- The lemmas hold of rows of any kind.
+-- The lemmas hold for rows of any kind.
 use Rattle.line_index.proofs.SettingEdits.{setting_edits_carry, setting_edits_fit, setting_edits_bring_all, setting_edits_few}
 use Rattle.line_index.proofs.laws.edits_of_settings.Goals as goal
 

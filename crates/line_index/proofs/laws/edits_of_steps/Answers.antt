@@ -1,4 +1,4 @@
--- The lemmas hold of rows of any kind.
+-- The lemmas hold for rows of any kind.
 use Rattle.line_index.proofs.StepCarries.{step_edits_carry, step_edits_fit, step_edits_few}
 use Rattle.line_index.proofs.laws.edits_of_steps.Goals as goal
 
