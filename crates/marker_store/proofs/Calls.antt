@@ -1,4 +1,4 @@
--- What each call does to the lists of lines.
+-- The effect of each call on the lists of lines.
 use Rattle.std.proofs.Common.{◌≡◌, ℕ, ◌+◌, ◌-◌, ◌<◌, ◌≤◌, ◌≢◌, inl, inr, zero, suc, List, [], ◌∷◌, ◌++◌, length, get_or, set, take, drop, replicate, refl, sym, ap, ◌∙◌, arith, append-nil, take_at, drop_at}
 use Rattle.std.proofs.lemmas.Bool.{cases_eq}
 use Rattle.std.proofs.lemmas.List.{take-append-drop}
@@ -28,7 +28,7 @@ row_at k (suc n) (suc i) es h = let e : k + suc i ≡ suc k + i = omega arith in
 pub markers_at : (n i : ℕ) (es : List Entry) → i < n → markers_of i (rows_from 0 n es) ≡ row i es
 markers_at n i es h = let e : 0 + i ≡ i = omega arith in row_at 0 n i es h ∙ ap (λ k. row k es) e
 
--- where one line's list changed
+-- the lists with that of one line changed
 pub rows_set :
     (k n i : ℕ) (v : List Marker) (old new : List Entry) → row (k + i) new ≡ v → ((j : ℕ) → j ≢ k + i → row j new ≡ row j old) → i < n
     → rows_from k n new ≡ set (rows_from k n old) i v
@@ -65,7 +65,7 @@ pub total_is : (n : ℕ) (es : List Entry) → AllBefore n es → marker_total (
 total_is n [] a = total_none 0 n
 total_is n (e ∷ es) a = let least : e.line < n = a.0 in total_more 0 n e es (omega arith) (omega arith) ∙ ap (λ m. 1 + m) (total_is n es a.1) ∙ omega arith
 
--- Lines come.
+-- Lines are inserted.
 
 raised_parts :
     (line count rest : ℕ) (xs ys : List Entry) → AllBefore line xs → AllFrom line ys
@@ -175,7 +175,7 @@ rows_lowered line count n old new h r =
     ∙ ap (λ l. take line (rows_from 0 n old) ++ (flat_map (λ ms. ms) l ∷ rows_from (line + (count + 1)) rest old)) (sym range)
     ∙ ap (λ l. take line (rows_from 0 n old) ++ (flat_map (λ ms. ms) (slice_range (rows_from 0 n old) line (line + (count + 1))) ∷ l)) (sym far)
 
--- A marker comes.
+-- A marker is added.
 
 pub rows_put :
     (line n : ℕ) (m : Marker) (old new : List Entry) → line < n → IsPut line m old new

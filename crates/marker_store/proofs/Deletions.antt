@@ -1,4 +1,4 @@
--- Markers go: what becomes of the lists, and that what stays is in order.
+-- Markers are removed: the lists that are left, and their order.
 use Rattle.std.proofs.Common.{◌≡◌, ℕ, ◌+◌, ◌-◌, ◌<◌, ◌≤◌, ◌≢◌, ◌⊎◌, inl, inr, Bool, true, false, zero, suc, List, [], ◌∷◌, ◌++◌, length, get_or, set, take, drop, refl, sym, ap, ◌∙◌, arith, eqb, eq-eqb, drop-cons, length-append}
 use Rattle.std.specs.Prelude.{filter, not, IsTrue}
 use Rattle.std.proofs.lemmas.Bool.{cases_eq, cases_lt, ne_eqb}
@@ -116,7 +116,7 @@ within_kept d n (e ∷ es) a = go (is_dropped d e.marker) refl (within_kept d n 
     go true h rest = rw h rest
     go false h rest = rw h (a.0, rest)
 
--- What comes and moves is in order too, and as many as before.
+-- What is inserted and moved is in order too, and as many as before.
 
 pub within_raised : (line c n : ℕ) (old new : List Entry) → IsRaised line c old new → AllBefore n old → AllBefore (n + c) new
 within_raised line c n old new r a =
@@ -150,14 +150,14 @@ length-lowered line c old new r =
     ap length r.is ∙ length-append (take r.index old) (lowered c (drop r.index old))
     ∙ ap (λ m. length (take r.index old) + m) (length-map (drop r.index old) (λ (e : Entry). entry (e.line - c) e.marker)) ∙ parts r.index old
 
--- whether two numbers differ, told by two others that are equal to them
+-- whether two numbers differ, by two others that are equal to them
 pub differs : (a b x y : ℕ) → a ≡ x → b ≡ y → (IsTrue (not (eqb a b)) → x ≡ y → ⊥) × (x ≢ y → IsTrue (not (eqb a b)))
 differs a b x y ea eb = (
   (λ h q. let e : eqb a b ≡ true = eq-eqb a b (ea ∙ q ∙ sym eb) in let k = rw e at h in cc),
   (λ ne. let e : eqb a b ≡ false = ne_eqb a b (λ q. ne (sym ea ∙ q ∙ eb)) in rw e refl),
 )
 
--- All markers go, and all lines but one.
+-- All markers are removed, and all lines but one.
 
 pub kept_none : (es : List Entry) → kept Each es ≡ []
 kept_none [] = refl

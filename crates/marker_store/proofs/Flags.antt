@@ -1,4 +1,4 @@
--- Lines that are known to have no marker: what the flags say after each call, and that no entry is on such a line.
+-- Lines that are known to have no marker: the flags after each call, and why no entry is on such a line.
 use Rattle.std.proofs.Common.{◌≡◌, ℕ, ◌+◌, ◌-◌, ◌<◌, ◌≤◌, ◌≢◌, ◌⊎◌, inl, inr, Bool, true, false, zero, suc, List, [], ◌∷◌, ◌++◌, length, get_or, set, take, drop, replicate, refl, sym, ap, ◌∙◌, arith}
 use Rattle.std.specs.Prelude.{not, ◌||◌}
 use Rattle.std.proofs.Math.ListN.{drop_of_length-le}
@@ -66,9 +66,9 @@ row_unmarked flags line (e ∷ es) a h =
     let other : e.line ≢ line = (λ q. let k : not (may_have flags e.line) ≡ true = rw q h in let z = rw a.0 at k in cc) in
     row-other line e es other ∙ row_unmarked flags line es a.1 h
 
--- Markers come and go.
+-- Markers are added and removed.
 
--- all lines have flags from then on where no marker is there, or nothing changes
+-- either all lines have flags now, and there was no marker, or nothing changes
 pub marked_started : (flags started : List Bool) (markers lines : ℕ) (es : List Entry) → markers ≡ length es → (started ≡ flags) ⊎ ((markers ≡ 0) × (started ≡ replicate lines false)) → AllMarked flags es → AllMarked started es
 marked_started flags started markers lines es l (inl e) a = rw e a
 marked_started flags started markers lines [] l (inr w) a = tt
@@ -94,7 +94,7 @@ marked_kept flags d (e ∷ es) a = go (is_dropped d e.marker) refl (marked_kept 
     go true h rest = rw h rest
     go false h rest = rw h (a.0, rest)
 
--- Lines come.
+-- Lines are inserted.
 
 widened_before : (flags : List Bool) (line n i : ℕ) → line ≤ length flags → i < line → may_have flags i ≡ true → may_have (inserted flags line (replicate n false)) i ≡ true
 widened_before flags zero n i l h m = absurd (omega arith)

@@ -4,7 +4,7 @@ use mir.Val.{bool_byte}
 use Rattle.marker_store.specs.Entries.{Entry, AllBefore, AllFrom, IsCut}
 use Rattle.marker_store.proofs.Indexes.{from_past, from_later}
 
--- what is left: the entries before the range are before the line, and those behind it are not
+-- the rest of the search: the entries before the range are before the line, and those behind it are not
 pub record IsRange (line : ℕ) (es : List Entry) (low width : ℕ) : Type 0 where
   pub within : low + width ≤ length es
   pub before : AllBefore line (take low es)
@@ -18,7 +18,7 @@ before_fewer line (suc n) (e ∷ es) a = (a.0, before_fewer line n es a.1)
 before_less : (line n : ℕ) (es : List Entry) → AllBefore line (take (n + 1) es) → AllBefore line (take n es)
 before_less line n es a = let q : n + 1 ≡ suc n = omega arith in before_fewer line n es (rw q at a)
 
--- the answer, as a number, times the middle is how far the first turn goes on
+-- the answer, as a number, times the middle is how far the first turn moves the range
 pub begun :
     (line first width low : ℕ) (es : List Entry) (yes : Bool) → first + width ≡ length es → first ≤ width → low ≡ bool_byte yes * first
     → (IsTrue yes → AllBefore line (take (first + 1) es)) → (IsFalse yes → AllFrom line (drop first es)) → IsRange line es low width
@@ -30,7 +30,7 @@ begun line first width low es false all h q before behind =
     let end : low + width ≡ width = omega arith in
     record { within = omega arith; before = rw none tt; behind = rw end (from_later line first width es (behind refl) h) }
 
--- .. and times the half is how far a later one does
+-- the answer times the half is how far a later turn moves it
 pub turned_by :
     (line low width half low' : ℕ) (es : List Entry) (yes : Bool) → IsRange line es low width → width ≡ half * 2 → low' ≡ low + bool_byte yes * half
     → (IsTrue yes → AllBefore line (take (low + half + 1) es)) → (IsFalse yes → AllFrom line (drop (low + half) es)) → IsRange line es low' half
@@ -44,7 +44,7 @@ turned_by line low width half low' es false range h q before behind =
     let same : low' ≡ low = omega arith in
     rw same (record { within = omega arith; before = range.before; behind = behind refl })
 
--- a range of one is looked at last
+-- a range of one entry is the last to be read
 pub cut_found :
     (line low found : ℕ) (es : List Entry) (yes : Bool) → IsRange line es low 1 → found ≡ low + bool_byte yes
     → (IsTrue yes → AllBefore line (take (low + 1) es)) → (IsFalse yes → AllFrom line (drop low es)) → IsCut line es found
@@ -57,7 +57,7 @@ cut_found line low found es false range q before behind =
     let same : found ≡ low = omega arith in
     rw same (record { within = omega arith; before = range.before; behind = behind refl })
 
--- the answer as a number, moved up to a power of two
+-- the answer as a number, shifted up to a power of two
 pub moved_up : (yes : Bool) (power : ℕ) → power < 18446744073709551616 → bool_byte yes * power % 18446744073709551616 ≡ bool_byte yes * power
 moved_up true power h = omega arith
 moved_up false power h = omega arith

@@ -41,14 +41,14 @@ ordered_at least i [] o l = absurd (omega arith)
 ordered_at least zero (e ∷ es) o l = o.0
 ordered_at least (suc i) (e ∷ es) o l = omega (arith, o.0, ordered_at e.line i es o.1 (omega arith))
 
--- no entry up to one is past its line
+-- no entry up to this one is past its line
 pub ordered_before : (least line i : ℕ) (es : List Entry) → Ordered least es → i < length es → (get_or es i no_entry).line < line → AllBefore line (take (suc i) es)
 ordered_before least line i [] o l h = absurd (omega arith)
 ordered_before least line zero (e ∷ es) o l h = (h, tt)
 ordered_before least line (suc i) (e ∷ es) o l h =
     (omega (arith, ordered_at e.line i es o.1 (omega arith), h), ordered_before e.line line i es o.1 (omega arith) h)
 
--- and none from it on is before it
+-- no entry from this one on is before its line
 pub ordered_behind : (least line i : ℕ) (es : List Entry) → Ordered least es → i < length es → line ≤ (get_or es i no_entry).line → AllFrom line (drop i es)
 ordered_behind least line i [] o l h = absurd (omega arith)
 ordered_behind least line zero (e ∷ es) o l h = (h, from_less line e.line es h (ordered_from e.line es o.1))

@@ -1,4 +1,5 @@
--- What is stored stays in order when the step moves, when lines come or go, and when a marker does.
+-- The stored numbers stay in order when the step moves, when lines are inserted or joined, and when a marker is added
+-- or removed.
 use Rattle.std.proofs.Common.{◌≡◌, ℕ, ◌+◌, ◌-◌, ◌<◌, ◌≤◌, List, ◌∷◌, ◌++◌, length, take, drop, arith}
 use Rattle.ed_model.specs.Rows.{Marker}
 use Rattle.marker_store.specs.Entries.{Entry, entry, entries_of, AllBefore, AllFrom, IsCut, raised, lowered, IsPlaced}

@@ -1,4 +1,4 @@
--- The entries stay in the order of their lines when one comes or goes, and when lines do.
+-- The entries stay in the order of their lines when one is added or removed, and when lines are inserted or joined.
 use Rattle.std.proofs.Common.{◌≡◌, ℕ, ◌+◌, ◌-◌, ◌≤◌, zero, suc, List, [], ◌∷◌, ◌++◌, take, drop, arith}
 use Rattle.ed_model.specs.Rows.{Marker}
 use Rattle.marker_store.specs.Entries.{Entry, entry, AllBefore, AllFrom, Ordered, raised, lowered}

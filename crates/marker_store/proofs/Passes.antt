@@ -21,7 +21,7 @@ seam-drop n xs ys h =
     let e : n + 1 ≡ length (take n xs) + 1 = omega (arith, length-take-le n xs h) in
     ap (λ m. drop m (take n xs ++ ys)) e ∙ drop-append-add (take n xs) ys 1
 
--- one more goes
+-- one more entry is removed
 pub gone_more :
     (from i : ℕ) (es old : List Entry) → es ≡ take from old ++ drop i old → from ≤ i → i < length old
     → take from es ++ drop (from + 1) es ≡ take from old ++ drop (i + 1) old
@@ -91,7 +91,7 @@ kept-append d xs ys = filter-append (λ (e : Entry). not (is_dropped d e.marker)
 kept_dropped : (d : Drops) (e : Entry) (es : List Entry) → is_dropped d e.marker ≡ true → kept d (e ∷ es) ≡ kept d es
 kept_dropped d e es h = rw h refl
 
--- one that is dropped goes
+-- one that is dropped is removed
 pub kept_without : (d : Drops) (i : ℕ) (es : List Entry) (e : Entry) → i < length es → e ≡ get_or es i no_entry → is_dropped d e.marker ≡ true → kept d (take i es ++ drop (i + 1) es) ≡ kept d es
 kept_without d i es e l q h =
     let here : is_dropped d (get_or es i no_entry).marker ≡ true = ap (λ (x : Entry). is_dropped d x.marker) (sym q) ∙ h in

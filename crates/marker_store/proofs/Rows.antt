@@ -1,4 +1,4 @@
--- The lists of lines, made of the entries, and what becomes of them when entries come, go or move.
+-- The lists of lines by the entries, and their change when entries are added, removed or moved.
 use Rattle.std.proofs.Common.{◌≡◌, ℕ, ◌+◌, ◌-◌, ◌<◌, ◌≤◌, ◌≢◌, inl, inr, zero, suc, List, [], ◌∷◌, ◌++◌, length, take, drop, replicate, refl, sym, ap, ◌∙◌, arith, append-nil}
 use Rattle.std.proofs.lemmas.Bool.{cases_eq}
 use Rattle.std.proofs.lemmas.Bool.Decides.{eqb_tells}
@@ -98,7 +98,7 @@ rows-append k (suc a) b es =
     let t : k + suc a ≡ suc k + a = omega arith in
     rw (s, t) (ap (λ l. row k es ∷ l) (rows-append (suc k) a b es))
 
--- the lists are equal where each line's is
+-- the lists are equal if those of each line are
 pub rows_same : (k n : ℕ) (xs ys : List Entry) → ((j : ℕ) → k ≤ j → j < k + n → row j xs ≡ row j ys) → rows_from k n xs ≡ rows_from k n ys
 rows_same k zero xs ys same = refl
 rows_same k (suc n) xs ys same =

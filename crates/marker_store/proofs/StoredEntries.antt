@@ -1,4 +1,4 @@
--- The entries that are stored, and what becomes of them when what is stored changes.
+-- The stored entries, and their change when the stored numbers change.
 use Rattle.std.proofs.Common.{◌≡◌, ℕ, ◌+◌, ◌-◌, ◌<◌, ◌≤◌, zero, suc, List, [], ◌∷◌, ◌++◌, length, get_or, set, take, drop, refl, sym, ap, ◌∙◌, arith, take_at, drop_at, length-append}
 use Rattle.std.proofs.lemmas.List.{length-map, length-take-le, length-drop}
 use Rattle.marker_store.specs.Entries.{Entry, entry, no_entry, turned, entries_of, raised, lowered, AllBefore, AllFrom}
@@ -30,7 +30,7 @@ near_part count step es h = take_at (take step es) (turned count (drop step es))
 pub far_part : (count step : ℕ) (es : List Entry) → step ≤ length es → drop step (entries_of count step es) ≡ turned count (drop step es)
 far_part count step es h = drop_at (take step es) (turned count (drop step es)) step (length-take-le step es h)
 
--- The step moves by one, and the entry that it passes is stored by the other number.
+-- The step moves by one, and the entry that it passes changes its stored form.
 
 pub passed_up : (count i : ℕ) (es : List Entry) (e : Entry) → i < length es → e ≡ get_or es i no_entry → entries_of count (i + 1) (set es i (entry (count - e.line) e.marker)) ≡ entries_of count i es
 passed_up count i es e l q = let s : i + 1 ≡ suc i = omega arith in rw (s, q) (go i es l)
@@ -54,7 +54,7 @@ before-set k (suc i) [] e a h = tt
 before-set k zero (x ∷ xs) e a h = (h, a.1)
 before-set k (suc i) (x ∷ xs) e a h = (a.0, before-set k i xs e a.1 h)
 
--- The number of lines grows or shrinks: those behind the step move with it.
+-- The number of lines grows or shrinks: the lines of the entries behind the step move with it.
 
 far_raised : (count n : ℕ) (es : List Entry) → AllBefore (count + 1) es → turned (count + n) es ≡ raised n (turned count es)
 far_raised count n [] a = refl
@@ -83,7 +83,7 @@ lowered_entries count n step es h =
     ∙ ap (λ r. r ++ lowered n (turned count (drop step es))) (sym (near_part count step es h))
     ∙ ap (λ r. take step (entries_of count step es) ++ lowered n r) (sym (far_part count step es h))
 
--- what is stored stays small where lines are joined
+-- stored numbers stay small when lines are joined
 far_small : (count line n : ℕ) (es : List Entry) → 0 < line + n → AllFrom (line + n) (turned count es) → AllBefore (count - n + 1) es
 far_small count line n [] p a = tt
 far_small count line n (e ∷ es) p a = (omega (arith, a.0), far_small count line n es p a.1)
@@ -97,7 +97,7 @@ small_lowered count line n step es h l p a b = go step es (omega arith) (rw (nea
     go (suc step) [] p a b = tt
     go (suc step) (e ∷ es) p a b = (omega (arith, a.0), go step es p a.1 b)
 
--- One comes.
+-- One entry is added.
 
 pub put_near : (count i step : ℕ) (x : Entry) (es : List Entry) → i ≤ step → step ≤ length es
     → entries_of count (step + 1) (take i es ++ x ∷ drop i es) ≡ take i (entries_of count step es) ++ x ∷ drop i (entries_of count step es)
@@ -119,7 +119,7 @@ put_far count (suc i) zero x (e ∷ es) h l w = ap (λ r. entry (count - e.line)
 put_far count (suc i) (suc step) x [] h l w = absurd (omega arith)
 put_far count (suc i) (suc step) x (e ∷ es) h l w = ap (λ r. e ∷ r) (put_far count i step x es (omega arith) (omega arith) w)
 
--- One goes.
+-- One entry is removed.
 
 pub taken_near : (count i step : ℕ) (es : List Entry) → i < step → step ≤ length es
     → entries_of count (step - 1) (take i es ++ drop (i + 1) es) ≡ take i (entries_of count step es) ++ drop (i + 1) (entries_of count step es)

@@ -1,4 +1,4 @@
--- Which markers a call takes away, and the entries that it keeps.
+-- Which markers a call removes, and the entries that it keeps.
 use Rattle.std.specs.Prelude.{◌==◌, not, Bool, true, List, filter}
 use Rattle.ed_model.specs.Rows.{Marker}
 use Rattle.marker_store.specs.declared.drops.Drops.{Drops}

@@ -1,5 +1,5 @@
--- How markers are stored: in one list, in the order of their lines, and behind one another on a line. Up to the step each
--- stands with its line, and from there on with the distance of its line to the number of lines.
+-- The storage of markers: one list, in the order of their lines, and those of one line in the order of its list. Up to
+-- the step each is stored with its line, and from there on with the distance of its line to the number of lines.
 use Rattle.std.specs.Prelude.{◌≡◌, ◌⊎◌, ℕ, zero, suc, ◌+◌, ◌-◌, ◌^◌, ◌<◌, ◌≤◌, ◌==◌, if◌then◌else◌, Bool, true, List, [], ◌∷◌, ◌++◌, length, map, take, drop, slice_index_or, refl}
 use Rattle.std.specs.Coded.{Coded, code_by, coded×, coded_list, coded_ℕ}
 use Rattle.ed_model.specs.Rows.{Marker}
@@ -14,8 +14,7 @@ pub record Entry : Type 0 where
 abbrev pub entry : ℕ → Marker → Entry
 entry line marker = record { line = line; marker = marker }
 
--- how many lines there are, the markers in order, how many more fit in without more memory, as promised, and for how many in
--- all there is memory
+-- how many lines there are, the markers in order, how many more markers were reserved, and for how many in all there is memory
 pub record Placed : Type 0 where
   pub count : ℕ
   pub entries : List Entry
@@ -62,13 +61,13 @@ raised n es = map (λ (e : Entry). entry (e.line + n) e.marker) es
 abbrev pub lowered : ℕ → List Entry → List Entry
 lowered n es = map (λ (e : Entry). entry (e.line - n) e.marker) es
 
--- what a call does to the entries, with the index that it finds
+-- the entries from the line on moved by n lines; `index` is the one that the call finds
 pub record IsRaised (line n : ℕ) (old new : List Entry) : Type 0 where
   pub index : ℕ
   pub cut : IsCut line old index
   pub is : new ≡ take index old ++ raised n (drop index old)
 
--- the lines behind the line, n of them, are joined to it; no entry is on one of them but the last
+-- the n lines behind the line are joined to it; only the last of them may have entries
 pub record IsLowered (line n : ℕ) (old new : List Entry) : Type 0 where
   pub index : ℕ
   pub before : AllBefore (line + 1) (take index old)
@@ -85,8 +84,8 @@ abbrev pub Ordered : ℕ → List Entry → Type 0
 Ordered least [] = Unit {0}
 Ordered least (e ∷ es) = (least ≤ e.line) × Ordered e.line es
 
--- What holds of the fields: the entries are in the order of their lines, each on a line that there is, no number that is
--- stored is past the number of lines, and there is the room that was promised.
+-- What the fields keep: the entries are in the order of their lines, each on an existing line, no stored number is past
+-- the number of lines, and there is the room that was promised.
 pub record IsPlaced (count step : ℕ) (stored : List Entry) (spare room : ℕ) : Type 0 where
   pub some : 0 < count
   pub step_within : step ≤ length stored
@@ -113,8 +112,8 @@ abbrev pub AllMarked : List Bool → List Entry → Type 0
 AllMarked flags [] = Unit {0}
 AllMarked flags (e ∷ es) = (may_have flags e.line ≡ true) × AllMarked flags es
 
--- What holds of a store: its lines are no more than can be, its markers fewer than handles were given, and none is on a line
--- that the flags say has none.
+-- What a store keeps: the number of lines is within its limit, there are fewer markers than handles were given, and
+-- none is on a line whose flag says that it has none.
 pub record IsStore (p : Placed) (flags : List Bool) (next_handle : ℕ) : Type 0 where
   pub some : 0 < p.count
   pub few : p.count ≤ 2 ^ 62
@@ -125,7 +124,7 @@ pub record IsStore (p : Placed) (flags : List Bool) (next_handle : ℕ) : Type 0
 abbrev pub no_entry : Entry
 no_entry = entry 0 (marker 0 0)
 
--- the line's entries go
+-- the line's entries are removed
 pub record IsCleared (line : ℕ) (old new : List Entry) : Type 0 where
   pub from : ℕ
   pub to : ℕ
@@ -145,7 +144,7 @@ pub record IsFirst (line number : ℕ) (es : List Entry) (index : ℕ) : Type 0 
   pub on_line : (slice_index_or es index no_entry).line ≡ line
   pub with_number : (slice_index_or es index no_entry).marker.number ≡ number
 
--- the line's first marker with the number goes, if there is one
+-- the line's first marker with the number is removed, if there is one
 abbrev pub IsFirstGone : ℕ → ℕ → List Entry → List Entry → Type 0
 IsFirstGone line number old new =
     (NoneIs line number old × (new ≡ old))

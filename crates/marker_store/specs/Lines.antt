@@ -1,4 +1,4 @@
--- What a contract sees of a `MarkerStore`, and what its calls do to the lists of the lines.
+-- What a contract sees of a `MarkerStore`, and the effect of its calls on the lists of the lines.
 use Rattle.std.specs.Prelude.{ℕ, ◌+◌, ◌-◌, ◌==◌, not, Bool, List, [], ◌∷◌, ◌++◌, length, map, filter, take, drop, replicate, slice_range, slice_index_or, sum_by, Option, find, reverse, min, refl}
 use Rattle.std.specs.List.{range_with_len, flat_map, list_any}
 use Rattle.std.specs.Coded.{Coded, code_by, coded×, coded_list, coded_ℕ}
@@ -6,8 +6,8 @@ use Rattle.ed_model.specs.Rows.{Marker}
 use Rattle.ed_model.specs.Numbers.{meets}
 use Rattle.ed_model.specs.LinePlans.{mask_of}
 
--- the markers of each line in their order, the handle that the next marker gets, how many more markers fit in without
--- more memory, as promised, and for how many in all there is memory
+-- the markers of each line in their order, the handle that the next marker gets, how many more markers were reserved,
+-- and for how many in all there is memory
 pub record MarkedLines : Type 0 where
   pub lines : List (List Marker)
   pub next_handle : ℕ
@@ -28,7 +28,7 @@ marked_lines_code =
     code_by (List (List Marker) × (ℕ × (ℕ × ℕ))) (coded× (coded_list (coded_list marker_code)) (coded× coded_ℕ (coded× coded_ℕ coded_ℕ)))
     (λ s. (s.lines, (s.next_handle, (s.room, s.block)))) (λ p. marked_lines p.0 p.1.0 p.1.1.0 p.1.1.1) (λ _. refl)
 
--- the markers of a line; a line that there is not has none
+-- the markers of a line; a line that does not exist has none
 abbrev pub markers_of : ℕ → List (List Marker) → List Marker
 markers_of line lines = slice_index_or lines line []
 
@@ -36,7 +36,7 @@ markers_of line lines = slice_index_or lines line []
 abbrev pub marker_total : List (List Marker) → ℕ
 marker_total lines = sum_by length lines
 
--- `count` lines without markers come before the line
+-- `count` lines without markers inserted before the line
 abbrev pub with_fresh : ℕ → ℕ → List (List Marker) → List (List Marker)
 with_fresh line count lines = take line lines ++ (replicate count [] ++ drop line lines)
 
@@ -57,7 +57,7 @@ is_met mask lines line = meets (mask_of (markers_of line lines)) mask
 abbrev pub has_handle : ℕ → List (List Marker) → ℕ → Bool
 has_handle handle lines line = list_any (λ m. m.handle == handle) (markers_of line lines)
 
--- the first of these lines at which the test gives true, from the line on, or from the line back
+-- the first of these lines that passes the test, from the line on, or from the line back
 abbrev pub first_from : (ℕ → Bool) → List (List Marker) → ℕ → Option ℕ
 first_from test lines line = find test (range_with_len line (length lines - line))
 

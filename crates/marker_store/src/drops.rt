@@ -1,4 +1,4 @@
-//! Which markers a call takes away.
+//! Which markers a call removes.
 ghost use Rattle.std.specs.Prelude.{◌≡◌};
 ghost use Rattle.marker_store.specs.Dropping.{is_dropped};
 
@@ -13,7 +13,7 @@ pub enum Drops {
 }
 
 impl Drops {
-    /// Returns whether the marker is one of them.
+    /// Returns whether `marker` is one of them.
     pub(crate) fn takes(&self, marker: &Marker) -> bool
         ensures { result ≡ is_dropped self.now marker.now }
     {

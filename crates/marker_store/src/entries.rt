@@ -5,7 +5,7 @@ ghost use Rattle.marker_store.specs.Entries.{entry};
 use crate::markers::Marker;
 use std::marker::Model;
 
-/// A marker with a number of lines: of those before its own, or of those from its own on.
+/// A marker with a number of lines: those before its own, or those from its own on.
 #[derive(Clone, Copy, Drop)]
 pub struct Entry {
     lines: usize,
@@ -35,7 +35,7 @@ impl Entry {
         }
     }
 
-    /// Returns its line, where it is not a distance that is stored.
+    /// Returns its line, unless the stored number is a distance.
     pub(crate) fn line(&self) -> usize
         ensures { result ≡ self.now.line }
     {
@@ -49,7 +49,7 @@ impl Entry {
         self.marker
     }
 
-    /// Returns the marker with the distance to `count` in place of the line, or with the line in place of the distance.
+    /// Returns the marker with the distance to `count` instead of the line, or with the line instead of the distance.
     pub(crate) fn turned(&self, count: usize) -> Self
         requires { self.now.line ≤ count }
         ensures { result ≡ entry (count - self.now.line) self.now.marker }

@@ -6,8 +6,8 @@ use split_vector::SplitVector;
 use std::alloc::{Allocator, Global};
 use std::marker::Model;
 
-/// A flag for each line from the first on, or none at all: false where the line has no marker, and true where it may have one.
-/// A line without a flag may have one too, so flags that there is no memory for are dropped, and nothing else is lost.
+/// A flag for each line from the first on, or none at all: false if the line has no marker, and true if it may have one.
+/// A line without a flag may have one, too. So flags for which there is no memory are dropped, and nothing else is lost.
 #[derive(Drop)]
 pub struct LineMarks<A: Allocator = Global> {
     flags: SplitVector<bool, A>,
@@ -22,7 +22,7 @@ impl<A: Allocator> Model for LineMarks<A> {
 }
 
 impl<A: Allocator> LineMarks<A> {
-    /// Returns no flags. It takes no memory.
+    /// Returns no flags. Allocates nothing.
     pub(crate) fn new(alloc: A) -> Self
         ensures { result ≡ [] }
     {
@@ -43,7 +43,7 @@ impl<A: Allocator> LineMarks<A> {
         false
     }
 
-    /// Where there are no markers and no flags yet, says of each of the lines that it has no marker, if there is the memory.
+    /// Clears the flag of each of the lines, if there are no markers and no flags yet, and if there is memory for the flags.
     pub(crate) fn start(&mut self, markers: usize, lines: usize)
         ensures { (self.new ≡ self.old) ⊎ ((markers ≡ 0) × (self.new ≡ replicate lines false)) }
     {
@@ -56,14 +56,14 @@ impl<A: Allocator> LineMarks<A> {
         self.flags.insert_fill_reserved(0, lines, false);
     }
 
-    /// Says of no line any more that it has no marker.
+    /// Drops all flags: no line is known to have no marker.
     pub(crate) fn clear(&mut self)
         ensures { self.new ≡ [] }
     {
         self.flags.delete(0, self.flags.len());
     }
 
-    /// Says of the line that it may have a marker.
+    /// Sets the flag of the line: it may have a marker.
     pub(crate) fn set(&mut self, line: usize)
         ensures { self.new ≡ slice_set self.old line true }
     {
@@ -72,8 +72,8 @@ impl<A: Allocator> LineMarks<A> {
         }
     }
 
-    /// Puts `count` lines without markers in before the line. Where the memory is refused, or where lines before it have no flags,
-    /// all flags are dropped.
+    /// Inserts `count` lines without markers before the line. If the allocation fails, or if lines before it have no
+    /// flags, all flags are dropped.
     pub(crate) fn raise(&mut self, line: usize, count: usize)
         ensures { IsWidened line count self.old self.new }
     {
@@ -91,7 +91,7 @@ impl<A: Allocator> LineMarks<A> {
         self.flags.insert_fill_reserved(line, count, false);
     }
 
-    /// Joins `count` lines behind the line to it, of which only the last can have markers.
+    /// Joins `count` lines behind the line to it. Of these only the last may have markers.
     pub(crate) fn join(&mut self, line: usize, count: usize)
         requires { line + count < 2 ^ 64 }
         ensures { self.new ≡ joined_flags line count self.old }

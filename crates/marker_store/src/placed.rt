@@ -19,11 +19,11 @@ use std::marker::Model;
 #[derive(Drop)]
 pub struct PlacedMarkers<A: Allocator = Global> {
     stored: SplitVector<Entry, A>,
-    // How many entries are stored with their lines. Those behind are stored with the distances of their lines to `lines`.
+    // How many entries are stored with their lines. The others are stored with the distances of their lines to `lines`.
     step: usize,
     // The number of lines.
     lines: usize,
-    // How many more markers fit in, as reserved.
+    // How many more markers were reserved.
     room: usize,
 }
 
@@ -41,7 +41,7 @@ impl<A: Allocator> Model for PlacedMarkers<A> {
 }
 
 impl<A: Allocator> PlacedMarkers<A> {
-    /// Returns one line, without markers. It takes no memory.
+    /// Returns one line, without markers. Allocates nothing.
     pub(crate) fn new(alloc: A) -> Self
         ensures { result ≡ placed 1 [] 0 0 }
     {
@@ -69,7 +69,7 @@ impl<A: Allocator> PlacedMarkers<A> {
         self.stored.len()
     }
 
-    /// Makes room for `count` more markers. No memory is taken where it is there for them.
+    /// Makes room for `count` more markers. Allocates nothing if the memory is there.
     pub(crate) fn reserve(&mut self, count: usize) -> Result<(), AllocError>
         ensures ok { OnOk result (self.new ≡ record self.old { room = max self.old.room count; block = self.new.block }) }
         ensures room_is_there { count ≤ self.old.room → IsOk result × (self.new ≡ self.old) }
@@ -97,8 +97,8 @@ impl<A: Allocator> PlacedMarkers<A> {
         (entry.line(), entry.marker())
     }
 
-    // Returns whether the marker at an index is on a line before the line. Only its line is read. Whether it is stored as a distance
-    // rests on the index alone, which a search soon has on one side of the step.
+    // Returns whether the marker at `index` is on a line before `line`. Reads only its line. Whether that is stored as
+    // a distance depends on the index alone, and a search is soon on one side of the step.
     #[inline]
     fn is_before(&self, index: usize, line: usize) -> bool
         requires { index < length self.now.entries }
@@ -111,10 +111,11 @@ impl<A: Allocator> PlacedMarkers<A> {
         if index < self.step { near } else { far }
     }
 
-    /// Returns how many markers are on lines before the line. The search stands apart, since what is asked for is mostly found
-    /// without it. It reads as many markers whatever it finds, and what it finds is added and not jumped by, since a processor
-    /// guesses every second such jump wrongly. The first turn leaves a power of two of markers, so that each other turn adds the
-    /// next lower power or nothing. It is added by a shift: of a product with the power the compiler would make a jump again.
+    /// Returns how many markers are on lines before `line`. Out of line, since the callers usually find the answer
+    /// without a search. It reads as many markers whatever it finds. What it finds is added, not branched on, since a
+    /// processor would mispredict every second branch. The first turn leaves a power of two of markers, so each further
+    /// turn adds the next lower power or nothing. It adds by a shift: the compiler would turn a product with the power
+    /// into a branch again.
     #[inline(never)]
     pub(crate) fn cut(&self, line: usize) -> usize
         ensures { IsCut line self.now.entries result }
@@ -134,7 +135,7 @@ impl<A: Allocator> PlacedMarkers<A> {
         low + self.is_before(low, line) as usize
     }
 
-    // Returns whether the markers before the index are those on lines before the line.
+    // Returns whether the markers before `index` are exactly those on lines before `line`.
     fn is_cut(&self, line: usize, index: usize) -> bool
         requires { index ≤ length self.now.entries }
         ensures { IsTrue result ↔ IsCut line self.now.entries index }
@@ -155,8 +156,8 @@ impl<A: Allocator> PlacedMarkers<A> {
         true
     }
 
-    // Returns how many markers are on lines before the line, as `cut` does. The step is tried first: lines mostly come and
-    // go where others did before, or behind all markers, and then no search is needed.
+    // Returns how many markers are on lines before `line`, like `cut`. Tries the step first: an edit of lines is
+    // usually where the last one was, or behind all markers, and then needs no search.
     fn cut_at_step(&self, line: usize) -> usize
         ensures { IsCut line self.now.entries result }
     {
@@ -166,7 +167,7 @@ impl<A: Allocator> PlacedMarkers<A> {
         self.cut(line)
     }
 
-    /// Returns how many markers are on the line and those before it.
+    /// Returns how many markers are on `line` and those before it.
     fn cut_behind(&self, line: usize) -> usize
         requires { line < self.now.count }
         ensures { IsCut (line + 1) self.now.entries result }
@@ -176,8 +177,8 @@ impl<A: Allocator> PlacedMarkers<A> {
         self.cut_at_step(line + 1)
     }
 
-    // Returns how many markers are on the line and those before it, as `cut_behind` does. The last marker is looked at first:
-    // markers mostly come one line after the other, wherever the step is.
+    // Returns how many markers are on `line` and those before it, like `cut_behind`. Looks at the last marker first:
+    // markers are usually added line after line, wherever the step is.
     fn cut_from_end(&self, line: usize) -> usize
         requires { line < self.now.count }
         ensures { IsCut (line + 1) self.now.entries result }
@@ -191,7 +192,7 @@ impl<A: Allocator> PlacedMarkers<A> {
         self.cut_at_step(line + 1)
     }
 
-    /// Puts `count` lines in before the line.
+    /// Inserts `count` lines before `line`.
     pub(crate) fn raise(&mut self, line: usize, count: usize)
         requires line { line ≤ self.old.count }
         requires fits { self.old.count + count < 2 ^ 64 }
@@ -206,8 +207,8 @@ impl<A: Allocator> PlacedMarkers<A> {
         self.lines += count;
     }
 
-    // Returns how many lines behind the line, up to `most`, have no marker on one before the last of them. The marker at
-    // the index is the first behind the line.
+    // Returns how many lines behind `line`, up to `most`, have no marker on any but the last of them. The marker at
+    // `index` is the first behind `line`.
     fn free_lines(&self, line: usize, index: usize, most: usize) -> usize
         requires cut { IsCut (line + 1) self.now.entries index }
         requires some { 0 < most }
@@ -221,7 +222,7 @@ impl<A: Allocator> PlacedMarkers<A> {
         most.min(marked - line)
     }
 
-    /// Joins lines behind the line to it: `most`, or fewer, up to the first that has a marker. Returns how many.
+    /// Joins lines behind `line` to it: `most`, or fewer, up to the first one with a marker. Returns how many.
     pub(crate) fn join_next(&mut self, line: usize, most: usize) -> usize
         requires { (0 < most) × (line + most < self.old.count) }
         ensures some { (0 < result) × (result ≤ most) }
@@ -238,7 +239,7 @@ impl<A: Allocator> PlacedMarkers<A> {
         count
     }
 
-    /// Puts a marker in behind those of the line.
+    /// Inserts a marker behind those of `line`.
     pub(crate) fn put(&mut self, line: usize, marker: Marker)
         requires line { line < self.old.count }
         requires room { 0 < self.old.room }
@@ -253,7 +254,7 @@ impl<A: Allocator> PlacedMarkers<A> {
         self.room -= 1;
     }
 
-    /// Takes the marker at an index away.
+    /// Removes the marker at `index`.
     pub(crate) fn remove(&mut self, index: usize)
         requires { index < length self.old.entries }
         ensures entries { self.new.entries ≡ take index self.old.entries ++ drop (index + 1) self.old.entries }
@@ -267,7 +268,7 @@ impl<A: Allocator> PlacedMarkers<A> {
         self.room += 1;
     }
 
-    /// Takes the markers of the line away.
+    /// Removes the markers of `line`.
     pub(crate) fn clear_line(&mut self, line: usize)
         requires { line < self.old.count }
         ensures entries { IsCleared line self.old.entries self.new.entries }
@@ -283,7 +284,7 @@ impl<A: Allocator> PlacedMarkers<A> {
         }
     }
 
-    /// Returns the index of the line's first marker with the number.
+    /// Returns the index of the first marker of `line` with the number.
     fn first_of(&self, line: usize, number: u32) -> Option<usize>
         requires { line < self.now.count }
         ensures { MatchOption result (NoneIs line number self.now.entries) (IsFirst line number self.now.entries) }
@@ -300,7 +301,7 @@ impl<A: Allocator> PlacedMarkers<A> {
         None
     }
 
-    /// Takes the line's first marker with the number away.
+    /// Removes the first marker of `line` with the number.
     pub(crate) fn remove_first(&mut self, line: usize, number: u32)
         requires { line < self.old.count }
         ensures entries { IsFirstGone line number self.old.entries self.new.entries }
@@ -314,7 +315,7 @@ impl<A: Allocator> PlacedMarkers<A> {
         }
     }
 
-    /// Takes away the markers that `drops` names.
+    /// Removes the markers that `drops` names.
     pub(crate) fn remove_all(&mut self, drops: Drops)
         ensures entries { self.new.entries ≡ kept drops self.old.entries }
         ensures count { self.new.count ≡ self.old.count }
@@ -363,8 +364,8 @@ impl<A: Allocator> PlacedMarkers<A> {
         mask
     }
 
-    /// Returns the first line, from the line on, whose mask has a bit in common with `mask`. It is that of the first
-    /// marker from there on whose bit is among them.
+    /// Returns the first line, from `line` on, whose mask has a bit in common with `mask`. It is that of the first
+    /// marker from there on whose bit is in `mask`.
     pub(crate) fn next(&self, line: usize, mask: u32) -> Option<usize>
         ensures { result ≡ first_from (is_met mask (rows_of self.now)) (rows_of self.now) line }
     {
@@ -377,7 +378,7 @@ impl<A: Allocator> PlacedMarkers<A> {
         None
     }
 
-    /// Returns the last line, up to and with the line, whose mask has a bit in common with `mask`.
+    /// Returns the last line, up to and including `line`, whose mask has a bit in common with `mask`.
     pub(crate) fn previous(&self, line: usize, mask: u32) -> Option<usize>
         ensures { result ≡ last_up_to (is_met mask (rows_of self.now)) (rows_of self.now) line }
     {

@@ -1,4 +1,5 @@
-//! `MarkerStore` and its calls. A clause sees it as the list of markers of each line, the next handle, its room and its block.
+//! `MarkerStore` and its calls. A contract sees it as the list of markers of each line, the next handle, its room and
+//! its block.
 ghost use Rattle.std.specs.Prelude.{◌≡◌, ◌≢◌, ◌≤◌, ◌<◌, ◌+◌, ◌-◌, ◌^◌, ◌==◌, ◌↔◌, [], ◌∷◌, ◌++◌, length, max, slice_set, IsTrue, OnOk, OnErr, IsOk};
 ghost use Rattle.split_vector.specs.Split.{most_room};
 ghost use Rattle.ed_model.specs.Changes.{new_markers, without_marker, is_of_number};
@@ -12,13 +13,13 @@ use crate::placed::PlacedMarkers;
 use std::alloc::{AllocError, Allocator, Global};
 use std::marker::Model;
 
-/// How many lines there can be.
+/// The greatest number of lines.
 pub const GREATEST_LINES: usize = 1 << 62;
 
-/// The markers of each line, in their order.
+/// The markers of each line, as a list to which `SCI_MARKERADD` appends.
 ///
-/// Lines are counted from 0; there is always one at least. A marker has a number from 0 to 31, and a handle: handles
-/// rise from 1, and none is used again.
+/// Lines are counted from 0, and there is always at least one. A marker has a number from 0 to 31, and a handle.
+/// Handles rise from 1, and none is used again.
 #[derive(Drop)]
 pub struct MarkerStore<A: Allocator = Global> {
     placed: PlacedMarkers<A>,
@@ -40,7 +41,7 @@ impl<A: Allocator> Model for MarkerStore<A> {
 }
 
 impl<A: Allocator + Copy> MarkerStore<A> {
-    /// Returns the markers of one line, which has none. The next handle is 1. It takes no memory.
+    /// Returns one line without markers. The next handle is 1. Allocates nothing.
     pub fn new(alloc: A) -> Self
         ensures { result ≡ marked_lines ([] ∷ []) 1 0 0 }
     {
@@ -76,12 +77,13 @@ impl<A: Allocator> MarkerStore<A> {
         self.next_handle
     }
 
-    /// Makes room for `count` more markers, on whichever lines. Where the memory is there for all markers that are then to fit in,
-    /// none is taken, and it cannot fail. Else memory is taken for so many, or for twice as many as there was for.
+    /// Makes room for `count` more markers, on any lines. If there is memory for the present markers and `count` more,
+    /// nothing is allocated, and it cannot fail. Otherwise memory for that many is allocated, or for twice as many as
+    /// before if that is more.
     ///
     /// # Errors
     ///
-    /// `AllocError` where the memory is refused. All is then as it was.
+    /// `AllocError` if the allocation fails. Nothing has changed then.
     pub fn reserve(&mut self, count: usize) -> Result<(), AllocError>
         ensures ok { OnOk result (self.new ≡ record self.old { room = max self.old.room count; block = self.new.block }) }
         ensures room_is_there { count ≤ self.old.room → IsOk result × (self.new ≡ self.old) }
@@ -94,8 +96,8 @@ impl<A: Allocator> MarkerStore<A> {
         self.placed.reserve(count)
     }
 
-    /// Puts a marker with the number behind those of the line, and returns its handle. It takes room for one. The first one
-    /// asks for a byte for each line too, and does without where there is no memory for them.
+    /// Adds a marker with `number` behind those of `line`, and returns its handle. There must be room for it. The first
+    /// marker also tries to allocate a byte for each line, and does without if that fails.
     pub fn add_reserved(&mut self, line: usize, number: u32) -> u32
         requires line { line < length self.old.lines }
         requires number { number < 32 }
@@ -115,8 +117,8 @@ impl<A: Allocator> MarkerStore<A> {
         handle
     }
 
-    /// Takes the line's first marker with the number away, or all of its markers where no number is named. Returns
-    /// whether there was one. Their room comes back.
+    /// Deletes the first marker of `line` with `number`, or all of its markers if `number` is `None`. Returns whether
+    /// there was one. Their cells become room again.
     pub fn delete(&mut self, line: usize, number: Option<u32>) -> bool
         requires { line < length self.old.lines }
         ensures went { IsTrue result ↔ (marker_total self.new.lines ≢ marker_total self.old.lines) }
@@ -133,8 +135,8 @@ impl<A: Allocator> MarkerStore<A> {
         self.placed.len() != markers
     }
 
-    /// Takes all markers with the number away, or all markers where none is named. Returns whether there was one. Their
-    /// room comes back.
+    /// Deletes all markers with `number`, or all markers if it is `None`. Returns whether there was one. Their cells
+    /// become room again.
     pub fn delete_all(&mut self, number: Option<u32>) -> bool
         ensures went { IsTrue result ↔ (marker_total self.new.lines ≢ marker_total self.old.lines) }
         ensures lines { self.new.lines ≡ without (is_of_number number) self.old.lines }
@@ -150,8 +152,8 @@ impl<A: Allocator> MarkerStore<A> {
         self.placed.len() != markers
     }
 
-    /// Takes the marker with the handle away, and returns its line, or `None` where no marker has the handle. Its room
-    /// comes back.
+    /// Deletes the marker with `handle`, and returns its line, or `None` if no marker has the handle. Its cell becomes
+    /// room again.
     pub fn delete_handle(&mut self, handle: u32) -> Option<usize>
         ensures line { result ≡ first_from (has_handle handle self.old.lines) self.old.lines 0 }
         ensures lines { self.new.lines ≡ without (λ m. m.handle == handle) self.old.lines }
@@ -164,14 +166,14 @@ impl<A: Allocator> MarkerStore<A> {
         Some(line)
     }
 
-    /// Returns the line of the marker with the handle, or `None` where no marker has it.
+    /// Returns the line of the marker with `handle`, or `None` if no marker has it.
     pub fn line_of_handle(&self, handle: u32) -> Option<usize>
         ensures { result ≡ first_from (has_handle handle self.now.lines) self.now.lines 0 }
     {
         self.placed.line_of_handle(handle)
     }
 
-    /// Returns the line's mask: the bit of each number that a marker of the line has.
+    /// Returns the mask of `line`: the bit of each number that a marker of the line has.
     pub fn mask(&self, line: usize) -> u32
         requires { line < length self.now.lines }
         ensures { result ≡ mask_of (markers_of line self.now.lines) }
@@ -189,15 +191,15 @@ impl<A: Allocator> MarkerStore<A> {
         self.placed.next(from, mask)
     }
 
-    /// Returns the last line, up to and with `from`, whose mask has a bit in common with `mask`.
+    /// Returns the last line, up to and including `from`, whose mask has a bit in common with `mask`.
     pub fn previous(&self, from: usize, mask: u32) -> Option<usize>
         ensures { result ≡ last_up_to (is_met mask self.now.lines) self.now.lines from }
     {
         self.placed.previous(from, mask)
     }
 
-    /// Puts `count` lines without markers in before `line`, or at the end. No memory can be refused to it: it asks for the
-    /// bytes of the lines at most, and drops those of all lines where there is none.
+    /// Inserts `count` lines without markers before `line`, or at the end. It cannot fail: it tries to allocate the
+    /// bytes of the new lines, and drops those of all lines if that fails.
     pub fn shift(&mut self, line: usize, count: usize)
         requires line { line ≤ length self.old.lines }
         requires fits { length self.old.lines + count ≤ GREATEST_LINES }
@@ -207,7 +209,7 @@ impl<A: Allocator> MarkerStore<A> {
         self.marked.raise(line, count);
     }
 
-    /// Joins the `count` lines behind `line` to it: their markers come behind its own, in their order. It takes no memory.
+    /// Joins the `count` lines behind `line` to it: their markers follow its own, in their order. Allocates nothing.
     pub fn merge(&mut self, line: usize, count: usize)
         requires { line + count < length self.old.lines }
         ensures { self.new ≡ record self.old { lines = with_joined line count self.old.lines } }
@@ -220,7 +222,7 @@ impl<A: Allocator> MarkerStore<A> {
         }
     }
 
-    /// Leaves one line, without markers. Their room comes back, and handles go on from where they were.
+    /// Leaves one line, without markers. Their cells become room again, and handles continue from where they were.
     pub fn restart(&mut self)
         ensures lines { self.new.lines ≡ [] ∷ [] }
         ensures next_handle { self.new.next_handle ≡ self.old.next_handle }

@@ -67,7 +67,7 @@ fn lower_step<A: Allocator>(
     }
 }
 
-/// Moves the step from an index to another: the entries between the two are stored by the other number.
+/// Moves the step from an index to another. The entries between the two change their stored form.
 pub(crate) fn move_step<A: Allocator>(
     stored: &mut SplitVector<Entry, A>,
     lines: usize,
@@ -88,7 +88,7 @@ pub(crate) fn move_step<A: Allocator>(
     }
 }
 
-/// Puts an entry in before the one at the index, or at the end. The step does not move, and its index is returned.
+/// Inserts an entry before the one at the index, or at the end. The step stays at its entry; returns its new index.
 pub(crate) fn put_in<A: Allocator>(
     stored: &mut SplitVector<Entry, A>,
     lines: usize,
@@ -117,7 +117,7 @@ pub(crate) fn put_in<A: Allocator>(
     step
 }
 
-/// Takes the entry at the index out. The step does not move, and its index is returned.
+/// Removes the entry at the index. The step stays at its entry; returns its new index.
 pub(crate) fn take_out<A: Allocator>(
     stored: &mut SplitVector<Entry, A>,
     lines: usize,

@@ -6,7 +6,7 @@ use Rattle.marker_store.proofs.Indexes.{ordered_before, ordered_behind, all_befo
 use Rattle.marker_store.proofs.StoredEntries.{length-entries, read_near, read_far}
 use Rattle.marker_store.proofs.placed.PlacedMarkers.is_before.Goals as goal
 
--- what a comparison with the line of an entry says of those before it, and of those behind it
+-- the comparison with the line of one entry decides those before it or those behind it
 before_if : (es : List Entry) (i line found : ℕ) → Ordered 0 es → i < length es → (get_or es i no_entry).line ≡ found → ltb found line ≡ true → AllBefore line (take (i + 1) es)
 before_if es i line found o l e less =
     let low : found < line = ltb-true found line less in
