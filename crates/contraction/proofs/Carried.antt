@@ -1,4 +1,4 @@
--- The flags after an edit of the lines, in the fields' words.
+-- The flags after an edit of the lines, in terms of the fields.
 use Rattle.std.proofs.Common.{◌≡◌, ℕ, suc, ◌+◌, ◌-◌, ◌<◌, ◌≤◌, false, List, [], ◌∷◌, ◌++◌, length, get_or, take, drop, replicate, sym, refl, ap, ◌∙◌, inl, inr, arith}
 use Rattle.std.specs.Prelude.{slice_range}
 use Rattle.std.proofs.lemmas.Bool.{cases_lt, cases_order, lt-ltb, le-ltb}
@@ -129,7 +129,7 @@ pub restarted_after : (h h' c c' : Partitions) (n : ℕ) → n ≡ 1
     → flags_kept h'.starts c'.starts n ≡ fresh_flags ∷ []
 restarted_after h h' c c' n size p q = rw (size, p 0, q 0) refl
 
--- after one edit there are as many lines as it says
+-- after one edit there are as many lines as the edit says
 pub lines_after : (flags : List Flags) (edit : LineEdit) → FitsLines (length flags) edit → length (after_edit flags_together flags edit) ≡ lines_after_edit (length flags) edit
 lines_after flags (Come line count) fit =
     let rest = length-append (replicate count fresh_flags) (drop line flags) in
@@ -144,7 +144,7 @@ few_after lines (Come line count) fit = omega arith
 few_after lines (Join line count) fit = omega arith
 few_after lines Restart fit = omega arith
 
--- edits from one on, and the next
+-- edits from one on, and the next one
 abbrev pub MayFollow : ℕ → List Flags → List LineEdit → Type 0
 MayFollow greatest flags edits = FitLines (length flags) edits × (length flags + fresh_lines edits ≤ greatest)
 

@@ -1,4 +1,4 @@
--- What the changes of flags leave, in the fields' words.
+-- The flags after a change of flags, in terms of the fields.
 use Rattle.std.proofs.Common.{◌≡◌, ℕ, ◌+◌, ◌<◌, ◌≤◌, max, Bool, true, false, ◌&&◌, ◌||◌, cond, ltb, leb, eqb, refl, ap, ◌∙◌, arith}
 use Rattle.std.proofs.lemmas.Bool.{and_parts, and_from, leb-true, le-leb, ltb-true, lt-ltb, eqb-true, eq-eqb}
 use Rattle.ed_model.specs.Folding.{is_between, lines_shown, lines_hidden, with_expanded}
@@ -19,7 +19,7 @@ shown_after h h' c v first past e size same =
     ∙ with_visible_kept h.starts h'.starts c.starts h.length (is_between first past) (λ _. true) same
     ∙ ap (λ (w : ViewLines). lines_shown first past w.flags) e
 
--- a range that leaves line 0 out
+-- a range without line 0
 behind_first : (first from past k : ℕ) → from ≡ max first 1 → is_between from past k ≡ (ltb 0 k && is_between first past k)
 behind_first first from past k e =
     same_tests (is_between from past k) (ltb 0 k && is_between first past k)

@@ -1,4 +1,4 @@
--- What a header's children become, when it is contracted or expanded.
+-- The children of a header when it is contracted or expanded.
 use Rattle.std.proofs.Common.{◌≡◌, ℕ, zero, suc, ◌+◌, ◌-◌, ◌<◌, ◌≤◌, Bool, true, false, not, ◌&&◌, ◌||◌, cond, ltb, leb, List, length, map, sym, refl, ap, ◌∙◌, inl, inr, arith, le_refl}
 use Rattle.std.specs.List.{range_with_len, list_all}
 use Rattle.std.proofs.lemmas.Bool.{cases_eq, cases_Bool, and_parts, and_from, false≢true, not-true, leb-true, le-leb, ltb-true, lt-ltb, le-ltb}
@@ -26,7 +26,7 @@ map_same : (f g : ℕ → Flags) (a n : ℕ) → ((k : ℕ) → a ≤ k → k < 
 map_same f g a zero same = refl
 map_same f g a (suc n) same = rw (same a (omega arith) (omega arith), map_same f g (a + 1) n (λ k h l. same k (omega arith) (omega arith))) refl
 
--- two tests that pass the same lines, and show the same of them
+-- two tests that pass the same lines, and show the same ones of them
 pub visible_same : (p q s t : ℕ → Bool) (flags : List Flags) → ((k : ℕ) → k < length flags → p k ≡ q k) → ((k : ℕ) → k < length flags → p k ≡ true → s k ≡ t k)
     → with_visible p s flags ≡ with_visible q t flags
 visible_same p q s t flags pq st =
@@ -37,7 +37,7 @@ visible_same p q s t flags pq st =
     go k true d e f st = rw (← f, st refl) refl
     go k false d e f st = rw (← f) refl
 
--- one after the other
+-- two changes, one after the other
 pub visible_twice : (p q s t u : ℕ → Bool) (flags : List Flags)
     → ((k : ℕ) → k < length flags → q k ≡ true → (p k ≡ true) × (u k ≡ t k)) → ((k : ℕ) → k < length flags → q k ≡ false → p k ≡ true → u k ≡ s k)
     → with_visible q t (with_visible p s flags) ≡ with_visible p u flags
@@ -56,7 +56,7 @@ visible_twice p q s t u flags both one =
     go k true false y n = rw (n refl refl) refl
     go k false false y n = refl
 
--- what it shows does not expand
+-- showing lines expands none
 pub expanded_still : (p s : ℕ → Bool) (flags : List Flags) (k : ℕ) → k < length flags → is_expanded (with_visible p s flags) k ≡ is_expanded flags k
 expanded_still p s flags k l = ap (λ (f : Flags). f.expanded) (visible_at p s flags k l) ∙ go (p k)
   where
@@ -88,7 +88,7 @@ child_in_range levels header last k e =
     let high : k < last + 1 = ltb-true k (last + 1) both.1 in
     and_from (ltb header k) (leb k last) (lt-ltb header k (omega arith)) (le-leb k last (omega arith))))
 
--- line 0 is none of them
+-- line 0 is not among them
 pub range_behind_first : (first past k : ℕ) → 0 < first → (ltb 0 k && is_between first past k) ≡ is_between first past k
 range_behind_first first past k h =
     same_tests (ltb 0 k && is_between first past k) (is_between first past k)
@@ -110,7 +110,7 @@ children_shown levels header last flags e =
     visible_same (is_between (header + 1) (last + 1)) (is_child levels header) (λ _. true) (λ _. true) flags
     (λ k l. sym (child_in_range levels header last k e)) (λ k l t. refl)
 
--- open as far as the headers before a line say
+-- open as far as the headers before a line decide
 
 abbrev pub lets_through : List ℕ → List Flags → ℕ → ℕ → Bool
 lets_through levels flags k inner = not (is_header levels inner && is_child levels inner k) || is_expanded flags inner
@@ -169,7 +169,7 @@ module _ (levels : List ℕ) (flags : List Flags) (header : ℕ) where
       through true false d e = absurd (false≢true (sym e))
       through false b d e = refl
 
-  -- .. or one that is, with its children
+  -- one more line, which is a contracted header, with its children
   pub open_behind : (line k : ℕ) → header < line → line < length levels → is_closed levels flags line ≡ true
       → open_to levels flags header (last_child levels line + 1) k ≡ cond (is_child levels line k) false (open_to levels flags header line k)
   open_behind line k h l e =
@@ -210,7 +210,7 @@ module _ (levels : List ℕ) (flags : List Flags) (header : ℕ) where
           absurd (false≢true (sym other ∙ child)))
           (λ t. absurd (false≢true t))
 
-  -- the children of the header, with those hidden that a contracted header before the line hides
+  -- the header's children, of which those are hidden that a contracted header before the line hides
   abbrev pub Passed : ℕ → List Flags → Type 0
   Passed line now = now ≡ with_visible (is_child levels header) (open_to levels flags header line) (with_expanded header true flags)
 
@@ -218,7 +218,7 @@ module _ (levels : List ℕ) (flags : List Flags) (header : ℕ) where
   size_now line now e =
       ap length e ∙ length-with_visible (is_child levels header) (open_to levels flags header line) (with_expanded header true flags) ∙ length-with_expanded header true flags
 
-  -- headers behind are still as they were
+  -- later headers are still unchanged
   pub closed_still : (line : ℕ) (now : List Flags) → Passed line now → header < line → line < length flags → is_closed levels now line ≡ is_closed levels flags line
   closed_still line now e h l =
       ap (λ b. is_header levels line && not b)

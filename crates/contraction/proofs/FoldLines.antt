@@ -1,18 +1,18 @@
--- The lines of folds: what is found first behind a line, and before it.
+-- The lines of folds: the first one behind a line, and the last one before it, that passes a test.
 use Rattle.std.proofs.Common.{◌≡◌, ℕ, suc, ◌+◌, ◌-◌, ◌<◌, Bool, true, false, ◌∷◌, reverse, Option, Some, refl, ap, ◌∙◌, arith, zero-add}
 use Rattle.std.specs.Prelude.{find}
 use Rattle.std.specs.List.{range_with_len}
 use Rattle.std.proofs.lemmas.List.{reverse-append}
 use Rattle.contraction.proofs.Outside.{range-append}
 
--- what is sought from a number on, up to another
+-- the first number from one on, up to another, that passes
 abbrev pub first_from : (ℕ → Bool) → ℕ → ℕ → Option ℕ
 first_from test n a = find test (range_with_len a (n - a))
 
 pub first_later : (test : ℕ → Bool) (n a : ℕ) → a < n → test a ≡ false → first_from test n a ≡ first_from test n (a + 1)
 first_later test n a l t = let e : n - a ≡ suc (n - (a + 1)) = omega arith in rw (e, t) refl
 
--- what is sought from a number back
+-- the last number before one that passes
 abbrev pub last_before : (ℕ → Bool) → ℕ → Option ℕ
 last_before test a = find test (reverse (range_with_len 0 a))
 

@@ -1,4 +1,4 @@
--- The last number before another that passes a test, found part by part.
+-- The last number before another that passes a test, part by part.
 use Rattle.std.proofs.Common.{◌≡◌, ℕ, zero, suc, ◌+◌, ◌-◌, ◌<◌, ◌≤◌, List, length, slice_index, Bool, true, false, Option, Some, None, refl, sym, ap, ◌∙◌, arith}
 use Rattle.ed_model.specs.Rows.{base_level}
 use Rattle.contraction.specs.Headings.{heads, last_heading, HeadFrom}
@@ -26,7 +26,7 @@ last_same : (p q : ℕ → Bool) (n : ℕ) → ((k : ℕ) → k < n → p k ≡ 
 last_same p q zero same = refl
 last_same p q (suc n) same = same_more p q n (same n (omega arith)) (last_same p q n (λ k a. same k (omega arith))) (q n) refl
 
--- what is found in a part that begins at f, or else what is found before it
+-- what is found in a part that begins at f, or otherwise before it
 abbrev pub in_part : ℕ → Option ℕ → Option ℕ → Option ℕ
 in_part f None rest = rest
 in_part f (Some i) rest = Some (f + i)
@@ -47,7 +47,7 @@ last_joined test part f zero same = let e : f + zero ≡ f = omega arith in ap (
 last_joined test part f (suc m) same =
     joined_more test part f m (same m (omega arith)) (last_joined test part f m (λ k a. same k (omega arith))) (part m) refl
 
--- the last header of a smaller number before a line, by the levels that are kept
+-- the last header with a smaller number before a line, by the stored levels
 pub heading_of_parts : (number line : ℕ) (levels first others : List ℕ) → length first + length others ≤ line →
     ((k : ℕ) → k < length first → slice_index levels k ≡ slice_index first k) →
     ((k : ℕ) → k < length others → slice_index levels (length first + k) ≡ slice_index others k) →
@@ -59,7 +59,7 @@ heading_of_parts number line levels first others within in_first in_others base 
     ∙ ap (in_part (length first) (last_heading number others (length others)))
     (last_same (λ k. heads number (slice_index levels k)) (λ k. heads number (slice_index first k)) (length first) (λ k a. ap (heads number) (in_first k a)))
 
--- there is none where no header has a smaller number
+-- there is none if no header has a smaller number
 pub none_from : (number least line : ℕ) (levels : List ℕ) → line ≤ length levels → number ≤ least → HeadFrom least levels → last_heading number levels line ≡ None
 none_from number least line levels within le all =
     last_skipped (λ k. heads number (slice_index levels k)) 0 line (omega arith) (λ k a b. less_heads number least (slice_index levels k) le (all k 0 (omega (arith, within, b))))

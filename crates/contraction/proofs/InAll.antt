@@ -1,4 +1,4 @@
--- For how many lines in all there is room to be contracted.
+-- How many lines in all may be contracted.
 use Rattle.std.proofs.Common.{◌≡◌, ℕ, ◌+◌, Bool, true, false, not, cond, List, length, refl, sym, ap, ◌∙◌, arith}
 use Rattle.std.specs.List.{range_with_len}
 use Rattle.std.proofs.lemmas.List.FromFn.{fill_by_all}
@@ -17,14 +17,14 @@ total h c v e size sound =
     let own : c.room ≡ v.room.contracted = ap (λ w. w.room.contracted) e in
     omega (arith, contracted_count h c v e size sound)
 
--- where the starts and their room are as many as before
+-- the starts and their room are together as many as before
 pub total_kept : (h h' c c' : Partitions) (v : ViewLines) → view_lines h c ≡ v → c.length ≡ h.length → ArePartitions c.starts c.length
     → c'.length ≡ h'.length → ArePartitions c'.starts c'.length → length c'.starts + c'.room ≡ length c.starts + c.room
     → contracted_in_all (view_lines h' c') ≡ contracted_in_all v
 total_kept h h' c c' v e size sound size' sound' same =
     omega (arith, total h c v e size sound, total h' c' (view_lines h' c') refl size' sound', same)
 
--- to show and to hide lines contracts none, and expands none
+-- showing and hiding lines contracts none, and expands none
 with_visible_contracted : (passes shown : ℕ → Bool) (flags : List Flags) → contracted_lines (with_visible passes shown flags) ≡ contracted_lines flags
 with_visible_contracted passes shown flags =
     let n = length flags in
@@ -51,7 +51,7 @@ closed_contracted levels line flags = go (is_closed levels flags line)
     go true = hidden_contracted (line + 1) (last_child levels line + 1) flags
     go false = refl
 
--- .. and leaves the room, so it leaves this too
+-- it leaves the room as well, so this number stays
 pub same_in_all : (v w : ViewLines) (flags : List Flags) → w.flags ≡ flags → contracted_lines flags ≡ contracted_lines v.flags → w.room ≡ v.room
     → contracted_in_all w ≡ contracted_in_all v
 same_in_all v w flags e same room =

@@ -27,7 +27,7 @@ flags_of h c k = record { visible = not (holds h k); expanded = not (holds c k) 
 pub kept_at : (h c : List ℕ) (n k : ℕ) → k < n → get_or (flags_kept h c n) k fresh_flags ≡ flags_of h c k
 kept_at h c n k l = get_or-map-range_with_len (flags_of h c) 0 n k k fresh_flags l (omega arith)
 
--- the value of a struct, and what its fields say
+-- the value of a struct, and what it says of the fields
 
 pub lines_of : (h c : Partitions) (v : ViewLines) → view_lines h c ≡ v → length v.flags ≡ h.length
 lines_of h c v e = sym (ap (λ w. length w.flags) e) ∙ length-kept h.starts c.starts h.length
@@ -48,7 +48,7 @@ none_in s k one first = same_tests (holds s k) false
     absurd (omega arith))
     (λ t. absurd (false≢true t))
 
--- all are visible exactly where no line is hidden
+-- all lines are visible exactly if none is hidden
 pub all_visible_in : (h c : Partitions) (v : ViewLines) → view_lines h c ≡ v → ArePartitions h.starts h.length → all_visible v.flags ≡ eqb (length h.starts) 1
 all_visible_in h c v e sound =
     sym (ap (λ w. all_visible w.flags) e)
@@ -187,7 +187,7 @@ with_expanded_kept h c c' n line on l same =
         kept_at h c' n k m ∙ rw q refl ∙ sym (kept_at h c n k m)
         ∙ sym (get_or-set_other (flags_kept h c n) line k (record (flags_at (flags_kept h c n) line) { expanded = on }) fresh_flags ne)
 
--- .. and not too much
+-- the room is not more than promised
 
 pub contracted_count : (h c : Partitions) (v : ViewLines) → view_lines h c ≡ v → c.length ≡ h.length → ArePartitions c.starts c.length → contracted_lines v.flags + 1 ≡ length c.starts
 contracted_count h c v e size sound =

@@ -1,4 +1,4 @@
--- A set of lines, as starts: what it holds, when a start comes or goes and when some move.
+-- A set of lines, as starts: what it holds, when a start is added or removed and when some move.
 use Rattle.std.proofs.Common.{◌≡◌, ℕ, zero, suc, ◌+◌, ◌-◌, ◌<◌, ◌≤◌, Bool, true, false, ◌&&◌, ◌||◌, ltb, leb, eqb, List, [], ◌∷◌, ◌++◌, length, get_or, take, drop, map, insert, remove, refl, sym, ap, ◌∙◌, inl, inr, arith, add-one, add-zero, le_refl}
 use Rattle.std.specs.List.Sorted.{IsStrictlyIncreasing}
 use Rattle.std.proofs.lemmas.Bool.{cases_lt, cases_eq, false≢true, or_cases, or_left, or_right, and_parts, and_from, eqb-true, eq-eqb, ne_eqb, leb-true, le-leb, lt-leb, ltb-true, lt-ltb, le-ltb}
@@ -56,7 +56,7 @@ cut_at s end a i sound last = record {
   above = λ k h l. last.last k (omega arith) l;
 }
 
--- a place that a start is at is the start that was found
+-- if a start is at the place, it is the start that was found
 pub found_at : (s : List ℕ) (end y i r : ℕ) → ArePartitions s end → IsLastAtMost s y i → r ≡ get_or s i 0 → eqb r y ≡ starts_at s y
 found_at s end y i r sound last e =
     same_tests (eqb r y) (starts_at s y)
@@ -85,7 +85,7 @@ or_moved true true d = refl
 or_moved true false d = refl
 or_moved false x d = refl
 
--- a start more
+-- one more start
 pub starts_at-insert : (s : List ℕ) (n x y : ℕ) → starts_at (insert s n x) y ≡ (eqb x y || starts_at s y)
 starts_at-insert s n x y =
     starts_at-append (take n s) (x ∷ drop n s) y ∙ or_moved (starts_at (take n s) y) (eqb x y) (starts_at (drop n s) y)
@@ -112,7 +112,7 @@ at_low s n a y cut =
       | inr h ↦ absurd (omega (arith, cut.above k.0 h k.1, k.2))
     ])
 
--- .. and those behind it
+-- the starts behind a place
 pub at_high : (s : List ℕ) (n a y : ℕ) → IsCut s n a → starts_at (drop n s) y ≡ (ltb a y && starts_at s y)
 at_high s n a y cut =
     same_tests (starts_at (drop n s) y) (ltb a y && starts_at s y)
@@ -173,7 +173,7 @@ module _ (s : List ℕ) (end line i : ℕ) (sound : ArePartitions s end) (last :
   cut : IsCut s (i + 1) line
   cut = cut_at s end line i sound last
 
-  -- lines came before the line
+  -- lines were inserted before the line
   pub came : (c k : ℕ) → starts_at (raised_behind s i c) (k + 1) ≡ holds_with_fresh s line c k
   came c k =
       let parts = starts_at-append (take (i + 1) s) (map (λ x. x + c) (drop (i + 1) s)) (k + 1) in
@@ -210,7 +210,7 @@ drop_suc zero xs = refl
 drop_suc (suc n) [] = refl
 drop_suc (suc n) (x ∷ xs) = drop_suc n xs
 
--- one more start is taken away
+-- one more start is removed
 pub removed_next : (s : List ℕ) (first n : ℕ) → first ≤ n → n < length s → remove (take first s ++ drop n s) first ≡ take first s ++ drop (n + 1) s
 removed_next s first n h l =
     let size : length (take first s) ≡ first = length-take-le first s (omega arith) in
@@ -225,7 +225,7 @@ found_later s a b i j one two h =
       | inr l ↦ l
     ]
 
--- lines went out of the set
+-- lines were removed from the set
 pub left : (s : List ℕ) (end first past i j k : ℕ) → ArePartitions s end → IsLastAtMost s first i → IsLastAtMost s past j → first ≤ past
     → starts_at (take (i + 1) s ++ drop (j + 1) s) (k + 1) ≡ holds_outside s first past k
 left s end first past i j k sound one two h =
@@ -262,7 +262,7 @@ none_within s t first past i last gone h =
           absurd (false≢true (sym outside ∙ sym (gone k) ∙ is))
     ]
 
--- lines went away, and those behind them moved
+-- lines were deleted, and those behind them moved
 pub went : (s t : List ℕ) (end line c i k : ℕ) → ArePartitions t end → IsLastAtMost t line i → ((k : ℕ) → starts_at t (k + 1) ≡ holds_outside s line (line + c) k)
     → starts_at (lowered_behind t i c) (k + 1) ≡ holds_without s line c k
 went s t end line c i k sound last gone =

@@ -1,11 +1,11 @@
--- The last child of a line, and how folds lie in one another.
+-- The last child of a line, and the nesting of folds.
 use Rattle.std.proofs.Common.{◌≡◌, ℕ, zero, suc, ◌+◌, ◌-◌, ◌<◌, ◌≤◌, Bool, true, false, cond, leb, List, length, Option, Some, None, refl, inl, inr, arith, le_refl}
 use Rattle.std.specs.Prelude.{find}
 use Rattle.std.specs.List.{range_with_len}
 use Rattle.std.proofs.lemmas.Bool.{cases_lt, cases_eq, leb-true, leb-false}
 use Rattle.ed_model.specs.Folding.{number_at, line_before, last_child}
 
--- the first of a range that passes, or none
+-- the first of a range that passes, or none does
 abbrev pub Found : (ℕ → Bool) → ℕ → ℕ → Option ℕ → Type 0
 Found test a n None = (k : ℕ) → a ≤ k → k < a + n → test k ≡ false
 Found test a n (Some j) = (a ≤ j) × (j < a + n) × (test j ≡ true) × ((k : ℕ) → a ≤ k → k < j → test k ≡ false)
@@ -35,7 +35,7 @@ pub found : (test : ℕ → Bool) (a n : ℕ) → Found test a n (find test (ran
 found test a zero = λ k h l. absurd (omega arith)
 found test a (suc n) = found_at_once test a n (test a) refl (found test (a + 1) n)
 
--- the lines behind the line up to this have greater numbers, and the next has not
+-- the lines behind the line up to this one have greater numbers, and the next has not
 pub record IsLastChild (levels : List ℕ) (line last : ℕ) : Type 0 where
   pub from : line ≤ last
   pub within : last < length levels

@@ -1,4 +1,4 @@
--- The lines that are not in a set: how many there are before a line, and which is the nth.
+-- The lines outside a set: how many there are before a line, and which is the nth.
 use Rattle.std.proofs.Common.{◌≡◌, ℕ, zero, suc, ◌+◌, ◌-◌, ◌<◌, ◌≤◌, Bool, true, false, not, cond, min, List, [], ◌∷◌, ◌++◌, length, get_or, filter, refl, ap, ◌∙◌, inl, inr, arith, add-zero, zero-add}
 use Rattle.std.specs.Prelude.{slice_get, unwrap_or}
 use Rattle.std.specs.List.{range_with_len}
@@ -17,7 +17,7 @@ range-append a (suc m) n =
     let f : a + 1 + m ≡ a + suc m = omega arith in
     rw e (ap (λ l. a ∷ l) (range-append (a + 1) m n ∙ ap (λ k. range_with_len (a + 1) m ++ range_with_len k n) f))
 
--- the start behind the place is not there
+-- the place behind is no start
 last_before : (s : List ℕ) (end m i : ℕ) → ArePartitions s end → IsLastAtMost s (m + 1) i → (get_or s i 0 ≡ m + 1 → ⊥) → IsLastAtMost s m i
 last_before s end m i sound last ne = record {
   within = last.within;
@@ -25,7 +25,7 @@ last_before s end m i sound last ne = record {
   last = λ k a b. omega (arith, last.last k a b);
 }
 
--- .. or it is, and has the one before it
+-- the place behind is a start, and the one before it is the last
 last_before_start : (s : List ℕ) (end m i : ℕ) → ArePartitions s end → IsLastAtMost s (m + 1) i → get_or s i 0 ≡ m + 1 → (0 < i) × IsLastAtMost s m (i - 1)
 last_before_start s end m i sound last e =
     let some : 0 < i = elim (cases_lt 0 i) [
@@ -49,7 +49,7 @@ module _ (s : List ℕ) (end : ℕ) (sound : ArePartitions s end) where
       ∙ length-append (filter test (range_with_len 0 m)) (filter test (range_with_len (0 + m) 1))
       ∙ rw (zero-add m) refl
 
-  -- of the lines before one, each is in the set or outside
+  -- each of the lines before one is in the set or outside
   pub outside_before : (m i : ℕ) → IsLastAtMost s m i → length (filter (λ line. not (holds s line)) (range_with_len 0 m)) + i ≡ m
   outside_before zero i last = omega (arith, last.at_most, rising_to s sound.rising 0 i (omega arith) last.within)
   outside_before (suc m) i last =
@@ -71,7 +71,7 @@ module _ (s : List ℕ) (end : ℕ) (sound : ArePartitions s end) where
       ] in
       rw next at all
 
-  -- the last of all starts is at most any place from the end on
+  -- from the end on, the last start is the last of all
   pub last_of_all : IsLastAtMost s end (length s - 1)
   last_of_all = record {
     within = omega (arith, sound.some);
@@ -128,7 +128,7 @@ some_pass p a (suc n) x h l t =
     longer true h = omega arith
     longer false h = h
 
--- where a line is not in the set, there is room for one more start than there are lines
+-- if a line is not in the set, there is room for one more start than lines
 pub room_for : (s : List ℕ) (end line : ℕ) → ArePartitions s end → line < end → holds s line ≡ false → length s ≤ end
 room_for s end line sound l out =
     let some = some_pass (λ line. not (holds s line)) 0 end line (omega arith) (omega arith) (ap not out) in

@@ -1,4 +1,4 @@
--- The chain of fold parents, a parent at a time.
+-- The chain of fold parents, one parent at a time.
 use Rattle.std.proofs.Common.{◌≡◌, ℕ, zero, suc, ◌+◌, Bool, true, false, cond, List, [], ◌∷◌, reverse, Option, Some, None, sym, refl, ap, ◌∙◌, arith}
 use Rattle.std.specs.Prelude.{find, fold}
 use Rattle.std.specs.List.{range_with_len}
@@ -31,7 +31,7 @@ among levels line (suc m) =
 pub parents_are : (levels : List ℕ) (line : ℕ) (o : Option ℕ) → o ≡ fold_parent levels line → fold_parents levels line ≡ parents_from levels o
 parents_are levels line o e = among levels line line ∙ ap (parents_from levels) (sym e)
 
--- with no parent, and with one
+-- without a parent, and with one
 pub none_opened : (levels : List ℕ) (line : ℕ) (flags : List Flags) → None ≡ fold_parent levels line → fold (header_opened levels) flags (reverse (fold_parents levels line)) ≡ flags
 none_opened levels line flags e = ap (λ l. fold (header_opened levels) flags (reverse l)) (parents_are levels line None e)
 

@@ -1,16 +1,16 @@
--- What a pass over the children of a header does at one of them.
+-- The effect of a pass over the children of a header at one of them.
 use Rattle.std.specs.Prelude.{ℕ, ◌+◌, ◌&&◌, not, if◌then◌else◌, Bool, List}
 use Rattle.ed_model.specs.Rows.{Flags}
 use Rattle.ed_model.specs.Folding.{is_header, is_expanded, last_child, lines_hidden}
 
--- whether the line is a header that is contracted
+-- whether the line is a contracted header
 abbrev pub is_closed : List ℕ → List Flags → ℕ → Bool
 is_closed levels flags line = is_header levels line && not (is_expanded flags line)
 
--- its children, if it is one, are hidden
+-- its children are hidden if it is one
 abbrev pub closed_at : List ℕ → ℕ → List Flags → List Flags
 closed_at levels line flags = if is_closed levels flags line then lines_hidden (line + 1) (last_child levels line + 1) flags else flags
 
--- .. and passed over
+-- the next line of the pass: behind those children, or else behind the line
 abbrev pub behind_closed : List ℕ → ℕ → List Flags → ℕ
 behind_closed levels line flags = if is_closed levels flags line then last_child levels line + 1 else line + 1

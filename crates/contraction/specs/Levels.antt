@@ -1,4 +1,4 @@
--- Fold levels, as far as they are kept, and the base level behind them.
+-- Fold levels: those that are stored, and the base level behind them.
 use Rattle.std.specs.Prelude.{ℕ, ◌+◌, ◌-◌, List, ◌++◌, length, replicate}
 use Rattle.ed_model.specs.Rows.{base_level}
 

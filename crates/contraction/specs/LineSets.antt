@@ -1,4 +1,4 @@
--- A set of lines, as the starts of partitions: 0, and behind it one more than each line of the set, rising.
+-- A set of lines, as the starts of partitions: 0, and then one more than each line of the set, in rising order.
 use Rattle.std.specs.Prelude.{ℕ, ◌+◌, ◌-◌, ◌==◌, ◌||◌, not, nat_lt, if◌then◌else◌, Bool, false, List, [], ◌∷◌, filter}
 use Rattle.std.specs.List.{range_with_len}
 use Rattle.ed_model.specs.Folding.{is_between}
@@ -12,19 +12,19 @@ starts_at (s ∷ ss) place = s == place || starts_at ss place
 abbrev pub holds : List ℕ → ℕ → Bool
 holds starts line = starts_at starts (line + 1)
 
--- .. after `count` lines that are not came before `line`
+-- whether the line is in the set after `count` lines outside it were inserted before `line`
 abbrev pub holds_with_fresh : List ℕ → ℕ → ℕ → ℕ → Bool
 holds_with_fresh starts line count k =
     if nat_lt k line then holds starts k else (if nat_lt k (line + count) then false else holds starts (k - count))
 
--- .. and after `count` lines from `line` on went
+-- whether the line is in the set after `count` lines from `line` on were deleted
 abbrev pub holds_without : List ℕ → ℕ → ℕ → ℕ → Bool
 holds_without starts line count k = if nat_lt k line then holds starts k else holds starts (k + count)
 
--- .. and without the lines from `first` up to `past`
+-- whether the line is in the set, and not among those from `first` up to `past`
 abbrev pub holds_outside : List ℕ → ℕ → ℕ → ℕ → Bool
 holds_outside starts first past k = if is_between first past k then false else holds starts k
 
--- the lines that are not in the set, of so many
+-- of so many lines, those that are not in the set
 abbrev pub lines_outside : List ℕ → ℕ → List ℕ
 lines_outside starts lines = filter (λ line. not (holds starts line)) (range_with_len 0 lines)

@@ -5,7 +5,7 @@ use Rattle.ed_model.specs.Rows.{Flags}
 use Rattle.partitioning.specs.Partitions.{Partitions}
 use Rattle.contraction.specs.LineSets.{holds}
 
--- for how many lines in all there is room to be hidden, and for how many more lines to be contracted
+-- how many lines in all may be hidden, and how many more may be contracted, without an allocation
 pub record FoldRoom : Type 0 where
   pub hidden : ℕ
   pub contracted : ℕ
@@ -15,7 +15,7 @@ pub record ViewLines : Type 0 where
   pub flags : List Flags
   pub room : FoldRoom
 
--- the flags of so many lines, of which some are in the set of hidden lines and some in that of contracted ones
+-- the flags of so many lines, by the set of hidden lines and that of contracted ones
 abbrev pub flags_kept : List ℕ → List ℕ → ℕ → List Flags
 flags_kept hidden contracted lines =
     map (λ line. record { visible = not (holds hidden line); expanded = not (holds contracted line) }) (range_with_len 0 lines)
@@ -31,7 +31,7 @@ view_lines hidden contracted =
       room = record { hidden = room_in_all hidden; contracted = contracted.room };
     }
 
--- both sets are of as many lines
+-- both sets have the same number of lines
 pub record AreViewLines (hidden contracted : Partitions) : Type 0 where
   pub lines : contracted.length ≡ hidden.length
 
@@ -39,6 +39,6 @@ pub record AreViewLines (hidden contracted : Partitions) : Type 0 where
 abbrev pub contracted_lines : List Flags → ℕ
 contracted_lines flags = count_by (λ (f : Flags). not f.expanded) flags
 
--- for how many lines in all there is room to be contracted: for those that are, and for more
+-- how many lines in all may be contracted without an allocation: those that are, and more
 abbrev pub contracted_in_all : ViewLines → ℕ
 contracted_in_all view = contracted_lines view.flags + view.room.contracted

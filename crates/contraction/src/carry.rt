@@ -1,4 +1,4 @@
-//! Where the flags of lines go when the text changes.
+//! The flags of lines when the text changes.
 
 ghost use Rattle.std.specs.Prelude.{◌≡◌, ◌+◌, ◌≤◌, ◌<◌, [], ◌∷◌, length};
 ghost use Rattle.ed_model.specs.Rows.{flags_together, fresh_flags};
@@ -11,7 +11,7 @@ use line_index::LineEdit;
 use partitioning::Place;
 
 impl<P: Place> Contraction<P> {
-    // Fresh lines come before a line.
+    // Inserts fresh lines before a line.
     fn put_in(&mut self, line: usize, count: usize)
         requires line { line ≤ length self.old.flags }
         requires fits { length self.old.flags + count ≤ P.GREATEST }
@@ -20,12 +20,12 @@ impl<P: Place> Contraction<P> {
         ensures contracted { self.old.room.contracted ≤ self.new.room.contracted }
         ensures in_all { contracted_in_all self.new ≡ contracted_in_all self.old }
     {
-        let _ = self.contracted.length(); // it says that the starts rise
+        let _ = self.contracted.length(); // brings the fact that the starts rise
         put_lines_in(&mut self.hidden, line, count);
         put_lines_in(&mut self.contracted, line, count);
     }
 
-    // The lines behind a line join it, and it keeps its flags.
+    // Joins the lines behind a line to it. It keeps its flags.
     fn join(&mut self, line: usize, count: usize)
         requires { line + count < length self.old.flags }
         ensures flags { self.new.flags ≡ with_joined flags_together line count self.old.flags }
@@ -33,12 +33,12 @@ impl<P: Place> Contraction<P> {
         ensures contracted { self.old.room.contracted ≤ self.new.room.contracted }
         ensures in_all { contracted_in_all self.new ≡ contracted_in_all self.old }
     {
-        let _ = self.contracted.length(); // it says that the starts rise, and that the number behind the line is not too great
+        let _ = self.contracted.length(); // brings the facts that the starts rise and that `line + 1` is a `usize`
         take_lines_out(&mut self.hidden, line + 1, count);
         take_lines_out(&mut self.contracted, line + 1, count);
     }
 
-    // All lines go, and one fresh line comes.
+    // Removes all lines, and inserts one fresh line.
     fn restart(&mut self)
         requires { 1 ≤ P.GREATEST }
         ensures flags { self.new.flags ≡ fresh_flags ∷ [] }
@@ -53,7 +53,7 @@ impl<P: Place> Contraction<P> {
         put_lines_in(&mut self.contracted, 0, 1);
     }
 
-    // What one edit of the lines does.
+    // Performs one edit of the lines.
     fn carry_edit(&mut self, edit: LineEdit)
         requires fit { FitsLines (length self.old.flags) edit }
         requires fits { length self.old.flags + fresh_by edit ≤ P.GREATEST }
@@ -69,9 +69,9 @@ impl<P: Place> Contraction<P> {
         }
     }
 
-    /// Carries the flags through what became of the lines, one edit after the other: fresh lines are visible and expanded,
-    /// and a line that others join keeps its flags. It needs no memory, and costs a look-up for each edit and what it
-    /// takes to move about in the hidden and the contracted lines.
+    /// Carries the flags through edits of the lines, in order: fresh lines are visible and expanded, and a line to
+    /// which others are joined keeps its flags. Allocates nothing. Each edit costs a look-up, and the moves among the
+    /// hidden and the contracted lines.
     pub fn carry(&mut self, edits: &[LineEdit])
         requires fit { FitLines (length self.old.flags) edits.now }
         requires fits { length self.old.flags + fresh_lines edits.now ≤ P.GREATEST }

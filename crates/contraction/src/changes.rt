@@ -1,4 +1,4 @@
-//! What changes flags: lines are shown and hidden, expanded and contracted.
+//! The changes of flags: lines are shown and hidden, expanded and contracted.
 
 ghost use Rattle.std.specs.Prelude.{◌≡◌, ◌+◌, ◌≤◌, ◌<◌, if◌then◌else◌, false, length};
 ghost use Rattle.ed_model.specs.Folding.{lines_shown, lines_hidden, with_expanded};
@@ -9,7 +9,7 @@ use crate::line_set::{insert, insert_range, remove_range};
 use partitioning::Place;
 
 impl<P: Place> Contraction<P> {
-    /// Shows the lines from `first` up to `past`. It needs no room.
+    /// Shows the lines from `first` up to `past` (`SCI_SHOWLINES`). Needs no room.
     pub fn show(&mut self, first: usize, past: usize)
         requires { past ≤ length self.old.flags }
         ensures flags { self.new.flags ≡ lines_shown first past self.old.flags }
@@ -20,7 +20,8 @@ impl<P: Place> Contraction<P> {
         remove_range(&mut self.hidden, first, past);
     }
 
-    /// Hides the lines from `first` up to `past`, but never line 0. There must be room for all lines to be hidden.
+    /// Hides the lines from `first` up to `past`, but never line 0 (`SCI_HIDELINES`). There must be room for all lines
+    /// to be hidden.
     pub fn hide(&mut self, first: usize, past: usize)
         requires within { past ≤ length self.old.flags }
         requires room { length self.old.flags ≤ self.old.room.hidden }
@@ -29,11 +30,12 @@ impl<P: Place> Contraction<P> {
         ensures room { self.new.room ≡ self.old.room }
     {
         let _ = &self.contracted;
-        let _ = self.hidden.count(); // it says that there is a start
+        let _ = self.hidden.count(); // brings the fact that there is a start
         insert_range(&mut self.hidden, first.max(1), past);
     }
 
-    /// Expands a line or contracts it, and leaves its children as they are. Contracting needs room for one more line.
+    /// Expands or contracts a line, and leaves its children as they are (`SCI_SETFOLDEXPANDED`). Contracting needs room
+    /// for one more contracted line.
     pub fn set_expanded(&mut self, line: usize, on: bool)
         requires line { line < length self.old.flags }
         requires room { on ≡ false → 0 < self.old.room.contracted }
@@ -44,7 +46,7 @@ impl<P: Place> Contraction<P> {
         ensures in_all { contracted_in_all self.new ≡ contracted_in_all self.old }
     {
         let _ = &self.hidden;
-        let _ = self.contracted.length(); // it says that the number behind the line is not too great
+        let _ = self.contracted.length(); // brings the fact that `line + 1` is a `usize`
         if on {
             remove_range(&mut self.contracted, line, line + 1);
         } else {

@@ -12,9 +12,9 @@ use partitioning::{Partitioning, Place};
 use std::alloc::{AllocError, Global};
 use std::marker::Model;
 
-/// Which lines of a view are visible, and which are expanded.
+/// The flags of the lines of a view: which are visible, and which are expanded. Lines are counted from 0.
 ///
-/// `P` is how numbers of lines are kept, and bounds them.
+/// `P` is the type in which line numbers are stored, and bounds them.
 #[derive(Drop)]
 pub struct Contraction<P: Place> {
     pub(crate) hidden: Partitioning<P>,
@@ -31,7 +31,7 @@ impl<P: Place> Model for Contraction<P> {
     ghost invariant = { λ c. AreViewLines c.hidden c.contracted };
 }
 
-// A set of none of so many lines.
+// Returns an empty set of lines, for a text of `lines` lines.
 fn no_lines<P: Place>(alloc: Global, lines: usize) -> Result<Partitioning<P>, AllocError>
     requires { lines ≤ P.GREATEST }
     ensures { IfOk result (λ s. (s.starts ≡ 0 ∷ []) × (s.length ≡ lines) × (s.room ≡ 0)) }
@@ -42,11 +42,11 @@ fn no_lines<P: Place>(alloc: Global, lines: usize) -> Result<Partitioning<P>, Al
 }
 
 impl<P: Place> Contraction<P> {
-    /// Returns the flags of so many lines, all visible and expanded. It takes memory for two numbers, and for no more.
+    /// Returns the flags of `lines` lines, all visible and expanded. Allocates memory for two numbers, and no more.
     ///
     /// # Errors
     ///
-    /// `AllocError` where the memory for two numbers is refused.
+    /// `AllocError` if an allocation fails.
     pub fn new(alloc: Global, lines: usize) -> Result<Self, AllocError>
         requires { lines ≤ P.GREATEST }
         ensures flags { IfOk result (λ c. c.flags ≡ replicate lines fresh_flags) }
@@ -66,7 +66,7 @@ impl<P: Place> Contraction<P> {
         self.hidden.length()
     }
 
-    /// Returns whether the line is visible.
+    /// Returns whether the line is visible (`SCI_GETLINEVISIBLE`).
     pub fn visible(&self, line: usize) -> bool
         requires { line < length self.now.flags }
         ensures { result ≡ is_visible self.now.flags line }
@@ -75,7 +75,7 @@ impl<P: Place> Contraction<P> {
         !contains(&self.hidden, line)
     }
 
-    /// Returns whether the line is expanded.
+    /// Returns whether the line is expanded (`SCI_GETFOLDEXPANDED`).
     pub fn expanded(&self, line: usize) -> bool
         requires { line < length self.now.flags }
         ensures { result ≡ is_expanded self.now.flags line }
@@ -84,7 +84,7 @@ impl<P: Place> Contraction<P> {
         !contains(&self.contracted, line)
     }
 
-    /// Returns whether all lines are visible, in constant time.
+    /// Returns whether all lines are visible, in constant time (`SCI_GETALLLINESVISIBLE`).
     pub fn is_all_visible(&self) -> bool
         ensures { result ≡ all_visible self.now.flags }
     {
@@ -92,18 +92,19 @@ impl<P: Place> Contraction<P> {
         self.hidden.count() == 1
     }
 
-    /// Returns the display line of a line, and for a hidden one that of the visible line before it.
+    /// Returns the display line of a line, counted from 0 (`SCI_VISIBLEFROMDOCLINE`). A hidden line has that of the
+    /// visible line before it.
     pub fn display_of(&self, line: usize) -> usize
         requires { line < length self.now.flags }
         ensures { result ≡ display_line self.now.flags line }
     {
         let _ = &self.contracted;
-        let _ = self.hidden.length(); // it says that the number behind the line is not too great
+        let _ = self.hidden.length(); // brings the fact that `line + 1` is a `usize`
         let hidden = lines_before(&self.hidden, line + 1);
         (line + 1 - hidden).saturating_sub(1)
     }
 
-    /// Returns the line that is shown at a display line: past the last of them, the count of lines.
+    /// Returns the line at a display line, or the number of lines past the last one (`SCI_DOCLINEFROMVISIBLE`).
     pub fn doc_of(&self, display: usize) -> usize
         ensures { result ≡ line_shown self.now.flags display }
     {
@@ -111,11 +112,11 @@ impl<P: Place> Contraction<P> {
         nth_line_outside(&self.hidden, display)
     }
 
-    /// Makes room for so many hidden lines in all.
+    /// Makes room for `lines` hidden lines in all.
     ///
     /// # Errors
     ///
-    /// `AllocError` where the memory is refused. All is then as it was.
+    /// `AllocError` if the allocation fails. Nothing has changed then.
     pub fn reserve_hidden(&mut self, lines: usize) -> Result<(), AllocError>
         ensures ok { OnOk result ((lines ≤ self.new.room.hidden) × (self.new ≡ record self.old { room = record self.old.room { hidden = self.new.room.hidden } })) }
         ensures room_is_there { lines ≤ self.old.room.hidden → IsOk result × (self.new ≡ self.old) }
@@ -131,7 +132,7 @@ impl<P: Place> Contraction<P> {
     ///
     /// # Errors
     ///
-    /// `AllocError` where the memory is refused. All is then as it was.
+    /// `AllocError` if the allocation fails. Nothing has changed then.
     pub fn reserve_contracted(&mut self, count: usize) -> Result<(), AllocError>
         ensures ok { OnOk result ((count ≤ self.new.room.contracted) × (self.new ≡ record self.old { room = record self.old.room { contracted = self.new.room.contracted } })) }
         ensures room_is_there { count ≤ self.old.room.contracted → IsOk result × (self.new ≡ self.old) }
@@ -140,7 +141,7 @@ impl<P: Place> Contraction<P> {
         ensures err { OnErr result (self.new ≡ self.old) }
     {
         let _ = &self.hidden;
-        let _ = self.contracted.count(); // it says that the starts rise
+        let _ = self.contracted.count(); // brings the fact that the starts rise
         self.contracted.reserve(count)
     }
 }

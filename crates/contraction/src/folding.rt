@@ -1,4 +1,4 @@
-//! Folds are contracted and expanded.
+//! Contracting and expanding of folds.
 
 ghost use Rattle.std.specs.Prelude.{◌≡◌, ◌+◌, ◌≤◌, ◌<◌, length, fold, reverse};
 ghost use Rattle.ed_model.specs.Folding.{contracted as contracted_at, expanded as expanded_at, header_opened, revealed, fold_parents};
@@ -11,8 +11,8 @@ use crate::levels::Levels;
 use partitioning::Place;
 
 impl<P: Place> Contraction<P> {
-    /// Contracts a header, which hides its children. There must be room for all lines to be hidden, and for one more to be
-    /// contracted.
+    /// Contracts a header, and hides its children. There must be room for all lines to be hidden, and for one more
+    /// contracted line.
     pub fn contract(&mut self, levels: &Levels, header: usize)
         requires lines { length levels.now ≡ length self.old.flags }
         requires header { header < length self.old.flags }
@@ -23,13 +23,13 @@ impl<P: Place> Contraction<P> {
         ensures contracted { self.old.room.contracted ≤ self.new.room.contracted + 1 }
         ensures in_all { contracted_in_all self.new ≡ contracted_in_all self.old }
     {
-        let _ = levels.count(); // it says that the number behind a line is not too great
+        let _ = levels.count(); // brings the fact that the number behind a line is a `usize`
         self.set_expanded(header, false);
         let last = last_child(levels, header);
         self.hide(header + 1, last + 1);
     }
 
-    // Whether a line is a header that is contracted.
+    // Returns whether a line is a contracted header.
     fn is_closed(&self, levels: &Levels, line: usize) -> bool
         requires lines { length levels.now ≡ length self.now.flags }
         requires line { line < length self.now.flags }
@@ -38,7 +38,8 @@ impl<P: Place> Contraction<P> {
         is_header(levels, line) && !self.expanded(line)
     }
 
-    // Hides the children of a line if it is a header that is contracted. Returns the line behind them, or else the next.
+    // Hides the children of a line if it is a contracted header, and returns the line behind them. Otherwise returns
+    // the next line.
     fn close(&mut self, levels: &Levels, line: usize) -> usize
         requires lines { length levels.now ≡ length self.old.flags }
         requires line { line < length self.old.flags }
@@ -56,8 +57,8 @@ impl<P: Place> Contraction<P> {
         past
     }
 
-    /// Expands a header, which shows each child that no contracted header between hides. There must be room for all lines
-    /// to be hidden.
+    /// Expands a header, and shows each of its children that no contracted header between them hides. There must be
+    /// room for all lines to be hidden.
     pub fn expand(&mut self, levels: &Levels, header: usize)
         requires lines { length levels.now ≡ length self.old.flags }
         requires header { header < length self.old.flags }
@@ -97,8 +98,8 @@ impl<P: Place> Contraction<P> {
         }
     }
 
-    // Opens the fold parents of a line, the outermost first. It calls itself once for each of them: their numbers fall, so
-    // they are fewer than 4096.
+    // Opens the fold parents of a line, the outermost first. It recurses once for each of them: their level numbers
+    // fall, so there are fewer than 4096.
     fn open_parents(&mut self, levels: &Levels, line: usize)
         requires lines { length levels.now ≡ length self.old.flags }
         requires line { line < length self.old.flags }
@@ -115,8 +116,8 @@ impl<P: Place> Contraction<P> {
         }
     }
 
-    /// Makes a line visible that is hidden: its fold parents are made visible and expanded first, the outermost before all.
-    /// There must be room for all lines to be hidden.
+    /// Makes a hidden line visible (`SCI_ENSUREVISIBLE`): its fold parents are made visible and expanded first, the
+    /// outermost before the others. There must be room for all lines to be hidden.
     pub fn ensure(&mut self, levels: &Levels, line: usize)
         requires lines { length levels.now ≡ length self.old.flags }
         requires line { line < length self.old.flags }

@@ -6,16 +6,16 @@ ghost use Rattle.contraction.specs.Headings.{heads as heads_by, last_heading};
 
 use crate::levels::Levels;
 
-// SC_FOLDLEVELNUMBERMASK
+// `SC_FOLDLEVELNUMBERMASK` of Scintilla
 const NUMBER: u32 = 0xFFF;
 
-// SC_FOLDLEVELHEADERFLAG
+// `SC_FOLDLEVELHEADERFLAG` of Scintilla
 const HEADER: u32 = 0x2000;
 
-// So many levels are looked at together, without a jump for each of them.
+// This many levels are tested together, without a branch for each.
 const BLOCK: usize = 32;
 
-/// Returns the number of a line's level.
+/// Returns the number of a line's level, from 0 to 0xFFF.
 pub fn number_at(levels: &Levels, line: usize) -> u32
     requires { line < length levels.now }
     ensures { result ≡ number_of levels.now line }
@@ -23,7 +23,7 @@ pub fn number_at(levels: &Levels, line: usize) -> u32
     levels.level(line) & NUMBER
 }
 
-/// Returns whether a line is a header.
+/// Returns whether a line is a fold header.
 pub fn is_header(levels: &Levels, line: usize) -> bool
     requires { line < length levels.now }
     ensures { result ≡ is_header_at levels.now line }
@@ -31,7 +31,7 @@ pub fn is_header(levels: &Levels, line: usize) -> bool
     levels.level(line) & HEADER != 0
 }
 
-/// Returns the line before the next line whose number is at most `number`, or else the last line.
+/// Returns the line before the next line whose number is at most `number`, or the last line if there is none.
 pub fn last_child_at(levels: &Levels, line: usize, number: u32) -> usize
     requires { line < length levels.now }
     ensures last { result ≡ last_line_at levels.now line number }
@@ -46,7 +46,7 @@ pub fn last_child_at(levels: &Levels, line: usize, number: u32) -> usize
     count - 1
 }
 
-/// Returns the last line of the fold that a line heads, if it does: the line itself where it has no children.
+/// Returns the last line of the fold that a line heads, or the line itself if it has no children (`SCI_GETLASTCHILD`).
 pub fn last_child(levels: &Levels, line: usize) -> usize
     requires { line < length levels.now }
     ensures last { result ≡ last_line levels.now line }
@@ -55,7 +55,7 @@ pub fn last_child(levels: &Levels, line: usize) -> usize
     last_child_at(levels, line, number_at(levels, line))
 }
 
-// Whether a level belongs to a header whose number is smaller than this one.
+// Returns whether a level belongs to a header with a smaller number than this one.
 #[inline(always)]
 fn heads(level: u32, number: u32) -> bool
     ensures { result ≡ heads_by number level }
@@ -63,7 +63,7 @@ fn heads(level: u32, number: u32) -> bool
     level & HEADER != 0 && level & NUMBER < number
 }
 
-// Whether some level belongs to such a header. Each is looked at, so that the processor takes several at a time.
+// Returns whether one of the levels belongs to such a header. It tests all of them, so that the compiler can vectorize it.
 #[inline(always)]
 fn any_heads(levels: &[u32], number: u32) -> bool
     ensures { result ≡ false → (k : ℕ) → k < length levels.now → heads_by number (slice_index levels.now k) ≡ false }
@@ -75,7 +75,7 @@ fn any_heads(levels: &[u32], number: u32) -> bool
     found
 }
 
-// Passes over whole blocks without such a header, from a place back, and returns the place where these begin.
+// Skips whole blocks without such a header, from `from` back, and returns the place where these blocks begin.
 fn before_empty_blocks(levels: &[u32], from: usize, number: u32) -> usize
     requires { from ≤ length levels.now }
     ensures within { result ≤ from }
@@ -88,7 +88,7 @@ fn before_empty_blocks(levels: &[u32], from: usize, number: u32) -> usize
     end
 }
 
-// The last such header among the levels from `low` up to `high`, by its place. It looks at one after the other.
+// Returns the place of the last such header among the levels from `low` up to `high`. Tests them one by one.
 fn last_among(levels: &[u32], low: usize, high: usize, number: u32) -> Option<usize>
     requires { (low ≤ high) × (high ≤ length levels.now) }
     ensures found { IfSome result (λ place. (place < high) × (last_heading number levels.now high ≡ Some place)) }
@@ -104,7 +104,8 @@ fn last_among(levels: &[u32], low: usize, high: usize, number: u32) -> Option<us
     None
 }
 
-// The last such header among all levels, by its place. Mostly it is near, so the last levels are looked at one by one first.
+// Returns the place of the last such header among all levels. It is usually near, so the last levels are tested one by
+// one first.
 fn last_heading(levels: &[u32], number: u32) -> Option<usize>
     ensures last { result ≡ last_heading number levels.now (length levels.now) }
     ensures within { IfSome result (λ place. place < length levels.now) }
@@ -117,14 +118,14 @@ fn last_heading(levels: &[u32], number: u32) -> Option<usize>
     last_among(levels, 0, far, number)
 }
 
-/// Returns the nearest header before a line whose number is smaller, which need not be one that it is a child of.
+/// Returns the nearest header before a line that has a smaller number (`SCI_GETFOLDPARENT`). The line need not be its child.
 pub fn fold_parent(levels: &Levels, line: usize) -> Option<usize>
     requires { line < length levels.now }
     ensures parent { result ≡ nearest_parent levels.now line }
     ensures before { IfSome result (λ earlier. earlier < line) }
 {
     let number = number_at(levels, line);
-    // So it is of most lines that have no parent, which would be looked for up to the first line.
+    // This holds for most lines without a parent. The search would go back to the first line.
     if number <= levels.least() {
         return None;
     }
@@ -135,7 +136,7 @@ pub fn fold_parent(levels: &Levels, line: usize) -> Option<usize>
     last_heading(before, number)
 }
 
-/// Returns the line itself where it is a header, and else its fold parent.
+/// Returns the line itself if it is a header, and otherwise its fold parent.
 pub fn fold_header(levels: &Levels, line: usize) -> Option<usize>
     requires { line < length levels.now }
     ensures { result ≡ nearest_header levels.now line }

@@ -1,4 +1,4 @@
-//! The fold levels of all lines, lent.
+//! The fold levels of all lines, as they are lent.
 
 ghost use Rattle.std.specs.Prelude.{◌≡◌, ◌+◌, ◌≤◌, ◌<◌, ℕ, length, slice_index};
 ghost use Rattle.ed_model.specs.Rows.{base_level};
@@ -7,16 +7,16 @@ ghost use Rattle.contraction.specs.Levels.{all_levels};
 
 use std::marker::Model;
 
-// SC_FOLDLEVELBASE
+// `SC_FOLDLEVELBASE` of Scintilla
 const BASE: u32 = 0x400;
 
-/// The fold levels of all lines of a document: two slices, and behind them lines of the base level.
+/// The fold levels of all lines of a document: two slices for the first lines, and the base level for all lines behind them.
 #[derive(Drop)]
 pub struct Levels<'a> {
     before: &'a [u32],
     after: &'a [u32],
     count: usize,
-    // No header has a smaller number.
+    // A bound: no header has a smaller number.
     least: u32,
 }
 
@@ -37,7 +37,7 @@ impl<'a> Model for Levels<'a> {
 }
 
 impl<'a> Levels<'a> {
-    /// Returns the levels of `count` lines, of which the first have those of two slices.
+    /// Returns the levels of `count` lines. The first lines have those of the two slices, and the others the base level.
     pub fn new(before: &'a [u32], after: &'a [u32], count: usize) -> Self
         requires { length before.now + length after.now ≤ count }
         ensures levels { result ≡ all_levels before.now after.now count }
@@ -46,8 +46,8 @@ impl<'a> Levels<'a> {
         Levels::from_least(before, after, count, 0)
     }
 
-    /// Returns the same levels, where it is known that no header has a smaller number than `least`: no parent of a line whose own number is
-    /// no greater is then looked for.
+    /// Like `new`, for levels among which no header has a smaller number than `least`. A line whose number is at most
+    /// `least` has no parent then, and none is searched for.
     pub fn from_least(before: &'a [u32], after: &'a [u32], count: usize, least: u32) -> Self
         requires within { length before.now + length after.now ≤ count }
         requires least { HeadFrom least (all_levels before.now after.now count) }
@@ -62,7 +62,7 @@ impl<'a> Levels<'a> {
         }
     }
 
-    /// Returns a number that no header's number is smaller than.
+    /// Returns a number that is at most the number of each header.
     pub(crate) fn least(&self) -> u32
         ensures { HeadFrom result self.now }
     {
@@ -91,8 +91,8 @@ impl<'a> Levels<'a> {
         BASE
     }
 
-    /// Returns the levels of the lines before one, as far as they are kept: those of the first lines, and those of the lines behind
-    /// these. Behind both lines have the base level.
+    /// Returns the levels of the lines before `line`, as far as they are stored: those of the first lines, and those of
+    /// the lines behind these. All lines behind both have the base level.
     pub(crate) fn kept_before(&self, line: usize) -> (&[u32], &[u32])
         requires { line < length self.now }
         ensures within { length result.0.now + length result.1.now ≤ line }

@@ -5,9 +5,9 @@
 //! display line  0  1  1  1  2  3      a hidden line has that of the visible line before it
 //! ```
 //!
-//! Two sets of lines are kept, the hidden ones and the contracted ones, each as rising numbers that move with the text. So
-//! a view with all lines visible and expanded costs nothing but its count of lines, lines that come need no memory, and a
-//! look-up reads some of the numbers, as many as halving needs.
+//! The hidden lines and the contracted ones are two sets, each stored as rising numbers that move with the text. So a
+//! view with all lines visible and expanded stores nothing but its number of lines, inserted lines need no allocation,
+//! and a look-up is a binary search.
 #![tactic(auto)]
 
 mod carry;

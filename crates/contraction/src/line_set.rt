@@ -1,4 +1,4 @@
-//! A set of lines, as the starts of partitions: 0, and behind it one more than each line of the set, rising.
+//! A set of lines, as the starts of partitions: 0, and then one more than each line of the set, in rising order.
 
 ghost use Rattle.std.specs.Prelude.{ℕ, ◌≡◌, ◌+◌, ◌-◌, ◌^◌, ◌≤◌, ◌<◌, ◌==◌, ◌||◌, false, length, slice_index, slice_get, unwrap_or};
 ghost use Rattle.ed_model.specs.Folding.{is_between};
@@ -7,13 +7,13 @@ ghost use Rattle.partitioning.specs.Partitions.{ArePartitions, IsLastAtMost};
 
 use partitioning::{Partitioning, Place, Probes};
 
-/// The index of the last start at the place or before it: how many lines of the set lie before the line of that number.
+/// Returns how many lines of the set lie before `line`: the index of the last start at that number or before it.
 pub(crate) fn lines_before<P: Place>(starts: &Partitioning<P>, line: usize) -> usize
     ensures last { IsLastAtMost starts.now.starts line result }
     ensures sound { ArePartitions starts.now.starts starts.now.length }
     ensures small { length starts.now.starts < 2 ^ 63 }
 {
-    // Where little is folded, most lines lie behind all of the set.
+    // If few lines are folded, most lines lie behind the whole set.
     let last = starts.count() - 1;
     if starts.start_of(last) <= line {
         return last;
@@ -22,17 +22,17 @@ pub(crate) fn lines_before<P: Place>(starts: &Partitioning<P>, line: usize) -> u
     starts.partition_of(line, &mut probes)
 }
 
-/// Whether the line is in the set.
+/// Returns whether the line is in the set.
 pub(crate) fn contains<P: Place>(starts: &Partitioning<P>, line: usize) -> bool
     requires { line < starts.now.length }
     ensures { result ≡ holds starts.now.starts line }
 {
-    let _ = starts.length(); // it says that the number behind the line is not too great
+    let _ = starts.length(); // brings the fact that `line + 1` is a `usize`
     let index = lines_before(starts, line + 1);
     starts.start_of(index) == line + 1
 }
 
-/// Puts the line into the set. There must be room for it, unless it is there already.
+/// Adds the line to the set. There must be room for it, unless it is there already.
 pub(crate) fn insert<P: Place>(starts: &mut Partitioning<P>, line: usize)
     requires line { line < starts.old.length }
     requires room { holds starts.old.starts line ≡ false → 0 < starts.old.room }
@@ -50,7 +50,7 @@ pub(crate) fn insert<P: Place>(starts: &mut Partitioning<P>, line: usize)
     starts.insert_reserved(index + 1, line + 1);
 }
 
-/// Puts the lines from `first` up to `past` into the set. There must be room for all lines.
+/// Adds the lines from `first` up to `past` to the set. There must be room for all lines.
 pub(crate) fn insert_range<P: Place>(starts: &mut Partitioning<P>, first: usize, past: usize)
     requires range { past ≤ starts.old.length }
     requires room { starts.old.length < length starts.old.starts + starts.old.room }
@@ -58,13 +58,13 @@ pub(crate) fn insert_range<P: Place>(starts: &mut Partitioning<P>, first: usize,
     ensures length { starts.new.length ≡ starts.old.length }
     ensures room { length starts.new.starts + starts.new.room ≡ length starts.old.starts + starts.old.room }
 {
-    let _ = starts.count(); // it says that the starts rise
+    let _ = starts.count(); // brings the fact that the starts rise
     for line in first..past {
         insert(starts, line);
     }
 }
 
-/// Takes the lines from `first` up to `past` out of the set.
+/// Removes the lines from `first` up to `past` from the set.
 pub(crate) fn remove_range<P: Place>(starts: &mut Partitioning<P>, first: usize, past: usize)
     requires range { past ≤ starts.old.length }
     ensures lines { (k : ℕ) → holds starts.new.starts k ≡ holds_outside starts.old.starts first past k }
@@ -73,7 +73,7 @@ pub(crate) fn remove_range<P: Place>(starts: &mut Partitioning<P>, first: usize,
     ensures more { starts.old.room ≤ starts.new.room }
     ensures sound { ArePartitions starts.new.starts starts.new.length }
 {
-    let _ = starts.count(); // it says that the starts rise
+    let _ = starts.count(); // brings the fact that the starts rise
     if past <= first {
         return;
     }
@@ -84,7 +84,7 @@ pub(crate) fn remove_range<P: Place>(starts: &mut Partitioning<P>, first: usize,
     }
 }
 
-/// Moves the lines from `line` on by `count`, as many as come before it. They are not in the set.
+/// Inserts `count` lines before `line`, which are not in the set, and moves the lines from `line` on by `count`.
 pub(crate) fn put_lines_in<P: Place>(starts: &mut Partitioning<P>, line: usize, count: usize)
     requires line { line ≤ starts.old.length }
     requires fits { starts.old.length + count ≤ P.GREATEST }
@@ -98,7 +98,7 @@ pub(crate) fn put_lines_in<P: Place>(starts: &mut Partitioning<P>, line: usize, 
     starts.insert_text(index, count);
 }
 
-/// Takes `count` lines away, from `line` on, and moves those behind them.
+/// Deletes `count` lines from `line` on, and moves those behind them back.
 pub(crate) fn take_lines_out<P: Place>(starts: &mut Partitioning<P>, line: usize, count: usize)
     requires { line + count ≤ starts.old.length }
     ensures lines { (k : ℕ) → holds starts.new.starts k ≡ holds_without starts.old.starts line count k }
@@ -107,13 +107,14 @@ pub(crate) fn take_lines_out<P: Place>(starts: &mut Partitioning<P>, line: usize
     ensures more { starts.old.room ≤ starts.new.room }
     ensures sound { ArePartitions starts.new.starts starts.new.length }
 {
-    let _ = starts.length(); // it says that the number behind the lines is not too great
+    let _ = starts.length(); // brings the fact that the number behind the lines is a `usize`
     remove_range(starts, line, line + count);
     let index = lines_before(starts, line);
     starts.delete_text(index, count);
 }
 
-/// The last start that lies at most so far behind its own index: of the lines in front of it, so many are not in the set.
+/// Returns the index of the last start that is at most `n` greater than its own index. The difference is the number of
+/// lines before it that are not in the set.
 fn starts_before_nth<P: Place>(starts: &Partitioning<P>, n: usize) -> usize
     ensures within { result < length starts.now.starts }
     ensures at_most { slice_index starts.now.starts result ≤ n + result }
@@ -133,7 +134,7 @@ fn starts_before_nth<P: Place>(starts: &Partitioning<P>, n: usize) -> usize
     low
 }
 
-/// The line that is not in the set and has `n` such lines in front of it, or how many lines there are.
+/// Returns the line outside the set with `n` such lines before it, or the number of lines if there is none.
 pub(crate) fn nth_line_outside<P: Place>(starts: &Partitioning<P>, n: usize) -> usize
     ensures { result ≡ unwrap_or (slice_get (lines_outside starts.now.starts starts.now.length) n) starts.now.length }
 {

@@ -4,7 +4,7 @@ use Rattle.contraction.specs.Headings.{heads as heads_by, last_heading}
 use Rattle.contraction.proofs.Headings.{last_skipped}
 use Rattle.contraction.proofs.folds.last_heading.Goals as goal
 
--- what is found, or is not, from a place back to the first
+-- what is found, or not, from a place back to the first
 all_told : (number : ℕ) (levels : List ℕ) (high : ℕ) (found : Option ℕ) →
     IfSome found (λ place. (place < high) × (last_heading number levels high ≡ Some place)) →
     IfNone found (last_heading number levels high ≡ last_heading number levels 0) → found ≡ last_heading number levels high
