@@ -1,4 +1,4 @@
--- No header comes by edits of lines.
+-- Edits of lines add no header.
 use Rattle.std.proofs.Common.{◌≡◌, ℕ, ◌+◌, false, List, [], ◌∷◌, take, drop, replicate, refl}
 use Rattle.std.proofs.lemmas.List.Elements.{All-nil, All-cons, All-head, All-append, All-replicate, All-take, All-drop}
 use Rattle.std.specs.List.{slice_range}

@@ -18,13 +18,13 @@ module _ {V : Type 0} where
   pub padded_length : (d : V) (n : ℕ) (xs : List V) → length xs ≤ n → length (padded d n xs) ≡ n
   padded_length d n xs h = simp (length-append, length-replicate) (omega arith)
 
-  -- defaults go in among defaults
+  -- defaults inserted among defaults
   defaults_in : (d : V) (q n k : ℕ) → q ≤ n → take q (replicate n d) ++ (replicate k d ++ drop q (replicate n d)) ≡ replicate (n + k) d
   defaults_in d q n k h =
       let count : q + (k + (n - q)) ≡ n + k = omega arith in
       rw (take-replicate {X = V} q n d h, drop-replicate {X = V} q n d, replicate-append-replicate {A = V} k (n - q) d, replicate-append-replicate {A = V} q (k + (n - q)) d, count)
 
-  -- fresh lines come behind the stored ones
+  -- fresh lines inserted behind the stored ones
   pub padded_behind : (d : V) (xs : List V) (n p k : ℕ) → length xs ≤ p → p ≤ n → padded d (n + k) xs ≡ with_fresh (first_or d) p k (padded d n xs)
   padded_behind d xs n p k h l =
       let place : p ≡ length xs + (p - length xs) = omega arith in
@@ -35,7 +35,7 @@ module _ {V : Type 0} where
       let inside : p - length xs ≤ n - length xs = omega arith in
       rw (front, back) (simp append_assoc (ap (λ t. xs ++ t) (sym (defaults_in d (p - length xs) (n - length xs) k inside ∙ ap (λ j. replicate j d) count))))
 
-  -- lines that are joined keep the first's value: the others are taken away
+  -- lines that are joined keep the value of the first: the others are deleted
   first_of : (d : V) (xs : List V) (n : ℕ) → first_or d (take (suc n) xs) ≡ get_or xs 0 d
   first_of d [] n = refl
   first_of d (x ∷ xs) n = refl
@@ -49,7 +49,7 @@ module _ {V : Type 0} where
       ap (λ m. first_or d (take m (drop p xs))) wide ∙ first_of d (drop p xs) k ∙ ap (λ l. get_or l 0 d) (drop_more xs p d inside) in
       rw (first, take_more xs p d inside, end) (simp append_assoc)
 
-  -- lines go that are all stored
+  -- deleted lines that are all stored
   gone_inside : (d : V) (xs : List V) (n m p k : ℕ) → m + k ≡ n → p + k ≤ length xs → padded d m (deleted xs p (min k (length xs - p))) ≡ deleted (padded d n xs) p k
   gone_inside d xs n m p k e l =
       let all : min k (length xs - p) ≡ k = omega arith in
@@ -58,7 +58,7 @@ module _ {V : Type 0} where
       let left : m - length (deleted xs p k) ≡ n - length xs = simp (length-append, length-take, length-drop) (omega arith) in
       rw (all, left, take-append-le p xs rest before, drop-append-le (p + k) xs rest l) (simp append_assoc)
 
-  -- lines go from a stored one on, past the last of these
+  -- deleted lines from a stored one on, past the last of these
   gone_past : (d : V) (xs : List V) (n m p k : ℕ) → length xs ≤ n → p ≤ length xs → m + k ≡ n → p + k ≤ n → length xs ≤ p + k → padded d m (deleted xs p (min k (length xs - p))) ≡ deleted (padded d n xs) p k
   gone_past d xs n m p k h l e w past =
       let all : p + min k (length xs - p) ≡ length xs = omega arith in
@@ -74,7 +74,7 @@ module _ {V : Type 0} where
   gone d xs n m p k h l e w =
       elim (cases_lt (length xs) (p + k)) [ inl past ↦ gone_past d xs n m p k h l e w (omega arith) | inr inside ↦ gone_inside d xs n m p k e inside ]
 
-  -- lines go behind the stored ones
+  -- deleted lines behind the stored ones
   gone_behind : (d : V) (xs : List V) (n m p k : ℕ) → length xs ≤ p → m + k ≡ n → p + k ≤ n → padded d m xs ≡ deleted (padded d n xs) p k
   gone_behind d xs n m p k h e w =
       let place : p ≡ length xs + (p - length xs) = omega arith in
@@ -96,7 +96,7 @@ module _ {V : Type 0} where
       let within : p + 1 + k ≤ n = omega arith in
       rw e (gone d xs n (n - k) (p + 1) k h l left within ∙ sym (joined_is d (padded d n xs) p k full))
 
-  -- or to one behind them
+  -- lines are joined to one behind the stored ones
   pub padded_joined_behind : (d : V) (xs : List V) (n p k : ℕ) → length xs ≤ n → length xs ≤ p + 1 → p + k < n → padded d (n - k) xs ≡ with_joined (first_or d) p k (padded d n xs)
   padded_joined_behind d xs n p k h l w =
       let full : p + k < length (padded d n xs) = omega (arith, padded_length d n xs h) in
@@ -104,7 +104,7 @@ module _ {V : Type 0} where
       let within : p + 1 + k ≤ n = omega arith in
       gone_behind d xs n (n - k) (p + 1) k l left within ∙ sym (joined_is d (padded d n xs) p k full)
 
-  -- one is set, once it is stored
+  -- the value of a line is set, once it is stored
   pub padded_set : (d : V) (xs : List V) (n end line : ℕ) (x : V) → length xs ≤ n → length xs ≤ end → end ≤ n → line < end → padded d n (set (padded d end xs) line x) ≡ set (padded d n xs) line x
   padded_set d xs n end line x h l w i =
       let long : length (padded d end xs) ≡ end = padded_length d end xs l in
@@ -115,7 +115,7 @@ module _ {V : Type 0} where
       append_assoc xs (replicate (end - length xs) d) (replicate (n - end) d) ∙ ap (λ t. xs ++ t) (replicate-append-replicate {A = V} (end - length xs) (n - end) d ∙ ap (λ m. replicate m d) count) in
       rw left (sym (set-append_left (padded d end xs) (replicate (n - end) d) line x inside) ∙ ap (λ l. set l line x) split)
 
-  -- the line behind those that are stored gets its value
+  -- the line right behind the stored ones gets its value
   pub padded_put : (d : V) (xs : List V) (line : ℕ) (x : V) → length xs ≤ line → inserted (padded d line xs) line (x ∷ []) ≡ set (padded d (line + 1) xs) line x
   padded_put d xs line x h =
       let P = padded d line xs in
@@ -130,7 +130,7 @@ module _ {V : Type 0} where
       ∙ append-nil (P ++ x ∷ [])
       ∙ sym (ap (λ t. set t line x) more ∙ set_last d P line x long)
 
-  -- one that is stored gets another
+  -- a stored line gets another value
   pub padded_set_stored : (d : V) (xs : List V) (n line : ℕ) (x : V) → length xs ≤ n → line < length xs → padded d n (set xs line x) ≡ set (padded d n xs) line x
   padded_set_stored d xs n line x h i =
       let left : n - length (set xs line x) ≡ n - length xs = omega (arith, length-set xs line x) in

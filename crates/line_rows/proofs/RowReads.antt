@@ -1,4 +1,4 @@
--- What is read of rows, and what is changed in them, part by part.
+-- Reads and changes of rows, part by part.
 use Rattle.std.proofs.Common.{◌≡◌, ◌≢◌, ◌↔◌, IsTrue, min, max, reverse, ◌<◌, ◌+◌, ◌-◌, ℕ, zero, suc, ℤ, pos, Bool, not, cond, List, [], ◌∷◌, ◌++◌, length, filter, get_or, set, Option, Some, refl, sym, ap, ◌∙◌, arith}
 use Rattle.std.specs.List.{range_with_len, find}
 use Rattle.std.proofs.lemmas.List.{set-get_or, get_or_read}
@@ -72,7 +72,7 @@ pub find_same : (p q : ℕ → Bool) → ((k : ℕ) → p k ≡ q k) → (ks : L
 find_same p q e [] = refl
 find_same p q e (k ∷ ks) = rw (e k) (ap (λ rest. cond (q k) (Some k) rest) (find_same p q e ks))
 
--- Against the value of a `LineRows`.
+-- With the value of a `LineRows`.
 
 pub parts_length : (ms : List (List Marker)) (ls : List ℕ) (ss : List ℤ) (h : ℕ) (room : RowRoom) (blocks : RowBlocks) (r : KeptRows) → length ms ≡ length ls → length ms ≡ length ss → kept_rows (rows_of ms ls ss) h room blocks ≡ r → length ms ≡ length r.rows
 parts_length ms ls ss h room blocks r e f view = sym (rows_length ms ls ss e f) ∙ ap (λ (v : KeptRows). length v.rows) view

@@ -6,16 +6,17 @@ use Rattle.ed_model.specs.Rows.{Marker, Row, fresh_row, base_level}
 use Rattle.ed_model.specs.LinePlans.{mask_of}
 use Rattle.line_rows.specs.Values.{wanted_block}
 
--- For how many fresh lines there is room; of how many lines, from the first on, a level can be set, and of how many a state; and for
--- how many markers.
+-- For how many fresh lines there is room; for how many lines, from the first on, a level can be set, and for how many a
+-- state; and for how many markers there is room.
 pub record RowRoom : Type 0 where
   pub lines : ℕ
   pub levels : ℕ
   pub states : ℕ
   pub markers : ℕ
 
--- What memory is taken for: of how many lines, from the first on, levels are stored, and of how many states; for how many of each, and for
--- how many markers, there is memory in all. And for how many fresh lines there is room among the states, which may be more than promised.
+-- The memory: for how many lines, from the first on, levels are stored, and for how many states; for how many of each,
+-- and for how many markers, there is memory in all; and for how many fresh lines the states have room, which may be
+-- more than was promised.
 pub record RowBlocks : Type 0 where
   pub stored_levels : ℕ
   pub level_block : ℕ
@@ -41,7 +42,7 @@ row_blocks stored_levels level_block stored_states state_block state_lines marke
 abbrev pub kept_rows : List Row → ℕ → RowRoom → RowBlocks → KeptRows
 kept_rows rows handle room blocks = record { rows = rows; next_handle = handle; room = room; blocks = blocks }
 
--- There is memory already for the levels and the states that so many fresh lines may get: where none can be set, none is wanted.
+-- There is memory for the levels and the states that so many fresh lines may get. If none can be set, none is needed.
 abbrev pub HasLineMemory : KeptRows → ℕ → Type 0
 HasLineMemory r lines =
     (wanted_block r.blocks.stored_levels (max r.room.lines lines) r.room.levels ≤ r.blocks.level_block)
@@ -61,14 +62,15 @@ is_marked mask rows line = meets (mask_of (row_at rows line).markers) mask
 abbrev pub has_handle : ℕ → List Row → ℕ → Bool
 has_handle handle rows line = list_any (λ (m : Marker). m.handle == handle) (row_at rows line).markers
 
--- the first line that passes, from the line on, or from the line back
+-- the first line that passes the test, from the line on, or from the line back
 abbrev pub first_from : (ℕ → Bool) → List Row → ℕ → Option ℕ
 first_from test rows line = find test (range_with_len line (length rows - line))
 
 abbrev pub last_up_to : (ℕ → Bool) → List Row → ℕ → Option ℕ
 last_up_to test rows line = find test (reverse (range_with_len 0 (min (line + 1) (length rows))))
 
--- as many levels and states as lines with markers, and no less room for fresh lines among the states than among the levels
+-- as many levels and states as lines with markers, and at least as much room for fresh lines among the states as among
+-- the levels
 pub record AreParts (lines : List (List Marker)) (levels : List ℕ) (states : List ℤ) (level : ℕ) (state : ℤ) (level_room state_room : ℕ) : Type 0 where
   pub levelled : length lines ≡ length levels
   pub stated : length lines ≡ length states

@@ -1,18 +1,18 @@
--- Rows of lines, whose markers, levels and states are kept apart.
+-- Rows of lines, whose markers, levels and states are stored separately.
 use Rattle.std.specs.Prelude.{◌≡◌, ℕ, ℤ, pos, List, [], ◌∷◌, length, flat_map}
 use Rattle.ed_model.specs.Rows.{Marker, Row, base_level, rows_together}
 use Rattle.line_index.specs.declared.edit.LineEdit.{LineEdit}
 use Rattle.line_index.specs.Edits.{after_edits}
 use Rattle.line_rows.specs.Values.{first_or}
 
--- the row of each line, of its markers, its level and its state
+-- the row of each line, from its markers, its level and its state
 abbrev pub rows_of : List (List Marker) → List ℕ → List ℤ → List Row
 rows_of [] levels states = []
 rows_of (m ∷ ms) [] states = []
 rows_of (m ∷ ms) (l ∷ ls) [] = []
 rows_of (m ∷ ms) (l ∷ ls) (s ∷ ss) = record { markers = m; level = l; state = s } ∷ rows_of ms ls ss
 
--- the markers of lines that meet
+-- the markers of lines that are joined
 abbrev pub markers_together : List (List Marker) → List Marker
 markers_together markers = flat_map (λ ms. ms) markers
 

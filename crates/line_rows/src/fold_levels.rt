@@ -1,4 +1,4 @@
-//! `FoldLevels`: the fold level of each line, and what is known of all headers.
+//! `FoldLevels`: the fold level of each line, and a bound for the numbers of all headers.
 ghost use Rattle.std.specs.Prelude.{◌≡◌, ◌≤◌, ◌<◌, ◌+◌, ◌^◌, ◌∷◌, [], length, max, slice_set, slice_index_or, OnOk, OnErr, IsOk};
 ghost use Rattle.ed_model.specs.Rows.{base_level};
 ghost use Rattle.line_index.specs.Edits.{after_edits, FitLines, fresh_lines};
@@ -11,14 +11,15 @@ use line_index::LineEdit;
 use std::alloc::{AllocError, Global};
 use std::marker::Model;
 
-// SC_FOLDLEVELNUMBERMASK
+// `SC_FOLDLEVELNUMBERMASK` of Scintilla
 const NUMBER: u32 = 0xFFF;
 
-// SC_FOLDLEVELHEADERFLAG
+// `SC_FOLDLEVELHEADERFLAG` of Scintilla
 const HEADER: u32 = 0x2000;
 
-/// The fold level of each line, counted from 0. No header has a smaller number than `least`, which is the least number that a header has
-/// been given so far, or one that is greater than any number: so no line of that number or less has a parent, and none is looked for.
+/// The fold level of each line, counted from 0. No header has a smaller number than `least`: it is the least number
+/// that a header was given so far, or greater than any number. So a line with at most that number has no parent, and
+/// none is searched for.
 #[derive(Drop)]
 pub(crate) struct FoldLevels {
     values: LineValues<u32>,
@@ -39,7 +40,7 @@ impl Model for FoldLevels {
 }
 
 impl FoldLevels {
-    /// The level of one fresh line, and no room. Takes no memory.
+    /// Returns the level of one fresh line, and no room. Allocates nothing.
     pub(crate) fn new(alloc: Global) -> Self
         ensures { result ≡ valued base_level (base_level ∷ []) 0 0 0 0 }
     {
@@ -49,14 +50,14 @@ impl FoldLevels {
         }
     }
 
-    /// The values of all lines.
+    /// Returns the levels of all lines as values.
     pub(crate) fn values(&self) -> &LineValues<u32>
         ensures { result.now ≡ self.now }
     {
         &self.values
     }
 
-    /// The levels of all lines, lent.
+    /// Lends the levels of all lines.
     pub(crate) fn lent(&self) -> Levels<'_>
         ensures levels { result ≡ self.now.values }
         ensures lines { length result ≡ length self.now.values }
@@ -65,14 +66,14 @@ impl FoldLevels {
         Levels::from_least(first, second, self.values.count(), self.least)
     }
 
-    /// For how many fresh lines there is room.
+    /// Returns for how many fresh lines there is room.
     pub(crate) fn room(&self) -> usize
         ensures { result ≡ self.now.room }
     {
         self.values.room()
     }
 
-    /// The level of a line.
+    /// Returns the level of a line.
     pub(crate) fn get(&self, line: usize) -> u32
         requires { line < length self.now.values }
         ensures { result ≡ slice_index_or self.now.values line result }
@@ -80,11 +81,11 @@ impl FoldLevels {
         self.values.get(line)
     }
 
-    /// Makes room as `LineValues` does.
+    /// Makes room, like `LineValues::reserve`.
     ///
     /// # Errors
     ///
-    /// `AllocError` where memory is refused. All is then as it was.
+    /// `AllocError` if the allocation fails. Nothing has changed then.
     #[inline(always)]
     pub(crate) fn reserve(&mut self, lines: usize, reach: usize) -> Result<(), AllocError>
         ensures ok { OnOk result (self.new ≡ record self.old { room = max self.old.room lines; reach = max self.old.reach reach; block = self.new.block }) }
@@ -96,7 +97,7 @@ impl FoldLevels {
         self.values.reserve(lines, reach)
     }
 
-    /// Sets the level of a line, for which there must be room.
+    /// Sets the level of a line. There must be room for it.
     pub(crate) fn set(&mut self, line: usize, level: u32)
         requires line { line < length self.old.values }
         requires room { line < self.old.reach }
@@ -108,7 +109,7 @@ impl FoldLevels {
         self.values.set(line, level);
     }
 
-    /// Carries the levels of lines through edits, as `LineValues` does. No header comes by them.
+    /// Carries the levels of lines through edits, like `LineValues::carry`. The edits add no header.
     pub(crate) fn carry(&mut self, edits: &[LineEdit])
         requires lines { FitLines (length self.old.values) edits.now }
         requires fits { length self.old.values + fresh_lines edits.now < 2 ^ 63 }

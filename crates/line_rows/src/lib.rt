@@ -1,7 +1,7 @@
-//! What a document keeps of its lines: the markers, the fold level and the state of each.
+//! The rows of a document's lines: the markers, the fold level and the state of each.
 //!
-//! Levels and states are stored for the first lines only, up to the last that ever had one set, and markers as far as
-//! there are any. So the lines of a text that has none cost nothing here.
+//! Levels and states are stored for the first lines only, up to the last one that was ever set. Only existing markers
+//! are stored. So the lines of a text without any of these take no memory here.
 #![tactic(auto)]
 
 mod fold_levels;

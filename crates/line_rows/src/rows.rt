@@ -18,7 +18,7 @@ use marker_store::MarkerStore;
 use std::alloc::{AllocError, Global};
 use std::marker::Model;
 
-/// The fold level of a line that none was set for.
+/// The fold level of a line for which none was set: `SC_FOLDLEVELBASE` of Scintilla.
 pub const BASE_LEVEL: u32 = 0x400;
 
 /// The markers, the fold level and the state of each line, counted from 0.
@@ -73,7 +73,7 @@ fn carry_markers(markers: &mut MarkerStore, edits: &[LineEdit])
 }
 
 impl LineRows {
-    /// Returns the rows of one fresh line, and no room. The next handle is 1. It takes no memory.
+    /// Returns the row of one fresh line, and no room. The next handle is 1. Allocates nothing.
     pub fn new(alloc: Global) -> Self
         ensures { result ≡ kept_rows (fresh_row ∷ []) 1 (row_room 0 0 0 0) (row_blocks 0 0 0 0 0 0) }
     {
@@ -92,12 +92,12 @@ impl LineRows {
         self.markers.lines()
     }
 
-    /// Makes room for `lines` fresh lines. It takes no memory where it is there already, and none for levels or states while none
-    /// can be set.
+    /// Makes room for `lines` fresh lines. Allocates nothing if the memory is there, and nothing for levels or states
+    /// as long as none can be set.
     ///
     /// # Errors
     ///
-    /// `AllocError` where memory is refused. All is then as it was, but that the states may have got the memory.
+    /// `AllocError` if an allocation fails. Nothing has changed then, except that the states may have more memory.
     #[inline(always)]
     pub fn reserve(&mut self, lines: usize) -> Result<(), AllocError>
         ensures ok { OnOk result (self.new ≡ record self.old { room = record self.old.room { lines = max self.old.room.lines lines }; blocks = record self.old.blocks { level_block = self.new.blocks.level_block; state_block = self.new.blocks.state_block; state_lines = max self.old.blocks.state_lines lines } }) }
@@ -108,14 +108,14 @@ impl LineRows {
         ensures state_lines { (self.old.blocks.state_lines ≤ self.new.blocks.state_lines) × (self.new.blocks.state_lines ≤ max self.old.blocks.state_lines lines) }
         ensures err { OnErr result (self.new ≡ record self.old { blocks = record self.old.blocks { state_block = self.new.blocks.state_block; state_lines = self.new.blocks.state_lines } }) }
     {
-        // The states have no less room for lines than the levels.
+        // The states have at least as much room for lines as the levels.
         if lines <= self.levels.room() {
             return Ok(());
         }
         self.make_room(lines)
     }
 
-    // Makes room for so many fresh lines, where there is too little.
+    // The slow path of `reserve`: there is too little room for `lines` fresh lines.
     #[inline(never)]
     fn make_room(&mut self, lines: usize) -> Result<(), AllocError>
         ensures memory_is_there { HasLineMemory self.old lines → IsOk result × (self.new ≡ record self.old { room = record self.old.room { lines = max self.old.room.lines lines }; blocks = record self.old.blocks { state_lines = max self.old.blocks.state_lines lines } }) }
@@ -138,7 +138,7 @@ impl LineRows {
     ///
     /// # Errors
     ///
-    /// `AllocError` where memory is refused. All is then as it was.
+    /// `AllocError` if the allocation fails. Nothing has changed then.
     pub fn reserve_levels(&mut self, count: usize) -> Result<(), AllocError>
         ensures ok { OnOk result (self.new ≡ record self.old { room = record self.old.room { levels = max self.old.room.levels count }; blocks = record self.old.blocks { level_block = self.new.blocks.level_block } }) }
         ensures room_is_there { count ≤ self.old.room.levels → IsOk result × (self.new ≡ self.old) }
@@ -156,7 +156,7 @@ impl LineRows {
     ///
     /// # Errors
     ///
-    /// `AllocError` where memory is refused. All is then as it was.
+    /// `AllocError` if the allocation fails. Nothing has changed then.
     pub fn reserve_states(&mut self, count: usize) -> Result<(), AllocError>
         ensures ok { OnOk result (self.new ≡ record self.old { room = record self.old.room { states = max self.old.room.states count }; blocks = record self.old.blocks { state_block = self.new.blocks.state_block } }) }
         ensures room_is_there { count ≤ self.old.room.states → IsOk result × (self.new ≡ self.old) }
@@ -174,7 +174,7 @@ impl LineRows {
     ///
     /// # Errors
     ///
-    /// `AllocError` where memory is refused. All is then as it was.
+    /// `AllocError` if the allocation fails. Nothing has changed then.
     pub fn reserve_markers(&mut self, count: usize) -> Result<(), AllocError>
         ensures ok { OnOk result (self.new ≡ record self.old { room = record self.old.room { markers = max self.old.room.markers count }; blocks = record self.old.blocks { marker_block = self.new.blocks.marker_block } }) }
         ensures room_is_there { count ≤ self.old.room.markers → IsOk result × (self.new ≡ self.old) }
@@ -187,8 +187,8 @@ impl LineRows {
         Ok(())
     }
 
-    /// Carries the rows through edits of lines. There must be room for the fresh lines. Markers that go give their room
-    /// back, and no more comes.
+    /// Carries the rows through edits of lines. There must be room for the fresh lines. Markers that are removed become
+    /// room again, and no edit adds any.
     #[inline(always)]
     pub fn carry(&mut self, edits: &[LineEdit])
         requires lines { FitLines (length self.old.rows) edits.now }
@@ -208,7 +208,7 @@ impl LineRows {
         }
     }
 
-    // Carries the rows through edits, where there are any.
+    // Carries the rows through at least one edit.
     #[inline(never)]
     fn carry_some(&mut self, edits: &[LineEdit])
         requires lines { FitLines (length self.old.rows) edits.now }
@@ -228,7 +228,7 @@ impl LineRows {
         self.states.carry(edits);
     }
 
-    /// Lends the levels of all lines.
+    /// Lends the levels of all lines as values.
     pub fn levels(&self) -> &LineValues<u32>
         ensures values { result.now.values ≡ levels_of self.now.rows }
         ensures default { result.now.default ≡ base_level }
@@ -236,7 +236,8 @@ impl LineRows {
         self.levels.values()
     }
 
-    /// Lends the levels of all lines for looking up folds: of most lines without a fold parent, what is lent tells so at once.
+    /// Lends the levels of all lines for look-ups of folds. For most lines without a fold parent, such a look-up needs
+    /// no search.
     pub fn fold_levels(&self) -> Levels<'_>
         ensures levels { result ≡ levels_of self.now.rows }
         ensures lines { length result ≡ length self.now.rows }
@@ -244,7 +245,7 @@ impl LineRows {
         self.levels.lent()
     }
 
-    /// Returns the fold level of a line.
+    /// Returns the fold level of a line (`SCI_GETFOLDLEVEL`).
     pub fn level(&self, line: usize) -> u32
         requires { line < length self.now.rows }
         ensures { result ≡ (row_at self.now.rows line).level }
@@ -252,7 +253,7 @@ impl LineRows {
         self.levels.get(line)
     }
 
-    /// Returns the state of a line.
+    /// Returns the state of a line (`SCI_GETLINESTATE`).
     pub fn state(&self, line: usize) -> i32
         requires { line < length self.now.rows }
         ensures { result ≡ (row_at self.now.rows line).state }
@@ -260,7 +261,7 @@ impl LineRows {
         self.states.get(line)
     }
 
-    /// Sets the fold level of a line, for which there must be room. Returns the one before.
+    /// Sets the fold level of a line, and returns the old one (`SCI_SETFOLDLEVEL`). There must be room for it.
     pub fn set_level(&mut self, line: usize, level: u32) -> u32
         requires line { line < length self.old.rows }
         requires room { line < self.old.room.levels }
@@ -272,7 +273,7 @@ impl LineRows {
         before
     }
 
-    /// Sets the state of a line, for which there must be room. Returns the one before.
+    /// Sets the state of a line, and returns the old one (`SCI_SETLINESTATE`). There must be room for it.
     pub fn set_state(&mut self, line: usize, state: i32) -> i32
         requires line { line < length self.old.rows }
         requires room { line < self.old.room.states }
@@ -291,7 +292,8 @@ impl LineRows {
         self.markers.next_handle()
     }
 
-    /// Puts a marker with a number behind those of a line, and returns its handle. It takes the room of one.
+    /// Adds a marker with `number` behind those of `line`, and returns its handle (`SCI_MARKERADD`). There must be room
+    /// for it.
     pub fn add_reserved(&mut self, line: usize, number: u32) -> u32
         requires line { line < length self.old.rows }
         requires number { number < 32 }
@@ -303,8 +305,8 @@ impl LineRows {
         self.markers.add_reserved(line, number)
     }
 
-    /// Takes a line's first marker with a number away, or all of its markers where no number is named. Their room comes
-    /// back. Returns whether there was one.
+    /// Deletes the first marker of `line` with `number`, or all of its markers if `number` is `None`
+    /// (`SCI_MARKERDELETE`). Returns whether there was one. Their cells become room again.
     pub fn delete(&mut self, line: usize, number: Option<u32>) -> bool
         requires { line < length self.old.rows }
         ensures went { IsTrue result ↔ (marker_count self.new.rows ≢ marker_count self.old.rows) }
@@ -317,8 +319,8 @@ impl LineRows {
         self.markers.delete(line, number)
     }
 
-    /// Takes all markers with a number away, or all markers where none is named. Their room comes back. Returns whether
-    /// there was one.
+    /// Deletes all markers with `number`, or all markers if it is `None` (`SCI_MARKERDELETEALL`). Returns whether there
+    /// was one. Their cells become room again.
     pub fn delete_all(&mut self, number: Option<u32>) -> bool
         ensures went { IsTrue result ↔ (marker_count self.new.rows ≢ marker_count self.old.rows) }
         ensures rows { self.new.rows ≡ without_markers (is_of_number number) self.old.rows }
@@ -330,7 +332,8 @@ impl LineRows {
         self.markers.delete_all(number)
     }
 
-    /// Takes the marker with a handle away, and returns its line, or `None` where no marker has it. Its room comes back.
+    /// Deletes the marker with `handle`, and returns its line, or `None` if no marker has it
+    /// (`SCI_MARKERDELETEHANDLE`). Its cell becomes room again.
     pub fn delete_handle(&mut self, handle: u32) -> Option<usize>
         ensures line { result ≡ first_from (has_handle handle self.old.rows) self.old.rows 0 }
         ensures rows { self.new.rows ≡ without_markers (λ m. m.handle == handle) self.old.rows }
@@ -342,14 +345,14 @@ impl LineRows {
         self.markers.delete_handle(handle)
     }
 
-    /// Returns the line of the marker with a handle, or `None` where no marker has it.
+    /// Returns the line of the marker with `handle`, or `None` if no marker has it (`SCI_MARKERLINEFROMHANDLE`).
     pub fn line_of_handle(&self, handle: u32) -> Option<usize>
         ensures { result ≡ first_from (has_handle handle self.now.rows) self.now.rows 0 }
     {
         self.markers.line_of_handle(handle)
     }
 
-    /// Returns a line's mask: the bit of each number that a marker of the line has.
+    /// Returns the mask of a line: the bit of each number that a marker of the line has (`SCI_MARKERGET`).
     pub fn mask(&self, line: usize) -> u32
         requires { line < length self.now.rows }
         ensures { result ≡ mask_of (row_at self.now.rows line).markers }
@@ -357,14 +360,15 @@ impl LineRows {
         self.markers.mask(line)
     }
 
-    /// Returns the first line, from `from` on, whose mask has a bit in common with `mask`.
+    /// Returns the first line, from `from` on, whose mask has a bit in common with `mask` (`SCI_MARKERNEXT`).
     pub fn next(&self, from: usize, mask: u32) -> Option<usize>
         ensures { result ≡ first_from (is_marked mask self.now.rows) self.now.rows from }
     {
         self.markers.next(from, mask)
     }
 
-    /// Returns the last line, up to and with `from`, whose mask has a bit in common with `mask`.
+    /// Returns the last line, up to and including `from`, whose mask has a bit in common with `mask`
+    /// (`SCI_MARKERPREVIOUS`).
     pub fn previous(&self, from: usize, mask: u32) -> Option<usize>
         ensures { result ≡ last_up_to (is_marked mask self.now.rows) self.now.rows from }
     {

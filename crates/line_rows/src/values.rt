@@ -1,4 +1,4 @@
-//! `LineValues`: a value for each line, as a fold level or a line state.
+//! `LineValues`: a value for each line, such as a fold level or a line state.
 ghost use Rattle.std.specs.Prelude.{◌≡◌, ◌≤◌, ◌<◌, ◌+◌, ◌-◌, ◌^◌, ℕ, ◌∷◌, [], length, max, slice_set, slice_index_or, OnOk, OnErr, IsOk};
 ghost use Rattle.line_index.specs.Edits.{with_fresh, with_joined, after_edit, after_edits, FitsLines, FitLines, fresh_by, fresh_lines};
 ghost use Rattle.line_index.specs.declared.edit.LineEdit.TheVariants.{Come, Join};
@@ -9,17 +9,17 @@ use split_vector::SplitVector;
 use std::alloc::{AllocError, Global};
 use std::marker::Model;
 
-/// A value for each line of a text, counted from 0. Values are stored for the first lines only, up to the last that ever
-/// had one set.
+/// A value for each line of a text, counted from 0. Values are stored for the first lines only, up to the last one that
+/// was ever set.
 #[derive(Drop)]
 pub struct LineValues<T: Copy> {
     stored: SplitVector<T>,
-    // That of all lines behind them.
+    // The value of all lines behind the stored ones.
     default: T,
     lines: usize,
-    // How many fresh lines were asked for and fit in.
+    // How many fresh lines were reserved.
     room: usize,
-    // Of how many lines, from the first on, a value can be set.
+    // A value can be set for this many lines, from the first on.
     reach: usize,
 }
 
@@ -36,7 +36,7 @@ impl<T: Copy> Model for LineValues<T> {
     ghost invariant = { λ v. record { fewer : length v.stored.items ≤ v.lines; unused : v.reach ≡ 0 → length v.stored.items ≡ 0; for_lines : 0 < v.reach → v.room ≤ v.stored.spare; for_values : 0 < v.reach → v.reach + v.room ≤ length v.stored.items + v.stored.spare } };
 }
 
-// Appends defaults up to `len` values, where there are fewer. It stands apart, since lines mostly get values one behind the other.
+// Appends defaults up to `len` values, if there are fewer. Out of line, since values are usually set line after line.
 #[inline(never)]
 fn pad<T: Copy>(stored: &mut SplitVector<T>, default: T, len: usize)
     requires { len ≤ length stored.old.items + stored.old.spare }
@@ -47,7 +47,7 @@ fn pad<T: Copy>(stored: &mut SplitVector<T>, default: T, len: usize)
     stored.insert_fill_reserved(before, len.saturating_sub(before), default);
 }
 
-// Puts the value of a line behind those that are stored, and defaults between.
+// Appends the value of a line to the stored ones, with defaults between.
 fn put_behind<T: Copy>(stored: &mut SplitVector<T>, default: T, line: usize, value: T)
     requires behind { length stored.old.items ≤ line }
     requires room { line < length stored.old.items + stored.old.spare }
@@ -60,7 +60,7 @@ fn put_behind<T: Copy>(stored: &mut SplitVector<T>, default: T, line: usize, val
     stored.insert_reserved(line, value);
 }
 
-// Puts `count` fresh lines in before a line.
+// Inserts `count` fresh lines before a line.
 fn put_in<T: Copy>(stored: &mut SplitVector<T>, default: T, line: usize, count: usize)
     requires { line < length stored.old.items → count ≤ stored.old.spare }
     ensures values { (lines : ℕ) → length stored.old.items ≤ lines → line ≤ lines → padded default (lines + count) stored.new.items ≡ with_fresh (first_or default) line count (padded default lines stored.old.items) }
@@ -75,8 +75,8 @@ fn put_in<T: Copy>(stored: &mut SplitVector<T>, default: T, line: usize, count: 
     stored.insert_fill_reserved(line, count, default);
 }
 
-// Makes sure of memory for the values of the first `reach` lines, and of so many fresh ones. While no value can be set there are none to
-// be stored, so that it takes none.
+// Makes sure that there is memory for the values of the first `reach` lines, with `room` fresh ones. As long as no
+// value can be set, none is stored, so it allocates nothing.
 fn reserve_values<T: Copy>(
     stored: &mut SplitVector<T>,
     room: usize,
@@ -97,7 +97,7 @@ fn reserve_values<T: Copy>(
     stored.reserve(wanted)
 }
 
-// Takes the `count` lines behind a line away.
+// Deletes the `count` lines behind a line.
 fn take_behind<T: Copy>(stored: &mut SplitVector<T>, line: usize, count: usize)
     ensures values { (default : T) (lines : ℕ) → length stored.old.items ≤ lines → line + count < lines → padded default (lines - count) stored.new.items ≡ with_joined (first_or default) line count (padded default lines stored.old.items) }
     ensures few { (lines : ℕ) → length stored.old.items ≤ lines → line + count < lines → length stored.new.items ≤ lines - count }
@@ -114,7 +114,7 @@ fn take_behind<T: Copy>(stored: &mut SplitVector<T>, line: usize, count: usize)
 }
 
 impl<T: Copy> LineValues<T> {
-    /// Returns the values of one line, which has the default. Takes no memory.
+    /// Returns the value of one line, which is the default. Allocates nothing.
     pub fn new(alloc: Global, default: T) -> Self
         ensures { result ≡ valued default (default ∷ []) 0 0 0 0 }
     {
@@ -153,7 +153,7 @@ impl<T: Copy> LineValues<T> {
         }
     }
 
-    /// Lends the stored values, in two halves: those of the first lines. All lines behind them have the default.
+    /// Lends the stored values, those of the first lines, in two halves. All lines behind them have the default.
     pub fn stored(&self) -> (&[T], &[T])
         ensures few { length result.0.now + length result.1.now ≤ length self.now.values }
         ensures stored { length result.0.now + length result.1.now ≡ self.now.stored }
@@ -162,12 +162,13 @@ impl<T: Copy> LineValues<T> {
         self.stored.halves()
     }
 
-    /// Makes room for `lines` fresh lines, and for the values of the first `reach` lines. Memory is taken for the values that are
-    /// then to fit in, or for twice as many as there was for; none while no value can be set, and none where it is there.
+    /// Makes room for `lines` fresh lines, and for the values of the first `reach` lines. If there is too little
+    /// memory, it is allocated for the values that are to fit in, or for twice as many as before if that is more. As
+    /// long as no value can be set, nothing is allocated.
     ///
     /// # Errors
     ///
-    /// `AllocError` where memory is refused. All is then as it was.
+    /// `AllocError` if the allocation fails. Nothing has changed then.
     #[inline(always)]
     pub fn reserve(&mut self, lines: usize, reach: usize) -> Result<(), AllocError>
         ensures ok { OnOk result (self.new ≡ record self.old { room = max self.old.room lines; reach = max self.old.reach reach; block = self.new.block }) }
@@ -182,7 +183,7 @@ impl<T: Copy> LineValues<T> {
         self.make_room(lines, reach)
     }
 
-    // Makes the room, where less was asked for so far. Mostly there is memory for it.
+    // Makes the room if less was requested so far. The memory is usually there.
     #[inline]
     fn make_room(&mut self, lines: usize, reach: usize) -> Result<(), AllocError>
         ensures ok { OnOk result (self.new ≡ record self.old { room = max self.old.room lines; reach = max self.old.reach reach; block = self.new.block }) }
@@ -200,7 +201,7 @@ impl<T: Copy> LineValues<T> {
         Ok(())
     }
 
-    /// Sets the value of a line, for which there must be room.
+    /// Sets the value of a line. There must be room for it.
     pub fn set(&mut self, line: usize, value: T)
         requires line { line < length self.old.values }
         requires room { line < self.old.reach }
@@ -243,8 +244,8 @@ impl<T: Copy> LineValues<T> {
         }
     }
 
-    /// Carries the values of lines through edits: fresh lines get the default, and lines that are joined keep the value of
-    /// the first. There must be room for the fresh lines.
+    /// Carries the values of lines through edits: fresh lines get the default, and joined lines keep the value of the
+    /// first. There must be room for the fresh lines.
     pub fn carry(&mut self, edits: &[LineEdit])
         requires lines { FitLines (length self.old.values) edits.now }
         requires fits { length self.old.values + fresh_lines edits.now < 2 ^ 63 }
