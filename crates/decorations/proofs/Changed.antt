@@ -1,4 +1,4 @@
--- The smallest range that holds all changes is the model's.
+-- The smallest range that holds all changes is that of the model.
 use Rattle.std.proofs.Common.{◌≡◌, ◌≢◌, ℕ, zero, suc, ◌+◌, ◌-◌, ◌<◌, ◌≤◌, ◌==◌, not, Bool, true, false, List, ◌∷◌, length, get_or, filter, Option, Some, None, IfNone, IfSome, refl, sym, ap, ◌∙◌, arith, eq-eqb, add-zero, zero-add, append-nil}
 use Rattle.std.specs.List.{range_with_len, last_or, slice_get}
 use Rattle.std.proofs.lemmas.Option.{slice_get-get_or}
@@ -29,7 +29,7 @@ extent_is p a n first last =
     let count : a + n + 1 - a ≡ suc n = omega arith in
     rw (first, last_behind p a n last, count)
 
--- all that passes lies between
+-- all that passes lies between the two
 extent_within : (p : ℕ → Bool) (a n r : ℕ) → p a ≡ true → p (a + n) ≡ true → ((k : ℕ) → k < a → p k ≡ false) → ((k : ℕ) → a + suc n ≤ k → p k ≡ false) → extent (filter p (range_with_len 0 (a + (suc n + r)))) ≡ Some (a, suc n)
 extent_within p a n r first last before behind =
     rw (range-append 0 a (suc n + r), zero-add a, range-append a (suc n) r, filter-append p, filter-append p, filter_range_none p 0 a (λ k l m. before k (omega arith)), filter_range_none p (a + suc n) r (λ k l m. behind k l), append-nil (filter p (range_with_len a (suc n))))
@@ -60,7 +60,7 @@ changed_is old new (a, suc n) e range =
     (λ k l. let j : a + suc n + (k - (a + suc n)) ≡ k = omega arith in
     same_place old new k (ap (λ i. get_or old i 0) (sym j) ∙ sym (get_or-drop (a + suc n) old (k - (a + suc n)) 0) ∙ ap (λ xs. get_or xs (k - (a + suc n)) 0) (sym range.behind) ∙ get_or-drop (a + suc n) new (k - (a + suc n)) 0 ∙ ap (λ i. get_or new i 0) j))
 
--- what a fill of runs answers
+-- what a fill of runs returns
 pub answer_is : (answer : Option (ℕ × ℕ)) (old new : List ℕ) → length new ≡ length old → IfNone answer (new ≡ old) → IfSome answer (IsChangedRange old new) → answer ≡ changed_range old new
 answer_is None old new e none some = sym (ap (changed_range old) none ∙ unchanged old)
 answer_is (Some range) old new e none some = sym (changed_is old new range e some)

@@ -1,4 +1,4 @@
--- Slots stay slots through the steps.
+-- The slots stay sound through the steps.
 use Rattle.std.proofs.Common.{◌≡◌, ℕ, ◌+◌, ◌-◌, ◌<◌, ◌≤◌, List, length, set, replicate, Option, Some, None, IfSome, IfNone, MatchOption, refl, sym, ap, ◌∙◌, subst, arith, inl, inr}
 use Rattle.std.proofs.lemmas.List.{get_or-set_same, get_or-set_other, length-set}
 use Rattle.std.proofs.lemmas.Bool.{cases_eq}
@@ -130,7 +130,7 @@ ready_slots greatest size room need indicator ready slots spare e are inside has
   };
 }
 
--- Places were put in.
+-- Places were inserted.
 
 took_one : (size room place count : ℕ) (old new : Option (Runs ℕ)) → place ≤ size → IsKept size (room + 1) old → InBoth (TookIn place count) old new → IsKept (size + count) room new
 took_one size room place count None None h kept took = tt
@@ -155,7 +155,7 @@ pub took_all : (size place count : ℕ) (rooms : ℕ → ℕ) (bytes : List ℕ)
 took_all size place count rooms bytes old new h e kept took =
     numbered_both (indicator_after (Insert place bytes)) (λ k. shown size (slot_at old k)) (λ k. shown (size + count) (slot_at new k)) (λ k. took_shown size (rooms k) place count bytes (slot_at old k) (slot_at new k) h e (kept k) (took k))
 
--- Places were taken away.
+-- Places were deleted.
 
 pub gave_all : (size place count : ℕ) (rooms : ℕ → ℕ) (bytes : List ℕ) (old new : List (Option (Runs ℕ))) → place + count ≤ size → length bytes ≡ count → ((k : ℕ) → IsKept size (rooms k) (slot_at old k)) → InEach (GaveAway place count) old new →
     all_shown (size - count) new ≡ indicators_after (Delete place bytes) (all_shown size old)
@@ -203,7 +203,7 @@ filled_all size indicator values slots slot h inside e was =
     numbered_set (λ k. shown size (slot_at slots k)) (λ k. shown size (slot_at (set slots indicator slot) k)) indicator h (λ k apart. ap (shown size) (get_or-set_other slots indicator k slot None apart))
     ∙ ap (set (all_shown size slots) indicator) (ap (shown size) (get_or-set_same slots indicator slot None inside) ∙ filled_shown size values slot e was)
 
--- what the fill asks for is there
+-- what the fill requires holds
 pub fill_kept : (greatest size room indicator : ℕ) (slots : List (Option (Runs ℕ))) (spare : Option (Runs ℕ)) → AreSlots greatest size room (Some indicator) slots spare → IsKept size (room + 2) (slot_at slots indicator)
 fill_kept greatest size room indicator slots spare are =
     let two : for_fill (Some indicator) indicator ≡ 2 = grind arith in let Q : ℕ → Type 0 = λ n. IsKept size (room + n) (slot_at slots indicator) in subst Q two (are.kept indicator)

@@ -1,4 +1,4 @@
--- How much memory there is for runs.
+-- The memory for runs.
 use Rattle.std.proofs.Common.{◌≡◌, ◌≢◌, ℕ, zero, suc, ◌<◌, ◌≤◌, List, [], ◌∷◌, length, replicate, set, Option, Some, None, IfSome, MatchOption, refl, sym, ap, ◌∙◌, subst, arith, nat_eq, inl, inr}
 use Rattle.std.proofs.lemmas.Bool.{cases_lt, cases_eq}
 use Rattle.std.proofs.lemmas.List.{get_or-set_same, get_or-set_other, get_or_past}
@@ -8,14 +8,14 @@ use Rattle.decorations.specs.Slots.{slot_at, slot_spare, source_spare, held_by, 
 use Rattle.decorations.proofs.Numbered.{numbered_at, numbered_same}
 use Rattle.decorations.proofs.Values.{zeros_clear}
 
--- memory that stays is no more than may be asked for
+-- unchanged memory is within the bound
 pub spare_stays : (runs count : ℕ) (s : Spare) → IsSpareFor runs count s s
 spare_stays runs count s = record { starts = omega arith; values = omega arith; starts_there = λ _. refl; values_there = λ _. refl }
 
 pub runs_stay : (count : ℕ) (values : List (List ℕ)) (held : Held) → AreRunsFor count values held held
 runs_stay count values held = record { each = λ k h. spare_stays (run_count nat_eq (values_of values k)) count (spare_of held k); unused = spare_stays 1 count held.unused }
 
--- a list of no place is one run
+-- a list without a place is one run
 pub one_run : (values : List ℕ) → length values ≡ 0 → run_count nat_eq values ≡ 1
 one_run [] e = refl
 one_run (x ∷ xs) e = absurd (omega (arith, e))
@@ -53,7 +53,7 @@ grown_so_far count n old new done same k =
       | inr behind ↦ let Q : Option (Runs ℕ) → Type 0 = InBoth (HaveRoomOf count) (slot_at old k) in subst Q (sym (same k behind)) (grown_none count (slot_at old k))
     ]
 
--- each slot but one is as it was
+-- all slots but one are unchanged
 pub same_elsewhere : (capacity capacity' indicator : ℕ) (old new : List (Option (Runs ℕ))) (unused unused' : Option (Runs ℕ)) → ((k : ℕ) → k ≢ indicator → slot_at new k ≡ slot_at old k) →
     (k : ℕ) → k < 32 → k ≢ indicator → spare_of (held_by new capacity' unused') k ≡ spare_of (held_by old capacity unused) k
 same_elsewhere capacity capacity' indicator old new unused unused' others k h apart =
@@ -64,14 +64,14 @@ same_elsewhere capacity capacity' indicator old new unused unused' others k h ap
 spare_same : (runs count : ℕ) (old new : Spare) → IsEnough count old → IsSpareFor runs count old new → new ≡ old
 spare_same runs count old new enough grown = ap (λ n. spare n new.values) (grown.starts_there enough.starts) ∙ ap (λ n. spare old.starts n) (grown.values_there enough.values)
 
--- that of the runs of a slot stays
+-- the memory of the runs of a slot stays
 pub slot_same : (count : ℕ) (old new : Option (Runs ℕ)) → InBoth (HaveRoomOf count) old new → IfSome old (λ (runs : Runs ℕ). IsEnough count runs.spare) → slot_spare new ≡ slot_spare old
 slot_same count None None grown enough = refl
 slot_same count None (Some new) grown enough = cc
 slot_same count (Some old) None grown enough = absurd grown
 slot_same count (Some old) (Some new) grown enough = spare_same (run_count nat_eq old.values) count old.spare new.spare enough grown.spare
 
--- and that of the spare runs
+-- the memory of the spare runs stays
 pub unused_same : (count : ℕ) (unused unused' : Option (Runs ℕ)) → IsEnough count (slot_spare unused) → IsSpareFor 1 count (slot_spare unused) (slot_spare unused') → slot_spare unused' ≡ slot_spare unused
 unused_same count unused unused' enough grown = spare_same 1 count (slot_spare unused) (slot_spare unused') enough grown
 
@@ -87,7 +87,7 @@ enough_in : (size count room : ℕ) (slot : Option (Runs ℕ)) → IsKept size r
 enough_in size count room None kept enough = tt
 enough_in size count room (Some runs) kept enough = enough kept.used
 
--- that of each slot, as a contract sees it
+-- the memory of each slot, as a contract states it
 pub enough_each : (size count capacity : ℕ) (rooms : ℕ → ℕ) (slots : List (Option (Runs ℕ))) (unused : Option (Runs ℕ)) → length slots ≤ 32 → ((k : ℕ) → IsKept size (rooms k) (slot_at slots k)) →
     AreEnough count (all_shown size slots) (held_by slots capacity unused) → (k : ℕ) → IfSome (slot_at slots k) (λ (runs : Runs ℕ). IsEnough count runs.spare)
 enough_each size count capacity rooms slots unused few kept enough k =
@@ -103,7 +103,7 @@ enough_each size count capacity rooms slots unused few kept enough k =
           subst Q (sym (get_or_past slots k None past')) tt
     ]
 
--- and that of one slot
+-- the memory of one slot, as a contract states it
 enough_one : (size count room : ℕ) (slot unused : Option (Runs ℕ)) → 0 < count → IsKept size room slot → ((IsClear (shown size slot) → ⊥) → IsEnough count (slot_spare slot)) → (IsClear (shown size slot) → IsEnough count (slot_spare unused)) →
     MatchOption slot (MatchOption unused ⊥ (λ (runs : Runs ℕ). IsEnough count runs.spare)) (λ (runs : Runs ℕ). IsEnough count runs.spare)
 enough_one size count room None unused some kept used clear = unused_there count unused some (clear (zeros_clear size))
@@ -120,7 +120,7 @@ enough_for size count capacity room indicator slots unused some inside kept enou
     (λ unclear. subst R (held_at slots capacity unused indicator inside) (enough.used (λ clear. unclear (subst Q values clear))))
     (λ clear. enough.clear (subst Q (sym values) clear))
 
--- where one slot was to have memory that was there, that of all stays
+-- if the memory for one slot sufficed, that of all slots stays
 pub one_same : (count indicator : ℕ) (old new : List (Option (Runs ℕ))) (unused : Option (Runs ℕ)) → InEach (InBoth (HaveRoomOf count)) old new → ((k : ℕ) → k ≢ indicator → slot_at new k ≡ slot_at old k) →
     MatchOption (slot_at old indicator) (MatchOption unused ⊥ (λ (runs : Runs ℕ). IsEnough count runs.spare)) (λ (runs : Runs ℕ). IsEnough count runs.spare) → (k : ℕ) → slot_spare (slot_at new k) ≡ slot_spare (slot_at old k)
 one_same count indicator old new unused grown others enough k =
@@ -133,14 +133,14 @@ one_same count indicator old new unused grown others enough k =
     match_if None A P h = tt
     match_if (Some runs) A P h = h
 
--- and that of the spare runs, whether the slot has runs or not
+-- the memory of the spare runs stays, whether the slot has runs or not
 pub one_unused : (count : ℕ) (slot unused unused' : Option (Runs ℕ)) → MatchOption slot (MatchOption unused ⊥ (λ (runs : Runs ℕ). IsEnough count runs.spare)) (λ (runs : Runs ℕ). IsEnough count runs.spare) →
     IsSpareFor 1 count (slot_spare unused) (slot_spare unused') → IfSome slot (λ _. unused' ≡ unused) → slot_spare unused' ≡ slot_spare unused
 one_unused count None None unused' enough grown stays = absurd enough
 one_unused count None (Some runs) unused' enough grown stays = spare_same 1 count runs.spare (slot_spare unused') enough grown
 one_unused count (Some runs) unused unused' enough grown stays = ap slot_spare stays
 
--- runs of an indicator that is not 0 everywhere leave the spare ones as they are
+-- the runs of an indicator that is not 0 everywhere leave the spare ones unchanged
 unclear_unused : (size : ℕ) (slot unused unused' : Option (Runs ℕ)) → IfSome slot (λ _. unused' ≡ unused) → (IsClear (shown size slot) → ⊥) → slot_spare unused' ≡ slot_spare unused
 unclear_unused size None unused unused' stays unclear = absurd (unclear (zeros_clear size))
 unclear_unused size (Some runs) unused unused' stays unclear = ap slot_spare stays
@@ -152,7 +152,7 @@ unused_stays size indicator slots unused unused' inside stays unclear =
     let Q : List ℕ → Type 0 = IsClear in
     unclear_unused size (slot_at slots indicator) unused unused' stays (λ clear. unclear (subst Q (sym values) clear))
 
--- what a contract sees of it
+-- the memory, as a contract states it
 pub held_same : (n capacity capacity' : ℕ) (old new : List (Option (Runs ℕ))) (unused unused' : Option (Runs ℕ)) → ((k : ℕ) → slot_spare (slot_at new k) ≡ slot_spare (slot_at old k)) → slot_spare unused' ≡ slot_spare unused →
     length new ≡ n → capacity' ≡ capacity → held_by new capacity' unused' ≡ record (held_by old capacity unused) { slots = n }
 held_same n capacity capacity' old new unused unused' each spares slots capacities =
@@ -161,14 +161,14 @@ held_same n capacity capacity' old new unused unused' each spares slots capaciti
     ap (λ runs. held runs (slot_spare unused') (length new) capacity') (numbered_same (λ k. slot_spare (slot_at new k)) (λ k. slot_spare (slot_at old k)) each)
     ∙ ap (λ s. held old_runs s (length new) capacity') spares ∙ ap (λ m. held old_runs (slot_spare unused) m capacity') slots ∙ ap (held old_runs (slot_spare unused) n) capacities
 
--- No runs took memory.
+-- No runs allocated memory.
 
 pub zeros_run : (n : ℕ) → run_count nat_eq (replicate n 0) ≡ 1
 zeros_run zero = refl
 zeros_run (suc zero) = refl
 zeros_run (suc (suc n)) = zeros_run (suc n)
 
--- what becomes of the memory that the runs of a slot come with
+-- the memory of the runs of a slot, afterwards
 pub record KeepsMemory (size size' : ℕ) (was : Spare) (old new : Option (Runs ℕ)) : Type 0 where
   pub used : (IsClear (shown size' new) → ⊥) → IsSameMemory (run_count nat_eq (shown size old)) was (run_count nat_eq (shown size' new)) (slot_spare new)
   pub clear : IsClear (shown size' new) → slot_spare new ≡ spare 0 0
@@ -196,7 +196,7 @@ filled_memory size was values old (Some new) filled memory = record {
   clear = λ clear. absurd (filled.2 (let Q : List ℕ → Type 0 = IsClear in subst Q filled.0 clear));
 }
 
--- the same of an indicator
+-- the memory of an indicator, afterwards
 has_runs : (k size size' room room' capacity capacity' : ℕ) (ready ready' : Option ℕ) (old new : List (Option (Runs ℕ))) (unused unused' : Option (Runs ℕ)) (was : Spare) → k < 32 → KeepsMemory size size' was (slot_at old k) (slot_at new k) →
     HasRunsOf k was (decorated size (all_shown size old) room ready (held_by old capacity unused)) (decorated size' (all_shown size' new) room' ready' (held_by new capacity' unused'))
 has_runs k size size' room room' capacity capacity' ready ready' old new unused unused' was h kept =
@@ -207,7 +207,7 @@ has_runs k size size' room room' capacity capacity' ready ready' old new unused 
       clear = rw (after, held_at new capacity' unused' k h) kept.clear;
     }
 
--- the same of all
+-- the memory of all indicators, afterwards
 pub have_runs : (size size' room room' capacity : ℕ) (ready ready' : Option ℕ) (old new : List (Option (Runs ℕ))) (unused : Option (Runs ℕ)) → ((k : ℕ) → KeepsMemory size size' (slot_spare (slot_at old k)) (slot_at old k) (slot_at new k)) →
     HaveRunsOf (decorated size (all_shown size old) room ready (held_by old capacity unused)) (decorated size' (all_shown size' new) room' ready' (held_by new capacity unused))
 have_runs size size' room room' capacity ready ready' old new unused kept = record {

@@ -34,7 +34,7 @@ module _ {X : Type 0} where
         | inr apart ↦ e k apart ∙ sym (get_or-set_other (map f (range_with_len 0 n)) i k (g i) (g i) apart ∙ get_or-map-range_with_len f 0 n k k (g i) inside (zero-add k))
       ])
 
-  -- the same change of each
+  -- the same change for each
   pub numbered_both : {Y : Type 0} (h : X → Y) (f : ℕ → X) (g : ℕ → Y) → ((k : ℕ) → g k ≡ h (f k)) → map g indicators ≡ map h (map f indicators)
   numbered_both h f g e = map_both h f g e indicators
 

@@ -1,4 +1,4 @@
--- The ends of a run of one value are where the model's are.
+-- The ends of a run of equal values are those of the model.
 use Rattle.std.proofs.Common.{◌≡◌, ◌≢◌, ℕ, zero, suc, ◌+◌, ◌-◌, ◌<◌, ◌≤◌, List, [], ◌∷◌, length, take, drop, replicate, reverse, get_or, Some, unwrap_or, sym, ap, ◌∙◌, arith, eq-eqb}
 use Rattle.std.specs.List.{slice_get}
 use Rattle.std.proofs.lemmas.Option.{slice_get-get_or, slice_get_past, unwrap_or-slice_get}
@@ -9,7 +9,7 @@ use Rattle.run_styles.specs.Runs.{IsRunStart, IsRunEnd}
 use Rattle.decorations.specs.Decorated.{run_about}
 use Rattle.decorations.proofs.Values.{zeros_at}
 
--- a front of one value, behind which there is another or none
+-- a front of equal values, behind which another value comes or none
 run_length_is : (value : ℕ) (values : List ℕ) (n : ℕ) → n ≤ length values → ((k : ℕ) → k < n → get_or values k 0 ≡ value) → (n < length values → get_or values n 0 ≢ value) → run_length value values ≡ n
 run_length_is value [] n h same other = omega arith
 run_length_is value (x ∷ xs) zero h same other = rw (ne_eqb x value (other (omega arith)))
@@ -51,7 +51,7 @@ start_is values place start h run =
     other_at values (start - 1) place upper h (run.longest positive) (sym (read (place - start) (omega arith) ∙ ap (λ j. get_or values j 0) there) ∙ e)) in
     rw n (omega (arith, run.from))
 
--- both ends of a run that is kept
+-- both ends of a run in a slot
 pub run_is : (values : List ℕ) (place start end : ℕ) → place < length values → IsRunStart values place start → IsRunEnd values place end → (start, end) ≡ run_about values place
 run_is values place start end h from past = let a = start_is values place start h from in let b = past_is values place end h past in cc
 

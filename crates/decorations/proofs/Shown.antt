@@ -1,4 +1,4 @@
--- What is read of one indicator.
+-- Reads of one indicator.
 use Rattle.std.proofs.Common.{◌≡◌, ℕ, ◌<◌, ◌≤◌, List, length, replicate, Option, unwrap_or, sym, ap, ◌∙◌}
 use Rattle.std.specs.Prelude.{pos}
 use Rattle.std.proofs.lemmas.Option.{slice_get_past, unwrap_or-slice_get}
@@ -15,7 +15,7 @@ pub values_are : {memory : Held} (d : Decorated) (size room : ℕ) (ready : Opti
 values_are d size room ready slots k slot h e f =
     ap (λ v. values_of v.values k) (sym e) ∙ numbered_at (λ j. shown size (slot_at slots j)) k _ h ∙ ap (shown size) (sym f)
 
--- 0 past the end, and where the indicator has no runs
+-- 0 past the end, and if the indicator has no runs
 pub zero_past : (values : List ℕ) (place : ℕ) → length values ≤ place → 0 ≡ at_place values (pos place)
 zero_past values place h = ap (λ (o : Option ℕ). unwrap_or o 0) (sym (slice_get_past values place h))
 

@@ -1,4 +1,4 @@
--- What a step does to the values of one indicator, whether its runs are kept or it is 0 everywhere.
+-- The effect of a step on the values of one indicator, whether it has runs or is 0 everywhere.
 use Rattle.std.proofs.Common.{◌≡◌, ℕ, ◌+◌, ◌-◌, ◌≤◌, ◌==◌, nat_eq, ◌||◌, Bool, true, false, if◌then◌else◌, List, ◌++◌, length, take, drop, replicate, get_or, Option, Some, None, is_some, IfSome, IfNone, MatchOption, true≢false, refl, sym, ap, ◌∙◌, subst, arith, inl, inr, take-append-drop, append_assoc}
 use Rattle.std.proofs.lemmas.Bool.{cond_both, cases_lt}
 use Rattle.std.proofs.lemmas.List.{length-append, length-take, length-drop, length-replicate, take-replicate, drop-replicate, replicate-append-replicate, get_or-replicate, get_or_past, get_or_append_left, get_or-append-add, ext_get_or}
@@ -67,7 +67,7 @@ or_joined : (a b c : Bool) → ((a || b) || c) ≡ (a || (b || c))
 or_joined true b c = refl
 or_joined false b c = refl
 
--- what is put in is the model's
+-- the inserted values are those of the model
 inserted_same : (values : List ℕ) (p : ℕ) → runs_value nat_eq 0 values p ≡ inserted_value values p
 inserted_same values p =
     ap (λ (t : Bool). if t then 0 else get_or values (p - 1) 0) (sym (or_joined (p == 0) (p == length values) (get_or values p 0 == 0)))
@@ -95,7 +95,7 @@ pub shown_length : (size room : ℕ) (slot : Option (Runs ℕ)) → IsKept size 
 shown_length size room None kept = length-replicate {A = ℕ} size 0
 shown_length size room (Some runs) kept = kept.sized
 
--- so whether runs are kept tells whether the indicator is used
+-- so the indicator is used exactly if it has runs
 pub tells_used : (size room : ℕ) (slot : Option (Runs ℕ)) (values : List ℕ) (b : Bool) → IsKept size room slot → b ≡ is_some slot → values ≡ shown size slot → (IsTrue b → IsClear values → ⊥) × ((IsClear values → ⊥) → IsTrue b)
 tells_used size room None values b kept e f =
     let Q : List ℕ → Type 0 = IsClear in (λ yes clear. true≢false (sym yes ∙ e), λ unclear. absurd (unclear (subst Q (sym f) (zeros_clear size))))

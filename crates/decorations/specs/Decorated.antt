@@ -5,8 +5,8 @@ use Rattle.ed_model.specs.TextPlans.{at_place}
 use Rattle.ed_model.specs.StylePlans.{run_start, run_past}
 use Rattle.run_styles.specs.Runs.{Spare, spare, IsSpareFor, IsSameMemory, run_count}
 
--- The memory that is there. For how many more runs of each indicator, none where it has no runs, and for how many of the next one that
--- gets runs; how many indicators have a slot, and how many may have one.
+-- The memory: for how many more runs of each indicator, 0 if it has no runs, and for how many of the next one that gets
+-- runs; how many indicators have a slot, and how many may have one without an allocation.
 pub record Held : Type 0 where
   pub runs : List Spare
   pub unused : Spare
@@ -16,8 +16,8 @@ pub record Held : Type 0 where
 abbrev pub nothing_held : Held
 nothing_held = record { runs = replicate 32 (spare 0 0); unused = spare 0 0; slots = 0; capacity = 0 }
 
--- The length of the text, and for each of the 32 indicators its value at each place. For how many insertions there is room, and for
--- a fill of which indicator. The memory that is there.
+-- The length of the text, and for each of the 32 indicators its value at each place; for how many insertions there is
+-- room, and for a fill of which indicator; and the memory.
 pub record Decorated : Type 0 where
   pub length : ℕ
   pub values : List (List ℕ)
@@ -40,20 +40,20 @@ values_of values indicator = slice_index_or values indicator []
 abbrev pub spare_of : Held → ℕ → Spare
 spare_of held indicator = slice_index_or held.runs indicator (spare 0 0)
 
--- Of each indicator there is memory for no more runs than were asked for, `count` more, or than in blocks of twice the size, and for no more
--- than before where it was there for so many already.
+-- For each indicator there is memory for no more runs than the `count` more that were requested, or than in blocks of
+-- twice the size, and for no more than before if it sufficed.
 pub record AreRunsFor (count : ℕ) (values : List (List ℕ)) (old new : Held) : Type 0 where
   pub each : (k : ℕ) → k < 32 → IsSpareFor (run_count nat_eq (values_of values k)) count (spare_of old k) (spare_of new k)
   pub unused : IsSpareFor 1 count old.unused new.unused
 
--- So many indicators have a slot, or as many as before if these are more, and no more than that, or than twice as many as before, may have one;
--- no more than before where so many might already.
+-- At most `count` indicators have a slot, or as many as before if these are more. At most that many, or twice as many
+-- as had one, may have one without an allocation, and no more than before if that sufficed.
 pub record AreSlotsFor (count : ℕ) (old new : Held) : Type 0 where
   pub slots : new.slots ≤ max old.slots count
   pub capacity : new.capacity ≤ max old.capacity (max count (2 * old.slots))
   pub there : count ≤ old.capacity → new.capacity ≡ old.capacity
 
--- they are as many
+-- both have the same number of slots
 pub record HaveSlotsOf (old new : Held) : Type 0 where
   pub slots : new.slots ≡ old.slots
   pub capacity : new.capacity ≡ old.capacity
@@ -67,37 +67,37 @@ pub record IsEnough (count : ℕ) (memory : Spare) : Type 0 where
   pub starts : count ≤ memory.starts
   pub values : count ≤ memory.values
 
--- the same of each indicator that is not 0 everywhere, and of the next one that gets runs
+-- the same for each indicator that is not 0 everywhere, and for the next one that gets runs
 pub record AreEnough (count : ℕ) (values : List (List ℕ)) (held : Held) : Type 0 where
   pub each : (k : ℕ) → k < 32 → (IsClear (values_of values k) → ⊥) → IsEnough count (spare_of held k)
   pub unused : IsEnough count held.unused
 
--- the same of one indicator, or, where it is 0 everywhere, of the next one that gets runs
+-- the same for one indicator, or, if it is 0 everywhere, for the next one that gets runs
 pub record IsEnoughFor (count indicator : ℕ) (values : List (List ℕ)) (held : Held) : Type 0 where
   pub used : (IsClear (values_of values indicator) → ⊥) → IsEnough count (spare_of held indicator)
   pub clear : IsClear (values_of values indicator) → IsEnough count held.unused
 
--- how many runs of one value an indicator has
+-- how many runs of equal values an indicator has
 abbrev pub runs_of : Decorated → ℕ → ℕ
 runs_of d indicator = run_count nat_eq (values_of d.values indicator)
 
--- The memory of an indicator's runs is what there was, and none where it is 0 everywhere now.
+-- The memory of an indicator's runs has not changed, or the indicator is 0 everywhere now and has none.
 pub record HasRunsOf (indicator : ℕ) (was : Spare) (old new : Decorated) : Type 0 where
   pub used : (IsClear (values_of new.values indicator) → ⊥) → IsSameMemory (runs_of old indicator) was (runs_of new indicator) (spare_of new.held indicator)
   pub clear : IsClear (values_of new.values indicator) → spare_of new.held indicator ≡ spare 0 0
 
--- no runs of any indicator took memory
+-- no runs of any indicator allocated memory
 pub record HaveRunsOf (old new : Decorated) : Type 0 where
   pub each : (k : ℕ) → k < 32 → HasRunsOf k (spare_of old.held k) old new
   pub unused : new.held.unused ≡ old.held.unused
 
--- One indicator was filled, and no runs took memory: where it was 0 everywhere, it took those that none had.
+-- One indicator was filled, and no runs allocated memory: if it was 0 everywhere, it has the spare runs now.
 pub record WereFilledFrom (indicator : ℕ) (old new : Decorated) : Type 0 where
   pub others : (k : ℕ) → k < 32 → k ≢ indicator → spare_of new.held k ≡ spare_of old.held k
   pub again : (IsClear (values_of old.values indicator) → ⊥) → HasRunsOf indicator (spare_of old.held indicator) old new × (new.held.unused ≡ old.held.unused)
   pub first : IsClear (values_of old.values indicator) → HasRunsOf indicator old.held.unused old new × (new.held.unused ≡ spare 0 0)
 
--- where the longest range of one value begins that holds the place, and where it is past
+-- the longest range of equal values that holds the place, as its first place and the place behind it
 abbrev pub run_about : List ℕ → ℕ → ℕ × ℕ
 run_about values place = (run_start values place, run_past values place)
 

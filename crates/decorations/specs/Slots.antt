@@ -1,4 +1,4 @@
--- How the lists are kept: a slot for each indicator, up to the last that ever had a value, and in it the runs while there are any.
+-- How the lists are stored: a slot for each indicator, up to the last that ever had a value, with its runs if it has any.
 use Rattle.std.specs.Prelude.{ℕ, ◌≡◌, ◌+◌, ◌<◌, ◌≤◌, ◌==◌, if◌then◌else◌, nat_eq, List, length, map, replicate, slice_index_or, Option, Some, None, IfSome, IfNone, MatchOption}
 use Rattle.run_styles.specs.Runs.{Runs, Spare, spare, IsSpareFor, IsSameMemory, run_count, inserted, deleted, inserted_value}
 use Rattle.decorations.specs.Decorated.{Held, indicators, IsClear}
@@ -19,12 +19,12 @@ abbrev pub slot_spare : Option (Runs ℕ) → Spare
 slot_spare None = spare 0 0
 slot_spare (Some runs) = runs.spare
 
--- the memory of slots, of which so many fit in, and of spare runs
+-- the memory of slots, with so many that fit in, and of spare runs
 abbrev pub held_by : List (Option (Runs ℕ)) → ℕ → Option (Runs ℕ) → Held
 held_by slots capacity unused =
     record { runs = map (λ k. slot_spare (slot_at slots k)) indicators; unused = slot_spare unused; slots = length slots; capacity = capacity }
 
--- Runs that are kept have a value other than 0 somewhere, and room for so many more.
+-- Runs in a slot have a value other than 0 somewhere, and room for so many more.
 pub record AreKept (size room : ℕ) (runs : Runs ℕ) : Type 0 where
   pub sized : length runs.values ≡ size
   pub default : runs.default ≡ 0
@@ -34,22 +34,22 @@ pub record AreKept (size room : ℕ) (runs : Runs ℕ) : Type 0 where
 abbrev pub IsKept : ℕ → ℕ → Option (Runs ℕ) → Type 0
 IsKept size room slot = IfSome slot (AreKept size room)
 
--- how many runs a fill of the indicator may add, where one is to come
+-- how many runs a fill of the indicator may add, if one is reserved
 abbrev pub for_fill : Option ℕ → ℕ → ℕ
 for_fill None indicator = 0
 for_fill (Some ready) indicator = if ready == indicator then 2 else 0
 
--- runs of no place, which become those of an indicator by its first fill
+-- runs without a place, which an indicator gets by its first fill
 pub record AreSpare (room : ℕ) (runs : Runs ℕ) : Type 0 where
   pub empty : length runs.values ≡ 0
   pub default : runs.default ≡ 0
   pub has_room : room ≤ runs.room
 
--- spare runs are there with so much room
+-- there are spare runs with so much room
 abbrev pub HasSpare : ℕ → Option (Runs ℕ) → Type 0
 HasSpare room spare = MatchOption spare ⊥ (AreSpare room)
 
--- an indicator can be filled: its slot is there, and either its runs or spare ones
+-- an indicator can be filled: its slot is there, and either its runs or spare ones are
 pub record CanFill (room : ℕ) (slots : List (Option (Runs ℕ))) (spare : Option (Runs ℕ)) (indicator : ℕ) : Type 0 where
   pub slot : indicator < length slots
   pub runs : IfNone (slot_at slots indicator) (HasSpare (room + 3) spare)
@@ -61,38 +61,38 @@ pub record AreSlots (greatest size room : ℕ) (ready : Option ℕ) (slots : Lis
   pub unused : IfSome spare (AreSpare 0)
   pub can_fill : IfSome ready (CanFill room slots spare)
 
--- What becomes of the runs of all indicators.
+-- The effect of steps on the runs of all indicators.
 
--- the runs of an indicator are there in both, and as the relation says, or in none
+-- the indicator has runs in both, which are related, or in neither
 abbrev pub InBoth : (Runs ℕ → Runs ℕ → Type 0) → Option (Runs ℕ) → Option (Runs ℕ) → Type 0
 InBoth R None new = new ≡ None
 InBoth R (Some old) new = MatchOption new ⊥ (R old)
 
--- in each slot
+-- the relation holds in each slot
 abbrev pub InEach : (Option (Runs ℕ) → Option (Runs ℕ) → Type 0) → List (Option (Runs ℕ)) → List (Option (Runs ℕ)) → Type 0
 InEach R old new = (k : ℕ) → R (slot_at old k) (slot_at new k)
 
--- they have no less room, and memory for no more runs than `count` more asked for
+-- they have at least as much room, and memory for no more runs than `count` more demand
 pub record HaveRoomOf (count : ℕ) (old new : Runs ℕ) : Type 0 where
   pub values : new.values ≡ old.values
   pub default : new.default ≡ old.default
   pub room : old.room ≤ new.room
   pub spare : IsSpareFor (run_count nat_eq old.values) count old.spare new.spare
 
--- places can be put in
+-- places can be inserted
 pub record CanTakeIn (greatest place count : ℕ) (runs : Runs ℕ) : Type 0 where
   pub within : place ≤ length runs.values
   pub fits : length runs.values + count ≤ greatest
   pub room : 1 ≤ runs.room
 
--- places were put in
+-- places were inserted
 pub record TookIn (place count : ℕ) (old new : Runs ℕ) : Type 0 where
   pub values : new.values ≡ inserted old.values place count (inserted_value nat_eq old.default old.values place)
   pub default : new.default ≡ old.default
   pub room : old.room ≤ new.room + 1
   pub memory : IsSameMemory (run_count nat_eq old.values) old.spare (run_count nat_eq new.values) new.spare
 
--- what places were taken from, if it is still used
+-- the runs from which places were deleted, if the indicator is still used
 pub record IsLeft (place count : ℕ) (old new : Runs ℕ) : Type 0 where
   pub values : new.values ≡ deleted old.values place count
   pub default : new.default ≡ old.default
@@ -100,7 +100,7 @@ pub record IsLeft (place count : ℕ) (old new : Runs ℕ) : Type 0 where
   pub memory : IsSameMemory (run_count nat_eq old.values) old.spare (run_count nat_eq new.values) new.spare
   pub used : IsClear new.values → ⊥
 
--- places were taken away; runs that are all 0 then are gone
+-- places were deleted; runs that are all 0 then are dropped
 abbrev pub GaveAway : ℕ → ℕ → Option (Runs ℕ) → Option (Runs ℕ) → Type 0
 GaveAway place count None new = new ≡ None
 GaveAway place count (Some old) new = MatchOption new (IsClear (deleted old.values place count)) (IsLeft place count old)
@@ -109,7 +109,7 @@ GaveAway place count (Some old) new = MatchOption new (IsClear (deleted old.valu
 abbrev pub WasFilled : List ℕ → Option (Runs ℕ) → Type 0
 WasFilled values slot = MatchOption slot (IsClear values) (λ (runs : Runs ℕ). (runs.values ≡ values) × (runs.default ≡ 0) × (IsClear values → ⊥))
 
--- the memory that the runs of a filled slot come with: its own, or that of the spare runs where it has none
+-- the memory of the runs of a filled slot: its own, or that of the spare runs if it has none
 abbrev pub source_spare : Option (Runs ℕ) → Option (Runs ℕ) → Spare
 source_spare None spare = slot_spare spare
 source_spare (Some runs) spare = runs.spare

@@ -13,22 +13,22 @@ use partitioning::Place;
 use std::alloc::{AllocError, Global};
 use std::marker::Model;
 
-/// How many indicators there are.
+/// The number of indicators.
 pub const INDICATORS: usize = 32;
 
-/// The values of all indicators at each place of a text.
+/// The values of all indicators at each place of a text, in bytes from 0.
 ///
-/// `P` is how places are kept, and bounds the length of the text.
+/// `P` is the type in which places are stored, and bounds the length of the text.
 #[derive(Drop)]
 pub struct Decorations<P: Place> {
-    // One for each indicator, up to the last that ever had a value.
+    // One slot for each indicator, up to the last that ever had a value.
     slots: Vec<Slot<P>>,
-    // Runs of no place, for the first fill of an indicator.
+    // Runs without a place, for an indicator that is filled for the first time.
     spare: Slot<P>,
     size: usize,
-    // How many insertions each slot has room for.
+    // For how many insertions each slot has room.
     room: usize,
-    // The indicator that has room for a fill besides.
+    // The indicator that has room for a fill as well.
     ready: Option<usize>,
     alloc: Global,
 }
@@ -46,7 +46,7 @@ impl<P: Place> Model for Decorations<P> {
 }
 
 impl<P: Place> Decorations<P> {
-    /// Returns the values of an empty text. Takes no memory.
+    /// Returns the values of an empty text. Allocates nothing.
     pub fn new(alloc: Global) -> Self
         ensures { result ≡ decorated 0 (replicate 32 []) 0 None nothing_held }
     {
@@ -60,7 +60,7 @@ impl<P: Place> Decorations<P> {
         }
     }
 
-    /// Returns the length of the text, in bytes: each indicator has as many values.
+    /// Returns the length of the text in bytes, which is the number of values of each indicator.
     pub fn length(&self) -> usize
         ensures length { result ≡ self.now.length }
         ensures within { self.now.length ≤ P.GREATEST }
@@ -70,7 +70,7 @@ impl<P: Place> Decorations<P> {
         self.size
     }
 
-    /// Returns whether an indicator has another value than 0 somewhere. Runs are kept for those alone.
+    /// Returns whether an indicator has a value other than 0 somewhere. Only such indicators have runs.
     pub fn is_used(&self, indicator: usize) -> bool
         requires { indicator < 32 }
         ensures { IsTrue result ↔ (IsClear (values_of self.now.values indicator) → ⊥) }
@@ -78,7 +78,7 @@ impl<P: Place> Decorations<P> {
         runs_in(&self.slots, indicator).is_some()
     }
 
-    /// Returns the value of an indicator at a place, and 0 past the end of the text.
+    /// Returns the value of an indicator at a place, or 0 past the end of the text (`SCI_INDICATORVALUEAT`).
     pub fn value(&self, indicator: usize, place: usize) -> u32
         requires { indicator < 32 }
         ensures { result ≡ at_place (values_of self.now.values indicator) (pos place) }
@@ -89,7 +89,8 @@ impl<P: Place> Decorations<P> {
         }
     }
 
-    /// Returns where the longest range of one value of an indicator begins that holds a place, and where it is past.
+    /// Returns the longest range of equal values of an indicator around a place, as its first place and the place
+    /// behind it (`SCI_INDICATORSTART`, `SCI_INDICATOREND`).
     pub fn run(&self, indicator: usize, place: usize) -> (usize, usize)
         requires indicator { indicator < 32 }
         requires place { place < self.now.length }
@@ -101,7 +102,8 @@ impl<P: Place> Decorations<P> {
         }
     }
 
-    /// Returns bit `k` for each indicator `k` that is not 0 at a place, and 0 past the end of the text.
+    /// Returns the indicators that are not 0 at a place, bit `k` for indicator `k`, and 0 past the end of the text
+    /// (`SCI_INDICATORALLONFOR`).
     pub fn mask_at(&self, place: usize) -> u32
         ensures { result ≡ mask_of self.now.values place }
     {
@@ -114,12 +116,12 @@ impl<P: Place> Decorations<P> {
         mask
     }
 
-    /// Makes room for `insertions` insertions. Where no indicator was ever filled no memory is taken, and where the memory is there
-    /// for so many and a fill, none is taken either: it cannot fail then.
+    /// Makes room for `insertions` insertions. If no indicator was ever filled, or if there is memory for that many
+    /// insertions and a fill, nothing is allocated, and it cannot fail.
     ///
     /// # Errors
     ///
-    /// `AllocError` where memory is refused. All is then as it was, but that there may be memory for more runs.
+    /// `AllocError` if an allocation fails. Nothing has changed then, except that there may be memory for more runs.
     #[inline(always)]
     pub fn reserve(&mut self, insertions: usize) -> Result<(), AllocError>
         ensures ok { OnOk result (self.new ≡ record self.old { room = max self.old.room insertions; held = self.new.held }) }
@@ -140,7 +142,7 @@ impl<P: Place> Decorations<P> {
         self.make_room(insertions)
     }
 
-    // Makes room for so many insertions, where there is for fewer.
+    // The slow path of `reserve`: there is room for fewer insertions.
     #[inline(never)]
     fn make_room(&mut self, insertions: usize) -> Result<(), AllocError>
         requires { self.old.room < insertions }
@@ -150,7 +152,7 @@ impl<P: Place> Decorations<P> {
         ensures memory_is_there { insertions + 3 < 2 ^ 64 → AreEnough (insertions + 3) self.old.values self.old.held → IsOk result × (self.new ≡ record self.old { room = max self.old.room insertions }) }
         ensures err { OnErr result (self.new ≡ record self.old { held = self.new.held }) }
     {
-        // Room for a fill too, should one be reserved.
+        // As much as a fill needs besides, should one be reserved.
         let Some(runs) = insertions.checked_add(3) else {
             return Err(AllocError);
         };
@@ -161,13 +163,15 @@ impl<P: Place> Decorations<P> {
         Ok(())
     }
 
-    /// Makes room for one fill of an indicator, in place of the one that was reserved before. The room lasts up to the
-    /// next fill, insertion or deletion. Where the memory is there for the indicator's slot and its runs, none is taken, and it
-    /// cannot fail; the memory for the next indicator that gets runs stays as it is where this one has runs.
+    /// Makes room for one fill of an indicator, which replaces the one that was reserved before. The room lasts up to
+    /// the next fill, insertion or deletion. If there is memory for the indicator's slot and its runs, nothing is
+    /// allocated, and it cannot fail. If the indicator has runs, the memory for the next indicator without runs stays
+    /// as it is.
     ///
     /// # Errors
     ///
-    /// `AllocError` where memory is refused. All is then as it was, but that there may be memory for more slots and runs.
+    /// `AllocError` if an allocation fails. Nothing has changed then, except that there may be memory for more slots
+    /// and runs.
     pub fn reserve_fill(&mut self, indicator: usize) -> Result<(), AllocError>
         requires { indicator < 32 }
         ensures ok { OnOk result (self.new ≡ record self.old { ready = Some indicator; held = self.new.held }) }
@@ -198,8 +202,9 @@ impl<P: Place> Decorations<P> {
         Ok(())
     }
 
-    /// Sets an indicator to a value at `count` places from `start` on, for which room was reserved. Returns the smallest
-    /// range that holds all places that changed, as its first place and its length, or `None` where none did. It takes no memory.
+    /// Sets an indicator to a value at `count` places from `start` on. Returns the smallest range that holds all places
+    /// that changed, as its first place and its length, or `None` if none changed. There must be room for the fill.
+    /// Allocates nothing.
     pub fn fill(
         &mut self,
         indicator: usize,
@@ -221,8 +226,9 @@ impl<P: Place> Decorations<P> {
         changed
     }
 
-    /// Puts `count` bytes in before a place. Of each indicator they get 0 at both ends of the text and where it is 0 at
-    /// the place, and else its value before the place. It takes the room of one insertion, and that of a fill, and no memory.
+    /// Inserts `count` bytes before a place. Each indicator is 0 there at both ends of the text and where it is 0 at
+    /// the place, and otherwise has its value before the place. Uses the room of one insertion and that of a fill, and
+    /// allocates nothing.
     #[inline]
     pub fn insert(&mut self, place: usize, count: usize)
         requires within { place ≤ self.old.length }
@@ -241,7 +247,7 @@ impl<P: Place> Decorations<P> {
         self.ready = None;
     }
 
-    /// Takes `count` bytes away, from a place on. It takes no room but that of a fill, and no memory.
+    /// Deletes `count` bytes from a place on. Uses no room except that of a fill, and allocates nothing.
     #[inline]
     pub fn delete(&mut self, place: usize, count: usize)
         requires { place + count ≤ self.old.length }

@@ -1,7 +1,7 @@
-//! Indicators: for each of 32 indicators a value at each place of a text, as an underline of a kind, or 0 for none.
+//! Indicators: 32 of them, each with a value at each place of a text, such as a kind of underline, or 0 for none.
 //!
-//! Runs of an indicator are kept from its first fill on, and go when it is 0 everywhere again. So a text without
-//! indicators costs its length alone, and a step costs the indicators in use.
+//! An indicator has runs from its first fill on, until it is 0 everywhere again. So a text without indicators stores
+//! its length alone, and the cost of a step grows with the number of indicators in use.
 #![tactic(auto)]
 
 mod decorations;

@@ -1,4 +1,4 @@
-//! What a step does to the runs of all indicators in use. A slot without runs stands for an indicator that is 0
+//! The effect of a step on the runs of all indicators in use. A slot without runs stands for an indicator that is 0
 //! everywhere.
 ghost use Rattle.std.specs.Prelude.{◌≡◌, ◌≤◌, ◌<◌, ◌+◌, ◌≢◌, ◌*◌, ℕ, length, max, Some, None, IfSome, IfNone, MatchOption, OnOk, IsOk, nat_eq, vec_len, vec_capacity};
 ghost use Rattle.ed_model.specs.Indicators.{filled, changed_range};
@@ -11,10 +11,10 @@ use partitioning::Place;
 use run_styles::RunStyles;
 use std::alloc::{AllocError, Global};
 
-/// The values of one indicator, if it has another than 0 somewhere.
+/// The runs of one indicator, if it has a value other than 0 somewhere.
 pub(crate) type Slot<P> = Option<RunStyles<P, u32>>;
 
-/// Returns the runs of an indicator, if it has another value than 0 somewhere.
+/// Returns the runs of an indicator, if it has a value other than 0 somewhere.
 pub(crate) fn runs_in<P: Place>(
     slots: &Vec<Slot<P>>,
     indicator: usize,
@@ -25,7 +25,7 @@ pub(crate) fn runs_in<P: Place>(
     slots.get(indicator)?.as_ref()
 }
 
-/// Makes slots up to `count`, where there are fewer.
+/// Adds empty slots up to `count`, if there are fewer.
 fn reserve_slots<P: Place>(slots: &mut Vec<Slot<P>>, count: usize) -> Result<(), AllocError>
     ensures same { (k : ℕ) → slot_at slots.new.items k ≡ slot_at slots.old.items k }
     ensures more { length slots.old.items ≤ length slots.new.items }
@@ -42,7 +42,7 @@ fn reserve_slots<P: Place>(slots: &mut Vec<Slot<P>>, count: usize) -> Result<(),
     Ok(())
 }
 
-/// Makes room for `room` more runs in a slot that has any.
+/// Makes room for `room` more runs in a slot, if it has runs.
 fn reserve_in<P: Place>(slot: &mut Slot<P>, room: usize) -> Result<(), AllocError>
     ensures same { InBoth (HaveRoomOf room) slot.old slot.new }
     ensures ok { OnOk result (IfSome slot.new (λ runs. room ≤ runs.room)) }
@@ -54,7 +54,7 @@ fn reserve_in<P: Place>(slot: &mut Slot<P>, room: usize) -> Result<(), AllocErro
     Ok(())
 }
 
-/// Makes room for `room` more runs in each slot that has any.
+/// Makes room for `room` more runs in each slot that has runs.
 fn reserve_runs<P: Place>(slots: &mut Vec<Slot<P>>, room: usize) -> Result<(), AllocError>
     ensures same { InEach (InBoth (HaveRoomOf room)) slots.old.items slots.new.items }
     ensures length { length slots.new.items ≡ length slots.old.items }
@@ -68,7 +68,7 @@ fn reserve_runs<P: Place>(slots: &mut Vec<Slot<P>>, room: usize) -> Result<(), A
     Ok(())
 }
 
-/// Makes spare runs with room for `room` more, or gives the spare runs that there are so much.
+/// Makes room for `room` more runs in the spare runs, which it creates if there are none.
 fn reserve_spare<P: Place>(
     spare: &mut Slot<P>,
     alloc: Global,
@@ -99,7 +99,7 @@ fn insert_into<P: Place>(slot: &mut Slot<P>, place: usize, count: usize)
     }
 }
 
-/// Puts `count` places in before `place`, into the runs of each indicator in use. Mostly there is no slot at all.
+/// Inserts `count` places before `place`, in the runs of each indicator in use. There is usually no slot at all.
 #[inline(always)]
 pub(crate) fn insert_into_all<P: Place>(slots: &mut Vec<Slot<P>>, place: usize, count: usize)
     requires { (k : ℕ) → IfSome (slot_at slots.old.items k) (CanTakeIn P.GREATEST place count) }
@@ -112,7 +112,7 @@ pub(crate) fn insert_into_all<P: Place>(slots: &mut Vec<Slot<P>>, place: usize, 
     }
 }
 
-// The same, slot by slot.
+// The slow path of `insert_into_all`, out of line: there are slots.
 #[inline(never)]
 fn insert_into_each<P: Place>(slots: &mut Vec<Slot<P>>, place: usize, count: usize)
     requires { (k : ℕ) → IfSome (slot_at slots.old.items k) (CanTakeIn P.GREATEST place count) }
@@ -139,8 +139,8 @@ fn delete_from<P: Place>(slot: &mut Slot<P>, place: usize, count: usize)
     }
 }
 
-/// Takes `count` places away, from `place` on, from the runs of each indicator in use. Those that are all 0 then go. Mostly there
-/// is no slot at all.
+/// Deletes `count` places from `place` on, from the runs of each indicator in use, and drops runs that are all 0 then.
+/// There is usually no slot at all.
 #[inline(always)]
 pub(crate) fn delete_from_all<P: Place>(slots: &mut Vec<Slot<P>>, place: usize, count: usize)
     requires { (k : ℕ) → IfSome (slot_at slots.old.items k) (λ runs. place + count ≤ length runs.values) }
@@ -153,7 +153,7 @@ pub(crate) fn delete_from_all<P: Place>(slots: &mut Vec<Slot<P>>, place: usize, 
     }
 }
 
-// The same, slot by slot.
+// The slow path of `delete_from_all`, out of line: there are slots.
 #[inline(never)]
 fn delete_from_each<P: Place>(slots: &mut Vec<Slot<P>>, place: usize, count: usize)
     requires { (k : ℕ) → IfSome (slot_at slots.old.items k) (λ runs. place + count ≤ length runs.values) }
@@ -166,7 +166,7 @@ fn delete_from_each<P: Place>(slots: &mut Vec<Slot<P>>, place: usize, count: usi
     }
 }
 
-/// Makes room for `room` more runs in a slot, or, where it has none, in the spare runs.
+/// Makes room for `room` more runs in a slot, or in the spare runs if it has none.
 fn reserve_slot<P: Place>(
     slot: &mut Slot<P>,
     spare: &mut Slot<P>,
@@ -188,7 +188,7 @@ fn reserve_slot<P: Place>(
     reserve_spare(spare, alloc, room)
 }
 
-/// Takes the runs out of a slot, or, where it has none, the spare ones, with so many places of value 0.
+/// Takes the runs out of a slot. If it has none, takes the spare ones, and makes them `size` places of value 0.
 fn taken<P: Place>(slot: &mut Slot<P>, spare: &mut Slot<P>, size: usize) -> RunStyles<P, u32>
     requires fits { size ≤ P.GREATEST }
     requires spare { IfNone slot.old (HasSpare 3 spare.old) }
@@ -209,7 +209,7 @@ fn taken<P: Place>(slot: &mut Slot<P>, spare: &mut Slot<P>, size: usize) -> RunS
     runs
 }
 
-/// Makes room for `room` more runs in each slot that has any, and in the spare runs, if there are any.
+/// Makes room for `room` more runs in each slot that has runs, and in the spare runs, if there are any.
 pub(crate) fn reserve_all<P: Place>(
     slots: &mut Vec<Slot<P>>,
     spare: &mut Slot<P>,
@@ -259,7 +259,7 @@ pub(crate) fn reserve_one<P: Place>(
     reserve_slot(&mut slots[indicator], spare, alloc, room)
 }
 
-/// Sets `count` places of an indicator to a value, in its runs, or, where it has none, in the spare ones. Its runs go if
+/// Sets `count` places of an indicator to a value, in its runs, or in the spare ones if it has none. Drops its runs if
 /// they are all 0 then. Returns the smallest range that holds all places that changed.
 pub(crate) fn fill_slot<P: Place>(
     slot: &mut Slot<P>,

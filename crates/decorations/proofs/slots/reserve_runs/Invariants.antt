@@ -2,7 +2,7 @@ use Rattle.std.proofs.Common.{◌≡◌, ℕ, ◌<◌, ◌≤◌, IfSome}
 use Rattle.decorations.specs.Slots.{slot_at, InBoth, HaveRoomOf}
 use Rattle.decorations.proofs.slots.reserve_runs.Given as goal
 
--- the slots before this one have the room, the others are as they were
+-- the slots before this one have the room, and the others are unchanged
 abbrev pub invariant-loop-slot : goal.invariant-loop-slot
 invariant-loop-slot g l = record {
   room : (k : ℕ) → k < l.slot-index → IfSome (slot_at l.slot-items k) (λ runs. l.room ≤ runs.room);

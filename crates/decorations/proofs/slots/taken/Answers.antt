@@ -4,7 +4,7 @@ use Rattle.decorations.specs.Slots.{AreSpare, HasSpare, shown, source_spare}
 use Rattle.decorations.proofs.Memory.{one_run, zeros_run}
 use Rattle.decorations.proofs.slots.taken.Goals as goal
 
--- spare runs, of no place and so one run, get places of value 0, and are one run again
+-- spare runs, which have no place and so are one run, get places of value 0, and are one run again
 spare_memory : (size : ℕ) (slot spare : Option (Runs ℕ)) (runs new : Runs ℕ) → IfNone slot (HasSpare 3 spare) → slot ≡ None → spare ≡ Some runs →
     IsSameMemory (run_count nat_eq runs.values) runs.spare (run_count nat_eq new.values) new.spare → IsSameMemory (run_count nat_eq (shown size slot)) (source_spare slot spare) (run_count nat_eq new.values) new.spare
 spare_memory size slot spare runs new has e f memory =
