@@ -1,4 +1,4 @@
--- What the model says in its own words: positions move as by its steps, and keys go where its messages go.
+-- What `ed_model` says in its own words: positions move as by its steps, and keys move as by its messages.
 use Rattle.std.specs.Prelude.{ℕ, ◌≡◌, Bool, true, false, pos, Ok}
 use Rattle.ed_types.specs.declared.kind.Kind.{Kind}
 use Rattle.ed_types.specs.declared.kind.Kind.TheVariants as kind
@@ -34,11 +34,11 @@ kind_of_key DocumentEnd true = kind.DocumentEndExtend
 abbrev pub selection_of : Request → Selection
 selection_of r = record { anchor = r.view.anchor; caret = r.view.caret }
 
--- the plan that selects this
+-- the plan that makes this the selection
 abbrev pub selecting : Selection → Planned
 selecting s = Ok (plan.ChangeView (view_change.Select s.anchor s.caret) (pos 0))
 
--- each of the twelve messages of keys selects what its key does
+-- each of the twelve messages of keys plans the selection after its key
 abbrev pub KeysAreTheMessages : Type 0
 KeysAreTheMessages =
     (motion : Motion) (extend : Bool) (r : Request)

@@ -9,7 +9,7 @@ use crate::selections::Selection;
 use line_index::LineIndex;
 use partitioning::{Place, Probes};
 
-/// Where a key takes the caret.
+/// The target of a key that moves the caret.
 #[derive(Clone, Copy, Debug, PartialEq, Eq)]
 pub enum Motion {
     /// One character to the left.
@@ -18,7 +18,7 @@ pub enum Motion {
     CharacterRight,
     /// To the start of the caret's line.
     Home,
-    /// To where the end of the caret's line begins.
+    /// To the end of the caret's line, before its line end.
     LineEnd,
     /// To the start of the text.
     DocumentStart,
@@ -26,7 +26,7 @@ pub enum Motion {
     DocumentEnd,
 }
 
-// The line that holds the place.
+// Returns the line that holds `place`.
 fn line_at<P: Place>(lines: &LineIndex<P>, place: usize) -> usize
     ensures line { result ≡ line_of lines.now.starts place }
     ensures within { result < length lines.now.starts }
@@ -36,8 +36,8 @@ fn line_at<P: Place>(lines: &LineIndex<P>, place: usize) -> usize
 }
 
 impl Motion {
-    /// Returns where the key takes a caret by itself, as where the selection is extended. `first` and `second` are the
-    /// halves of the text, whose lines are `lines`.
+    /// Returns where the key moves a caret at `caret`, in bytes from 0, regardless of the selection. This is the new
+    /// caret if the selection is extended. `first` and `second` are the halves of the text, whose lines are `lines`.
     pub fn target<P: Place>(
         self,
         caret: usize,
@@ -61,7 +61,8 @@ impl Motion {
 }
 
 impl Selection {
-    // Where the key takes the caret and the anchor with it: to the left or right of what is selected, if anything is.
+    // Returns where the key moves the caret together with the anchor. If something is selected, the keys for one
+    // character move both to the left or right end of it.
     fn target<P: Place>(
         self,
         motion: Motion,
@@ -80,9 +81,10 @@ impl Selection {
         }
     }
 
-    /// Returns the selection after the key. Where it `extend`s, the caret goes alone and the anchor stays; else both go, and
-    /// the keys for a character go no further than to the end of what was selected. `first` and `second` are the halves of
-    /// the text, whose lines are `lines`.
+    /// Returns the selection after the key. If it `extend`s the selection, only the caret moves. Otherwise caret and
+    /// anchor both move, and if something is selected, the keys for one character move them to the left or right end of
+    /// it. `first` and `second` are the halves of the text, whose lines are `lines`. (Scintilla: keyboard commands,
+    /// such as `SCI_CHARLEFT` and `SCI_CHARLEFTEXTEND`.)
     pub fn after_key<P: Place>(
         self,
         motion: Motion,

@@ -1,9 +1,9 @@
-//! What is said here is what `ed_model` says of steps and of the messages of keys: public functions with empty bodies,
-//! whose contracts say so.
+//! Laws: public functions with empty bodies, whose contracts state that this crate's words mean what `ed_model` says of
+//! steps and of the messages of keys.
 
 ghost use Rattle.selection.specs.Laws.{KeysAreTheMessages, MovementsAreThoseOfSteps};
 
-/// A step moves a position as its place, its kind and its length tell.
+/// The place, the kind and the length of a step determine how it moves a position.
 pub fn movements_are_those_of_steps()
     ensures { MovementsAreThoseOfSteps }
 {}
