@@ -1,4 +1,4 @@
--- The first and last place that passes, against `find` in a list of places.
+-- The first and the last place that passes a test, as `find` in a list of places.
 use Rattle.std.proofs.Common.{◌≡◌, ℕ, zero, suc, ◌+◌, ◌-◌, ◌<◌, ◌≤◌, Bool, true, false, eqb, List, [], ◌∷◌, ◌++◌, length, reverse, Option, Some, None, refl, sym, ap, ◌∙◌, subst, arith, inl, inr}
 use Rattle.std.specs.List.{range_with_len, find}
 use Rattle.std.proofs.lemmas.List.{reverse-append}
@@ -24,7 +24,7 @@ module _ (test : ℕ → Bool) where
   pub none_at : (place : ℕ) → test place ≡ false → NonePasses test place (place + 1)
   none_at place f k a b = subst (λ p. test p ≡ false) (let same : place ≡ k = omega arith in same) f
 
-  -- what a search in one range and then in the next one answers
+  -- the result of a search in one range and then in the next one
   pub first_then : (from mid to : ℕ) → from ≤ mid → NonePasses test from mid → (r : Option ℕ) → FindsFirst test mid to r → FindsFirst test from to r
   first_then from mid to l front None h = none_then from mid to front h
   first_then from mid to l front (Some p) h =

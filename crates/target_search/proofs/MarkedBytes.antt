@@ -23,7 +23,7 @@ get_or-holding v byte k long l =
     get_or-zip2 (λ a b. cond (eqb a b) 255 0) v (replicate 64 byte) k 0 0 0 (omega arith) (omega (arith, length-replicate 64 byte))
     ∙ ap (λ b. cond (eqb (get_or v k 0) b) 255 0) (get_or-replicate 64 k byte 0 l)
 
--- .. or one of two
+-- the lanes of 64 bytes that hold one of two bytes
 abbrev holding_either : List ℕ → ℕ → ℕ → List ℕ
 holding_either v a b = zip2 bit_or (holding v a) (holding v b)
 
@@ -54,7 +54,7 @@ lane_top false false true false = refl
 lane_top false false false true = refl
 lane_top false false false false = refl
 
--- a bit of the mask of the lanes where both are so
+-- a bit of the mask of the lanes where both hold theirs
 pub marked_lane :
     (v w : List ℕ) (a b x y k : ℕ) → length v ≡ 64 → length w ≡ 64 → k < 64
     → bit_at (mask_l (map (top 7) (zip2 bit_and (holding_either v a b) (holding_either w x y))) % 2 ^ 64) k
@@ -78,7 +78,7 @@ pub clear_false : (b : Bool) (m : ℕ) → m ≡ cond b 1 0 → m ≡ 0 → b �
 clear_false true m e z = absurd (omega arith)
 clear_false false m e z = refl
 
--- the marks without one that is set are fewer
+-- the marks without one of their bits are fewer
 pub cleared_smaller : (m k : ℕ) → m < 2 ^ 64 → k < 64 → bit_at m k ≡ 1 → bit_and m (2 ^ 64 - 1 - 1 * 2 ^ k % 2 ^ 64) < m
 cleared_smaller m k fits l there =
     let small : 2 ^ k < 2 ^ 64 = omega (arith, two-pow-succ k, pow_pos k, pow_mono {i = suc k} {j = 64} (omega arith)) in
@@ -95,7 +95,7 @@ top_set m k low high =
     let b : 1 ≤ m / 2 ^ k = (le-div_iff_mul-le p).1 (omega arith) in
     omega arith
 
--- those above it
+-- the bits above it
 pub clear_above : (m j k : ℕ) → m < 2 * 2 ^ j → j < k → bit_at m k ≡ 0
 clear_above m j k high l =
     let a : m < 2 ^ k = omega (arith, two-pow-succ j, pow_mono {i = suc j} {j = k} (omega arith)) in
@@ -104,7 +104,7 @@ clear_above m j k high l =
 bit_at_zero : (k : ℕ) → bit_at 0 k ≡ 0
 bit_at_zero k = ap (λ x. x % 2) (div-eq_of_lt (pow_pos k))
 
--- marks that are clear where a test fails of the places from one on
+-- marks that are clear at each place from one on where a test fails
 module _ (test : ℕ → Bool) (base : ℕ) where
   abbrev pub MarksPassing : ℕ → Type 0
   MarksPassing marks = (k : ℕ) → k < 64 → bit_at marks k ≡ 0 → test (base + k) ≡ false

@@ -1,4 +1,4 @@
--- Where a pattern stands, told by what is found in a part of the text.
+-- Where a pattern stands, by what is found in a part of the text.
 use Rattle.std.proofs.Common.{◌≡◌, ℕ, ◌+◌, ◌-◌, ◌<◌, ◌≤◌, min, Bool, true, false, eqb, ◌&&◌, ◌||◌, not, List, ◌++◌, length, map, get_or, take, drop, slice_range, refl, sym, ap, ◌∙◌, subst, arith, inl, inr}
 use Rattle.std.specs.List.{starts_with}
 use Rattle.std.proofs.lemmas.Bool.{cases_Bool, cases_lt, cond-true, eq-eqb, false≢true}
@@ -44,7 +44,7 @@ allowed true s b a h = absurd (false≢true (sym h))
 allowed false true b a h = absurd (false≢true (sym h))
 allowed false false b a h = refl
 
--- where words do not count, all are allowed
+-- if words do not count, all are allowed
 pub words_allowed : (flags : ℕ) (text : List ℕ) (place end : ℕ) → (meets flags whole_word || meets flags word_start) ≡ false → words_pass flags text place end ≡ true
 words_allowed flags text place end h = allowed (meets flags whole_word) (meets flags word_start) (word_before text place) (word_after text end) h
 
@@ -62,7 +62,7 @@ module _ (flags : ℕ) (text pattern : List ℕ) where
         | inr other ↦ other
       ]
 
-  -- told by the test of the words and then by that of the bytes
+  -- a match, by the test of the words and then by that of the bytes
   pub told_by_bytes : (place : ℕ) (s : Bool) → words_pass flags text place (place + length pattern) ≡ true → s ≡ stands_at flags text pattern place → s ≡ is_match flags text pattern place
   told_by_bytes place s words e =
       e ∙ sym (match_is place ∙ ap (λ w. stands_at flags text pattern place && w) words ∙ and_true (stands_at flags text pattern place))
@@ -87,7 +87,7 @@ module _ (flags : ℕ) (text pattern : List ℕ) where
       ap (folded flags) (sym (read_part text place (place + length pattern) k (omega arith)))
       ∙ front_reads (folded flags) (slice_range text place (place + length pattern)) pattern h k b
 
-  -- the search of a substring, where case counts
+  -- the search for a substring, if case counts
   module _ (case : meets flags match_case ≡ true) (sub : List ℕ) (offset : ℕ) (part : IsPart text sub offset) where
     plain : (b : ℕ) → folded flags b ≡ b
     plain b = cond-true _ _ _ case
@@ -109,7 +109,7 @@ module _ (flags : ℕ) (text pattern : List ℕ) where
               part.reads (place - offset + j) (omega arith) ∙ ap (λ p. get_or text p 0) at ∙ sym (plain _) ∙ stands_reads place stands j l ∙ plain _;
         })
 
-    -- where a byte of the part is not that of the pattern
+    -- the pattern does not stand where a byte of the part differs from it
     pub not_without_byte : (rare at : ℕ) → rare < length pattern → at + rare < length sub → (get_or sub (at + rare) 0 ≡ get_or pattern rare 0 → ⊥) → is_match flags text pattern (offset + at) ≡ false
     not_without_byte rare at w l other =
         no_match_at (offset + at)
@@ -117,7 +117,7 @@ module _ (flags : ℕ) (text pattern : List ℕ) where
         let place : offset + (at + rare) ≡ offset + at + rare = omega arith in
         other (part.reads (at + rare) l ∙ ap (λ p. get_or text p 0) place ∙ sym (plain _) ∙ stands_reads (offset + at) stands rare w ∙ plain _))
 
-    -- nor in front of where that byte is found, from a place on
+    -- the pattern does not stand between a place and the next one where that byte is found
     pub none_without_byte :
         (rare start end n : ℕ) → rare < length pattern → length pattern ≤ length sub + 1 → end ≡ length sub - (length pattern - 1 - rare) → start + rare ≤ end → n ≤ length (slice_range sub (start + rare) end)
         → ((k : ℕ) → 0 ≤ k → k < n → eqb (get_or (slice_range sub (start + rare) end) k 0) (get_or pattern rare 0) ≡ true → ⊥)
@@ -132,7 +132,7 @@ module _ (flags : ℕ) (text pattern : List ℕ) where
         (λ equal.
         other index (omega arith) (omega arith) (eq-eqb _ _ (read_part sub (start + rare) end index (omega arith) ∙ ap (λ p. get_or sub p 0) place ∙ equal))))
 
-  -- where a byte of the part is not that of the pattern, in either case
+  -- the pattern does not stand where a byte of the part differs from it in either case
   pub not_where_other_byte :
       (rare : RareByte) (part : List ℕ) (offset at : ℕ) → IsRareOf rare pattern → IsPart text part offset → at + rare.place < length part
       → is_either rare.cases (get_or part (at + rare.place) 0) ≡ false → is_match flags text pattern (offset + at) ≡ false
@@ -163,7 +163,7 @@ seam_slice xs ys place n b l w e =
           ∙ sym (get_or-append_right xs ys (length xs) (place + k) 0 refl (omega arith)) ∙ sym whole
     ])
 
--- so it stands there, if both pieces do
+-- so the pattern stands there, if both pieces match
 pub stands_over_seam : (flags : ℕ) (xs ys pattern front behind : List ℕ) (place m : ℕ) → front ≡ take m pattern → behind ≡ drop m pattern → place + m ≡ length xs → m ≤ length pattern
     → place + length pattern ≤ length xs + length ys
     → (starts_with eqb (map (folded flags) (slice_range xs place (length xs))) (map (folded flags) front) && starts_with eqb (map (folded flags) (take (length behind) ys)) (map (folded flags) behind))

@@ -1,4 +1,4 @@
--- What the parts of a search answer.
+-- The results of the parts of a search.
 use Rattle.std.specs.Prelude.{◌≡◌, ℕ, ◌+◌, ◌<◌, ◌≤◌, ◌==◌, not, ◌&&◌, ◌||◌, Bool, true, false, List, length, map, slice_range, slice_index, Option, MatchOption}
 use Rattle.std.specs.List.{starts_with}
 use Rattle.ed_model.specs.Numbers.{meets}
@@ -8,7 +8,7 @@ use Rattle.ed_model.specs.Matches.{folded, whole_word, word_start, word_before, 
 abbrev pub stands_at : ℕ → List ℕ → List ℕ → ℕ → Bool
 stands_at flags text pattern place = starts_with ◌==◌ (map (folded flags) (slice_range text place (place + length pattern))) (map (folded flags) pattern)
 
--- whether the flags allow the bytes about what lies from one place to another
+-- whether the flags allow the bytes around what lies from one place to another
 abbrev pub words_pass : ℕ → List ℕ → ℕ → ℕ → Bool
 words_pass flags text place end =
     not ((meets flags whole_word || meets flags word_start) && word_before text place) && not (meets flags whole_word && word_after text end)
@@ -29,7 +29,7 @@ pub record IsFirstOf (test : ℕ → Bool) (from to place : ℕ) : Type 0 where
   pub passes : test place ≡ true
   pub before : NonePasses test from place
 
--- the place is the last that does
+-- the place is the last from one up to another that passes
 pub record IsLastOf (test : ℕ → Bool) (from to place : ℕ) : Type 0 where
   pub low : from ≤ place
   pub high : place < to

@@ -14,6 +14,6 @@ size_of search = length search.pattern.now
 abbrev pub is_match_of : Search → ℕ → Bool
 is_match_of search place = is_match search.flags (text_of search) search.pattern.now place
 
--- of the 64 places from one on, a match can begin at those alone whose bit is set
+-- of the 64 places from this one on, only those whose bit is set can begin a match
 abbrev pub MarksMatches : Search → ℕ → ℕ → Type 0
 MarksMatches search place marks = (k : ℕ) → k < 64 → bit_at marks k ≡ 0 → is_match_of search (place + k) ≡ false

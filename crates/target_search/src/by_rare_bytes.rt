@@ -1,5 +1,5 @@
-//! A search in a part of the text where case does not count, or words do. Two rare bytes of the pattern, in both cases,
-//! tell of 64 places at once at which of them it may stand, and these are compared.
+//! The search in a part of the text if case does not count or words do. Two rare bytes of the pattern, in both cases,
+//! show for 64 places at once where the pattern may stand. Only these places are compared.
 
 ghost use Rattle.std.specs.Prelude.{◌≡◌, ℕ, ◌+◌, ◌-◌, ◌≤◌, ◌<◌, ◌^◌, false, length};
 ghost use Rattle.std.specs.Int.{bit_at};
@@ -12,7 +12,7 @@ use crate::rare::RareByte;
 use crate::search::Search;
 
 impl<'a> Search<'a> {
-    // Marks of the 64 places from `start` on in a part of the text, which begins at `offset`: where a match may begin.
+    // Returns marks of the 64 places from `start` on in a part of the text, which begins at `offset`: where a match may begin.
     #[inline(always)]
     fn marks(
         &self,
@@ -32,7 +32,7 @@ impl<'a> Search<'a> {
         rare.marks_with(other, part, start)
     }
 
-    // The first match that begins where a mark is set.
+    // Returns the first match that begins where a mark is set.
     #[inline(always)]
     fn first_marked(&self, part: &[u8], offset: usize, start: usize, marks: u64) -> Option<usize>
         requires part { IsPart (text_of self.now) part.now offset }
@@ -52,7 +52,7 @@ impl<'a> Search<'a> {
         None
     }
 
-    // The last one.
+    // Returns the last match that begins where a mark is set.
     #[inline(always)]
     fn last_marked(&self, part: &[u8], offset: usize, start: usize, marks: u64) -> Option<usize>
         requires part { IsPart (text_of self.now) part.now offset }
@@ -72,7 +72,7 @@ impl<'a> Search<'a> {
         None
     }
 
-    // The first match in a part of the text that begins from `start` up to `end` there, each place compared.
+    // Returns the first match in a part of the text that begins from `start` up to `end` there. Compares at each place.
     fn first_of_few(&self, part: &[u8], offset: usize, start: usize, end: usize) -> Option<usize>
         requires part { IsPart (text_of self.now) part.now offset }
         requires small { offset + length part.now < 2 ^ 64 }
@@ -87,7 +87,7 @@ impl<'a> Search<'a> {
         None
     }
 
-    // The last match in a part of the text that begins in front of `end` there, each place compared.
+    // Returns the last match in a part of the text that begins before `end` there. Compares at each place.
     fn last_of_few(&self, part: &[u8], offset: usize, end: usize) -> Option<usize>
         requires part { IsPart (text_of self.now) part.now offset }
         requires small { offset + length part.now < 2 ^ 64 }
@@ -104,7 +104,7 @@ impl<'a> Search<'a> {
         None
     }
 
-    /// The first match in a part of the text, which begins at `offset`.
+    /// Returns the first match in a part of the text, which begins at `offset`.
     pub(crate) fn first_by_rare_bytes(&self, part: &[u8], offset: usize) -> Option<usize>
         requires part { IsPart (text_of self.now) part.now offset }
         requires small { offset + length part.now < 2 ^ 64 }
@@ -125,7 +125,7 @@ impl<'a> Search<'a> {
         self.first_of_few(part, offset, start, end)
     }
 
-    /// The last one.
+    /// Returns the last match in a part of the text, which begins at `offset`.
     pub(crate) fn last_by_rare_bytes(&self, part: &[u8], offset: usize) -> Option<usize>
         requires part { IsPart (text_of self.now) part.now offset }
         requires small { offset + length part.now < 2 ^ 64 }

@@ -6,7 +6,7 @@ ghost use Rattle.ed_model.specs.Matches.{folded};
 
 use crate::flags::SearchFlags;
 
-/// The byte, in lower case unless case counts.
+/// Returns the byte, in lower case unless case counts.
 #[inline(always)]
 pub(crate) fn fold(flags: SearchFlags, byte: u8) -> u8
     ensures { result ≡ folded flags byte }
@@ -18,7 +18,7 @@ pub(crate) fn fold(flags: SearchFlags, byte: u8) -> u8
     }
 }
 
-/// Whether the bytes are those of the pattern, which is as long.
+/// Returns whether `bytes` are those of the pattern, which has the same length.
 pub(crate) fn are_same(flags: SearchFlags, bytes: &[u8], pattern: &[u8]) -> bool
     requires { length bytes.now ≡ length pattern.now }
     ensures { result ≡ starts_with ◌==◌ (map (folded flags) bytes.now) (map (folded flags) pattern.now) }

@@ -1,5 +1,6 @@
-//! A search in a part of the text where case counts and words do not, by `memchr`: forwards for the rarest byte of the pattern, as
-//! long as that seldom leads astray, and then for the pattern; backwards for the pattern at once.
+//! The search in a part of the text if case counts and words do not, by `memchr`. Forwards it searches for the rarest
+//! byte of the pattern, and after too many of them without a match for the whole pattern. Backwards it searches for the
+//! whole pattern at once.
 
 ghost use Rattle.std.specs.Prelude.{◌≡◌, ◌+◌, ◌-◌, ◌≤◌, ◌<◌, ◌^◌, ◌||◌, true, false, length};
 ghost use Rattle.ed_model.specs.Numbers.{meets};
@@ -11,11 +12,11 @@ use crate::search::Search;
 use memchr::arch::all::packedpair::Pair;
 use memchr::{memchr, memmem};
 
-/// How many places that have the rarest byte may turn out to be no match, before the whole pattern is searched for. A search for one
-/// byte reads 128 of them at once, but starts anew behind each.
+/// How many places with the rarest byte may turn out to be no match before the whole pattern is searched for. The
+/// search for one byte reads 128 bytes at once, but restarts behind each of these places.
 const MOST_PASSED: usize = 16;
 
-// The place of a byte of the pattern that is the rarest in texts.
+// Returns the place of the byte of the pattern that is the rarest in texts.
 fn rarest(pattern: &[u8]) -> usize
     requires { 0 < length pattern.now }
     ensures { result < length pattern.now }
@@ -27,7 +28,7 @@ fn rarest(pattern: &[u8]) -> usize
 }
 
 impl<'a> Search<'a> {
-    // The first match that begins from byte `start` on in a part of the text, which begins at `offset`.
+    // Returns the first match that begins from byte `start` on in a part of the text, which begins at `offset`.
     fn first_from(&self, part: &[u8], offset: usize, start: usize) -> Option<usize>
         requires case { meets self.now.flags match_case ≡ true }
         requires words { (meets self.now.flags whole_word || meets self.now.flags word_start) ≡ false }
@@ -41,7 +42,7 @@ impl<'a> Search<'a> {
         Some(offset + start + found)
     }
 
-    /// The first match in a part of the text, which begins at `offset`.
+    /// Returns the first match in a part of the text, which begins at `offset`.
     pub(crate) fn first_exact(&self, part: &[u8], offset: usize) -> Option<usize>
         requires case { meets self.now.flags match_case ≡ true }
         requires words { (meets self.now.flags whole_word || meets self.now.flags word_start) ≡ false }
@@ -66,8 +67,8 @@ impl<'a> Search<'a> {
         self.first_from(part, offset, start)
     }
 
-    /// The last one. Looking for the rarest byte first, as forwards, gains only where that byte seldom stands outside of a match, and
-    /// costs more elsewhere.
+    /// Returns the last match in a part of the text, which begins at `offset`. A search for the rarest byte first, as
+    /// forwards, wins only if that byte seldom stands outside of a match, and costs more otherwise.
     pub(crate) fn last_exact(&self, part: &[u8], offset: usize) -> Option<usize>
         requires case { meets self.now.flags match_case ≡ true }
         requires words { (meets self.now.flags whole_word || meets self.now.flags word_start) ≡ false }

@@ -1,15 +1,15 @@
-//! Searches of a pattern in a range of a text, which is handed in as two slices, as a gap buffer has it.
+//! Searches for a pattern in a range of a text, which is given as two slices, as a gap buffer has it.
 //!
 //! ```text
 //! text      a b _ a b   a b        the pattern `ab` as a whole word: at 6
 //! range     0             8        first place to last place forwards, last to first backwards
 //! ```
 //!
-//! Where case counts and words do not, matches are found by `memchr`: forwards by its search of a byte, the rarest of the
-//! pattern, and once that has led astray a few times by its search of a substring; backwards by the latter alone. Else two
-//! rare bytes of the pattern, in both cases, tell of 64 places at once where it may stand; each of these is tested for the
-//! words about it and compared. Matches over the seam of the two slices are compared byte by byte. What a match is, and which
-//! one is answered, is said by `ed_model`: `match_in`.
+//! If case counts and words do not, matches are found by `memchr`. Forwards this is its search for a byte, the rarest
+//! of the pattern, and after a few of these without a match its search for a substring. Backwards it is the latter
+//! alone. Otherwise two rare bytes of the pattern, in both cases, show for 64 places at once where the pattern may
+//! stand. Each of these places is tested for the words around it and compared. Matches over the seam of the two slices
+//! are compared byte by byte. `ed_model` defines what a match is, and which one is returned: `match_in`.
 #![tactic(auto)]
 
 ghost use Rattle.std.specs.Prelude.{◌≡◌, ◌+◌, ◌≤◌, ◌++◌, length};
@@ -27,8 +27,9 @@ mod words;
 use crate::search::Search;
 pub use flags::SearchFlags;
 
-/// The first match of `pattern` that lies from `from` to `to` in the text that `before` and `after` make, with places in
-/// bytes from 0; the last one, if `from` is the greater. An empty pattern stands at the lesser of the two.
+/// Returns the place of the first match of `pattern` that lies in the range from `from` to `to`, or of the last one if
+/// `from` is the greater (`SCI_SEARCHINTARGET`). `before` and `after` are the halves of the text, and places are in
+/// bytes from 0. An empty pattern matches at the lesser of `from` and `to`.
 pub fn find(
     flags: SearchFlags,
     before: &[u8],

@@ -6,8 +6,8 @@ ghost use Rattle.target_search.specs.Cases.{is_either};
 
 use std::simd::prelude::*;
 
-/// Bit k is clear where byte k of the 64 from `first_at` on is not `first`, in either case, or byte k of those from
-/// `second_at` on not `second`.
+/// Returns marks: bit k is clear if byte k of the 64 from `first_at` on is not `first`, in either case, or byte k of
+/// the 64 from `second_at` on is not `second`.
 #[inline(always)]
 pub(crate) fn marks_of_two(
     bytes: &[u8],
@@ -29,7 +29,7 @@ pub(crate) fn marks_of_two(
     (are_first & are_second).to_bitmask()
 }
 
-/// The lowest bit that is set.
+/// Returns the lowest bit that is set.
 #[inline(always)]
 pub(crate) fn lowest(marks: u64) -> usize
     requires { marks ≢ 0 }
@@ -40,7 +40,7 @@ pub(crate) fn lowest(marks: u64) -> usize
     marks.trailing_zeros() as usize
 }
 
-/// The highest one.
+/// Returns the highest bit that is set.
 #[inline(always)]
 pub(crate) fn highest(marks: u64) -> usize
     requires { marks ≢ 0 }
@@ -51,7 +51,7 @@ pub(crate) fn highest(marks: u64) -> usize
     marks.ilog2() as usize
 }
 
-/// The marks without a bit that is set.
+/// Returns the marks without one of their bits.
 #[inline(always)]
 pub(crate) fn without(marks: u64, bit: usize) -> u64
     requires within { bit < 64 }

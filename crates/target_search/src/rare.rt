@@ -1,4 +1,4 @@
-//! Bytes of a pattern that are rare in texts, by which places where it cannot stand are passed over.
+//! Bytes of a pattern that are rare in texts. They show where the pattern cannot stand.
 
 ghost use Rattle.std.specs.Prelude.{◌≡◌, ℕ, ◌+◌, ◌≤◌, ◌<◌, ◌&&◌, true, false, length, slice_index};
 ghost use Rattle.std.specs.Int.{bit_at};
@@ -17,7 +17,7 @@ pub(crate) struct RareByte {
     cases: (u8, u8),
 }
 
-// The byte in lower and in upper case: no other one is the same without case.
+// Returns the byte in lower and in upper case. No other byte equals it without case.
 fn in_both_cases(byte: u8) -> (u8, u8)
     ensures { (flags other : ℕ) → folded flags other ≡ folded flags byte → is_either result other ≡ true }
 {
@@ -28,14 +28,14 @@ fn in_both_cases(byte: u8) -> (u8, u8)
     }
 }
 
-// How common a byte is in texts. A letter counts as its lower case, which is the commoner one but for `j`.
+// Returns how common a byte is in texts. A letter counts as its lower case, which is the commoner one except for `j`.
 fn rank(byte: u8) -> u8 {
     let (lower, _) = in_both_cases(byte);
     DefaultFrequencyRank.rank(lower)
 }
 
-// The places of two bytes of the pattern that are not the same and the rarest in texts. A pattern of one byte over and over
-// has one place twice.
+// Returns the places of the two different bytes of the pattern that are the rarest in texts. A pattern that repeats one
+// byte has the same place twice.
 fn rarest_two(pattern: &[u8]) -> (usize, usize)
     requires { 0 < length pattern.now }
     ensures first { result.0 < length pattern.now }
@@ -43,7 +43,7 @@ fn rarest_two(pattern: &[u8]) -> (usize, usize)
 {
     let mut best = 0;
     let mut next = 0;
-    // How common the bytes at these places are, asked once for each.
+    // How common the bytes at these places are; looked up once for each.
     let mut best_rank = rank(pattern[0]);
     let mut next_rank = best_rank;
     for (place, byte) in pattern.iter().enumerate() {
@@ -64,7 +64,7 @@ fn rarest_two(pattern: &[u8]) -> (usize, usize)
 impl RareByte {
     ghost use Rattle.target_search.specs.Rare.{IsRareOf};
 
-    // The byte of a pattern at a place.
+    // Returns the byte of a pattern at a place.
     fn at(pattern: &[u8], place: usize) -> Self
         requires { place < length pattern.now }
         ensures { IsRareOf result pattern.now }
@@ -75,7 +75,7 @@ impl RareByte {
         }
     }
 
-    /// Two bytes of a pattern that are rare, or one that is.
+    /// Returns two rare bytes of a pattern, which are the same one if it has no other.
     pub(crate) fn two_of(pattern: &[u8]) -> (Self, Self)
         requires { 0 < length pattern.now }
         ensures first { IsRareOf result.0 pattern.now }
@@ -85,8 +85,8 @@ impl RareByte {
         (RareByte::at(pattern, first), RareByte::at(pattern, second))
     }
 
-    /// Bit k is clear where one of these two is not what it is in the pattern, if that begins at the k-th place from
-    /// `start` on.
+    /// Returns marks: bit k is clear if one of these two bytes differs from the text, with the pattern at the k-th
+    /// place from `start` on.
     #[inline(always)]
     pub(crate) fn marks_with(&self, other: &Self, bytes: &[u8], start: usize) -> u64
         requires first { start + self.now.place + 64 ≤ length bytes.now }

@@ -7,7 +7,7 @@ use crate::bytes::are_same;
 use crate::flags::SearchFlags;
 use crate::words::words_allow;
 
-/// A text in two halves, a pattern that is not empty, and what is taken for a match.
+/// A text in two halves, a pattern that is not empty, and the flags of the search.
 #[derive(Drop)]
 pub(crate) struct Search<'a> {
     pub(crate) flags: SearchFlags,
@@ -19,7 +19,7 @@ pub(crate) struct Search<'a> {
 impl<'a> Search<'a> {
     ghost use Rattle.target_search.specs.Searches.{text_of, size_of, is_match_of};
 
-    /// Whether the flags allow the bytes about a match at the place.
+    /// Returns whether the flags allow the bytes around a match at `place`.
     #[inline]
     pub(crate) fn words_allow(&self, place: usize) -> bool
         requires { place + size_of self.now < 2 ^ 64 }
@@ -34,7 +34,7 @@ impl<'a> Search<'a> {
         )
     }
 
-    /// Whether a match begins at byte `at` of a part of the text, which begins at `offset`.
+    /// Returns whether a match begins at byte `at` of a part of the text, which begins at `offset`.
     pub(crate) fn is_match_in(&self, part: &[u8], offset: usize, at: usize) -> bool
         requires part { IsPart (text_of self.now) part.now offset }
         requires small { offset + length part.now < 2 ^ 64 }
@@ -45,7 +45,7 @@ impl<'a> Search<'a> {
         self.words_allow(offset + at) && are_same(self.flags, bytes, self.pattern)
     }
 
-    // The first match in a part of the text, which begins at `offset`.
+    // Returns the first match in a part of the text, which begins at `offset`.
     fn first_in(&self, part: &[u8], offset: usize) -> Option<usize>
         requires part { IsPart (text_of self.now) part.now offset }
         requires small { offset + length part.now < 2 ^ 64 }
@@ -60,7 +60,7 @@ impl<'a> Search<'a> {
         }
     }
 
-    // The last one.
+    // Returns the last match in a part of the text, which begins at `offset`.
     fn last_in(&self, part: &[u8], offset: usize) -> Option<usize>
         requires part { IsPart (text_of self.now) part.now offset }
         requires small { offset + length part.now < 2 ^ 64 }
@@ -75,7 +75,7 @@ impl<'a> Search<'a> {
         }
     }
 
-    // The bytes of the first half in which matches that begin from `from` up to `end` lie.
+    // Returns the bytes of the first half with all matches that begin from `from` up to `end`.
     fn part_before(&self, from: usize, end: usize) -> &'a [u8]
         requires some { 0 < size_of self.now }
         requires order { from < end }
@@ -86,7 +86,7 @@ impl<'a> Search<'a> {
         &self.before[from..end + (self.pattern.len() - 1)]
     }
 
-    // The same of the second half.
+    // Returns the bytes of the second half with all matches that begin from `from` up to `end`.
     fn part_behind(&self, from: usize, end: usize) -> &'a [u8]
         requires some { 0 < size_of self.now }
         requires order { from < end }
@@ -100,7 +100,7 @@ impl<'a> Search<'a> {
         &self.after[from - middle..end + (self.pattern.len() - 1) - middle]
     }
 
-    // The first match that begins from `from` up to `end`, where all of these lie in the first half.
+    // Returns the first match that begins from `from` up to `end`. All of these lie in the first half.
     fn first_before(&self, from: usize, end: usize) -> Option<usize>
         requires some { 0 < size_of self.now }
         requires within { from < end → end + size_of self.now ≤ length self.now.before.now + 1 }
@@ -112,7 +112,7 @@ impl<'a> Search<'a> {
         self.first_in(self.part_before(from, end), from)
     }
 
-    // The same where all of these lie in the second half.
+    // Returns the first match that begins from `from` up to `end`. All of these lie in the second half.
     fn first_behind(&self, from: usize, end: usize) -> Option<usize>
         requires some { 0 < size_of self.now }
         requires low { from < end → length self.now.before.now ≤ from }
@@ -126,7 +126,7 @@ impl<'a> Search<'a> {
         self.first_in(self.part_behind(from, end), from)
     }
 
-    // The last match that begins from `from` up to `end`, where all of these lie in the first half.
+    // Returns the last match that begins from `from` up to `end`. All of these lie in the first half.
     fn last_before(&self, from: usize, end: usize) -> Option<usize>
         requires some { 0 < size_of self.now }
         requires within { from < end → end + size_of self.now ≤ length self.now.before.now + 1 }
@@ -138,7 +138,7 @@ impl<'a> Search<'a> {
         self.last_in(self.part_before(from, end), from)
     }
 
-    // The same where all of these lie in the second half.
+    // Returns the last match that begins from `from` up to `end`. All of these lie in the second half.
     fn last_behind(&self, from: usize, end: usize) -> Option<usize>
         requires some { 0 < size_of self.now }
         requires low { from < end → length self.now.before.now ≤ from }
@@ -152,7 +152,7 @@ impl<'a> Search<'a> {
         self.last_in(self.part_behind(from, end), from)
     }
 
-    // Whether a match begins at the place, with bytes in both halves.
+    // Returns whether a match begins at `place`, with bytes in both halves.
     fn is_match_over_seam(&self, place: usize) -> bool
         requires low { place ≤ length self.now.before.now }
         requires high { length self.now.before.now ≤ place + size_of self.now }
@@ -168,7 +168,7 @@ impl<'a> Search<'a> {
             && are_same(self.flags, &self.after[..behind.len()], behind)
     }
 
-    // The first match that begins from `from` up to `end`, where all of these have bytes in both halves.
+    // Returns the first match that begins from `from` up to `end`. All of these have bytes in both halves.
     fn first_over_seam(&self, from: usize, end: usize) -> Option<usize>
         requires low { from < end → length self.now.before.now < from + size_of self.now }
         requires high { from < end → end ≤ length self.now.before.now }
@@ -184,7 +184,7 @@ impl<'a> Search<'a> {
         None
     }
 
-    // The last one.
+    // Returns the last match that begins from `from` up to `end`. All of these have bytes in both halves.
     fn last_over_seam(&self, from: usize, end: usize) -> Option<usize>
         requires low { from < end → length self.now.before.now < from + size_of self.now }
         requires high { from < end → end ≤ length self.now.before.now }
@@ -202,7 +202,8 @@ impl<'a> Search<'a> {
         None
     }
 
-    // Where matches that begin from `from` up to `end` begin to reach over the seam, and where they begin to lie behind it.
+    // Returns where the matches that begin from `from` up to `end` begin to reach over the seam, and where they begin
+    // to lie behind it.
     fn borders(&self, from: usize, end: usize) -> (usize, usize)
         requires some { 0 < size_of self.now }
         requires order { from ≤ end }
@@ -216,7 +217,7 @@ impl<'a> Search<'a> {
         (reaching.max(from).min(end), middle.max(from).min(end))
     }
 
-    /// The first match that lies from `from` to `to`.
+    /// Returns the first match that lies from `from` to `to`.
     pub(crate) fn first(&self, from: usize, to: usize) -> Option<usize>
         requires some { 0 < size_of self.now }
         requires order { from ≤ to }
@@ -238,7 +239,7 @@ impl<'a> Search<'a> {
         self.first_behind(behind, end)
     }
 
-    /// The last match that lies from `from` to `to`.
+    /// Returns the last match that lies from `from` to `to`.
     pub(crate) fn last(&self, from: usize, to: usize) -> Option<usize>
         requires some { 0 < size_of self.now }
         requires order { from ≤ to }

@@ -1,4 +1,4 @@
-//! The words about a match.
+//! The words around a match.
 
 ghost use Rattle.std.specs.Prelude.{◌≡◌, ◌++◌};
 ghost use Rattle.ed_model.specs.Matches.{is_word_byte as is_byte_of_word, word_before, word_after};
@@ -6,14 +6,14 @@ ghost use Rattle.target_search.specs.Found.{words_pass};
 
 use crate::flags::SearchFlags;
 
-// Whether words have this byte: an ASCII letter or digit, `_`, or one of 0x80 on.
+// Returns whether the byte belongs to a word: an ASCII letter or digit, `_`, or a byte from 0x80 on.
 fn is_word_byte(byte: u8) -> bool
     ensures { result ≡ is_byte_of_word byte }
 {
     byte.is_ascii_alphanumeric() || byte == b'_' || byte >= 0x80
 }
 
-// Whether a byte of words stands at the place.
+// Returns whether a byte of a word stands at `place`.
 fn is_word_at(before: &[u8], after: &[u8], place: usize) -> bool
     ensures { result ≡ word_after (before.now ++ after.now) place }
 {
@@ -24,7 +24,7 @@ fn is_word_at(before: &[u8], after: &[u8], place: usize) -> bool
     behind < after.len() && is_word_byte(after[behind])
 }
 
-/// Whether the flags allow the bytes about a match from `place` to `end`.
+/// Returns whether the flags allow the bytes around a match from `place` to `end`.
 #[inline]
 pub(crate) fn words_allow(
     flags: SearchFlags,
