@@ -35,7 +35,7 @@ one_more_heard pool notes n = map-append (noticed pool) notes (n ∷ [])
 pub end_of_pool : (pool : List ℕ) (from : ℕ) → slice_range pool from (length pool) ≡ drop from pool
 end_of_pool pool from = take_rest pool from
 
--- a note that is put in with the rest of the pool, or with none of it
+-- a note appended with the rest of the pool, or with none of it
 pub heard_with_rest : (pool : List ℕ) (notes : List Note) (n : Note) (from : ℕ) → n.text.start ≡ from → n.text.end ≡ length pool → heard_in pool (notes ++ n ∷ []) ≡ heard_in pool notes ++ with_text n (drop from pool) ∷ []
 heard_with_rest pool notes n from s e =
     let text : slice_range pool n.text.start n.text.end ≡ drop from pool = rw (s, e) (end_of_pool pool from) in
@@ -47,7 +47,7 @@ heard_without pool notes n e =
     let text : slice_range pool n.text.start n.text.end ≡ [] = rw none refl in
     one_more_heard pool notes n ∙ ap (λ t. heard_in pool notes ++ with_text n t ∷ []) text
 
--- what is behind a pool when two texts come behind it
+-- the end of a pool to which two texts were appended
 pub two_behind : (pool xs ys : List ℕ) → drop (length pool) (pool ++ xs ++ ys) ≡ xs ++ ys
 two_behind pool xs ys = rw (append_assoc pool xs ys) (drop_at pool (xs ++ ys) (length pool) refl)
 

@@ -2,7 +2,7 @@
 use Rattle.std.specs.Prelude.{ℕ, List}
 use Rattle.ed_types.specs.Notices.{Notice}
 
--- the notes with their texts, the text that is shared, and how many more notes and bytes of texts are sure to fit
+-- the notes with their texts, the text that is shared, and how many more notes and bytes of texts are promised to fit in
 pub record Gathered : Type 0 where
   pub notes : List Notice
   pub shared : List ℕ

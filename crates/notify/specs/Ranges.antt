@@ -1,4 +1,4 @@
--- Where the texts of notes stand in their pool.
+-- The texts of notes in their pool.
 use Rattle.std.specs.Prelude.{ℕ, ◌≤◌, List, [], ◌∷◌}
 use Rattle.ed_types.specs.declared.reply.Note.{Note}
 

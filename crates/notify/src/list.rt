@@ -1,4 +1,4 @@
-//! `NoteList`.
+//! `NoteList` and its calls.
 
 ghost use Rattle.std.specs.Prelude.{◌≡◌, ◌==◌, List, ℕ, ◌+◌, ◌-◌, ◌<◌, ◌≤◌, [], ◌∷◌, ◌++◌, length, max, OnOk, OnErr, IsOk, vec_len, vec_capacity};
 ghost use Rattle.ed_model.specs.Notes.{blank};
@@ -14,9 +14,9 @@ use std::marker::Model;
 pub struct NoteList {
     notes: Vec<Note>,
     pool: Vec<u8>,
-    // Where the shared text begins in the pool; it ends with it.
+    // Where the shared text begins in the pool. It ends with the pool.
     shared_from: usize,
-    // How many more notes, and bytes of texts, were asked for and are there. Of notes there is room for no more.
+    // How many more notes, and bytes of texts, were reserved. The block of the notes has no more room than that.
     note_room: usize,
     text_room: usize,
 }
@@ -41,7 +41,7 @@ impl Model for NoteList {
 }
 
 impl NoteList {
-    /// Returns a list of no notes, which share no text. Takes no memory.
+    /// Returns an empty list, whose shared text is empty. Allocates nothing.
     pub fn new(alloc: Global) -> Self
         ensures { result ≡ gathered [] [] 0 0 }
     {
@@ -54,11 +54,11 @@ impl NoteList {
         }
     }
 
-    /// Makes room for so many more notes, and texts of so many bytes in all. It gives no room back.
+    /// Makes room for `notes` more notes, and texts of `bytes` bytes in all. Frees nothing.
     ///
     /// # Errors
     ///
-    /// `AllocError` where memory is refused. All is then as it was.
+    /// `AllocError` if an allocation fails. Nothing has changed then.
     pub fn reserve(&mut self, notes: usize, bytes: usize) -> Result<(), AllocError>
         ensures ok { OnOk result (self.new ≡ record self.old { note_room = max self.old.note_room notes; text_room = max self.old.text_room bytes }) }
         ensures room_is_there { notes ≤ self.old.note_room → bytes ≤ self.old.text_room → IsOk result × (self.new ≡ self.old) }
@@ -79,14 +79,15 @@ impl NoteList {
         Ok(())
     }
 
-    /// Returns whether there is room for no note more: then nobody is to hear of what is told, and no note has to be set up.
+    /// Returns whether there is no room for a note: then no view listens, and no note has to be prepared.
     pub fn is_full(&self) -> bool
         ensures { result ≡ (self.now.note_room == 0) }
     {
         self.note_room == 0
     }
 
-    /// Shares a text among the notes to come, in place of the one that was shared. It comes in two halves, as a gap buffer lends it.
+    /// Shares a text among the next notes, instead of the one that was shared. It comes in two halves, as a gap buffer
+    /// lends it.
     pub fn share(&mut self, first: &[u8], second: &[u8])
         requires { length first.now + length second.now ≤ self.old.text_room }
         ensures { self.new ≡ record self.old { shared = first.now ++ second.now; text_room = self.old.text_room - (length first.now + length second.now) } }
@@ -98,7 +99,7 @@ impl NoteList {
         self.text_room -= first.len() + second.len();
     }
 
-    /// Puts a note in at the end, with the text that is shared. The note's own range is not looked at.
+    /// Appends a note with the shared text. The range in `note` is ignored.
     pub fn put_again(&mut self, mut note: Note)
         requires { 0 < self.old.note_room }
         ensures { self.new ≡ record self.old { notes = self.old.notes ++ with_text note self.old.shared ∷ []; note_room = self.old.note_room - 1 } }
@@ -108,7 +109,7 @@ impl NoteList {
         self.note_room -= 1;
     }
 
-    /// Puts a note in at the end that has no text. The text that is shared stays.
+    /// Appends a note without a text. The shared text stays.
     pub fn put_bare(&mut self, mut note: Note)
         requires { 0 < self.old.note_room }
         ensures { self.new ≡ record self.old { notes = self.old.notes ++ with_text note [] ∷ []; note_room = self.old.note_room - 1 } }
@@ -118,7 +119,7 @@ impl NoteList {
         self.note_room -= 1;
     }
 
-    /// Puts a note in at the end, with a text of its own, which is shared from then on.
+    /// Appends a note with a text of its own, which becomes the shared text.
     pub fn put(&mut self, note: Note, text: &[u8])
         requires notes { 0 < self.old.note_room }
         requires text { length text.now ≤ self.old.text_room }
@@ -127,7 +128,7 @@ impl NoteList {
         self.put_halves(note, text, &[]);
     }
 
-    /// The same with a text that comes in two halves.
+    /// Like `put`, for a text in two halves.
     pub fn put_halves(&mut self, note: Note, first: &[u8], second: &[u8])
         requires notes { 0 < self.old.note_room }
         requires text { length first.now + length second.now ≤ self.old.text_room }
@@ -137,7 +138,7 @@ impl NoteList {
         self.put_again(note);
     }
 
-    /// Returns the reply with these notes. Takes no memory.
+    /// Returns the reply with these notes. Allocates nothing.
     pub fn finish(self, value: i64, text: Bytes) -> Reply
         ensures { result ≡ record { value = value; text = text; notes = self.notes } }
     {
@@ -146,7 +147,7 @@ impl NoteList {
     }
 }
 
-/// Returns a note of this code, for no view yet, all else 0 and empty.
+/// Returns a note with this code, for view 0. All other fields are 0 or empty.
 pub fn blank(code: u32) -> Note
     ensures { (text : List ℕ) → let n = blank code in with_text result text ≡ record n { text = text } }
 {
@@ -168,7 +169,7 @@ pub fn blank(code: u32) -> Note
     }
 }
 
-// Appends bytes to a pool that has room for them.
+// Appends bytes to a pool. There must be room for them.
 fn append(pool: &mut Vec<u8>, bytes: &[u8])
     requires { vec_len pool.old + length bytes.now ≤ vec_capacity pool.old }
     ensures bytes { pool.new.items ≡ pool.old.items ++ bytes.now }
