@@ -1,4 +1,4 @@
--- Changes that contract and expand no line: for how many lines in all there is room to be contracted stays.
+-- Changes that contract and expand no line do not change how many lines in all may be contracted.
 use Rattle.std.proofs.Common.{◌≡◌, ℕ, Bool, true, false, not, cond, List, [], ◌∷◌, length, map, count_by, refl, sym, ap, ◌∙◌, arith}
 use Rattle.std.specs.List.{range_with_len}
 use Rattle.std.proofs.lemmas.Bool.{false≢true}
@@ -13,7 +13,7 @@ use Rattle.contraction.specs.ViewLines.{contracted_lines}
 use Rattle.ed_view.specs.Kept.{KeptView, contracted_in_all}
 use Rattle.ed_view.specs.Folding.{is_setting}
 
--- as many pass of the one list as of the other, where each two at the same place do
+-- as many items of one list pass as of the other, if both items at each place pass or neither does
 count_same : (p : Flags → Bool) (f g : ℕ → Flags) → ((k : ℕ) → p (f k) ≡ p (g k)) → (ks : List ℕ) → count_by p (map f ks) ≡ count_by p (map g ks)
 count_same p f g same [] = refl
 count_same p f g same (k ∷ ks) =

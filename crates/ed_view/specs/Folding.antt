@@ -1,4 +1,4 @@
--- What a change of a view asks for: lines that there are, and room to fold.
+-- What a change of a view requires: lines that exist, and room to fold.
 use Rattle.std.specs.Prelude.{Bool, true, false, ℕ, ◌+◌, ◌<◌, ◌≤◌, ◌≡◌, if◌then◌else◌, List, length}
 use Rattle.ed_model.specs.declared.plan.ViewChange.{ViewChange}
 use Rattle.ed_model.specs.declared.plan.ViewChange.TheVariants.{Select, SetTarget, SetSearchFlags, SetMask, SetIndicator, SetIndicatorValue, SetPasteConversion, SetRecording, ShowLines, HideLines, SetExpanded, Contract, Expand, EnsureVisible}
@@ -9,7 +9,7 @@ use Rattle.ed_model.specs.PlansFit.{IsFitViewChange}
 use Rattle.contraction.specs.ViewLines.{FoldRoom}
 use Rattle.ed_view.specs.declared.folding.FoldNeed.{FoldNeed}
 
--- whether it shows and hides no lines, and so asks for nothing
+-- whether it shows and hides no lines, and so requires nothing
 abbrev pub is_setting : ViewChange → Bool
 is_setting (Select anchor caret) = true
 is_setting (SetTarget start past) = true
@@ -21,7 +21,7 @@ is_setting (SetPasteConversion on) = true
 is_setting (SetRecording on) = true
 is_setting other = false
 
--- the lines that the change names are among so many
+-- the lines that the change names exist, if there are so many
 abbrev pub IsWithin : ℕ → ViewChange → Type 0
 IsWithin lines (ShowLines first past) = past ≤ lines
 IsWithin lines (HideLines first past) = past ≤ lines
@@ -31,8 +31,8 @@ IsWithin lines (Expand line) = line < lines
 IsWithin lines (EnsureVisible line) = line < lines
 IsWithin lines other = Unit {0}
 
--- for how many lines in all there must be room to be hidden, and for how many more to be contracted, where lines have these
--- flags: expanding hides the children of contracted headers between, and a line that is visible stays as it is
+-- how many lines in all may have to be hidden, and how many more contracted, if lines have these flags: expanding hides
+-- the children of contracted headers again, and a line that is visible stays as it is
 abbrev pub fold_need : List Flags → ViewChange → FoldNeed
 fold_need flags (HideLines first past) = record { hidden = length flags; contracted = 0 }
 fold_need flags (SetExpanded line on) = record { hidden = 0; contracted = if on then 0 else 1 }
@@ -44,10 +44,10 @@ fold_need flags other = record { hidden = 0; contracted = 0 }
 abbrev pub HasFoldRoom : FoldRoom → FoldNeed → Type 0
 HasFoldRoom room need = (need.hidden ≤ room.hidden) × (need.contracted ≤ room.contracted)
 
--- what is left of the room once as much was needed
+-- the room that is left after a change with this need
 abbrev pub LeavesFoldRoom : FoldRoom → FoldRoom → FoldNeed → Type 0
 LeavesFoldRoom old new need = (new.hidden ≡ old.hidden) × (old.contracted ≤ new.contracted + need.contracted)
 
--- the lines of a fit change are among those of its document
+-- the lines that a fit change names are lines of its document
 abbrev pub FitChangesAreWithin : Type 0
 FitChangesAreWithin = (r : Request) (change : ViewChange) → IsFitViewChange r change → IsWithin (line_total r) change

@@ -1,4 +1,4 @@
--- A view follows a step, told by its place, its length and what became of the lines; it reads no text.
+-- A view follows a step by its place, its length and its effect on the lines. It does not read the text.
 use Rattle.std.specs.Prelude.{◌≡◌, ◌≤◌, List, length}
 use Rattle.ed_model.specs.Steps.{Step}
 use Rattle.ed_model.specs.Rows.{flags_together}
@@ -23,17 +23,17 @@ view_moved movement edits v = record v {
   flags = after_edits flags_together edits v.flags;
 }
 
--- what a step of the document does to its lines
+-- the effect of a step on the lines of the document
 abbrev pub step_edits : Step → Document → List LineEdit
 step_edits step d = edits_of (change_of d.line_end_types step (text_of d))
 
--- so a view of a document follows a step of it as the model's view does
+-- a view of a document follows a step of it like the model's view
 abbrev pub MovesAreThoseOfSteps : Type 0
 MovesAreThoseOfSteps =
     (step : Step) (d : Document) (v : View) → end_of step ≤ length (text_of d) → length v.flags ≡ lines_in d
     → view_moved (movement_of step) (step_edits step d) v ≡ moved_view step d v
 
--- .. and the lines that the step names are the view's
+-- the lines that the step names are lines of the view
 abbrev pub StepsFitViews : Type 0
 StepsFitViews =
     (step : Step) (d : Document) (v : View) → end_of step ≤ length (text_of d) → length v.flags ≡ lines_in d → FitLines (length v.flags) (step_edits step d)

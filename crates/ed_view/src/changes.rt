@@ -1,4 +1,4 @@
-//! What messages set in a view.
+//! The settings of a view, and the changes that messages plan for it.
 
 ghost use Rattle.std.specs.Prelude.{◌≡◌, true, ℕ, List, length};
 ghost use Rattle.ed_model.specs.Changes.{changed_view};
@@ -10,7 +10,7 @@ use contraction::Levels;
 use ed_model::ViewChange;
 use selection::Selection;
 
-/// Whether a change is one of a setting: it shows and hides no lines, and so reads no levels and needs no room.
+/// Returns whether a change is one of a setting: it shows and hides no lines, and so reads no levels and needs no room.
 pub fn is_setting(change: ViewChange) -> bool
     ensures { result ≡ is_setting change }
 {
@@ -28,63 +28,64 @@ pub fn is_setting(change: ViewChange) -> bool
 }
 
 impl View {
-    /// Sets anchor and caret.
+    /// Sets anchor and caret, in bytes from 0.
     pub fn select(&mut self, selection: Selection)
         ensures { self.new ≡ record self.old { view = record self.old.view { anchor = selection.anchor; caret = selection.caret } } }
     {
         self.selection = selection;
     }
 
-    /// Sets the target.
+    /// Sets the target (`SCI_SETTARGETRANGE`).
     pub fn set_target(&mut self, target: Target)
         ensures { self.new ≡ record self.old { view = record self.old.view { target_start = target.start; target_end = target.end } } }
     {
         self.target = target;
     }
 
-    /// Sets the flags that it searches with.
+    /// Sets the search flags (`SCI_SETSEARCHFLAGS`).
     pub fn set_search_flags(&mut self, flags: u32)
         ensures { self.new ≡ record self.old { view = record self.old.view { search_flags = flags } } }
     {
         self.search_flags = flags;
     }
 
-    /// Sets which kinds of change it hears, as bits.
+    /// Sets the mask: the kinds of change for which the view listens, as bits (`SCI_SETMODEVENTMASK`).
     pub fn set_mask(&mut self, mask: u32)
         ensures { self.new ≡ record self.old { view = record self.old.view { mask = mask } } }
     {
         self.mask = mask;
     }
 
-    /// Sets the indicator that it fills.
+    /// Sets the current indicator (`SCI_SETINDICATORCURRENT`).
     pub fn set_indicator(&mut self, indicator: u32)
         ensures { self.new ≡ record self.old { view = record self.old.view { indicator = indicator } } }
     {
         self.indicator = indicator;
     }
 
-    /// Sets the value that it fills indicators with.
+    /// Sets the value with which the view fills indicators (`SCI_SETINDICATORVALUE`).
     pub fn set_indicator_value(&mut self, value: u32)
         ensures { self.new ≡ record self.old { view = record self.old.view { indicator_value = value } } }
     {
         self.indicator_value = value;
     }
 
-    /// Sets whether it turns the line ends of what it pastes into those of the document.
+    /// Sets whether the view converts the line ends of pasted text to those of the document
+    /// (`SCI_SETPASTECONVERTENDINGS`).
     pub fn set_paste_conversion(&mut self, on: bool)
         ensures { self.new ≡ record self.old { view = record self.old.view { converts_pastes = on } } }
     {
         self.converts_pastes = on;
     }
 
-    /// Sets whether it records what it is sent.
+    /// Sets whether the view records the messages that it is sent (`SCI_STARTRECORD`, `SCI_STOPRECORD`).
     pub fn set_recording(&mut self, on: bool)
         ensures { self.new ≡ record self.old { view = record self.old.view { records = on } } }
     {
         self.records = on;
     }
 
-    /// Makes a planned change of a setting: it shows and hides no lines.
+    /// Performs a planned change of a setting: it shows and hides no lines.
     pub fn set(&mut self, change: ViewChange)
         requires setting { is_setting change ≡ true }
         ensures { (levels : List ℕ) → self.new ≡ record self.old { view = changed_view levels change self.old.view } }
@@ -102,7 +103,7 @@ impl View {
         }
     }
 
-    /// Makes a planned change. The lines that it names must be there, and the room that it needs.
+    /// Performs a planned change. The lines that it names must exist, and there must be room for it (`fold_need`).
     pub fn change(&mut self, levels: &Levels, change: ViewChange)
         requires levels { length levels.now ≡ length self.old.view.flags }
         requires within { IsWithin (length self.old.view.flags) change }

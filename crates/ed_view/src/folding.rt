@@ -1,4 +1,4 @@
-//! Lines of a view are shown and hidden, and folds contracted and expanded, once there is room.
+//! Showing and hiding of a view's lines, and contracting and expanding of folds, once there is room.
 
 ghost use Rattle.std.specs.Prelude.{◌≡◌, ◌<◌, ◌≤◌, ◌+◌, ◌*◌, max, length, IsOk, OnOk};
 ghost use Rattle.split_vector.specs.Split.{most_room};
@@ -14,24 +14,24 @@ use contraction::Levels;
 use ed_model::ViewChange;
 use std::alloc::AllocError;
 
-/// How much room a change of a view needs, so that it takes no memory.
+/// The room that a change of a view needs.
 #[derive(Clone, Copy, Debug, PartialEq, Eq)]
 pub struct FoldNeed {
-    /// For how many lines in all to be hidden.
+    /// How many lines in all may be hidden.
     pub hidden: usize,
-    /// For how many more lines to be contracted.
+    /// How many more lines may be contracted.
     pub contracted: usize,
 }
 
 impl View {
-    // Whether the line is visible, or is none of the view's.
+    // Returns whether the line is visible, or the view has no such line.
     fn shows(&self, line: usize) -> bool
         ensures { result ≡ is_visible self.now.view.flags line }
     {
         line >= self.lines.count() || self.lines.visible(line)
     }
 
-    /// Returns how much room the change needs. For a line to be made visible that is visible already it is none.
+    /// Returns the room that the change needs. To make a line visible that already is needs none.
     pub fn fold_need(&self, change: ViewChange) -> FoldNeed
         ensures { result ≡ need_of self.now.view.flags change }
     {
@@ -64,7 +64,7 @@ impl View {
     ///
     /// # Errors
     ///
-    /// `AllocError` where the memory is refused. The view is then as it was, and has no less room.
+    /// `AllocError` if an allocation fails. The view is then unchanged, and has at least as much room as before.
     pub fn reserve_folding(&mut self, need: FoldNeed) -> Result<(), AllocError>
         ensures same { self.new.view ≡ self.old.view }
         ensures ok { OnOk result (HasFoldRoom self.new.room need) }
@@ -84,7 +84,7 @@ impl View {
         Ok(())
     }
 
-    /// Shows the lines from `first` up to `past`. It needs no room.
+    /// Shows the lines from `first` up to `past`, counted from 0 (`SCI_SHOWLINES`). Needs no room.
     pub fn show(&mut self, first: usize, past: usize)
         requires within { past ≤ length self.old.view.flags }
         ensures view { self.new.view ≡ record self.old.view { flags = lines_shown first past self.old.view.flags } }
@@ -93,7 +93,8 @@ impl View {
         self.lines.show(first, past);
     }
 
-    /// Hides the lines from `first` up to `past`, but never line 0. There must be room for all lines to be hidden.
+    /// Hides the lines from `first` up to `past`, but never line 0 (`SCI_HIDELINES`). There must be room for all lines
+    /// to be hidden.
     pub fn hide(&mut self, first: usize, past: usize)
         requires within { past ≤ length self.old.view.flags }
         requires room { length self.old.view.flags ≤ self.old.room.hidden }
@@ -103,7 +104,8 @@ impl View {
         self.lines.hide(first, past);
     }
 
-    /// Expands a line or contracts it, and leaves its children as they are. Contracting needs room for one more line.
+    /// Expands or contracts a line, and leaves its children as they are (`SCI_SETFOLDEXPANDED`). Contracting needs room
+    /// for one more contracted line.
     pub fn set_expanded(&mut self, line: usize, on: bool)
         requires within { line < length self.old.view.flags }
         requires room { HasFoldRoom self.old.room (need_of self.old.view.flags (change_to.SetExpanded line on)) }
@@ -114,8 +116,8 @@ impl View {
         self.lines.set_expanded(line, on);
     }
 
-    /// Contracts a header, which hides its children. There must be room for all lines to be hidden, and for one more to be
-    /// contracted.
+    /// Contracts a header, and hides its children. There must be room for all lines to be hidden, and for one more
+    /// contracted line.
     pub fn contract(&mut self, levels: &Levels, header: usize)
         requires levels { length levels.now ≡ length self.old.view.flags }
         requires within { header < length self.old.view.flags }
@@ -127,8 +129,8 @@ impl View {
         self.lines.contract(levels, header);
     }
 
-    /// Expands a header, which shows each child that no contracted header between hides. There must be room for all lines
-    /// to be hidden.
+    /// Expands a header, and shows each of its children that no contracted header between them hides. There must be
+    /// room for all lines to be hidden.
     pub fn expand(&mut self, levels: &Levels, header: usize)
         requires levels { length levels.now ≡ length self.old.view.flags }
         requires within { header < length self.old.view.flags }
@@ -140,8 +142,8 @@ impl View {
         self.lines.expand(levels, header);
     }
 
-    /// Makes a line visible that is hidden: its fold parents are made visible and expanded first, the outermost before all.
-    /// There must be room for all lines to be hidden then; a line that is visible needs none.
+    /// Makes a hidden line visible (`SCI_ENSUREVISIBLE`): its fold parents are made visible and expanded first, the
+    /// outermost before the others. There must be room for all lines to be hidden, unless the line is visible already.
     pub fn ensure_visible(&mut self, levels: &Levels, line: usize)
         requires levels { length levels.now ≡ length self.old.view.flags }
         requires within { line < length self.old.view.flags }

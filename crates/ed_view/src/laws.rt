@@ -1,4 +1,4 @@
-//! What is said here is what `ed_model` says of fit plans, and of a view under a step.
+//! Laws: what `ed_model` says of fit plans, and of a view under a step, in the words of this crate.
 ghost use Rattle.ed_view.specs.Folding.{FitChangesAreWithin};
 ghost use Rattle.ed_view.specs.Moving.{MovesAreThoseOfSteps, StepsFitViews};
 
@@ -6,12 +6,12 @@ use ed_model::rows_that_meet;
 use line_index::edits_of_steps;
 use selection::movements_are_those_of_steps;
 
-/// The lines that a fit change of a view names are among those of its document.
+/// The lines that a fit change of a view names are lines of its document.
 pub fn fit_changes_are_within()
     ensures { FitChangesAreWithin }
 {}
 
-/// A view with the flags of its document's lines follows a step of the document as the model's view does.
+/// A view with the flags of its document's lines follows a step of the document like the model's view.
 pub fn moves_are_those_of_steps()
     ensures view { MovesAreThoseOfSteps }
     ensures fit { StepsFitViews }

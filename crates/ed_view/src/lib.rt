@@ -1,9 +1,10 @@
-//! `View`: all that a view keeps, how messages change it, and how a step of the text moves it.
+//! `View`: the state of a view, how messages change it, and how a step of the text moves it.
 //!
 //! A view has anchor and caret, a target, settings, and the flags of each line of its document: whether the line is
-//! visible, and whether it is expanded. It reads no text. Whoever makes a step hands it where the step lies and what
-//! became of the lines; it follows without taking memory, so that it cannot fail where several views watch one document.
-//! Memory is taken only where a view is made and where room is made for lines to be hidden or contracted.
+//! visible, and whether it is expanded. It does not read the text. Whoever makes a step passes its place and length and
+//! its effect on the lines. The view follows without an allocation, so that a step cannot fail because several views
+//! watch the document. Memory is allocated only when a view is made, and when room for hidden or contracted lines is
+//! reserved.
 #![tactic(auto)]
 
 mod changes;

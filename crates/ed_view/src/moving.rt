@@ -1,4 +1,4 @@
-//! A view follows its document: a step of the text, other line ends, and another document.
+//! A view follows its document: a step of the text, another setting of line ends, and another document.
 
 ghost use Rattle.std.specs.Prelude.{◌≡◌, ◌<◌, ◌≤◌, ◌+◌, ◌^◌, length};
 ghost use Rattle.ed_model.specs.Session.{Document, lines_in, attached_to};
@@ -12,8 +12,8 @@ use line_index::LineEdit;
 use selection::{Movement, Selection};
 
 impl View {
-    /// Carries the flags through what became of the document's lines, as where it knows other line ends, and leaves the
-    /// rest as it is. It needs no memory.
+    /// Carries the flags through edits of the document's lines, for example when it counts other line ends. Nothing
+    /// else changes. Allocates nothing.
     pub fn carry_lines(&mut self, edits: &[LineEdit])
         requires lines { FitLines (length self.old.view.flags) edits.now }
         requires few { length self.old.view.flags + fresh_lines edits.now < 2 ^ 64 }
@@ -25,8 +25,8 @@ impl View {
         self.lines.carry(edits);
     }
 
-    /// Follows a step of the text, as `moves_are_those_of_steps` says of one of its document: moves anchor, caret and
-    /// target, and carries the flags through what became of the lines. It needs no memory.
+    /// Follows a step of the text (`moves_are_those_of_steps`): moves anchor, caret and target, and carries the flags
+    /// through the edits of the lines. Allocates nothing.
     pub fn moved(&mut self, movement: Movement, edits: &[LineEdit])
         requires anchor { self.old.view.anchor + count_of movement < 2 ^ 64 }
         requires caret { self.old.view.caret + count_of movement < 2 ^ 64 }
@@ -47,8 +47,8 @@ impl View {
         self.carry_lines(edits);
     }
 
-    /// Attaches the view to a document of so many lines, or to its own once more: it stands at the start, and all lines
-    /// are visible and expanded. Its settings stay. It needs no memory.
+    /// Attaches the view to a document of `lines` lines, which may be its own (`SCI_SETDOCPOINTER`). Anchor, caret and
+    /// target move to the start, and all lines are visible and expanded. The settings stay. Allocates nothing.
     pub fn attach_to(&mut self, document: u32, lines: usize)
         requires lines { 0 < lines }
         requires few { length self.old.view.flags + lines < 2 ^ 64 }
@@ -57,7 +57,7 @@ impl View {
         ensures contracted { self.old.room.contracted ≤ self.new.room.contracted }
         ensures in_all { contracted_in_all self.new ≡ contracted_in_all self.old }
     {
-        // all lines go, and as many fresh ones come: no new flags are made, which could fail
+        // Removes all lines and inserts as many fresh ones. New flags would need an allocation, which could fail.
         let fresh = [
             LineEdit::Restart,
             LineEdit::Come {

@@ -8,19 +8,19 @@ use selection::Selection;
 use std::alloc::{AllocError, Global};
 use std::marker::Model;
 
-// Each bit that a mask of kinds of change may have.
+// All bits that a mask of kinds of change may have.
 const WHOLE_MASK: u32 = 0x7F_FFFF;
 
-/// The range that searches and replacements work in, in bytes. It may end before it starts.
+/// The range in which searches and replacements work, in bytes from 0. It may end before it starts.
 #[derive(Clone, Copy, Debug, PartialEq, Eq)]
 pub struct Target {
-    /// Where it starts.
+    /// The place where it starts.
     pub start: usize,
-    /// Where it ends.
+    /// The place where it ends.
     pub end: usize,
 }
 
-/// All that a view keeps of its own: where it stands in its document, its settings, and the flags of each line.
+/// The state of a view: its positions in its document, its settings, and the flags of each line.
 #[derive(Drop)]
 pub struct View {
     id: u32,
@@ -45,12 +45,12 @@ impl Model for View {
 }
 
 impl View {
-    /// Returns a new view, attached to a document of so many lines: it stands at the start, hears all kinds of change, and
-    /// all lines are visible and expanded.
+    /// Returns a new view, attached to a document of `lines` lines. Its positions are 0, it listens for all kinds of
+    /// change, and all lines are visible and expanded.
     ///
     /// # Errors
     ///
-    /// `AllocError` where memory is refused. As much is asked for, however many lines there are: two numbers.
+    /// `AllocError` if an allocation fails. The view allocates memory for two numbers, however many lines there are.
     pub fn new(alloc: Global, id: u32, document: u32, lines: usize) -> Result<Self, AllocError>
         requires lines { 0 < lines }
         ensures view { IfOk result (λ v. (d : Document) → d.id ≡ document → lines_in d ≡ lines → v.view ≡ new_view id d) }
@@ -79,70 +79,71 @@ impl View {
         self.id
     }
 
-    /// Returns the id of the document that it is attached to.
+    /// Returns the id of the document to which the view is attached.
     pub fn document(&self) -> u32
         ensures { result ≡ self.now.view.document }
     {
         self.document
     }
 
-    /// Returns anchor and caret, in bytes.
+    /// Returns anchor and caret, in bytes from 0.
     pub fn selection(&self) -> Selection
         ensures { result ≡ record { anchor = self.now.view.anchor; caret = self.now.view.caret } }
     {
         self.selection
     }
 
-    /// Returns the target.
+    /// Returns the target, in bytes from 0.
     pub fn target(&self) -> Target
         ensures { result ≡ record { start = self.now.view.target_start; end = self.now.view.target_end } }
     {
         self.target
     }
 
-    /// Returns the flags that it searches with.
+    /// Returns the search flags (`SCI_GETSEARCHFLAGS`).
     pub fn search_flags(&self) -> u32
         ensures { result ≡ self.now.view.search_flags }
     {
         self.search_flags
     }
 
-    /// Returns which kinds of change it hears, as bits.
+    /// Returns the mask: the kinds of change for which the view listens, as bits (`SCI_GETMODEVENTMASK`).
     pub fn mask(&self) -> u32
         ensures { result ≡ self.now.view.mask }
     {
         self.mask
     }
 
-    /// Returns the indicator that it fills.
+    /// Returns the current indicator (`SCI_GETINDICATORCURRENT`).
     pub fn indicator(&self) -> u32
         ensures { result ≡ self.now.view.indicator }
     {
         self.indicator
     }
 
-    /// Returns the value that it fills indicators with.
+    /// Returns the value with which the view fills indicators (`SCI_GETINDICATORVALUE`).
     pub fn indicator_value(&self) -> u32
         ensures { result ≡ self.now.view.indicator_value }
     {
         self.indicator_value
     }
 
-    /// Returns whether it turns the line ends of what it pastes into those of the document.
+    /// Returns whether the view converts the line ends of pasted text to those of the document
+    /// (`SCI_GETPASTECONVERTENDINGS`).
     pub fn converts_pastes(&self) -> bool
         ensures { result ≡ self.now.view.converts_pastes }
     {
         self.converts_pastes
     }
 
-    /// Returns whether it records what it is sent.
+    /// Returns whether the view records the messages that it is sent.
     pub fn records(&self) -> bool
         ensures { result ≡ self.now.view.records }
     {
         self.records
     }
 
-    /// Lends which lines are visible, and which are expanded.
+    /// Lends the flags of the lines: which are visible, and which are expanded.
     pub fn lines(&self) -> &Contraction<u64>
         ensures flags { result.now.flags ≡ self.now.view.flags }
         ensures room { result.now.room ≡ self.now.room }
