@@ -10,7 +10,7 @@ use Rattle.line_index.specs.RoomLaws.{lines_for_step}
 
 -- Edits.
 
--- no more rows come than fresh ones
+-- at most as many rows are added as fresh ones
 module _ {R : Type 0} where
   pub edits_add : (together : List R → R) (edits : List LineEdit) (rows : List R) → FitLines (length rows) edits → length (after_edits together edits rows) ≤ length rows + fresh_lines edits
   edits_add together [] rows h = omega arith

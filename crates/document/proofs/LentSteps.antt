@@ -1,4 +1,4 @@
--- Steps that are lent from the history.
+-- Steps that the history lends.
 use Rattle.std.proofs.Common.{◌≡◌, ℕ, List, Option, Some, IsSomeAnd, refl, subst}
 use Rattle.ed_model.specs.History.{Change, TextStep}
 use Rattle.ed_model.specs.InverseLaws.{Fits}
@@ -17,7 +17,7 @@ step_of_lent (lent.Insert place bytes) (Delete p bs) text is fits = elim is [ ]
 step_of_lent (lent.Delete place count) (Insert p bs) text is fits = elim is [ ]
 step_of_lent (lent.Delete place count) (Delete p bs) text is fits = rw (is.0, is.1, fits.1) refl
 
--- the same of the change that stands at a place
+-- the same for the change at a place
 pub lent_step :
     (k : Kept) (at : Option Change) (step : Lent) (made : Step) → IsSomeAnd at (CanMake k) → IsSomeAnd at (IsLentOf (Some step)) → at ≡ Some (TextStep made)
     → step_in step (text_of k.document) ≡ made

@@ -1,4 +1,4 @@
--- The index of a document's lines, before a step and after it: what an index is told of a step, and the room that it needs.
+-- The index of a document's lines, before a step and after it: the facts that it requires of a step, and the room.
 use Rattle.std.proofs.Common.{◌≡◌, ℕ, zero, suc, ◌+◌, ◌-◌, ◌≤◌, Bool, true, false, cond, List, [], ◌∷◌, ◌++◌, length, take, drop, All, slice_get, slice_range, length-take, length-drop, refl, ap, sym, ◌∙◌, arith, nat_lt}
 use Rattle.std.specs.Prelude.{unwrap_or}
 use Rattle.std.proofs.lemmas.List.{length-map, map-append, take-map, drop-map}
@@ -43,7 +43,7 @@ bytes_inserted cells new place bytes text is read = sym (bytes_of_edited_cells (
 place_in_bytes : (cells : List Cell) (place : ℕ) → place ≤ length cells → place ≤ length (bytes_of cells)
 place_in_bytes cells place h = omega (arith, length-map cells (λ (c : Cell). c.byte))
 
--- what the index is told
+-- the facts that the index requires
 pub told_of_insertion : (types : LineEndTypes) (cells new : List Cell) (lines : Index) (place : ℕ) (bytes near text : List ℕ) → HasLinesOf types cells lines → place ≤ length cells → new ≡ edited_cells (Insert place bytes) cells → text ≡ bytes_of new →
     near ≡ bytes_near place (length bytes) text → line_count types (bytes_of (edited_cells (Insert place bytes) cells)) ≤ length lines.starts + lines.room → IsInsertion place (length bytes) near (bytes_of cells) bytes lines
 told_of_insertion types cells new lines place bytes near text has within is read reads room = record {
@@ -59,7 +59,7 @@ told_of_insertion types cells new lines place bytes near text has within is read
   );
 }
 
--- what it is then
+-- the index afterwards
 pub lines_of_inserted : (types : LineEndTypes) (cells new : List Cell) (old lines : Index) (place : ℕ) (bytes : List ℕ) → HasLinesOf types cells old → new ≡ edited_cells (Insert place bytes) cells → lines.types ≡ old.types → IsIndexOf (edited (Insert place bytes) (bytes_of cells)) lines → HasLinesOf types new lines
 lines_of_inserted types cells new old lines place bytes has is same index =
     let text : edited (Insert place bytes) (bytes_of cells) ≡ bytes_of new = sym (bytes_of_edited_cells (Insert place bytes) cells) ∙ sym (ap bytes_of is) in
@@ -73,7 +73,7 @@ bytes_deleted cells new place count text is read =
     let e : bytes_of (take place cells ++ drop (place + count) cells) ≡ take place (bytes_of cells) ++ drop (place + count) (bytes_of cells) = simp (map-append, take-map, drop-map) in
     sym e ∙ sym (ap bytes_of is) ∙ sym read
 
--- what the index is told
+-- the facts that the index requires
 pub told_of_deletion : (types : LineEndTypes) (cells new : List Cell) (lines : Index) (place count : ℕ) (near text : List ℕ) → DeletionAddsFewLines → HasLinesOf types cells lines → place + count ≤ length cells → lines_for_deletion ≤ lines.room →
     new ≡ take place cells ++ drop (place + count) cells → text ≡ bytes_of new → near ≡ bytes_near place 0 text → IsDeletion place count near (bytes_of cells) lines
 told_of_deletion types cells new lines place count near text few has within room is read reads = record {
@@ -90,7 +90,7 @@ told_of_deletion types cells new lines place count near text few has within room
   );
 }
 
--- what it is then
+-- the index afterwards
 pub lines_of_deleted : (types : LineEndTypes) (cells new : List Cell) (old lines : Index) (place count : ℕ) → HasLinesOf types cells old → new ≡ take place cells ++ drop (place + count) cells → lines.types ≡ old.types → IsIndexOf (take place (bytes_of cells) ++ drop (place + count) (bytes_of cells)) lines → HasLinesOf types new lines
 lines_of_deleted types cells new old lines place count has is same index =
     let text : take place (bytes_of cells) ++ drop (place + count) (bytes_of cells) ≡ bytes_of new = bytes_deleted cells new place count (bytes_of new) is refl in
@@ -106,7 +106,7 @@ deleted_count cells place count h =
     let long : length (bytes_of cells) ≡ length cells = length-map cells (λ (c : Cell). c.byte) in
     simp (length-take, length-drop) (omega (arith, long))
 
--- What a step did to the lines.
+-- The effect of a step on the lines.
 
 pub change_of_step :
     (types : LineEndTypes) (step : Step) (cells new : List Cell) (old lines : Index) → HasLinesOf types cells old → HasLinesOf types new lines → new ≡ edited_cells step cells
@@ -131,7 +131,7 @@ change_of_deletion types cells new old lines place count h has now is =
     ∙ ap (λ n. change_about place (place + length bytes) n old.starts lines.starts lines.length) none
     ∙ change_of_step types (Delete place bytes) cells new old lines has now is
 
--- the lines of an insertion fit in
+-- there is room for the lines of an insertion
 pub insertion_fits :
     (types : LineEndTypes) (cells : List Cell) (lines : Index) (place : ℕ) (bytes : List ℕ) → InsertionAddsFewLines → HasLinesOf types cells lines → place ≤ length cells → lines_for_insertion types bytes ≤ lines.room
     → line_count types (bytes_of (edited_cells (Insert place bytes) cells)) ≤ length lines.starts + lines.room
@@ -146,7 +146,7 @@ insertion_fits types cells lines place bytes few has p room =
 length-slice : (xs : List ℕ) (start count : ℕ) → start + count ≤ length xs → length (slice_range xs start (start + count)) ≡ count
 length-slice xs start count h = simp (length-take, length-drop) (omega arith)
 
--- cells of which a range was taken out are those after the deletion of its bytes
+-- cells from which a range was deleted are those after the deletion of its bytes
 pub deleted_cells : (cells new : List Cell) (place count : ℕ) → place + count ≤ length cells →
     new ≡ take place cells ++ drop (place + count) cells → new ≡ edited_cells (Delete place (slice_range (bytes_of cells) place (place + count))) cells
 deleted_cells cells new place count inside e =

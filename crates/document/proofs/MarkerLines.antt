@@ -1,4 +1,4 @@
--- From which line the markers with a handle went.
+-- The line that the markers with a handle left.
 use Rattle.std.proofs.Common.{◌≡◌, ◌≤◌, ℕ, zero, suc, ◌+◌, ◌-◌, ◌==◌, not, Bool, true, false, cond, if◌then◌else◌, List, [], ◌∷◌, ◌++◌, length, filter, Option, Some, None, refl, ap, sym, subst, ◌∙◌, arith, append_assoc, length-append}
 use Rattle.std.specs.List.{range_with_len, list_any}
 use Rattle.std.specs.Prelude.{find, ◌||◌}
@@ -78,7 +78,7 @@ module _ (handle : ℕ) where
       let here : has_handle handle (front ++ row ∷ rest) (length front) ≡ not (hits row.markers == 0) = ap (λ (r : Row). list_any is_it r.markers) (row_behind front row rest) ∙ any_is row.markers in
       rw here (step (hits row.markers) (length front) row rest (find (has_handle handle (front ++ row ∷ rest)) (range_with_len (length front + 1) (length rest))) refl later)
 
--- the first line with the handle is the one that the markers left, if some went
+-- the first line with the handle is the one that the markers left, if there were some
 pub first_is_left : (handle : ℕ) (rows new : List Row) → new ≡ without_markers (λ m. m.handle == handle) rows → first_from (has_handle handle rows) rows 0 ≡ line_it_left handle rows new
 first_is_left handle rows new is =
     let all : length rows - 0 ≡ length rows = omega arith in

@@ -14,7 +14,7 @@ counted false false x y xs ys e h = h
 counted true false x y xs ys e h = absurd (cc)
 counted false true x y xs ys e h = absurd (cc)
 
--- the higher numbers of a mask are those of its half, and one more
+-- the numbers of a mask above 0 are those of its half, each raised by one
 halved : (mask k j n : ℕ) → j ≡ suc k → length (filter (has_bit mask) (range_with_len j n)) ≡ length (filter (has_bit (mask / 2)) (range_with_len k n))
 halved mask k j zero e = refl
 halved mask k j (suc n) e =

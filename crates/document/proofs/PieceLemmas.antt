@@ -1,4 +1,4 @@
--- Bytes that are put in piece after piece: the text after each, and how many lines it has.
+-- Bytes that are inserted piece by piece: the text after each piece, and its number of lines.
 use Rattle.std.proofs.Common.{◌≡◌, ℕ, ◌+◌, ◌-◌, ◌≤◌, List, ◌++◌, length, take, drop, slice_range, ap, ◌∙◌, arith, append_assoc, length-append}
 use Rattle.std.proofs.lemmas.List.{take_at, drop_at, length-map, length-take-le, map-append}
 use Rattle.std.proofs.Math.Seq.{take-add}
@@ -14,13 +14,13 @@ use Rattle.document.proofs.LineSteps.{lines_of_index}
 
 -- The text after each piece.
 
--- the front of a list, and what comes next of it
+-- the front of a list, and the part behind it
 take_and_next : {X : Type 0} (xs : List X) (n m : ℕ) → n ≤ m → take m xs ≡ take n xs ++ slice_range xs n m
 take_and_next xs n m h =
     let apart : m ≡ n + (m - n) = omega arith in
     ap (λ k. take k xs) apart ∙ take-add n (m - n) xs
 
--- a piece behind those that are in
+-- a piece behind those that were inserted
 pub piece_behind :
     (cells now : List Cell) (place done end : ℕ) (bytes : List ℕ) → place ≤ length cells → done ≤ end → end ≤ length bytes → now ≡ edited_cells (Insert place (take done bytes)) cells
     → edited_cells (Insert (place + done) (slice_range bytes done end)) now ≡ edited_cells (Insert place (take end bytes)) cells
@@ -31,7 +31,7 @@ piece_behind cells now place done end bytes p d e is =
     rw (is, take_and_next bytes done end d, take_at front (drop place cells) (place + done) long, drop_at front (drop place cells) (place + done) long)
     (simp (map-append, append_assoc))
 
--- The lines that there are with the first bytes.
+-- The number of lines with the first bytes.
 
 pub lines_with_first :
     (types : LineEndTypes) (cells now : List Cell) (place n : ℕ) (bytes : List ℕ) → InsertionAddsFewLines → FirstBytesHaveFewLines → place ≤ length cells → n ≤ length bytes → now ≡ edited_cells (Insert place (take n bytes)) cells
@@ -40,7 +40,7 @@ lines_with_first types cells now place n bytes few first p l is =
     let text = ap (λ cs. line_count types (bytes_of cs)) is ∙ ap (line_count types) (bytes_of_edited_cells (Insert place (take n bytes)) cells) in
     omega (arith, text, few types place (take n bytes) (bytes_of cells) (omega (arith, length-map cells (λ (c : Cell). c.byte))), first types bytes n l)
 
--- so a piece's lines fit in where those of all bytes do
+-- so there is room for the lines of a piece if there is room for those of all bytes
 pub piece_fits :
     (types : LineEndTypes) (cells now : List Cell) (old lines : Index) (place done end : ℕ) (bytes : List ℕ) → InsertionAddsFewLines → FirstBytesHaveFewLines → HasLinesOf types cells old → place ≤ length cells → done ≤ end → end ≤ length bytes
     → now ≡ edited_cells (Insert place (take done bytes)) cells → lines.room + length lines.starts ≡ old.room + length old.starts → lines_for_insertion types bytes ≤ old.room

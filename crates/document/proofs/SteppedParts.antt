@@ -1,4 +1,4 @@
--- What a step makes of the parts of a document.
+-- The effect of a step on the parts of a document.
 use Rattle.std.proofs.Common.{◌≡◌, ◌≤◌, ◌<◌, ◌+◌, ◌^◌, ℕ, Bool, true, false, List, length, refl, sym, ap, ◌∙◌, arith}
 use Rattle.std.proofs.lemmas.List.{length-map}
 use Rattle.ed_model.specs.Text.{Cell, bytes_of}
@@ -22,7 +22,7 @@ small_bound false = omega arith
 pub length_of_bytes : (cells : List Cell) → length (bytes_of cells) ≡ length cells
 length_of_bytes cells = length-map cells (λ (c : Cell). c.byte)
 
--- what the rows are told
+-- the facts that the rows require
 pub told_rows :
     (step : Step) (cells : List Cell) (room options : ℕ) (lines : LinesOf) (rows : KeptRows) (indicators : IndicatorsOf) (change : LineChange) → ArePartsOf cells room options lines rows indicators
     → change ≡ change_of lines.index.types step (bytes_of cells) → end_of step ≤ length cells → lines_for_step lines.index.types step ≤ rows.room.lines

@@ -1,4 +1,4 @@
--- Cells whose styles change: their bytes stay, and so do the other parts of a document.
+-- Cells whose styles change: their bytes stay, and so do the other parts of the document.
 use Rattle.std.proofs.Common.{◌≡◌, ℕ, ◌==◌, not, Bool, false, List, [], ◌∷◌, length, filter, None, refl, ap, sym, subst, ◌∙◌, arith}
 use Rattle.std.specs.List.{range_with_len}
 use Rattle.std.specs.Prelude.{slice_index}

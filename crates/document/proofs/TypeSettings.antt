@@ -1,4 +1,4 @@
--- Other line ends that count: the rows go with the lines, and there is room for those that come.
+-- Another setting of line ends: the rows are carried with the lines, and there is room for the new ones.
 use Rattle.std.proofs.Common.{◌≡◌, ◌+◌, ℕ, List, length, refl, ap, sym, ◌∙◌, arith}
 use Rattle.ed_model.specs.declared.plan.LineEndTypes.{LineEndTypes}
 use Rattle.ed_model.specs.Text.{Cell, bytes_of}

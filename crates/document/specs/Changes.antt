@@ -1,4 +1,4 @@
--- Changes of a document that are no steps of its text: what they need, and what they answer.
+-- Changes of a document that are no steps of its text: their needs, and their results.
 use Rattle.std.specs.Prelude.{◌≡◌, ℕ, ◌+◌, ◌-◌, ◌++◌, ◌==◌, if◌then◌else◌, not, Bool, true, false, List, length, Option, Some, None}
 use Rattle.ed_model.specs.LinePlans.{numbers_in}
 use Rattle.ed_model.specs.Rows.{Row}
@@ -12,11 +12,11 @@ use Rattle.document.specs.Kept.{Kept, document_room}
 abbrev pub markers_changed : List Row → List Row → Bool
 markers_changed old new = not (marker_count old == marker_count new)
 
--- the line from which the markers with the handle went, if some did
+-- the line that the markers with the handle left, if there were some
 abbrev pub line_it_left : ℕ → List Row → List Row → Option ℕ
 line_it_left handle old new = if marker_count old == marker_count new then None else Some (line_with_handle handle 0 old)
 
--- cells can be styled: their styles are stored, or it is a document that keeps none
+-- cells can be styled: their styles are stored, or the document keeps none
 abbrev pub CanStyle : Kept → Type 0
 CanStyle k = keeps_no_styles k.document ≡ false → k.spare.styles ≡ true
 
@@ -28,7 +28,7 @@ container_need = document_room 0 0 0 1 0
 unfoldable pub numbers_of : ℕ → List ℕ
 numbers_of mask = numbers_in mask
 
--- rows with markers of these numbers behind those of the line, which took their room
+-- rows with markers of these numbers behind those of the line, for which room was used
 abbrev pub with_more_markers : ℕ → List ℕ → KeptRows → KeptRows
 with_more_markers line numbers rows =
     let room = rows.room in

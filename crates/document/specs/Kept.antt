@@ -3,8 +3,9 @@ use Rattle.std.specs.Prelude.{◌≡◌, ℕ, ◌+◌, ◌^◌, ◌≤◌, ◌<�
 use Rattle.ed_model.specs.Session.{Document, is_large}
 use Rattle.document.specs.declared.room.DocumentRoom.{DocumentRoom}
 
--- What changes of a document that are no steps of its text need: room for how many more views and markers; of how many lines, from
--- the first on, a level can be set, and of how many a state; which indicator can be filled; and whether styles are stored.
+-- The room for changes of a document that are no steps of its text: how many more views and markers fit in; for how
+-- many lines, from the first on, a level can be set, and for how many a state; which indicator can be filled; and
+-- whether styles are stored.
 pub record ChangeRoom : Type 0 where
   pub views : ℕ
   pub markers : ℕ
@@ -13,7 +14,7 @@ pub record ChangeRoom : Type 0 where
   pub fill : Option ℕ
   pub styles : Bool
 
--- the document, and what fits into it without more memory
+-- the document, and what fits into it without an allocation
 pub record Kept : Type 0 where
   pub document : Document
   pub room : DocumentRoom
@@ -28,7 +29,7 @@ document_room text lines insertions steps bytes = record { text = text; lines = 
 abbrev pub no_room : DocumentRoom
 no_room = document_room 0 0 0 0 0
 
--- an amount and another, or the greatest that can be asked for
+-- the sum of two amounts, or the greatest amount that can be requested
 abbrev pub amount_sum : ℕ → ℕ → ℕ
 amount_sum a b = min (a + b) (2 ^ 64 - 1)
 
@@ -37,25 +38,25 @@ room_sum a b =
     document_room (amount_sum a.text b.text) (amount_sum a.lines b.lines) (amount_sum a.insertions b.insertions) (amount_sum a.steps b.steps)
     (amount_sum a.bytes b.bytes)
 
--- what a need is for the text and what is kept of it, and for the history
+-- the part of a need for the text and what is kept of it, and the part for the history
 abbrev pub text_part : DocumentRoom → DocumentRoom
 text_part need = record need { steps = 0; bytes = 0 }
 
 abbrev pub history_part : DocumentRoom → DocumentRoom
 history_part need = record need { text = 0; lines = 0; insertions = 0 }
 
--- there is room for the text and what is kept of it
+-- there is room for that part of a need
 abbrev pub HasTextRoom : Kept → DocumentRoom → Type 0
 HasTextRoom k need = (need.text ≤ k.room.text) × (need.lines ≤ k.room.lines) × (need.insertions ≤ k.room.insertions)
 
--- and in the history; one that does not collect needs none
+-- there is room for the part for the history; a history that does not collect needs none
 abbrev pub HasHistoryRoom : Kept → DocumentRoom → Type 0
 HasHistoryRoom k need = k.document.history.collecting ≡ true → (need.steps ≤ k.room.steps) × (need.bytes ≤ k.room.bytes)
 
 abbrev pub HasRoom : Kept → DocumentRoom → Type 0
 HasRoom k need = HasTextRoom k need × HasHistoryRoom k need
 
--- from old to new no more room was taken than that
+-- from old to new, at most that much room was used
 pub record TakesRoom (old new need : DocumentRoom) : Type 0 where
   pub text_left : old.text ≤ new.text + need.text
   pub lines_left : old.lines ≤ new.lines + need.lines
@@ -63,11 +64,11 @@ pub record TakesRoom (old new need : DocumentRoom) : Type 0 where
   pub steps_left : old.steps ≤ new.steps + need.steps
   pub bytes_left : old.bytes ≤ new.bytes + need.bytes
 
--- a room, and that of so many bytes that went out of the text
+-- the room with so many deleted bytes of text added
 abbrev pub with_freed : ℕ → DocumentRoom → DocumentRoom
 with_freed bytes room = record room { text = room.text + bytes }
 
--- no amount is more than the greater of what there was and what was asked for
+-- no amount is above the greater of the old and the requested one
 pub record IsAtMost (new old need : DocumentRoom) : Type 0 where
   pub text : new.text ≤ max old.text need.text
   pub lines : new.lines ≤ max old.lines need.lines
@@ -75,7 +76,7 @@ pub record IsAtMost (new old need : DocumentRoom) : Type 0 where
   pub steps : new.steps ≤ max old.steps need.steps
   pub bytes : new.bytes ≤ max old.bytes need.bytes
 
--- all texts of a document of the width are shorter than that, in bytes
+-- each text of a document of this width is shorter than that, in bytes
 abbrev pub bound_of : Bool → ℕ
 bound_of true = 2 ^ 61
 bound_of false = 2 ^ 32

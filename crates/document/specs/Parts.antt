@@ -1,4 +1,4 @@
--- How a document is kept, in parts.
+-- The parts of a document.
 use Rattle.std.specs.Prelude.{◌≡◌, ℕ, ◌+◌, ◌-◌, ◌^◌, ◌<◌, ◌≤◌, List, length, None, vec_len, vec_capacity}
 use Rattle.ed_model.specs.Numbers.{meets}
 use Rattle.ed_model.specs.Text.{Cell, bytes_of}
@@ -69,7 +69,7 @@ pub record ArePartsOf (cells : List Cell) (room options : ℕ) (lines : LinesOf)
 abbrev pub AreParts : Inside → Type 0
 AreParts d = ArePartsOf d.cells.cells d.cells.room d.options d.lines d.rows d.indicators
 
--- What a step did to the lines of a text, for rows that there are of them, with room for those that come.
+-- The effect of a step on the lines of a text, if these are the rows, with room for the new ones.
 pub record IsChange (rows : KeptRows) (change : LineChange) (types : LineEndTypes) (step : Step) (text : List ℕ) : Type 0 where
   pub is : change ≡ change_of types step text
   pub within : end_of step ≤ length text
@@ -77,15 +77,15 @@ pub record IsChange (rows : KeptRows) (change : LineChange) (types : LineEndType
   pub has_room : lines_for_step types step ≤ rows.room.lines
   pub few : length text + lines_for_step types step < 2 ^ 62
 
--- some step of some text did it
+-- it is the effect of some step of some text
 pub record WasChanged (rows : KeptRows) (change : LineChange) : Type 0 where
   pub types : LineEndTypes
   pub step : Step
   pub text : List ℕ
   pub is : IsChange rows change types step text
 
--- The rows are those after the step. So much of the room for lines was taken at most, and no less than lines came; none was made.
--- Markers that go leave their room, and no more; that of levels and states stays.
+-- The rows are those after the step. At most the needed room for lines was used, and at least as many as new lines; none
+-- was added. Markers that were removed became room again, and nothing else did; the room for levels and states stays.
 pub record AreCarried (old new : KeptRows) (types : LineEndTypes) (step : Step) (text : List ℕ) : Type 0 where
   pub rows : new.rows ≡ carried_by rows_together types step text old.rows
   pub row_count : length new.rows ≡ line_count types (edited step text)
@@ -98,7 +98,7 @@ pub record AreCarried (old new : KeptRows) (types : LineEndTypes) (step : Step) 
   pub markers : old.room.markers ≤ new.room.markers
   pub markers_in_all : new.room.markers + marker_count new.rows ≡ old.room.markers + marker_count old.rows
 
--- the index has the lines of these cells' bytes, which line ends of these types end; no public clause cites this
+-- the index has the lines of these cells' bytes, by the line ends of these types; no public contract cites this
 pub record HasLinesOf (types : LineEndTypes) (cells : List Cell) (lines : Index) : Type 0 where
   pub types_are : lines.types ≡ types
   pub index : IsIndexOf (bytes_of cells) lines
@@ -114,11 +114,11 @@ pub record TextParts : Type 0 where
 abbrev pub text_parts : List Cell → ℕ → LinesOf → KeptRows → IndicatorsOf → TextParts
 text_parts cells room lines rows indicators = record { cells = cells; room = room; lines = lines; rows = rows; indicators = indicators }
 
--- they are those of a document with these options
+-- these are the parts of a document with these options
 abbrev pub AreTogether : ℕ → TextParts → Type 0
 AreTogether options p = ArePartsOf p.cells p.room options p.lines p.rows p.indicators
 
--- they are those of some document
+-- these are the parts of some document
 pub record AreOfOne (p : TextParts) : Type 0 where
   pub options : ℕ
   pub are : AreTogether options p
@@ -129,8 +129,8 @@ pub record CanTake (p : TextParts) (need : DocumentRoom) : Type 0 where
   pub lines : need.lines ≤ p.rows.room.lines
   pub insertions : need.insertions ≤ p.indicators.decorated.room
 
--- The parts after the step, for which no more room was taken than it needs. What goes out of the text leaves its room, and no other is
--- made; that for a fill is gone.
+-- The parts after the step, which used at most the room that it needs. Deleted bytes become room again, and nothing
+-- else does; the room for a fill is gone.
 pub record AreStepped (old new : TextParts) (step : Step) (need : DocumentRoom) : Type 0 where
   pub together : (options : ℕ) → AreTogether options old → AreTogether options new
   pub cells : new.cells ≡ edited_cells step old.cells

@@ -12,7 +12,7 @@ pub record LinesOf : Type 0 where
   pub index : Index
   pub is_large : Bool
 
--- the indicators, and the same of their places
+-- the indicators, and likewise whether their places are those of a large text
 pub record IndicatorsOf : Type 0 where
   pub decorated : Decorated
   pub is_large : Bool

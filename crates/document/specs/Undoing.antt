@@ -1,4 +1,4 @@
--- What undo and redo perform, and what each of their changes needs.
+-- The changes that undo and redo perform, and what each of them needs.
 use Rattle.std.specs.Prelude.{◌≡◌, ℕ, if◌then◌else◌, not, Bool, List, [], length, Option, Some, None}
 use Rattle.ed_model.specs.declared.plan.LineEndTypes.{LineEndTypes}
 use Rattle.ed_model.specs.Steps as model
@@ -25,26 +25,26 @@ abbrev pub history_behind : Direction → History → History
 history_behind Undo h = undone h
 history_behind Redo h = redone h
 
--- whether one of the two is so, and the other not
+-- whether exactly one of the two holds
 abbrev pub is_other : Bool → Bool → Bool
 is_other was is = if was then not is else is
 
--- whether the save point is reached or left by it
+-- whether it reaches or leaves the save point
 abbrev pub save_point_told : Direction → History → Bool
 save_point_told direction h = is_other (at_save_point h) (at_save_point (history_behind direction h))
 
--- a change, its bytes told by their number
+-- a change with the number of its bytes only
 abbrev pub outline_of : Change → ChangeOutline
 outline_of (TextStep (model.Insert place bytes)) = Insert place (length bytes)
 outline_of (TextStep (model.Delete place bytes)) = Delete place (length bytes)
 outline_of (ContainerStep token coalesce) = Container token
 
--- the bytes that it puts in or takes out
+-- the bytes that it inserts or deletes
 abbrev pub bytes_in : Change → List ℕ
 bytes_in (TextStep step) = model.step_bytes step
 bytes_in (ContainerStep token coalesce) = []
 
--- the room that a step needs, without one in the history
+-- the room that a step needs, none of it in the history
 abbrev pub room_of_step : LineEndTypes → model.Step → DocumentRoom
 room_of_step types (model.Insert place bytes) = document_room (length bytes) (lines_for_insertion types bytes) 1 0 0
 room_of_step types (model.Delete place bytes) = document_room 0 lines_for_deletion 0 0 0
@@ -58,7 +58,8 @@ abbrev pub CanMake : Kept → Change → Type 0
 CanMake k (TextStep step) = Fits step (text_of k.document) × HasTextRoom k (room_of_step k.document.line_end_types step)
 CanMake k (ContainerStep token coalesce) = ⊥
 
--- the step lends the bytes that the change puts in, and tells those that it takes out by their number; none is a container's
+-- the step lends the bytes that the change inserts, or has the number of those that it deletes; a container's change
+-- has no such step
 abbrev pub IsLentOf : Option Lent → Change → Type 0
 IsLentOf (Some (lent.Insert place bytes)) (TextStep (model.Insert p bs)) = (place ≡ p) × (bytes.now ≡ bs)
 IsLentOf (Some (lent.Insert place bytes)) (TextStep (model.Delete p bs)) = ⊥

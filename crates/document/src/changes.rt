@@ -1,4 +1,4 @@
-//! Changes of a document that need no memory, and its views.
+//! Changes of a document that allocate nothing, and its list of views.
 
 ghost use Rattle.std.specs.Prelude.{◌≡◌, ◌≤◌, ◌<◌, ◌+◌, ◌-◌, ◌^◌, ◌∷◌, ◌++◌, [], length, min, OnOk, OnErr, IsOk, max, vec_len, vec_capacity};
 ghost use Rattle.ed_model.specs.History.{sealed_outside_groups, saved, group_begun, group_ended, emptied, collecting_set};
@@ -9,42 +9,42 @@ use ed_model::LineEnd;
 use std::alloc::AllocError;
 
 impl Document {
-    /// Lets callers change its text, or not.
+    /// Sets whether callers may change the text (`SCI_SETREADONLY`).
     pub fn set_read_only(&mut self, on: bool)
         ensures { self.new ≡ record self.old { document = record self.old.document { read_only = on } } }
     {
         self.is_read_only = on;
     }
 
-    /// Sets the line end that typing makes.
+    /// Sets the line end that typing inserts (`SCI_SETEOLMODE`).
     pub fn set_line_end(&mut self, line_end: LineEnd)
         ensures { self.new ≡ record self.old { document = record self.old.document { line_end = line_end } } }
     {
         self.line_end = line_end;
     }
 
-    /// Sets up to which place it is styled.
+    /// Sets the place up to which the document is styled, in bytes from 0 (`SCI_STARTSTYLING`).
     pub fn set_end_styled(&mut self, place: usize)
         ensures { self.new ≡ record self.old { document = record self.old.document { end_styled = place } } }
     {
         self.end_styled = place;
     }
 
-    /// Outside groups, seals the last transaction: nothing is added to it any more.
+    /// Seals the last transaction unless a group is open: no step joins it any more.
     pub fn seal_outside_groups(&mut self)
         ensures { self.new ≡ record self.old { document = record self.old.document { history = sealed_outside_groups self.old.document.history } } }
     {
         self.history.seal_outside_groups();
     }
 
-    /// Makes this the save point: the document counts as unmodified here.
+    /// Makes this state the save point: the document counts as unmodified here (`SCI_SETSAVEPOINT`).
     pub fn set_save_point(&mut self)
         ensures { self.new ≡ record self.old { document = record self.old.document { history = saved self.old.document.history } } }
     {
         self.history.set_save_point();
     }
 
-    /// Opens a group: its steps are one transaction, with no step before it.
+    /// Opens a group (`SCI_BEGINUNDOACTION`). Its steps are one transaction, which no earlier step belongs to.
     pub fn begin_group(&mut self)
         requires { self.old.document.history.depth + 1 < 2 ^ 64 }
         ensures { self.new ≡ record self.old { document = record self.old.document { history = group_begun self.old.document.history } } }
@@ -52,28 +52,29 @@ impl Document {
         self.history.begin_group();
     }
 
-    /// Closes a group, if one is open.
+    /// Closes the innermost group, if one is open (`SCI_ENDUNDOACTION`).
     pub fn end_group(&mut self)
         ensures { self.new ≡ record self.old { document = record self.old.document { history = group_ended self.old.document.history } } }
     {
         self.history.end_group();
     }
 
-    /// Forgets all steps. This is the save point, and no group is open.
+    /// Forgets all steps (`SCI_EMPTYUNDOBUFFER`). This state becomes the save point, and no group is open.
     pub fn forget_history(&mut self)
         ensures { self.new ≡ record self.old { document = record self.old.document { history = emptied self.old.document.history } } }
     {
         self.history.empty();
     }
 
-    /// Collects steps from now on, or no more: then all are forgotten, but whether the document counts as modified.
+    /// Turns the collection of steps on or off (`SCI_SETUNDOCOLLECTION`). When it is off, the document forgets all
+    /// steps, but not whether it counts as modified.
     pub fn set_collecting(&mut self, on: bool)
         ensures { self.new ≡ record self.old { document = record self.old.document { history = collecting_set on self.old.document.history } } }
     {
         self.history.set_collecting(on);
     }
 
-    /// Gives callers a reference more.
+    /// Adds a reference that a caller holds (`SCI_ADDREFDOCUMENT`).
     pub fn hold(&mut self)
         requires { self.old.document.held_by_callers + 1 < 2 ^ 32 }
         ensures { self.new ≡ record self.old { document = record self.old.document { held_by_callers = self.old.document.held_by_callers + 1 } } }
@@ -81,18 +82,18 @@ impl Document {
         self.held_by_callers += 1;
     }
 
-    /// Takes a reference of a caller away, if there is one.
+    /// Releases a reference that a caller holds, if there is one (`SCI_RELEASEDOCUMENT`).
     pub fn release(&mut self)
         ensures { self.new ≡ record self.old { document = record self.old.document { held_by_callers = self.old.document.held_by_callers - 1 } } }
     {
         self.held_by_callers = self.held_by_callers.saturating_sub(1);
     }
 
-    /// Makes room for one more view. Where there is none, it becomes room for as many as are attached, or for one.
+    /// Makes room for one more view. If there is none, it becomes room for as many as are attached, or for one.
     ///
     /// # Errors
     ///
-    /// `AllocError` where memory is refused; the document is then as it was.
+    /// `AllocError` if the allocation fails. The document is then unchanged.
     pub fn reserve_view(&mut self) -> Result<(), AllocError>
         ensures ok { OnOk result (0 < self.new.spare.views) }
         ensures same { self.new ≡ record self.old { spare = record self.old.spare { views = self.new.spare.views } } }
@@ -117,7 +118,7 @@ impl Document {
         self.views.push_reserved(view);
     }
 
-    /// Lets a view go, if it is attached. Its room comes back.
+    /// Detaches a view, if it is attached. Its place becomes room again.
     pub fn detach(&mut self, view: u32)
         ensures document { self.new.document ≡ left_by view self.old.document }
         ensures room { self.new.room ≡ self.old.room }
@@ -129,7 +130,7 @@ impl Document {
     }
 }
 
-// Takes every copy of the view out of the list.
+// Removes every copy of the view from the list.
 fn leave(views: &mut Vec<u32>, view: u32)
     ensures items { views.new.items ≡ without view views.old.items }
     ensures room_stays { vec_capacity views.old - vec_len views.old ≤ vec_capacity views.new - vec_len views.new }

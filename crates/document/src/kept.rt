@@ -15,7 +15,8 @@ use std::alloc::{AllocError, Global};
 use std::marker::Model;
 use undo_history::UndoHistory;
 
-/// A document. Its text is changed in single steps, for which room is made before.
+/// A document: its text with styles, its lines with their rows, its indicators, its undo history, and the views
+/// attached to it. The text changes in single steps, for which room is reserved before.
 #[derive(Drop)]
 pub struct Document {
     pub(crate) id: u32,
@@ -44,19 +45,19 @@ impl Model for Document {
     ghost invariant = { AreParts };
 }
 
-/// The option of a document for large texts, `SC_DOCUMENTOPTION_TEXT_LARGE`.
+/// The option for large texts: `SC_DOCUMENTOPTION_TEXT_LARGE` of Scintilla.
 const TEXT_LARGE: u32 = 0x100;
 
 impl Document {
     ghost use Rattle.std.specs.Borrow.{sem};
     ghost use Rattle.document.specs.Lends.{lent_and_back};
 
-    /// A document without text, to which no view is attached, and which no caller holds. With the option
-    /// `SC_DOCUMENTOPTION_TEXT_LARGE` its places are kept as 64 bits, else as 32.
+    /// Returns a document without text, to which no view is attached, and which no caller holds. With the option
+    /// `SC_DOCUMENTOPTION_TEXT_LARGE` it stores places in 64 bits, and otherwise in 32.
     ///
     /// # Errors
     ///
-    /// `AllocError` where the memory for its one line is refused.
+    /// `AllocError` if an allocation fails: the document stores the start of its one line.
     pub fn new(alloc: Global, id: u32, options: u32) -> Result<Self, AllocError>
         ensures document { IfOk result (λ k. k.document ≡ new_document id options) }
         ensures room { IfOk result (λ k. k.room ≡ no_room) }
@@ -80,35 +81,35 @@ impl Document {
         })
     }
 
-    /// Its id in the session.
+    /// Returns the document's id in the session.
     pub fn id(&self) -> u32
         ensures { result ≡ self.now.document.id }
     {
         self.id
     }
 
-    /// Its options, bit by bit.
+    /// Returns the options with which the document was made, as bits (`SCI_GETDOCUMENTOPTIONS`).
     pub fn options(&self) -> u32
         ensures { result ≡ self.now.document.options }
     {
         self.options
     }
 
-    /// Whether it keeps places for a large text.
+    /// Returns whether the document stores places for large texts, in 64 bits.
     pub fn is_large(&self) -> bool
         ensures { result ≡ is_large self.now.document }
     {
         self.options & TEXT_LARGE != 0
     }
 
-    /// What the length of each of its texts is below, by the width of its places.
+    /// Returns a bound: each text of the document is shorter, in bytes. It depends on the width of places.
     pub fn bound(&self) -> usize
         ensures { result ≡ bound_of (is_large self.now.document) }
     {
         if self.is_large() { 1 << 61 } else { 1 << 32 }
     }
 
-    /// The length of its text, in bytes.
+    /// Returns the length of the text in bytes.
     pub fn len(&self) -> usize
         ensures len { result ≡ length self.now.document.cells }
         ensures within { FitsWidth self.now.document (length self.now.document.cells + self.now.room.text) }
@@ -117,7 +118,7 @@ impl Document {
         self.cells.len()
     }
 
-    /// The byte at a place.
+    /// Returns the byte at `place`.
     pub fn byte(&self, place: usize) -> u8
         requires { place < length self.now.document.cells }
         ensures { slice_get (text_of self.now.document) place ≡ Some result }
@@ -125,7 +126,7 @@ impl Document {
         self.cells.byte(place)
     }
 
-    /// The style of the byte at a place.
+    /// Returns the style of the byte at `place`.
     pub fn style(&self, place: usize) -> u8
         requires { place < length self.now.document.cells }
         ensures { slice_get (styles_of self.now.document.cells) place ≡ Some result }
@@ -133,18 +134,18 @@ impl Document {
         self.cells.style(place)
     }
 
-    /// Its text in two parts, the second behind the first.
+    /// Returns the text in two parts, the second behind the first.
     pub fn halves(&self) -> (&[u8], &[u8])
         ensures { result.0.now ++ result.1.now ≡ text_of self.now.document }
     {
         self.cells.halves()
     }
 
-    /// Appends the `count` bytes from `start` on to `target`, which gives no room back.
+    /// Appends the `count` bytes from `start` on to `target`. Its capacity never falls.
     ///
     /// # Errors
     ///
-    /// `AllocError` where memory is refused; `target` has then the same bytes.
+    /// `AllocError` if the allocation fails. `target` has the same bytes then.
     pub fn append_text_to(
         &self,
         start: usize,
@@ -160,11 +161,12 @@ impl Document {
         self.cells.append_text_to(start, count, target)
     }
 
-    /// The `count` bytes from `start` on, in memory of their own, which has room for `spare` bytes more. Of no bytes none is taken.
+    /// Returns the `count` bytes from `start` on in a new `Vec` with room for `spare` more bytes. Allocates nothing if
+    /// `count` is 0.
     ///
     /// # Errors
     ///
-    /// `AllocError` where memory is refused, as it is where both are more than a `usize` holds.
+    /// `AllocError` if the allocation fails, which it does if `count + spare` exceeds a `usize`.
     pub fn text_to_vec(
         &self,
         alloc: Global,
@@ -180,7 +182,7 @@ impl Document {
         self.cells.text_to_vec(alloc, start, count, spare)
     }
 
-    /// Lends the `count` bytes from `start` on as one slice, which is not copied. The document stays as it is.
+    /// Lends the `count` bytes from `start` on as one slice, without a copy. The document does not change.
     pub fn lend(&mut self, start: usize, count: usize) -> &[u8]
         requires { start + count ≤ length self.old.document.cells }
         ensures* back { sem 𝓛 (lent_and_back self.entry) }
@@ -189,35 +191,35 @@ impl Document {
         self.cells.lend(start, count)
     }
 
-    /// Up to which place it is styled.
+    /// Returns the place up to which the document is styled, in bytes from 0 (`SCI_GETENDSTYLED`).
     pub fn end_styled(&self) -> usize
         ensures { result ≡ self.now.document.end_styled }
     {
         self.end_styled
     }
 
-    /// Whether callers may not change its text.
+    /// Returns whether callers may not change the text (`SCI_GETREADONLY`).
     pub fn is_read_only(&self) -> bool
         ensures { result ≡ self.now.document.read_only }
     {
         self.is_read_only
     }
 
-    /// The line end that typing makes.
+    /// Returns the line end that typing inserts (`SCI_GETEOLMODE`).
     pub fn typed_line_end(&self) -> LineEnd
         ensures { result ≡ self.now.document.line_end }
     {
         self.line_end
     }
 
-    /// Which line ends count.
+    /// Returns which line ends count (`SCI_GETLINEENDTYPESACTIVE`).
     pub fn line_end_types(&self) -> LineEndTypes
         ensures { result ≡ self.now.document.line_end_types }
     {
         self.lines.types()
     }
 
-    /// Where its lines start.
+    /// Lends the starts of the lines.
     pub fn lines(&self) -> &Lines
         ensures index { IsIndexOf (text_of self.now.document) result.now.index }
         ensures types { result.now.index.types ≡ self.now.document.line_end_types }
@@ -225,7 +227,7 @@ impl Document {
         &self.lines
     }
 
-    /// The rows of its lines: markers, fold levels and line states.
+    /// Lends the rows of the lines: markers, fold levels and line states.
     pub fn rows(&self) -> &LineRows
         ensures rows { result.now.rows ≡ self.now.document.rows }
         ensures next_handle { result.now.next_handle ≡ self.now.document.next_handle }
@@ -234,7 +236,7 @@ impl Document {
         &self.rows
     }
 
-    /// Its indicators.
+    /// Lends the indicators.
     pub fn indicators(&self) -> &Indicators
         ensures values { result.now.decorated.values ≡ self.now.document.indicators }
         ensures length { result.now.decorated.length ≡ length self.now.document.cells }
@@ -242,28 +244,28 @@ impl Document {
         &self.indicators
     }
 
-    /// Its undo history.
+    /// Lends the undo history.
     pub fn history(&self) -> &UndoHistory
         ensures { result.now.history ≡ self.now.document.history }
     {
         &self.history
     }
 
-    /// The views attached to it, in the order of attaching.
+    /// Returns the ids of the attached views, in the order of attaching.
     pub fn views(&self) -> &[u32]
         ensures { result.now ≡ self.now.document.views }
     {
         &self.views
     }
 
-    /// How many references callers hold.
+    /// Returns how many references callers hold.
     pub fn held_by_callers(&self) -> u32
         ensures { result ≡ self.now.document.held_by_callers }
     {
         self.held_by_callers
     }
 
-    /// Whether a view is attached, or a caller holds it.
+    /// Returns whether a view is attached or a caller holds a reference.
     pub fn has_references(&self) -> bool
         ensures { result ≡ nat_lt 0 (references self.now.document) }
     {

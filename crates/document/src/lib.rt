@@ -1,8 +1,8 @@
-//! A document under a step: all that the model's `Document` has, in one value that a step changes whole.
+//! A document under a step: everything that the model's `Document` has, in one value that a step changes as a whole.
 //!
-//! A step of the text carries everything: the cells, where lines start, the rows of lines, the indicators, and how far it is
-//! styled. Appending the step to the history is another call, so that undo and redo make steps too. All memory is taken
-//! before, by `reserve`; what follows cannot fail.
+//! A step of the text changes everything: the cells, the line starts, the rows of lines, the indicators, and the place
+//! up to which the document is styled. Another call appends the step to the history, so that undo and redo make steps,
+//! too. `reserve` allocates all memory before; the calls after it cannot fail.
 #![tactic(auto)]
 
 mod changes;

@@ -1,4 +1,4 @@
-//! Lines of a document. They are counted from 0.
+//! Look-ups of a document's lines, which are counted from 0.
 
 ghost use Rattle.std.specs.Prelude.{◌≡◌, ◌≤◌, ◌<◌, ◌+◌, ◌^◌, length};
 ghost use Rattle.ed_model.specs.Lines.{line_starts, line_of, start_of_line, start_after_line, end_of_line};
@@ -8,7 +8,7 @@ use crate::kept::Document;
 use partitioning::Probes;
 
 impl Document {
-    /// The number of its lines.
+    /// Returns the number of lines, which is at least 1 (`SCI_GETLINECOUNT`).
     pub fn line_count(&self) -> usize
         ensures count { result ≡ lines_in self.now.document }
         ensures some { 0 < result }
@@ -18,7 +18,7 @@ impl Document {
         self.lines.count()
     }
 
-    /// Where a line starts.
+    /// Returns where a line starts, in bytes from 0 (`SCI_POSITIONFROMLINE`).
     pub fn line_start(&self, line: usize) -> usize
         requires { line < lines_in self.now.document }
         ensures start { result ≡ start_of_line self.now.document.line_end_types (text_of self.now.document) line }
@@ -28,7 +28,7 @@ impl Document {
         self.lines.start(line)
     }
 
-    /// Where the line behind a line starts, or the length of the text where there is none.
+    /// Returns where the line behind a line starts, or the length of the text if there is none.
     pub fn line_past(&self, line: usize) -> usize
         ensures past { result ≡ start_after_line self.now.document.line_end_types (text_of self.now.document) line }
         ensures within { result ≤ length self.now.document.cells }
@@ -40,7 +40,8 @@ impl Document {
         self.lines.length()
     }
 
-    /// Where the end of a line begins, or the length of the text for the last line and all behind it.
+    /// Returns where the line end of a line begins (`SCI_GETLINEENDPOSITION`). For the last line and all lines behind
+    /// it, this is the length of the text.
     pub fn line_end(&self, line: usize) -> usize
         ensures end { result ≡ end_of_line self.now.document.line_end_types (text_of self.now.document) line }
         ensures within { result ≤ length self.now.document.cells }
@@ -53,7 +54,8 @@ impl Document {
         self.lines.length()
     }
 
-    /// The line that holds a place: the last that starts there or before it, and the last of all for a place past the end.
+    /// Returns the line that holds `place` (`SCI_LINEFROMPOSITION`): the last one that starts at `place` or before it.
+    /// For a place past the end this is the last of all.
     pub fn line_of(&self, place: usize) -> usize
         ensures line { result ≡ line_of (line_starts self.now.document.line_end_types (text_of self.now.document)) place }
         ensures within { result < lines_in self.now.document }

@@ -1,4 +1,4 @@
-//! A step made on the parts of a document that it changes: the text, its lines, their rows and the indicators.
+//! A step on those parts of a document that it changes: the text, its lines, their rows and the indicators.
 
 ghost use Rattle.std.specs.Prelude.{◌≡◌, ◌≤◌, ◌+◌, length, slice_range};
 ghost use Rattle.ed_model.specs.Text.{bytes_of};
@@ -16,7 +16,7 @@ use cell_buffer::Cells;
 use line_index::LineChange;
 use line_rows::LineRows;
 
-// Puts bytes in. It goes into its caller, and so does `delete`, so that what became of the lines is written once.
+// Inserts bytes. Inlined into its caller, like `delete`, so that the `LineChange` is written once.
 #[inline(always)]
 fn insert(
     cells: &mut Cells,
@@ -40,7 +40,7 @@ fn insert(
     change
 }
 
-// Takes bytes out.
+// Deletes bytes.
 #[inline(always)]
 fn delete(
     cells: &mut Cells,
@@ -64,8 +64,8 @@ fn delete(
     change
 }
 
-/// Makes a step, and returns what became of the lines. There must be room for it. It goes into its callers, so that neither
-/// the step nor what became of the lines is copied once more.
+/// Makes a step, and returns its effect on the lines. There must be room for it. Inlined into its callers, so that
+/// neither the step nor the `LineChange` is copied.
 #[inline(always)]
 pub(crate) fn make_step(
     cells: &mut Cells,

@@ -1,4 +1,4 @@
-//! Bytes that are put into a text, and their lines into its index, piece after piece.
+//! Insertion of bytes into a text and of their lines into its index, piece by piece.
 
 ghost use Rattle.std.specs.Prelude.{◌≡◌, ℕ, List, slice_range, ◌≤◌, ◌<◌, ◌+◌, length};
 ghost use Rattle.ed_model.specs.Text.{bytes_of};
@@ -17,12 +17,11 @@ use ed_model::{rows_match_lines, rows_that_meet};
 use line_index::{LineChange, edits_of_steps, near_step, room_for_steps};
 use line_rows::LineRows;
 
-// How many bytes are put in at once: so few that they are still in the processor's cache when their line ends are looked
-// for.
+// How many bytes are inserted at once: few enough to be in the processor's cache still when they are searched for line ends.
 const PIECE: usize = 1 << 16;
 
-// Puts a piece in, and returns what became of the lines. There must be room for its bytes and for the lines that there are
-// with it.
+// Inserts a piece, and returns its effect on the lines. There must be room for its bytes, and for as many lines as it
+// may add.
 #[inline(always)]
 fn put_piece(cells: &mut Cells, lines: &mut Lines, place: usize, bytes: &[u8]) -> LineChange
     requires place { place ≤ length cells.old.cells }
@@ -46,7 +45,7 @@ fn put_piece(cells: &mut Cells, lines: &mut Lines, place: usize, bytes: &[u8]) -
     lines.inserted(place, bytes.len(), near_before, near_after)
 }
 
-// The same of more bytes, a piece at a time. It stands apart, since mostly few bytes come at once.
+// Inserts more than one piece. Out of line, since most insertions are short.
 #[inline(never)]
 fn put_pieces(cells: &mut Cells, lines: &mut Lines, place: usize, bytes: &[u8]) -> LineChange
     requires place { place ≤ length cells.old.cells }
@@ -75,8 +74,8 @@ fn put_pieces(cells: &mut Cells, lines: &mut Lines, place: usize, bytes: &[u8]) 
     lines.change_since(about, place + bytes.len())
 }
 
-/// Puts bytes in at a place, and returns what became of the lines by all of them. There must be room for them and for the
-/// lines that they need.
+/// Inserts bytes at `place`, and returns the effect of all of them on the lines. There must be room for them and for
+/// the lines that they may add.
 #[inline(always)]
 pub(crate) fn put_in(cells: &mut Cells, lines: &mut Lines, place: usize, bytes: &[u8]) -> LineChange
     requires place { place ≤ length cells.old.cells }
@@ -98,13 +97,13 @@ pub(crate) fn put_in(cells: &mut Cells, lines: &mut Lines, place: usize, bytes: 
     if bytes.len() <= PIECE {
         return put_piece(cells, lines, place, bytes);
     }
-    // named, so that what the lines are mostly told needs no place in memory
+    // Bound to a local, so that the usual `LineChange` stays in registers.
     let change = put_pieces(cells, lines, place, bytes);
     change
 }
 
-/// Takes `count` bytes out from a place on, and returns what became of the lines. There must be room for the lines that a
-/// deletion needs.
+/// Deletes `count` bytes from `place` on, and returns the effect on the lines. There must be room for the lines that a
+/// deletion may add.
 #[inline(always)]
 pub(crate) fn take_out(
     cells: &mut Cells,
@@ -133,8 +132,8 @@ pub(crate) fn take_out(
     lines.deleted(place, count, near_before, near_after)
 }
 
-// Carries rows by what a step did to lines, where it did not leave them. It stands apart, since mostly a step leaves them,
-// and takes a copy, so that such a step needs no place in memory for what became of the lines.
+// Carries rows through a step that changed the lines. Out of line, since most steps do not. It takes a copy of the
+// `LineChange`, so that other steps keep theirs in registers.
 #[inline(never)]
 fn carry_by_edits(rows: &mut LineRows, change: LineChange)
     requires was { WasChanged rows.old change }
@@ -147,7 +146,7 @@ fn carry_by_edits(rows: &mut LineRows, change: LineChange)
     rows.carry(change.edits().as_slice());
 }
 
-/// Carries rows by what a step did to lines. There must be room for the lines that come.
+/// Carries rows through a step, by its effect on the lines. There must be room for the new lines.
 #[inline(always)]
 pub(crate) fn carry_rows(rows: &mut LineRows, change: &LineChange)
     requires was { WasChanged rows.old change.now }

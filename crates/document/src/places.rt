@@ -1,4 +1,4 @@
-//! Line starts and indicators of a text whose places are kept as 32 bits, or as 64 where the text may be large.
+//! Line starts and indicators of a text whose places are stored in 32 bits, or in 64 if the text may be large.
 
 ghost use Rattle.std.specs.Prelude.{◌≡◌, pos, ℕ, List, take, drop, ◌<◌, ◌≤◌, ◌+◌, ◌^◌, ◌++◌, [], length, max, replicate, slice_index, slice_set, IfOk, OnOk, OnErr, IsOk, Some, None, ◌*◌, vec_len, vec_capacity};
 ghost use Rattle.ed_model.specs.Lines.{line_count, line_of, end_of_line};
@@ -42,11 +42,12 @@ impl Model for Lines {
 }
 
 impl Lines {
-    /// The line starts of the empty text, which has one line that CR LF, CR and LF end, as a large text keeps them or not.
+    /// Returns the line starts of the empty text, which has one line. CR LF, CR and LF end lines. `is_large` selects
+    /// places of 64 bits.
     ///
     /// # Errors
     ///
-    /// `AllocError` where the memory for the start is refused.
+    /// `AllocError` if the allocation fails.
     pub(crate) fn new(alloc: Global, is_large: bool) -> Result<Self, AllocError>
         ensures index { IfOk result (λ l. (l.index.types ≡ LineEndTypes.Default) × IsIndexOf [] l.index) }
         ensures width { IfOk result (λ l. l.is_large ≡ is_large) }
@@ -91,7 +92,7 @@ impl Lines {
         }
     }
 
-    /// Returns where the line starts.
+    /// Returns where the line starts, in bytes from 0. Lines are counted from 0.
     pub fn start(&self, line: usize) -> usize
         requires { line < length self.now.index.starts }
         ensures start { result ≡ slice_index self.now.index.starts line }
@@ -103,8 +104,8 @@ impl Lines {
         }
     }
 
-    /// Returns where the end of the line begins, or for the last line the end of the text. `before` and `after` are the
-    /// halves of the text, of which at most two bytes are read.
+    /// Returns where the line end of `line` begins, in bytes from 0, or for the last line the end of the text. `before`
+    /// and `after` are the halves of the text. At most two of their bytes are read.
     pub fn end(&self, line: usize, before: &[u8], after: &[u8]) -> usize
         requires line { line < length self.now.index.starts }
         requires text { IsIndexOf (before.now ++ after.now) self.now.index }
@@ -116,8 +117,8 @@ impl Lines {
         }
     }
 
-    /// Returns the line that holds the place: the last that starts there or before it, and the last of all for a place
-    /// past the end. Each start that it reads is counted in `probes`.
+    /// Returns the line that holds `place`: the last one that starts at `place` or before it. For a place past the end
+    /// this is the last of all. Counts each start that it reads in `probes`.
     pub fn line_of(&self, place: usize, probes: &mut Probes) -> usize
         ensures line { result ≡ line_of self.now.index.starts place }
         ensures within { result < length self.now.index.starts }
@@ -132,7 +133,7 @@ impl Lines {
     ///
     /// # Errors
     ///
-    /// `AllocError` where the memory is refused. All is then as it was.
+    /// `AllocError` if the allocation fails. Nothing has changed then.
     #[inline(always)]
     pub(crate) fn reserve(&mut self, count: usize) -> Result<(), AllocError>
         ensures ok { OnOk result (count ≤ self.new.index.room) }
@@ -146,7 +147,7 @@ impl Lines {
         }
     }
 
-    /// As `LineIndex::inserted` of line_index.
+    /// Like `line_index::LineIndex::inserted`.
     #[inline(always)]
     pub(crate) fn inserted(
         &mut self,
@@ -170,7 +171,7 @@ impl Lines {
         }
     }
 
-    /// As `LineIndex::deleted` of line_index.
+    /// Like `line_index::LineIndex::deleted`.
     #[inline(always)]
     pub(crate) fn deleted(
         &mut self,
@@ -194,7 +195,7 @@ impl Lines {
         }
     }
 
-    /// As `LineIndex::edits_for_types` of line_index.
+    /// Like `line_index::LineIndex::edits_for_types`.
     pub(crate) fn edits_for_types(
         &self,
         alloc: Global,
@@ -214,7 +215,7 @@ impl Lines {
         }
     }
 
-    /// As `LineIndex::set_types` of line_index.
+    /// Like `line_index::LineIndex::set_types`.
     pub(crate) fn set_types(&mut self, types: LineEndTypes, before: &[u8], after: &[u8])
         requires text { IsIndexOf (before.now ++ after.now) self.old.index }
         requires room { line_count types (before.now ++ after.now) ≤ length self.old.index.starts + self.old.index.room }
@@ -230,7 +231,7 @@ impl Lines {
         }
     }
 
-    /// As `LineIndex::lines_about` of line_index.
+    /// Like `line_index::LineIndex::lines_about`.
     pub(crate) fn lines_about(&self, place: usize, end: usize) -> LinesAbout
         ensures about { result ≡ lines_about place end self.now.index.starts }
         ensures small { SmallLines result.old_lines }
@@ -241,7 +242,7 @@ impl Lines {
         }
     }
 
-    /// As `LineIndex::change_since` of line_index.
+    /// Like `line_index::LineIndex::change_since`.
     pub(crate) fn change_since(&self, about: LinesAbout, end: usize) -> LineChange
         ensures change { result ≡ change_since about end self.now.index.starts self.now.index.length }
         ensures small { SmallLines result.new_lines }
@@ -275,7 +276,7 @@ impl Model for Indicators {
 }
 
 impl Indicators {
-    /// Those of the empty text, as a large text keeps them or not. Takes no memory.
+    /// Returns the indicators of the empty text. `is_large` selects places of 64 bits. Allocates nothing.
     pub(crate) fn new(alloc: Global, is_large: bool) -> Self
         ensures { result ≡ record { decorated = decorated 0 (replicate 32 []) 0 None nothing_held; is_large = is_large } }
     {
@@ -287,7 +288,7 @@ impl Indicators {
         Indicators { kept }
     }
 
-    /// Returns the length of the text, in bytes: each indicator has as many values.
+    /// Returns the length of the text in bytes, which is the number of values of each indicator.
     pub fn length(&self) -> usize
         ensures length { result ≡ self.now.decorated.length }
         ensures count { length self.now.decorated.values ≡ 32 }
@@ -299,7 +300,7 @@ impl Indicators {
         }
     }
 
-    /// Returns the value of an indicator at a place, and 0 past the end of the text.
+    /// Returns the value of an indicator at a place, or 0 past the end of the text (`SCI_INDICATORVALUEAT`).
     pub fn value(&self, indicator: usize, place: usize) -> u32
         requires { indicator < 32 }
         ensures { result ≡ at_place (values_of self.now.decorated.values indicator) (pos place) }
@@ -310,7 +311,8 @@ impl Indicators {
         }
     }
 
-    /// Returns where the longest range of one value of an indicator begins that holds a place, and where it is past.
+    /// Returns the longest range of equal values of an indicator around a place, as its first place and the place
+    /// behind it (`SCI_INDICATORSTART`, `SCI_INDICATOREND`).
     pub fn run(&self, indicator: usize, place: usize) -> (usize, usize)
         requires indicator { indicator < 32 }
         requires place { place < self.now.decorated.length }
@@ -322,7 +324,8 @@ impl Indicators {
         }
     }
 
-    /// Returns bit `k` for each indicator `k` that is not 0 at a place, and 0 past the end of the text.
+    /// Returns the indicators that are not 0 at a place, bit `k` for indicator `k`, and 0 past the end of the text
+    /// (`SCI_INDICATORALLONFOR`).
     pub fn mask_at(&self, place: usize) -> u32
         ensures { result ≡ mask_of self.now.decorated.values place }
     {
@@ -336,7 +339,7 @@ impl Indicators {
     ///
     /// # Errors
     ///
-    /// `AllocError` where memory is refused. All is then as it was, but that there may be memory for more runs.
+    /// `AllocError` if an allocation fails. Nothing has changed then, except that there may be memory for more runs.
     #[inline(always)]
     pub(crate) fn reserve(&mut self, insertions: usize) -> Result<(), AllocError>
         ensures ok { OnOk result (self.new ≡ record self.old { decorated = record self.old.decorated { room = max self.old.decorated.room insertions; held = self.new.decorated.held } }) }
@@ -351,7 +354,7 @@ impl Indicators {
         }
     }
 
-    /// As `Decorations::insert` of decorations.
+    /// Like `decorations::Decorations::insert`.
     pub(crate) fn insert(&mut self, place: usize, count: usize)
         requires within { place ≤ self.old.decorated.length }
         requires fits { self.old.decorated.length + count < bound_of self.old.is_large }
@@ -368,7 +371,7 @@ impl Indicators {
         }
     }
 
-    /// As `Decorations::delete` of decorations.
+    /// Like `decorations::Decorations::delete`.
     pub(crate) fn delete(&mut self, place: usize, count: usize)
         requires { place + count ≤ self.old.decorated.length }
         ensures width { self.new.is_large ≡ self.old.is_large }
@@ -383,11 +386,12 @@ impl Indicators {
         }
     }
 
-    /// As `Decorations::reserve_fill` of decorations.
+    /// Like `decorations::Decorations::reserve_fill`.
     ///
     /// # Errors
     ///
-    /// `AllocError` where memory is refused. All is then as it was, but that there may be memory for more slots and runs.
+    /// `AllocError` if an allocation fails. Nothing has changed then, except that there may be memory for more slots
+    /// and runs.
     pub(crate) fn reserve_fill(&mut self, indicator: usize) -> Result<(), AllocError>
         requires { indicator < 32 }
         ensures ok { OnOk result (self.new ≡ record self.old { decorated = record self.old.decorated { ready = Some indicator; held = self.new.decorated.held } }) }
@@ -402,7 +406,7 @@ impl Indicators {
         }
     }
 
-    /// As `Decorations::fill` of decorations.
+    /// Like `decorations::Decorations::fill`.
     pub(crate) fn fill(
         &mut self,
         indicator: usize,

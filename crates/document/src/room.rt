@@ -1,15 +1,15 @@
-//! How much a document has room for.
+//! The room of a document.
 
 ghost use Rattle.std.specs.Prelude.{◌≡◌};
 ghost use Rattle.document.specs.Kept.{no_room, room_sum};
 ghost use Rattle.document.specs.Changes.{container_need};
 
-/// How much more fits into a document without taking memory, or how much steps need.
+/// How much more fits into a document without an allocation, or how much steps need.
 #[derive(Clone, Copy, Debug, PartialEq, Eq)]
 pub struct DocumentRoom {
     /// Bytes of text.
     pub text: usize,
-    /// Lines that come: their starts, and their rows.
+    /// New lines: their starts, and their rows.
     pub lines: usize,
     /// Insertions into the indicators.
     pub insertions: usize,
@@ -20,7 +20,7 @@ pub struct DocumentRoom {
 }
 
 impl DocumentRoom {
-    /// Nothing.
+    /// Returns no room.
     pub fn none() -> Self
         ensures { result ≡ no_room }
     {
@@ -33,7 +33,7 @@ impl DocumentRoom {
         }
     }
 
-    /// What a container's step needs, which has no bytes.
+    /// Returns what a container's step needs, which has no bytes.
     pub fn of_container_step() -> Self
         ensures { result ≡ container_need }
     {
@@ -46,7 +46,8 @@ impl DocumentRoom {
         }
     }
 
-    /// Both together. An amount past the greatest `usize` is that one, which no document has room for.
+    /// Returns the sum of both. An amount that would exceed a `usize` is the greatest `usize`, for which no document
+    /// has room.
     pub fn plus(self, other: Self) -> Self
         ensures { result ≡ room_sum self other }
     {

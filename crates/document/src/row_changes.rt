@@ -11,7 +11,7 @@ use crate::kept::Document;
 use line_rows::LineRows;
 use std::alloc::AllocError;
 
-/// How many markers a mask has a bit for.
+/// Returns how many bits of the mask are set, which is the number of markers that it adds.
 #[tactic(auto, using(crate::proofs::Masks::ones_are_numbers))]
 pub fn count_numbers(mask: u32) -> usize
     ensures count { result ≡ length (numbers_in mask) }
@@ -20,7 +20,7 @@ pub fn count_numbers(mask: u32) -> usize
     mask.count_ones() as usize
 }
 
-// Puts a marker for each bit of a mask behind those of a line.
+// Adds a marker for each bit of a mask behind those of a line.
 fn add_markers(rows: &mut LineRows, line: usize, mask: u32)
     requires line { line < length rows.old.rows }
     requires room { length (numbers_of mask) ≤ rows.old.room.markers }
@@ -39,7 +39,7 @@ impl Document {
     ///
     /// # Errors
     ///
-    /// `AllocError` where memory is refused; the document is then as it was.
+    /// `AllocError` if the allocation fails. The document is then unchanged.
     pub fn reserve_markers(&mut self, count: usize) -> Result<(), AllocError>
         ensures ok { OnOk result (self.new ≡ record self.old { spare = record self.old.spare { markers = max self.old.spare.markers count } }) }
         ensures room_is_there { count ≤ self.old.spare.markers → IsOk result × (self.new ≡ self.old) }
@@ -48,7 +48,8 @@ impl Document {
         self.rows.reserve_markers(count)
     }
 
-    /// Puts a marker with a number behind those of a line, and returns its handle. There must be room for it.
+    /// Adds a marker with `number` behind those of `line`, and returns its handle (`SCI_MARKERADD`). There must be room
+    /// for it.
     pub fn add_marker_reserved(&mut self, line: usize, number: u32) -> u32
         requires line { line < lines_in self.old.document }
         requires number { number < 32 }
@@ -62,7 +63,8 @@ impl Document {
         self.rows.add_reserved(line, number)
     }
 
-    /// Puts a marker for each bit of a mask behind those of a line, that of the lowest bit first. There must be room for them.
+    /// Adds a marker for each bit of `mask` behind those of `line`, the lowest bit first (`SCI_MARKERADDSET`). There
+    /// must be room for them.
     pub fn add_markers_reserved(&mut self, line: usize, mask: u32)
         requires line { line < lines_in self.old.document }
         requires room { length (numbers_in mask) ≤ self.old.spare.markers }
@@ -74,8 +76,8 @@ impl Document {
         add_markers(&mut self.rows, line, mask);
     }
 
-    /// Takes a line's first marker with a number away, or all of its markers where no number is named. Their room comes back.
-    /// Returns whether there was one.
+    /// Deletes the first marker of `line` with `number`, or all of its markers if `number` is `None`
+    /// (`SCI_MARKERDELETE`). Returns whether there was one. Their cells become room again.
     pub fn delete_marker(&mut self, line: usize, number: Option<u32>) -> bool
         requires { line < lines_in self.old.document }
         ensures went { result ≡ markers_changed self.old.document.rows self.new.document.rows }
@@ -87,8 +89,8 @@ impl Document {
         self.rows.delete(line, number)
     }
 
-    /// Takes all markers with a number away, or all markers where none is named. Their room comes back. Returns whether there
-    /// was one.
+    /// Deletes all markers with `number`, or all markers if it is `None` (`SCI_MARKERDELETEALL`). Returns whether there
+    /// was one. Their cells become room again.
     pub fn delete_markers(&mut self, number: Option<u32>) -> bool
         ensures went { result ≡ markers_changed self.old.document.rows self.new.document.rows }
         ensures document { self.new.document ≡ changed_document [] (DeleteMarkers number) self.old.document }
@@ -99,7 +101,8 @@ impl Document {
         self.rows.delete_all(number)
     }
 
-    /// Takes the marker with a handle away, and returns its line, or `None` where no marker has it. Its room comes back.
+    /// Deletes the marker with `handle`, and returns its line, or `None` if no marker has it
+    /// (`SCI_MARKERDELETEHANDLE`). Its cell becomes room again.
     pub fn delete_handle(&mut self, handle: u32) -> Option<usize>
         ensures line { result ≡ line_it_left handle self.old.document.rows self.new.document.rows }
         ensures document { self.new.document ≡ changed_document [] (DeleteHandle handle) self.old.document }
@@ -114,7 +117,7 @@ impl Document {
     ///
     /// # Errors
     ///
-    /// `AllocError` where memory is refused; the document is then as it was.
+    /// `AllocError` if the allocation fails. The document is then unchanged.
     pub fn reserve_levels(&mut self, count: usize) -> Result<(), AllocError>
         ensures ok { OnOk result (self.new ≡ record self.old { spare = record self.old.spare { levels = max self.old.spare.levels count } }) }
         ensures room_is_there { count ≤ self.old.spare.levels → IsOk result × (self.new ≡ self.old) }
@@ -123,7 +126,7 @@ impl Document {
         self.rows.reserve_levels(count)
     }
 
-    /// Sets the fold level of a line, for which there must be room. Returns the one before.
+    /// Sets the fold level of a line, and returns the old one (`SCI_SETFOLDLEVEL`). There must be room for it.
     pub fn set_level(&mut self, line: usize, level: u32) -> u32
         requires line { line < lines_in self.old.document }
         requires room { line < self.old.spare.levels }
@@ -137,7 +140,7 @@ impl Document {
     ///
     /// # Errors
     ///
-    /// `AllocError` where memory is refused; the document is then as it was.
+    /// `AllocError` if the allocation fails. The document is then unchanged.
     pub fn reserve_states(&mut self, count: usize) -> Result<(), AllocError>
         ensures ok { OnOk result (self.new ≡ record self.old { spare = record self.old.spare { states = max self.old.spare.states count } }) }
         ensures room_is_there { count ≤ self.old.spare.states → IsOk result × (self.new ≡ self.old) }
@@ -146,7 +149,7 @@ impl Document {
         self.rows.reserve_states(count)
     }
 
-    /// Sets the state of a line, for which there must be room. Returns the one before.
+    /// Sets the state of a line, and returns the old one (`SCI_SETLINESTATE`). There must be room for it.
     pub fn set_state(&mut self, line: usize, state: i32) -> i32
         requires line { line < lines_in self.old.document }
         requires room { line < self.old.spare.states }

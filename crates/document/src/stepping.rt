@@ -19,7 +19,7 @@ use std::alloc::AllocError;
 use undo_history::StepKind;
 
 impl Document {
-    /// The room that a step needs, of the text and of the history.
+    /// Returns the room that a step needs, for the text and for the history.
     pub fn step_need(&self, step: TextStep) -> DocumentRoom
         ensures need { result ≡ need_of self.now.document.line_end_types step.entry }
     {
@@ -41,11 +41,11 @@ impl Document {
         }
     }
 
-    /// Makes room, and gives none back.
+    /// Makes room for `need`. Frees nothing.
     ///
     /// # Errors
     ///
-    /// `AllocError` where memory is refused; the document is then as it was.
+    /// `AllocError` if an allocation fails. The document is then unchanged, and has at least as much room as before.
     #[inline(always)]
     pub fn reserve(&mut self, need: DocumentRoom) -> Result<(), AllocError>
         requires wide { FitsWidth self.old.document (length self.old.document.cells + need.text) }
@@ -74,9 +74,10 @@ impl Document {
         Ok(())
     }
 
-    /// Makes a step of the text. The cells, the line starts, the rows, the indicators and how far it is styled go with it. Returns
-    /// what became of the lines. The history is left alone. There must be room for all but the history; what goes out of the text leaves its room.
-    /// The room for a fill is gone. Markers that go leave their room, and no more comes.
+    /// Makes a step of the text, and returns its effect on the lines. The cells, the line starts, the rows, the
+    /// indicators and the place up to which the document is styled change with it; the history does not. There must be
+    /// room for everything but the history. Deleted bytes and removed markers become room again, and the room for a
+    /// fill is gone.
     #[inline(always)]
     pub fn step(&mut self, step: TextStep) -> LineChange
         requires fits { IsStepOn step (length self.old.document.cells) }
@@ -101,8 +102,8 @@ impl Document {
         )
     }
 
-    /// Appends a step to the history, before it is made; `later` says that it is a later step of its message. Answers whether it
-    /// begins a transaction. There must be room for it in the history. The text stays as it is.
+    /// Appends a step to the history, before it is made, and returns whether it begins a transaction. `later` says that
+    /// it is not the first step of its message. There must be room for it in the history. The text does not change.
     pub fn append(&mut self, later: bool, step: TextStep) -> bool
         requires fits { IsStepOn step (length self.old.document.cells) }
         requires room { HasHistoryRoom self.old (need_of self.old.document.line_end_types step) }

@@ -11,22 +11,22 @@ ghost use Rattle.document.specs.Changes.{CanStyle};
 use crate::kept::Document;
 use std::alloc::AllocError;
 
-/// The option of a document that keeps no styles, `SC_DOCUMENTOPTION_STYLES_NONE`.
+/// The option for no styles: `SC_DOCUMENTOPTION_STYLES_NONE` of Scintilla.
 const STYLES_NONE: u32 = 0x1;
 
 impl Document {
-    // Whether it keeps no styles: all are 0 then, whatever is set.
+    // Returns whether the document keeps no styles: all are 0 then, whatever is set.
     fn keeps_no_styles(&self) -> bool
         ensures { result ≡ keeps_no_styles self.now.document }
     {
         self.options & STYLES_NONE != 0
     }
 
-    /// Makes its cells ready to be styled: styles are stored from now on, unless it is a document that keeps none.
+    /// Allocates memory for the styles of the cells, and stores styles from now on, unless the document keeps none.
     ///
     /// # Errors
     ///
-    /// `AllocError` where memory is refused; the document is then as it was.
+    /// `AllocError` if the allocation fails. The document is then unchanged.
     pub fn reserve_styles(&mut self) -> Result<(), AllocError>
         ensures ok { OnOk result (CanStyle self.new) }
         ensures same { self.new ≡ record self.old { spare = record self.old.spare { styles = self.new.spare.styles } } }
@@ -41,8 +41,9 @@ impl Document {
         self.cells.keep_styles()
     }
 
-    /// Puts one style on the `count` bytes from where it is styled up to, and moves that behind them. Answers where the smallest
-    /// range with all changed styles begins and how long it is, if any changed. A document that keeps no styles changes none.
+    /// Sets `style` on the `count` bytes from `end_styled` on, and moves `end_styled` behind them (`SCI_SETSTYLING`).
+    /// Returns the smallest range with all changed styles, as its start and its length, or `None` if none changed. A
+    /// document that keeps no styles changes none.
     pub fn style_run(&mut self, count: usize, style: u8) -> Option<(usize, usize)>
         requires within { self.old.document.end_styled + count ≤ length self.old.document.cells }
         requires room { CanStyle self.old }
@@ -58,7 +59,8 @@ impl Document {
         self.cells.set_style_run(start, count, style)
     }
 
-    /// Puts styles on the bytes from where it is styled up to, one on each, and moves that behind them. Answers as `style_run`.
+    /// Sets `styles` on the bytes from `end_styled` on, one on each, and moves `end_styled` behind them
+    /// (`SCI_SETSTYLINGEX`). Returns the range like `style_run`.
     pub fn style_bytes(&mut self, styles: &[u8]) -> Option<(usize, usize)>
         requires within { self.old.document.end_styled + length styles.now ≤ length self.old.document.cells }
         requires room { CanStyle self.old }
@@ -74,12 +76,12 @@ impl Document {
         self.cells.set_styles(start, styles)
     }
 
-    /// Makes room for one fill of an indicator, in place of the one that was reserved before. It lasts up to the next fill,
-    /// insertion or deletion.
+    /// Makes room for one fill of an indicator, which replaces the one that was reserved before. The room lasts up to
+    /// the next fill, insertion or deletion.
     ///
     /// # Errors
     ///
-    /// `AllocError` where memory is refused; the document is then as it was.
+    /// `AllocError` if an allocation fails. The document is then unchanged.
     pub fn reserve_fill(&mut self, indicator: usize) -> Result<(), AllocError>
         requires { indicator < 32 }
         ensures ok { OnOk result (self.new ≡ record self.old { spare = record self.old.spare { fill = Some indicator } }) }
@@ -89,8 +91,9 @@ impl Document {
         self.indicators.reserve_fill(indicator)
     }
 
-    /// Sets an indicator to a value at the `count` bytes from `start` on, for which room was reserved. Answers where the smallest
-    /// range with all changed values begins and how long it is, if any changed.
+    /// Sets an indicator to a value at the `count` bytes from `start` on (`SCI_INDICATORFILLRANGE`). Returns the
+    /// smallest range with all changed values, as its start and its length, or `None` if none changed. There must be
+    /// room for the fill (`reserve_fill`).
     pub fn fill(
         &mut self,
         indicator: usize,
@@ -106,7 +109,7 @@ impl Document {
         ensures spare { self.new.spare ≡ record self.old.spare { fill = None } }
         ensures changed { result ≡ changed_range (slice_index_or self.old.document.indicators indicator []) (slice_index_or self.new.document.indicators indicator []) }
     {
-        let _ = self.indicators.length(); // it says that there are 32
+        let _ = self.indicators.length(); // brings the fact that there are 32 indicators
         self.indicators.fill(indicator, start, count, value)
     }
 }

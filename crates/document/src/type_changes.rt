@@ -1,4 +1,4 @@
-//! Which line ends of a document count, and a container's own steps.
+//! The line ends that count in a document, and a container's own steps.
 
 ghost use Rattle.std.specs.Prelude.{◌≡◌, ◌≤◌, ◌+◌, ◌-◌, [], length, OnOk, IsOk, IfOk, ◌*◌, vec_len, vec_capacity};
 ghost use Rattle.ed_model.specs.declared.plan.DocumentChange.TheVariants.{AppendContainer, SetLineEndTypes};
@@ -16,11 +16,11 @@ use line_index::{LineEdit, edits_of_settings};
 use std::alloc::{AllocError, Global};
 
 impl Document {
-    /// What becomes of its lines if these line ends count from now on, as edits. Reads the text once.
+    /// Returns the effect on the lines, as edits, if the line ends of `types` count from now on. Reads the text once.
     ///
     /// # Errors
     ///
-    /// `AllocError` where the memory for the edits is refused. No edits need none.
+    /// `AllocError` if the allocation of the edits fails. No edits need none.
     pub fn line_type_edits(
         &self,
         alloc: Global,
@@ -40,7 +40,7 @@ impl Document {
     ///
     /// # Errors
     ///
-    /// `AllocError` where memory is refused; the document is then as it was.
+    /// `AllocError` if an allocation fails. The document is then unchanged.
     pub fn reserve_lines(&mut self, lines: usize) -> Result<(), AllocError>
         ensures same { self.new.document ≡ self.old.document }
         ensures spare { self.new.spare ≡ self.old.spare }
@@ -55,8 +55,9 @@ impl Document {
         self.rows.reserve(lines)
     }
 
-    /// Lets these line ends count from now on. The rows go with the lines by `edits`, which are what becomes of them, and for
-    /// whose fresh lines there must be room. The flags that views keep of the lines are theirs to carry.
+    /// Sets which line ends count (`SCI_SETLINEENDTYPESALLOWED`). `edits` is the effect on the lines
+    /// (`line_type_edits`), through which the rows are carried. There must be room for the fresh lines. The caller
+    /// carries the flags that views keep of the lines.
     pub fn set_line_end_types(&mut self, types: LineEndTypes, edits: &[LineEdit])
         requires edits { edits.now ≡ edits_of_setting self.old.document.line_end_types types (text_of self.old.document) }
         requires room { fresh_lines edits.now ≤ self.old.room.lines }
@@ -74,8 +75,8 @@ impl Document {
         self.rows.carry(edits);
     }
 
-    /// Appends a container's own step to the history, known by its token; one that does not coalesce is sealed outside groups.
-    /// There must be room for it in the history.
+    /// Appends a container's own step with this token to the history (`SCI_ADDUNDOACTION`). A step that does not
+    /// coalesce seals its transaction, unless a group is open. There must be room for it in the history.
     pub fn append_container_reserved(&mut self, token: i64, coalesce: bool)
         requires { HasHistoryRoom self.old container_need }
         ensures document { self.new.document ≡ changed_document [] (AppendContainer token coalesce) self.old.document }

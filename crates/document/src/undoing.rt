@@ -1,4 +1,4 @@
-//! Undo and redo of a document: their changes one by one, and the history behind them.
+//! Undo and redo of a document: their changes one by one, and the move of the history.
 
 ghost use Rattle.std.specs.Prelude.{◌≡◌, ◌<◌, ◌≤◌, ◌+◌, ℕ, List, length, slice_get, None, Some, IsSomeAnd};
 ghost use Rattle.ed_model.specs.Changes.{marker_count};
@@ -19,27 +19,28 @@ use crate::text_step::TextStep;
 use line_index::{LineChange, lines_for_deletion, lines_for_insertion};
 use undo_history::{ChangeKind, LentChange, StepKind, UndoHistory};
 
-/// Which of the two is performed.
+/// Whether undo or redo is performed.
 #[derive(Clone, Copy, Debug, PartialEq, Eq)]
 pub enum Direction {
-    /// The last transaction is taken back, its latest change first.
+    /// Reverts the last transaction, its latest change first.
     Undo,
-    /// The next transaction is made again, its changes in the order in which they were made.
+    /// Makes the next transaction again, its changes in the original order.
     Redo,
 }
 
 /// A change that undo or redo performs, without its bytes.
 #[derive(Clone, Copy, Debug, PartialEq, Eq)]
 pub enum ChangeOutline {
-    /// `count` bytes are put in at `place`, in bytes from the text's start.
+    /// Inserts `count` bytes at `place`, in bytes from 0.
     Insert { place: usize, count: usize },
-    /// `count` bytes are taken out, from `place` on.
+    /// Deletes `count` bytes from `place` on.
     Delete { place: usize, count: usize },
-    /// A container's own step, known by its token.
+    /// A container's own step with its token.
     Container { token: i64 },
 }
 
-// What takes a change of the kind back; a container's step is told of again.
+// Returns the change that reverts one of this kind. A container's step is its own inverse: the container gets the same
+// note again.
 fn inverse(kind: ChangeKind) -> ChangeKind
     ensures { (bytes : List ℕ) → change_of result bytes ≡ inverse_change (change_of kind bytes) }
 {
@@ -62,7 +63,7 @@ fn inverse(kind: ChangeKind) -> ChangeKind
     }
 }
 
-// The change that is performed at `index`, its bytes lent from the history.
+// Returns the change that is performed at `index`. The history lends its bytes.
 #[inline(always)]
 fn change_at(history: &UndoHistory, direction: Direction, index: usize) -> LentChange
     requires there { index < length (changes_of direction history.now.history) }
@@ -81,7 +82,7 @@ fn change_at(history: &UndoHistory, direction: Direction, index: usize) -> LentC
     }
 }
 
-// The same as a step of the text; none where it is a container's.
+// Returns the change that is performed at `index` as a step of the text, or `None` if it is a container's.
 fn step_at(history: &UndoHistory, direction: Direction, index: usize) -> Option<TextStep>
     requires there { index < length (changes_of direction history.now.history) }
     ensures step { IsSomeAnd (slice_get (changes_of direction history.now.history) index) (IsLentOf result) }
@@ -107,7 +108,7 @@ fn step_at(history: &UndoHistory, direction: Direction, index: usize) -> Option<
 }
 
 impl Document {
-    /// How many changes undo or redo performs: 0 where there is nothing to undo or redo.
+    /// Returns how many changes undo or redo performs: 0 if there is nothing to undo or redo.
     pub fn change_count(&self, direction: Direction) -> usize
         ensures { result ≡ length (changes_of direction self.now.document.history) }
     {
@@ -117,7 +118,8 @@ impl Document {
         }
     }
 
-    /// Whether the document counts as unmodified behind undo or redo; where there is nothing to undo or redo, whether it does now.
+    /// Returns whether the document counts as unmodified after undo or redo. If there is nothing to undo or redo,
+    /// returns whether it does now.
     pub fn is_at_save_point_behind(&self, direction: Direction) -> bool
         ensures { result ≡ at_save_point (history_behind direction self.now.document.history) }
     {
@@ -127,7 +129,7 @@ impl Document {
         }
     }
 
-    /// Whether the save point is reached or left by undo or redo, so that the views that watch are told.
+    /// Returns whether undo or redo reaches or leaves the save point, so that the views that watch are notified.
     pub fn is_save_point_told(&self, direction: Direction) -> bool
         ensures { result ≡ save_point_told direction self.now.document.history }
     {
@@ -139,7 +141,7 @@ impl Document {
         }
     }
 
-    /// The change that undo or redo performs at `index`, counted in the order in which it does so, without its bytes.
+    /// Returns the change that undo or redo performs at `index`, counted from 0 in the order of performing, without its bytes.
     pub fn change_outline(&self, direction: Direction, index: usize) -> ChangeOutline
         requires there { index < length (changes_of direction self.now.document.history) }
         ensures outline { IsSomeAnd (slice_get (changes_of direction self.now.document.history) index) (λ change. result ≡ outline_of change) }
@@ -159,7 +161,7 @@ impl Document {
         }
     }
 
-    /// The bytes that this change puts in or takes out, lent; a container's step has none.
+    /// Returns the bytes that this change inserts or deletes. A container's step has none.
     pub fn change_bytes(&self, direction: Direction, index: usize) -> &[u8]
         requires there { index < length (changes_of direction self.now.document.history) }
         ensures bytes { IsSomeAnd (slice_get (changes_of direction self.now.document.history) index) (λ change. result.now ≡ bytes_in change) }
@@ -167,8 +169,8 @@ impl Document {
         change_at(&self.history, direction, index).bytes
     }
 
-    /// The change at `index` without its bytes, as `change_outline` answers it, and the room that it needs, of which none is in the
-    /// history: both by one look at it.
+    /// Returns the change at `index` like `change_outline`, and the room that it needs, none of it in the history.
+    /// Looks the change up once for both.
     pub fn change_with_need(
         &self,
         direction: Direction,
@@ -209,8 +211,8 @@ impl Document {
         }
     }
 
-    /// Makes this change, a step of the text, from the bytes that the history has. All but the history goes with it, as with
-    /// `step`. Returns what became of the lines. There must be room for it; what goes out of the text leaves its room.
+    /// Makes this change, a step of the text, with the bytes of the history, and returns its effect on the lines.
+    /// Everything but the history changes, as by `step`. There must be room for it. Deleted bytes become room again.
     pub fn make_change(&mut self, direction: Direction, index: usize) -> LineChange
         requires can { IsSomeAnd (slice_get (changes_of direction self.old.document.history) index) (CanMake self.old) }
         ensures document { (step : Step) → slice_get (changes_of direction self.old.document.history) index ≡ Some (Text step) → self.new.document ≡ document_after step self.old.document }
@@ -236,7 +238,7 @@ impl Document {
         )
     }
 
-    /// Takes the transaction that was undone or redone over to the other side of the history. Its changes are made before.
+    /// Moves the transaction that was undone or redone to the other side of the history. Its changes were made before.
     pub fn finish_history(&mut self, direction: Direction)
         ensures { self.new ≡ record self.old { document = record self.old.document { history = history_behind direction self.old.document.history } } }
     {

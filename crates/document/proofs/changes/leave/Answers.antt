@@ -1,4 +1,4 @@
--- What is retained are the other views.
+-- The other views are retained.
 use Rattle.std.proofs.Common.{rules, ◌==◌, not}
 use Rattle.std.proofs.lemmas.Fn.{filter_same}
 use Rattle.document.proofs.changes.leave.Goals as goal

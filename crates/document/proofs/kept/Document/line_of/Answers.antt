@@ -1,4 +1,4 @@
--- A text has no more lines than bytes and one.
+-- A text has at most as many lines as bytes, and one.
 use Rattle.std.proofs.Common.{length, ap, arith}
 use Rattle.ed_model.specs.Numbers.{meets}
 use Rattle.ed_model.specs.Text.{bytes_of}
