@@ -1,4 +1,4 @@
--- The documents of a table after one became another, or went.
+-- The documents of a table after one was replaced or dropped.
 use Rattle.std.proofs.Common.{◌≡◌, ◌≢◌, ℕ, ◌==◌, Bool, true, false, cond, List, [], ◌∷◌, Some, None, refl, sym, ap, ◌∙◌, option_map, eq-eqb}
 use Rattle.std.specs.Prelude.{◌+◌, length, not, nat_lt, find}
 use Rattle.std.proofs.lemmas.Bool.{eqb-true, ne_eqb}
@@ -124,6 +124,6 @@ pub gone : (id : ℕ) (change : Document → Document) (es : List (Entry Kept)) 
 gone id change es was left found changed held =
     rw (document_at_id id es, found, ← changed, held) (ap documents_in (without_written id left es) ∙ without_document_in id es)
 
--- a document that callers hold otherwise
+-- the same document, of which callers hold another number of references
 pub same_room : (was left : Kept) (held : ℕ) → left ≡ record was { document = record was.document { held_by_callers = held } } → SameRoom was left
 same_room was left held e = (ap (λ (k : Kept). k.room) e, rw e refl, ap (λ (k : Kept). k.spare.views + length k.document.views) e)

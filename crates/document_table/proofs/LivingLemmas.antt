@@ -1,4 +1,4 @@
--- What is left of documents where one loses a reference, against the model's change of them all.
+-- The documents that are left after one has lost a reference, and the model's change of all documents.
 use Rattle.std.proofs.Common.{◌≡◌, ℕ, ◌+◌, ◌<◌, ◌==◌, Bool, true, false, cond, List, [], ◌∷◌, map, Option, Some, None, refl, arith, option_map}
 use Rattle.std.specs.Prelude.{nat_lt}
 use Rattle.std.specs.List.{AllByRecursion}

@@ -1,4 +1,4 @@
--- What is left of documents where one loses a reference.
+-- The documents that are left after one has lost a reference.
 use Rattle.std.specs.Prelude.{◌≡◌, ◌≢◌, ◌<◌, ℕ, ◌+◌, ◌-◌, nat_lt, if◌then◌else◌, List, length, map, Option, Some, None, option_map, IfSome, IsSomeAnd}
 use Rattle.std.specs.List.{AllByRecursion}
 use Rattle.ed_model.specs.Session.{Document, references, living}
@@ -12,11 +12,11 @@ document_in e = entry e.id e.value.document
 abbrev pub documents_in : List (Entry Kept) → List (Entry Document)
 documents_in entries = map document_in entries
 
--- the document once a caller has given its reference back
+-- the document after a caller released its reference
 abbrev pub released : Document → Document
 released d = record d { held_by_callers = d.held_by_callers - 1 }
 
--- another document at an id, or none there where nothing refers to it
+-- the documents with this one at the id, or with none there if nothing refers to it
 abbrev pub left_over : ℕ → Document → List (Entry Document) → List (Entry Document)
 left_over id d entries = if nat_lt 0 (references d) then with_value_at id d entries else without_id id entries
 
@@ -24,28 +24,28 @@ abbrev pub left_over_of : ℕ → List (Entry Document) → Option Document → 
 left_over_of id entries None = entries
 left_over_of id entries (Some d) = left_over id d entries
 
--- the document at an id is changed, and goes if nothing refers to it any more
+-- the document at an id is changed, and dropped if nothing refers to it any more
 abbrev pub let_go : ℕ → (Document → Document) → List (Entry Document) → List (Entry Document)
 let_go id change entries = left_over_of id entries (option_map change (value_at entries id))
 
--- a document has the room that another had: a view that is let go leaves its place, and no other place is made
+-- a document has the room of another; the list of its views has a free place for each view that was detached
 abbrev pub SameRoom : Kept → Kept → Type 0
 SameRoom was left =
     (left.room ≡ was.room) × (left.spare ≡ record was.spare { views = left.spare.views })
     × (left.spare.views + length left.document.views ≡ was.spare.views + length was.document.views)
 
--- the document at an id has the room that it had, if it is still there
+-- the document at an id keeps its room, if it still exists
 abbrev pub KeepsRoom : ℕ → List (Entry Kept) → List (Entry Kept) → Type 0
 KeepsRoom id old new = IfSome (value_at new id) (λ left. IsSomeAnd (value_at old id) (λ was. SameRoom was left))
 
--- The model changes every document, and keeps the living.
+-- The model changes every document, and keeps those with a reference.
 
--- to the document of the entry the model does what is done at the id, and nothing where the entry has another
+-- the model's change of the entry's document is that of the one at the id, and no change if the entry has another id
 abbrev pub IsChangedAlike : ℕ → (Document → Document) → (Document → Document) → Entry Document → Type 0
 IsChangedAlike id change each e = (e.id ≡ id → each e.value ≡ change e.value) × (e.id ≢ id → each e.value ≡ e.value)
 
--- where the ids rise, something refers to each document, and the model's change of each is the change of the one at the id: what is
--- left are the living
+-- if the ids rise, something refers to each document, and the model's change of each is that of the one at the id, then
+-- the documents that are left are those with a reference
 abbrev pub LeavesTheLiving : Type 0
 LeavesTheLiving =
     (id low next : ℕ) (change each : Document → Document) (entries : List (Entry Document)) → Rise low next (map id_of entries)

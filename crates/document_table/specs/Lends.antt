@@ -1,4 +1,4 @@
--- What a table ends as, where one of its documents was lent to be changed.
+-- How a table ends that lent one of its documents.
 use Rattle.std.specs.Prelude.{ℕ, Option}
 use Rattle.std.specs.Borrow.{LendsIf, Fml, MutBor}
 use Rattle.id_table.specs.Entries.{Entries, with_value_at}
@@ -6,7 +6,7 @@ use Rattle.document.specs.Kept.{Kept}
 use Rattle.document.specs.contracts.kept.Document.{the_row as document_row}
 use Rattle.document_table.specs.contracts.table.DocumentTable.{the_row}
 
--- once the loan r ends, the id has its last document, and at `None` the table is as it was
+-- once the loan r ends, the id has the document that was written; at `None` nothing has changed
 abbrev pub lends_document : MutBor (Entries Kept) → ℕ → Option (MutBor Kept) → Fml
 lends_document t id r =
     LendsIf the_row document_row t r (λ w. record t.now { entries = with_value_at id w t.now.entries }) t.now

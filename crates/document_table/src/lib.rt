@@ -1,6 +1,6 @@
 //! The documents of a session, found by id.
 //!
-//! A document stays as long as it has a reference: a view that is attached, or a caller that holds it.
+//! A document lives as long as it has a reference: from a view that is attached, or from a caller that holds it.
 #![tactic(auto)]
 
 mod laws;

@@ -29,7 +29,7 @@ impl Model for DocumentTable {
 impl DocumentTable {
     ghost use Rattle.document_table.specs.Lends.{lends_document};
 
-    /// No document. Takes no memory.
+    /// Returns a table without documents. Allocates nothing.
     pub fn new(alloc: Global) -> Self
         ensures { result ≡ table_of [] 1 0 }
     {
@@ -38,7 +38,7 @@ impl DocumentTable {
         }
     }
 
-    /// The id of the next document. The ids of all documents rise, from 1 on, and are below it.
+    /// Returns the id that the next document gets. Ids rise from 1 on, and all ids so far are below it.
     pub fn next(&self) -> u32
         ensures next { result ≡ self.now.next }
         ensures ids { Rise 1 result (map id_of self.now.entries) }
@@ -46,14 +46,14 @@ impl DocumentTable {
         self.documents.next()
     }
 
-    /// The document with an id, or `None` where there is none.
+    /// Returns the document with the id, or `None` if there is none.
     pub fn get(&self, id: u32) -> Option<&Document>
         ensures { option_copied result ≡ value_at self.now.entries id }
     {
         self.documents.get(id)
     }
 
-    /// The document with an id, to be changed, or `None` where there is none. All others stay as they are.
+    /// Returns the document with the id to write to, or `None` if there is none. No other document changes.
     pub fn get_mut(&mut self, id: u32) -> Option<&mut Document>
         ensures* writes_back { sem 𝓛 (lends_document self.entry id result) }
         ensures value { option_copied_mut result ≡ value_at self.old.entries id }
@@ -65,7 +65,7 @@ impl DocumentTable {
     ///
     /// # Errors
     ///
-    /// `AllocError` where memory is refused. All is then as it was.
+    /// `AllocError` if an allocation fails. Nothing has changed then.
     pub fn reserve(&mut self, count: usize) -> Result<(), AllocError>
         ensures ok { OnOk result (self.new ≡ record self.old { room = max self.old.room count }) }
         ensures room_is_there { count ≤ self.old.room → IsOk result × (self.new ≡ self.old) }
@@ -74,7 +74,7 @@ impl DocumentTable {
         self.documents.reserve(count)
     }
 
-    /// Puts a document behind all others. There must be room for it. Returns its id, which is never given again.
+    /// Adds a document, and returns its id, which is never given again. There must be room for it.
     pub fn insert_reserved(&mut self, document: Document) -> u32
         requires room { 0 < self.old.room }
         requires ids { self.old.next + 1 < 2 ^ 32 }
@@ -92,7 +92,7 @@ impl DocumentTable {
         let _removed = self.documents.remove(id);
     }
 
-    /// Lets a view go from a document, which goes with its last reference. Takes no memory.
+    /// Detaches a view from a document, and drops the document if that was its last reference. Allocates nothing.
     pub fn leave(&mut self, id: u32, view: u32)
         ensures documents { documents_in self.new.entries ≡ let_go id (left_by view) (documents_in self.old.entries) }
         ensures others { (other : ℕ) → other ≢ id → value_at self.new.entries other ≡ value_at self.old.entries other }
@@ -109,7 +109,8 @@ impl DocumentTable {
         }
     }
 
-    /// Takes a reference of a caller to a document away. The document goes with its last reference. Takes no memory.
+    /// Releases a caller's reference to a document, and drops the document if that was its last reference
+    /// (`SCI_RELEASEDOCUMENT`). Allocates nothing.
     pub fn release(&mut self, id: u32)
         ensures documents { documents_in self.new.entries ≡ let_go id released (documents_in self.old.entries) }
         ensures others { (other : ℕ) → other ≢ id → value_at self.new.entries other ≡ value_at self.old.entries other }

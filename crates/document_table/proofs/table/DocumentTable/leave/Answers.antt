@@ -1,4 +1,4 @@
--- The view has left the document, which stays, or goes.
+-- The view is detached from the document, which stays or is dropped.
 use Rattle.std.proofs.Common.{sym}
 use Rattle.ed_model.specs.Session.{left_by}
 use Rattle.document_table.proofs.LeavingLemmas.{nothing_there, still_there, gone, other_with, other_gone, room_with, room_without}

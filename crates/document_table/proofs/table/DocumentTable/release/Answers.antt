@@ -1,4 +1,4 @@
--- A reference is given back to the document, which stays, or goes.
+-- A reference to the document is released, and the document stays or is dropped.
 use Rattle.std.proofs.Common.{sym, ap}
 use Rattle.document.specs.Kept.{Kept}
 use Rattle.document_table.specs.Leaving.{released}
