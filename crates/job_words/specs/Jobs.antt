@@ -16,7 +16,7 @@ is_plain (b ∷ bs) = not (b == 0x2D)
 abbrev pub are_plain : List (List ℕ) → Bool
 are_plain words = list_all is_plain words
 
--- `run SCRIPT FILE..`, `list SCRIPT` or `check SCRIPT`, and nothing else, asks for just that
+-- `run SCRIPT FILE..`, `list SCRIPT` or `check SCRIPT`, and nothing else, asks for exactly that job
 abbrev pub single_job : List ℕ → List ℕ → List (List ℕ) → Option Job
 single_job verb script [] = if bytes_eq verb (codes "list") then Some (ListJob script) else (if bytes_eq verb (codes "check") then Some (Check script) else None)
 single_job verb script (word ∷ words) = None
@@ -26,13 +26,13 @@ job_of [] = None
 job_of (verb ∷ []) = None
 job_of (verb ∷ script ∷ files) = if bytes_eq verb (codes "run") then Some (Run script files) else single_job verb script files
 
--- the answer to plain words: the job that they ask for, or want of memory; a usage fault only where they ask for none
+-- the result for plain words: the job that they ask for, or a failed allocation; a usage fault only if they ask for none
 abbrev pub ReadsWords : List (List ℕ) → Result Job WordFault → Type 0
 ReadsWords words (Ok job) = job_of words ≡ Some job
 ReadsWords words (Err (Usage error)) = job_of words ≡ None
 ReadsWords words (Err OutOfMemory) = ⊤
 
--- `step SCRIPT FILE..` asks for steps
+-- `step SCRIPT FILE..` asks to step
 abbrev pub step_of : List (List ℕ) → Option Task
 step_of [] = None
 step_of (verb ∷ []) = None
@@ -46,7 +46,7 @@ step_or_job None None = None
 abbrev pub task_of : List (List ℕ) → Option Task
 task_of words = step_or_job (step_of words) (job_of words)
 
--- the same of tasks: steps, or a job
+-- the same for tasks: to step, or a job
 abbrev pub ReadsTask : List (List ℕ) → Result Task WordFault → Type 0
 ReadsTask words (Ok task) = task_of words ≡ Some task
 ReadsTask words (Err (Usage error)) = task_of words ≡ None

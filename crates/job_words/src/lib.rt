@@ -1,4 +1,4 @@
-//! The words behind the program's name, read as jobs and tasks. No script is read here, and no session is made.
+//! The words after the program's name, read as jobs and tasks. This crate reads no script, and makes no session.
 #![tactic(auto)]
 
 mod command_line;

@@ -1,4 +1,4 @@
-//! The words behind the program's name, read as a job.
+//! The words after the program's name, read as a job or a task.
 
 ghost use Rattle.std.specs.Prelude.{◌≡◌, map, IfOk, IsErr, true, string_bytes};
 ghost use Rattle.job_words.specs.Jobs.{are_plain as are_plain_texts, is_plain as is_plain_text, job_of, step_of, ReadsWords, ReadsTask};
@@ -10,7 +10,7 @@ use std::alloc::{AllocError, AllocFailed, Global};
 use std::convert::AsStr;
 use std::marker::Model;
 
-/// A word. Contracts see its bytes.
+/// A word. A contract sees its bytes.
 #[derive(Debug, Drop)]
 pub struct Word {
     text: String,
@@ -26,14 +26,14 @@ impl Model for Word {
 }
 
 impl Word {
-    /// A word of this text.
+    /// Wraps `text`. Allocates nothing.
     pub fn new(text: String) -> Self
         ensures { result ≡ string_bytes text }
     {
         Word { text }
     }
 
-    /// Its text, lent.
+    /// Returns the text of the word.
     pub fn as_str(&self) -> &str
         ensures { result.now ≡ self.now }
     {
@@ -41,7 +41,7 @@ impl Word {
     }
 }
 
-/// A list of words. Contracts see the list of their bytes.
+/// A list of words. A contract sees the list of their bytes.
 #[derive(Debug, Drop)]
 pub struct Words {
     words: Vec<Word>,
@@ -56,14 +56,14 @@ impl Model for Words {
 }
 
 impl Words {
-    /// These words. Takes no memory.
+    /// Wraps `words`. Allocates nothing.
     pub fn new(words: Vec<Word>) -> Self
         ensures { result ≡ words.items }
     {
         Words { words }
     }
 
-    /// The words, lent.
+    /// Returns the words as a slice.
     pub fn as_slice(&self) -> &[Word]
         ensures { result.now ≡ self.now }
     {
@@ -71,7 +71,7 @@ impl Words {
     }
 }
 
-/// What the program is asked to do.
+/// What the words ask the program to do.
 #[derive(Debug, Drop)]
 pub enum Job {
     /// Runs a script with files.
@@ -82,12 +82,12 @@ pub enum Job {
     Check { script: Word },
 }
 
-/// What the program is asked to do: a job, or something beyond the three forms of jobs.
+/// What the words ask the program to do: a job, or one of the tasks that are no job.
 #[derive(Debug, Drop)]
 pub enum Task {
     /// A job.
     Whole(Job),
-    /// Runs a script with files, and prints no notes.
+    /// Runs a script with files, without printing notes.
     RunQuietly { script: Word, files: Words },
     /// Steps through a script with files.
     Step { script: Word, files: Words },
@@ -95,12 +95,12 @@ pub enum Task {
     CheckAndShow { script: Word },
 }
 
-/// Why words are no job.
+/// Why words are no job or task.
 #[derive(Debug, Drop)]
 pub enum WordFault {
-    /// They are none of the program's forms, or ask for help; with the text for the user.
+    /// They have none of the program's forms, or ask for help. Has the text for the user.
     Usage(Error),
-    /// Memory ran out.
+    /// An allocation failed.
     OutOfMemory,
 }
 
@@ -125,7 +125,7 @@ impl From<Error> for WordFault {
     }
 }
 
-/// Whether a word is not empty and does not begin with `-`.
+/// Returns whether a word is not empty and does not begin with `-`.
 fn is_plain(word: &str) -> bool
     ensures { result ≡ is_plain_text word.now }
 {
@@ -135,7 +135,7 @@ fn is_plain(word: &str) -> bool
     }
 }
 
-/// Whether all words are plain.
+/// Returns whether all words are plain.
 fn are_plain(words: &[String]) -> bool
     ensures { result ≡ are_plain_texts (map string_bytes words.now) }
 {
@@ -147,14 +147,22 @@ fn are_plain(words: &[String]) -> bool
     true
 }
 
-/// A copy of a word.
+/// Copies a word.
+///
+/// # Errors
+///
+/// `AllocError` if the allocation fails.
 pub fn copy_word(alloc: Global, word: &str) -> Result<Word, AllocError>
     ensures { IfOk result (λ copy. copy ≡ word.now) }
 {
     Ok(Word::new(String::from_str(alloc, word)?))
 }
 
-/// A copy of a list of words.
+/// Copies a list of words.
+///
+/// # Errors
+///
+/// `AllocError` if an allocation fails.
 pub fn copy_words<S: AsStr>(alloc: Global, words: &[S]) -> Result<Words, AllocError>
     ensures { IfOk result (λ copy. copy ≡ map S.text words.now) }
 {
@@ -165,7 +173,7 @@ pub fn copy_words<S: AsStr>(alloc: Global, words: &[S]) -> Result<Words, AllocEr
     Ok(Words::new(copies))
 }
 
-/// The job of words of the three forms.
+/// Returns the job of words of one of the three forms, or `None`.
 fn direct_job(alloc: Global, words: &[String]) -> Result<Option<Job>, AllocError>
     ensures { IfOk result (λ job. job ≡ job_of (map string_bytes words.now)) }
 {
@@ -191,14 +199,14 @@ fn direct_job(alloc: Global, words: &[String]) -> Result<Option<Job>, AllocError
     Ok(None)
 }
 
-/// Reads the words behind the program's name: `run SCRIPT FILE..`, `list SCRIPT` or `check SCRIPT`.
+/// Reads the words after the program's name as a job: `run SCRIPT FILE..`, `list SCRIPT` or `check SCRIPT`.
 ///
-/// Where each word is plain, not empty and without `-` at its front, the answer is the job that they ask for and no other. `clap` reads
-/// the rest, `-` for a script among them, and makes the texts of usage faults.
+/// If each word is plain, which means not empty and without a leading `-`, the result is exactly the job that they ask
+/// for. `clap` reads all other words, such as `-` for a script, and writes the texts of usage faults.
 ///
 /// # Errors
 ///
-/// `Usage` for words that ask for no job, with the text for the user, and `OutOfMemory` for want of memory.
+/// `Usage` with the text for the user if the words are no job, and `OutOfMemory` if an allocation fails.
 pub fn read_words(alloc: Global, words: &[String]) -> Result<Job, WordFault>
     ensures { are_plain_texts (map string_bytes words.now) ≡ true → ReadsWords (map string_bytes words.now) result }
 {
@@ -215,7 +223,7 @@ pub fn read_words(alloc: Global, words: &[String]) -> Result<Job, WordFault>
     }
 }
 
-/// The task of the words `step SCRIPT FILE..`.
+/// Returns the task of the words `step SCRIPT FILE..`, or `None`.
 fn direct_step(alloc: Global, words: &[String]) -> Result<Option<Task>, AllocError>
     ensures { IfOk result (λ task. task ≡ step_of (map string_bytes words.now)) }
 {
@@ -230,14 +238,14 @@ fn direct_step(alloc: Global, words: &[String]) -> Result<Option<Task>, AllocErr
     Ok(None)
 }
 
-/// Reads the words behind the program's name: those of a job, `step SCRIPT FILE..`, `run --quiet SCRIPT FILE..`, or
-/// `check --show SCRIPT`.
+/// Reads the words after the program's name as a task: those of a job, `step SCRIPT FILE..`,
+/// `run --quiet SCRIPT FILE..`, or `check --show SCRIPT`.
 ///
-/// Where each word is plain, the answer is the task that they ask for and no other.
+/// If each word is plain, the result is exactly the task that they ask for.
 ///
 /// # Errors
 ///
-/// As of `read_words`.
+/// Those of `read_words`.
 pub fn read_task(alloc: Global, words: &[String]) -> Result<Task, WordFault>
     ensures { are_plain_texts (map string_bytes words.now) ≡ true → ReadsTask (map string_bytes words.now) result }
 {
