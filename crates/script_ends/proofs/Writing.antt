@@ -1,4 +1,4 @@
--- Writes, one after another.
+-- Successive writes.
 use Rattle.std.proofs.Common.{◌≡◌, ℕ, zero, suc, ◌+◌, ◌-◌, ◌<◌, Bool, true, false, cond, List, length, take, drop, refl, sym, ◌∙◌, ap, subst, arith, take-add, take-append-drop, length-drop, Option, Some, None, IfSome, Result, Ok, Err, IsErr}
 use Rattle.std.specs.Prelude.{◌==◌, ◌&&◌, nat_lt}
 use Rattle.std.proofs.lemmas.Bool.{le-leb, ne_eqb}
@@ -22,7 +22,7 @@ appends_kept (Some xs) None new first a b = absurd a
 appends_kept (Some xs) (Some ys) None first a b = absurd b
 appends_kept (Some xs) (Some ys) (Some zs) first a b = b ∙ a
 
--- a part of the bytes at a time
+-- one more part of the bytes
 pub written_on : (old mid new : Option (List ℕ)) (bytes : List ℕ) (at count : ℕ) → Appends old mid (take at bytes) → Appends mid new (take count (drop at bytes)) → Appends old new (take (at + count) bytes)
 written_on old mid new bytes at count a b = subst (Appends old new) (sym (take-add at count bytes)) (appends_more old mid new (take at bytes) (take count (drop at bytes)) a b)
 
@@ -32,7 +32,7 @@ front_written old now bytes at a = record { front = take at bytes; left = drop a
 pub front_kept : (old mid new : Option (List ℕ)) (bytes : List ℕ) (at : ℕ) → Appends old mid (take at bytes) → Keeps mid new → AppendsFront old new bytes
 front_kept old mid new bytes at a b = front_written old new bytes at (appends_kept old mid new (take at bytes) a b)
 
--- what is left of the bytes
+-- the rest of the bytes
 pub tail : (at : ℕ) (bytes : List ℕ) → take (length bytes - at) (drop at bytes) ≡ drop at bytes
 tail at bytes = take_all (length bytes - at) (drop at bytes) (omega (arith, length-drop at bytes))
 
@@ -51,7 +51,7 @@ pub failed_write : (r : Result (Unit {0}) WriteFailed) (old new : Option (List �
 failed_write (Ok done) old new bytes is some = cc
 failed_write (Err failed) old new bytes is some = some
 
--- the answer where memory ran out behind a script that was read
+-- the answer if an allocation failed after a script was read
 pub no_memory : (text : List Command → List ℕ) (value : List Command → ℕ) (r : Result ℕ RunFault) (fault : RunFault) (commands : List Command) (known old : Option (List ℕ)) → r ≡ Err fault → fault ≡ Script OutOfMemory → IfSome known (λ bytes. reading bytes ≡ Ok commands) → IfSome known (λ bytes. Answers text value (reading bytes) r old old)
 no_memory text value r fault commands None old is which read = tt
 no_memory text value r fault commands (Some bytes) old is which read =

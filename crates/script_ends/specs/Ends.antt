@@ -1,33 +1,33 @@
--- What readers and writers tell of their failures, and of many calls together.
+-- How readers and writers report their failures, and the results of many calls.
 use Rattle.std.specs.Prelude.{◌≡◌, ℕ, ◌≤◌, ◌&&◌, ◌==◌, nat_lt, if◌then◌else◌, Bool, true, false, List, ◌++◌, length, Option, Result, Ok, Err}
 use Rattle.std.specs.Io.KnownBytes.{Appends, Consumes}
 use Rattle.script_ends.specs.declared.ends.ReadFailed.{ReadFailed}
 use Rattle.script_ends.specs.declared.ends.WriteFailed.{WriteFailed}
 
--- a read that answers an error has failed
+-- a read that returns an error has failed
 abbrev pub ReadTells : Bool → Bool → Result ℕ ReadFailed → Type 0
 ReadTells old new (Ok count) = new ≡ old
 ReadTells old new (Err failed) = new ≡ true
 
--- a write that answers an error has failed, and one that takes none of some bytes
+-- a write that returns an error has failed, and so has one that takes none of some bytes
 abbrev pub WriteTells : Bool → Bool → Result ℕ WriteFailed → List ℕ → Type 0
 WriteTells old new (Ok count) bytes = new ≡ (if count == 0 && nat_lt 0 (length bytes) then true else old)
 WriteTells old new (Err failed) bytes = new ≡ true
 
--- at most so many bytes were taken from a reader
+-- at most so many bytes were read from the source
 pub record TakesAtMost (limit : ℕ) (old new : Option (List ℕ)) : Type 0 where
   pub taken : List ℕ
   pub consumed : Consumes old new taken
   pub few : length taken ≤ limit
 
--- a part of a text, from its front, was written, and nothing else
+-- a front part of a text was written, and nothing else
 pub record AppendsFront (old new : Option (List ℕ)) (text : List ℕ) : Type 0 where
   pub front : List ℕ
   pub left : List ℕ
   pub split : text ≡ front ++ left
   pub appended : Appends old new front
 
--- the bytes were written; where a write failed, a part of them
+-- the bytes were written; if a write failed, a part of them
 abbrev pub WritesAll : List ℕ → Option (List ℕ) → Option (List ℕ) → Result (Unit {0}) WriteFailed → Type 0
 WritesAll bytes old new (Ok done) = Appends old new bytes
 WritesAll bytes old new (Err failed) = AppendsFront old new bytes

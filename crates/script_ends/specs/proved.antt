@@ -1,2 +1,2 @@
--- Statements about the definitions for the proofs of the crates above, each with its own proof: nothing here has to be believed.
+-- Statements about the definitions for the proofs of the crates above. Each has its own proof, so none of them is trusted.
 pub mod Written

@@ -1,4 +1,4 @@
-//! Why a run stopped, and what the program answers to the system.
+//! Why a run stopped, and the exit status of the program.
 
 ghost use Rattle.std.specs.Prelude.{◌≡◌};
 ghost use Rattle.ed_types.specs.declared.script.ScriptFault.TheVariants.{OutOfMemory};
@@ -13,7 +13,7 @@ use thiserror::Error;
 /// Why a script was not run to its end.
 #[derive(Clone, Copy, Debug, PartialEq, Eq, Error)]
 pub enum RunFault {
-    /// The bytes are no script, or memory ran out.
+    /// The bytes are no script, or an allocation failed.
     #[error("{0}")]
     Script(ScriptFault),
     /// A read failed.
@@ -56,8 +56,9 @@ impl From<WriteFailed> for RunFault {
     }
 }
 
-/// The exit status of the program after this answer: 0 where it is done and each expect was met, 4 where some was not, 1 for a refused
-/// script or want of memory, 3 for a failed read or write. (2, for words that are no job, is never answered here.) Takes no memory.
+/// Returns the exit status of the program for the answer of a run: 0 if it is done and each `expect` was met, 4 if one
+/// was not, 1 for a refused script or a failed allocation, 3 for a failed read or write. (2 is for words that are no
+/// job, and never returned here.) Allocates nothing.
 pub fn status_of(answer: &Result<u64, RunFault>) -> u8
     ensures { result ≡ status answer.now }
 {

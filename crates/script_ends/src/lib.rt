@@ -1,5 +1,5 @@
-//! Where scripts come from and where answers go: sources and sinks, and what fails of them; and what is done with a script without a
-//! session: it is read, listed and checked, and bytes of it are shown.
+//! Sources of scripts and sinks of output, and how they fail; and everything that is done with a script without a
+//! session: reading, listing and checking it, and showing its bytes.
 #![tactic(auto)]
 
 mod ends;

@@ -1,4 +1,4 @@
-//! Scripts, listed and checked from a source to a sink.
+//! Listing and checking of scripts, from a source to a sink.
 
 ghost use Rattle.std.specs.Prelude.{◌≡◌, IfSome, false};
 ghost use Rattle.ed_model.specs.Listing.{listing};
@@ -14,13 +14,13 @@ use macro_script::list;
 use macro_script::printing::append_number;
 use std::alloc::Global;
 
-/// Reads a script, assembles it, and writes its listing. Answers 0.
+/// Reads a script, assembles it, and writes its listing. Returns 0.
 ///
 /// # Errors
 ///
-/// `Script` with the fault of bytes that are no script, or for want of memory; `Read` where a read failed, and `Write` where a write
-/// failed or took no byte. Nothing is written before the listing is made, and what was written before an error is a part of it, from
-/// its front.
+/// `Script` with the fault of bytes that are no script, or if an allocation fails; `Read` if a read fails; and `Write`
+/// if a write fails or takes no byte. Nothing is written before the listing is made. What was written before an error
+/// is a front part of the listing.
 pub fn list_script<R: Source, W: Sink>(
     alloc: Global,
     reader: &mut R,
@@ -40,11 +40,11 @@ pub fn list_script<R: Source, W: Sink>(
     Ok(0)
 }
 
-/// Reads a script, assembles it, and writes `ok N`, N the number of its commands. Answers 0.
+/// Reads a script, assembles it, and writes `ok N`, where N is the number of its commands. Returns 0.
 ///
 /// # Errors
 ///
-/// As of `list_script`.
+/// Those of `list_script`.
 pub fn check_script<R: Source, W: Sink>(
     alloc: Global,
     reader: &mut R,

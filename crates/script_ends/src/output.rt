@@ -1,4 +1,4 @@
-//! Text, written to a sink through a buffer.
+//! Text that is written to a sink through a buffer.
 
 ghost use Rattle.std.specs.Prelude.{◌≡◌, ◌<◌, OnOk, false, length};
 ghost use Rattle.ed_model.specs.Printed.{printed_outcome};
@@ -10,10 +10,14 @@ use crate::fault::RunFault;
 use ed_types::Outcome;
 use macro_script::printing::append_outcome;
 
-/// The length at which a buffer is written, in bytes.
+/// A buffer is written once it has this length, in bytes.
 pub const FULL: usize = 65_536;
 
 /// Writes all bytes.
+///
+/// # Errors
+///
+/// `WriteFailed` if a write fails or takes no byte. A front part of the bytes may be written then.
 pub fn write_all<W: Sink>(sink: &mut W, bytes: &[u8]) -> Result<(), WriteFailed>
     requires { W.has_failed sink.old ≡ false }
     ensures written { WritesAll bytes.now (W.contents sink.old) (W.contents sink.new) result }
@@ -30,11 +34,11 @@ pub fn write_all<W: Sink>(sink: &mut W, bytes: &[u8]) -> Result<(), WriteFailed>
     Ok(())
 }
 
-/// Writes a buffer where it is full, and leaves it empty then.
+/// Writes a buffer if it is full, and empties it then.
 ///
 /// # Errors
 ///
-/// `WriteFailed` where a write failed or took no byte.
+/// `WriteFailed` if a write fails or takes no byte.
 pub fn pour<W: Sink>(sink: &mut W, buffer: &mut Vec<u8>) -> Result<(), WriteFailed>
     requires { W.has_failed sink.old ≡ false }
     ensures poured { Pours result (W.contents sink.old) (W.contents sink.new) buffer.old.items buffer.new.items }
@@ -48,7 +52,11 @@ pub fn pour<W: Sink>(sink: &mut W, buffer: &mut Vec<u8>) -> Result<(), WriteFail
     Ok(())
 }
 
-/// Puts what an outcome prints into the buffer, and writes the buffer where it is full then.
+/// Appends what an outcome prints to the buffer, and writes the buffer if it is full then.
+///
+/// # Errors
+///
+/// `Script` if an allocation fails, and `Write` if a write fails or takes no byte.
 pub fn put<W: Sink>(sink: &mut W, buffer: &mut Vec<u8>, outcome: &Outcome) -> Result<(), RunFault>
     requires { W.has_failed sink.old ≡ false }
     ensures put { Puts (printed_outcome outcome.now) result (W.contents sink.old) (W.contents sink.new) buffer.old.items buffer.new.items }

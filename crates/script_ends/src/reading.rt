@@ -1,4 +1,4 @@
-//! Scripts and files, read from a source.
+//! Reading of scripts and files from a source.
 
 ghost use Rattle.std.specs.Prelude.{◌≡◌, [], OnOk, ◌+◌, ◌<◌, ◌^◌, length, take, IfSome, IfOk, false};
 ghost use Rattle.ed_model.specs.Reading.{reading as reading_of};
@@ -15,17 +15,17 @@ use std::alloc::{AllocError, Global};
 /// The greatest length of a file, in bytes.
 const FILE_LIMIT: usize = 2_147_483_647;
 
-/// How many bytes are asked for at a time.
+/// How many bytes are requested at a time.
 const BLOCK: usize = 65_536;
 
-/// Room for so many bytes to be read into.
+/// Returns a block of `len` bytes to read into.
 fn new_block(alloc: Global, len: usize) -> Result<Vec<u8>, AllocError>
     ensures { IfOk result (λ block. length block.items ≡ len) }
 {
     vec![in alloc; 0u8; len]
 }
 
-/// Reads into a text, a block at a time, to the end or one byte past the limit.
+/// Reads into a text, block by block, to the end or one byte past the limit.
 fn fill<S: Source>(
     source: &mut S,
     text: &mut Vec<u8>,
@@ -70,7 +70,7 @@ fn read_up_to<S: Source>(alloc: Global, source: &mut S, limit: usize) -> Result<
 ///
 /// # Errors
 ///
-/// `Read` where a read failed, and `Script` for want of memory.
+/// `Read` if a read fails, and `Script` if an allocation fails.
 pub fn read_text<S: Source>(alloc: Global, source: &mut S) -> Result<Vec<u8>, RunFault>
     requires { S.has_failed source.old ≡ false }
     ensures text { IfOk result (λ text. IfSome (S.remaining source.old) (λ bytes. text.items ≡ take 16777217 bytes)) }
@@ -80,11 +80,11 @@ pub fn read_text<S: Source>(alloc: Global, source: &mut S) -> Result<Vec<u8>, Ru
     read_up_to(alloc, source, SCRIPT_LIMIT)
 }
 
-/// Reads a script and assembles it. At most 16 MiB and one byte are read.
+/// Reads a script and assembles it. Reads at most 16 MiB and one byte.
 ///
 /// # Errors
 ///
-/// `Script` with the fault of bytes that are no script, or for want of memory, and `Read` where a read failed.
+/// `Script` with the fault of bytes that are no script, or if an allocation fails, and `Read` if a read fails.
 pub fn read_script<S: Source>(alloc: Global, source: &mut S) -> Result<Script, RunFault>
     requires { S.has_failed source.old ≡ false }
     ensures script { IfSome (S.remaining source.old) (λ bytes. ReadsScript (reading_of bytes) result) }
@@ -98,11 +98,11 @@ pub fn read_script<S: Source>(alloc: Global, source: &mut S) -> Result<Script, R
     }
 }
 
-/// Reads a file whole.
+/// Reads a whole file.
 ///
 /// # Errors
 ///
-/// `Read` where a read failed or the file has more than 2^31 - 1 bytes, and `Script` for want of memory.
+/// `Read` if a read fails or the file has more than 2^31 - 1 bytes, and `Script` if an allocation fails.
 pub fn read_file<S: Source>(alloc: Global, source: &mut S) -> Result<Bytes, RunFault>
     requires { S.has_failed source.old ≡ false }
     ensures file { IfSome (S.remaining source.old) (λ bytes. ReadsFile bytes result (S.has_failed source.new)) }

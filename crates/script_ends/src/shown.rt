@@ -1,21 +1,21 @@
-//! Bytes, shown to people.
+//! Bytes as they are shown to people.
 
 ghost use Rattle.std.specs.Prelude.{◌≡◌, ◌++◌, OnOk, length, string_bytes};
 ghost use Rattle.script_ends.specs.Shown.{is_printable as is_printable_byte, shown as shown_byte, shown_bytes, quoted};
 
 use std::alloc::AllocError;
 
-/// How many characters of a line are shown at most.
+/// The most characters of a line that are shown.
 const WIDTH: usize = 120;
 
-/// Whether a byte is shown as the character that it is.
+/// Returns whether a byte is shown as its own character.
 fn is_printable(byte: u8) -> bool
     ensures { result ≡ is_printable_byte byte }
 {
     byte >= 0x20 && byte <= 0x7E
 }
 
-/// How many characters a byte is shown by, 1 or 4.
+/// Returns how many characters show a byte: 1 or 4.
 pub fn shown_width(byte: u8) -> usize
     ensures { result ≡ length (shown_byte byte) }
 {
@@ -26,7 +26,7 @@ pub fn shown_width(byte: u8) -> usize
 ///
 /// # Errors
 ///
-/// `AllocError` for want of memory.
+/// `AllocError` if an allocation fails.
 pub fn append_byte(out: &mut String, byte: u8) -> Result<(), AllocError>
     ensures { OnOk result (string_bytes out.new ≡ string_bytes out.old ++ shown_byte byte) }
 {
@@ -41,7 +41,7 @@ pub fn append_byte(out: &mut String, byte: u8) -> Result<(), AllocError>
 ///
 /// # Errors
 ///
-/// `AllocError` for want of memory. A front part of what is to be shown may be appended then.
+/// `AllocError` if an allocation fails. A front part may be appended then.
 pub fn append_bytes(out: &mut String, bytes: &[u8]) -> Result<(), AllocError>
     ensures { OnOk result (string_bytes out.new ≡ string_bytes out.old ++ shown_bytes bytes.now) }
 {
@@ -55,7 +55,7 @@ pub fn append_bytes(out: &mut String, bytes: &[u8]) -> Result<(), AllocError>
 ///
 /// # Errors
 ///
-/// `AllocError` for want of memory. A front part of what is to be shown may be appended then.
+/// `AllocError` if an allocation fails. A front part may be appended then.
 pub fn append_quoted(out: &mut String, text: &[u8]) -> Result<(), AllocError>
     ensures { OnOk result (string_bytes out.new ≡ string_bytes out.old ++ quoted text.now) }
 {
@@ -69,7 +69,7 @@ pub fn append_quoted(out: &mut String, text: &[u8]) -> Result<(), AllocError>
     out.push_str("\"")
 }
 
-/// The first line of a text, without its LF, and what stands behind it.
+/// Returns the first line of a text without its LF, and what comes behind it.
 fn split_line(text: &[u8]) -> (&[u8], &[u8]) {
     match text.iter().position(|byte| *byte == b'\n') {
         Some(at) => (&text[..at], &text[at + 1..]),
@@ -77,7 +77,7 @@ fn split_line(text: &[u8]) -> (&[u8], &[u8]) {
     }
 }
 
-/// A line of a text, counted from 1, without its LF; empty behind the last one.
+/// Returns a line of a text, counted from 1, without its LF; it is empty behind the last one.
 fn line_at(text: &[u8], line: u64) -> &[u8] {
     let mut rest = text;
     for _ in 1..line {
@@ -86,11 +86,11 @@ fn line_at(text: &[u8], line: u64) -> &[u8] {
     split_line(rest).0
 }
 
-/// Sets `shown` to a line of a text, counted from 1, as it is shown; at most 120 characters, and `...` where there is more.
+/// Sets `shown` to a line of a text, counted from 1, as it is shown: at most 120 characters, and `...` if there are more.
 ///
 /// # Errors
 ///
-/// `AllocError` for want of memory. A front part of what is to be shown is in `shown` then.
+/// `AllocError` if an allocation fails. `shown` has a front part then.
 pub fn show_line(shown: &mut String, text: &[u8], line: u64) -> Result<(), AllocError> {
     shown.clear();
     for byte in line_at(text, line) {

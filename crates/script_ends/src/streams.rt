@@ -1,4 +1,4 @@
-//! Readers and writers of std, and bytes, as the ends of a run.
+//! Readers and writers of `std`, and byte slices, as the ends of a run.
 
 ghost use Rattle.std.specs.Prelude.{◌≡◌, Some, false};
 
@@ -6,7 +6,7 @@ use crate::ends::{ReadFailed, Sink, Source, WriteFailed};
 use std::io::{Read, Write};
 use std::marker::Model;
 
-/// A reader of std, and whether it has failed. Any error of a read counts.
+/// A reader of `std`, and whether it has failed. Any error of a read counts as a failure.
 #[derive(Drop)]
 pub struct ReaderSource<R> {
     /// The reader.
@@ -16,7 +16,7 @@ pub struct ReaderSource<R> {
 }
 
 impl<R: Read> ReaderSource<R> {
-    /// Reads from here.
+    /// Returns a source that reads from `reader`.
     pub fn new(reader: R) -> Self
         ensures reader { result.reader ≡ reader }
         ensures failed { result.failed ≡ false }
@@ -44,7 +44,7 @@ impl<R: Read> Source for ReaderSource<R> {
     }
 }
 
-/// A writer of std, and whether it has failed.
+/// A writer of `std`, and whether it has failed.
 #[derive(Drop)]
 pub struct WriterSink<W> {
     /// The writer.
@@ -54,7 +54,7 @@ pub struct WriterSink<W> {
 }
 
 impl<W: Write> WriterSink<W> {
-    /// Writes to here.
+    /// Returns a sink that writes to `writer`.
     pub fn new(writer: W) -> Self
         ensures writer { result.writer ≡ writer }
         ensures failed { result.failed ≡ false }
@@ -87,7 +87,7 @@ impl<W: Write> Sink for WriterSink<W> {
     }
 }
 
-/// Bytes as a source. No read of it fails. Contracts see the bytes that are left.
+/// Bytes as a source. No read of it fails. A contract sees the bytes that are left.
 #[derive(Drop)]
 pub struct TextSource<'a> {
     rest: &'a [u8],
@@ -102,7 +102,7 @@ impl<'a> Model for TextSource<'a> {
 }
 
 impl<'a> TextSource<'a> {
-    /// These bytes.
+    /// Returns a source of these bytes.
     pub fn new(text: &'a [u8]) -> Self
         ensures { result ≡ text.now }
     {

@@ -1,4 +1,4 @@
--- What was written, piece by piece, and the answer to a script that was not read.
+-- What is written piece by piece, and the answer for a script that was not read.
 use Rattle.std.proofs.Common.{◌≡◌, ℕ, List, [], ◌++◌, refl, sym, ◌∙◌, ap, subst, append_assoc, append-nil, Option, Some, None, IfSome, Result, Ok, Err, inl, inr}
 use Rattle.std.specs.Io.KnownBytes.{Keeps, Appends}
 use Rattle.ed_types.specs.declared.script.Command.{Command}
@@ -18,7 +18,7 @@ pub keeps : (old : Option (List ℕ)) → Keeps old old
 keeps None = tt
 keeps (Some bytes) = refl
 
--- what was written, and what is written then
+-- what was written, and then what is written next
 pub appends_more : (old mid new : Option (List ℕ)) (first more : List ℕ) → Appends old mid first → Appends mid new more → Appends old new (first ++ more)
 appends_more None mid new first more a b = tt
 appends_more (Some xs) None new first more a b = absurd a
@@ -29,7 +29,7 @@ appends_more (Some xs) (Some ys) (Some zs) first more a b = b ∙ ap (λ front. 
 pub front_none : (old : Option (List ℕ)) (text : List ℕ) → AppendsFront old old text
 front_none old text = record { front = []; left = text; split = refl; appended = appends_none old }
 
--- the answer where the script was not read
+-- the answer if the script was not read
 pub not_read : (text : List Command → List ℕ) (value : List Command → ℕ) (read : Result (List Command) ScriptFault) (fault : RunFault) (old : Option (List ℕ)) → ReadsScript read (Err fault) → Answers text value read (Err fault) old old
 not_read text value (Ok commands) (Script fault) old (inl other) = cc
 not_read text value (Ok commands) (Script fault) old (inr which) = (which, front_none old (text commands))
