@@ -33,7 +33,7 @@ and_false true false x = refl
 and_false true true x = absurd (cc)
 and_false false b x = refl
 
--- it keeps the limits where the line keeps its own and there is room for it
+-- the script keeps the limits if the line keeps its own and fits in
 pub line_added : (commands : List Command) (c : Command) → keeps_limits commands ≡ true → length (listed_command c) ≤ 65536
     → keeps_limits (commands ++ c ∷ []) ≡ nat_lt (length (listing 2 commands) + length (listed_command c)) 16777216
 line_added commands c keeps short =
@@ -47,13 +47,13 @@ line_added commands c keeps short =
     same true e = let l = ltb-true (length (listing 2 commands) + length (listed_command c)) 16777216 e in le-leb (length (listing 2 commands) + (length (listed_command c) + 1)) 16777216 (omega arith) ∙ sym e
     same false e = let g = ltb-false (length (listing 2 commands) + length (listed_command c)) 16777216 e in lt-leb (length (listing 2 commands) + (length (listed_command c) + 1)) 16777216 (omega arith) ∙ sym e
 
--- and not where the line is too long
+-- the script does not keep the limits if the line is too long
 pub line_too_long : (commands : List Command) (c : Command) → (length (listed_command c) ≤ 65536 → ⊥) → keeps_limits (commands ++ c ∷ []) ≡ false
 line_too_long commands c long =
     let line = lt-leb (length (listed_command c)) 65536 (omega arith) in
     ap (λ b. b && fits_script (listing 2 (commands ++ c ∷ []))) (all_with commands c ∙ and_false (list_all (λ command. fits_line (listed_command command)) commands) (fits_line (listed_command c)) line)
 
--- room as it is counted
+-- the test of the code for that
 pub room_is : (listed len : ℕ) → nat_lt len (16777216 - listed) ≡ nat_lt (listed + len) 16777216
 room_is listed len = go (nat_lt len (16777216 - listed)) refl
   where

@@ -23,7 +23,7 @@ some_word : (word : List ℕ) → 0 < length word → not_empty word ≡ Ok word
 some_word [] h = absurd (omega arith)
 some_word (b ∷ bs) h = refl
 
--- The first bytes, so many, are a whole word of digits with no needless zero, and have this value.
+-- The first `len` bytes are a whole word of digits without a needless zero, and have this value.
 pub record IsWholeNumber (bytes : List ℕ) (n len : ℕ) : Type 0 where
   pub within : len ≤ length bytes
   pub few : len ≤ 19
@@ -42,11 +42,11 @@ whole_word bytes n len h =
     let number = spelled-digits (take len bytes) h.digits (omega (arith, h.some)) (omega (arith, h.few)) (λ is. omega (arith, h.lone (sym first ∙ is))) in
     (ap (λ k. take k bytes) (sym ends.0) ∙ number ∙ ap spelled (sym h.value), ap (λ k. drop k bytes) (sym ends.1))
 
--- a word with what is left
+-- a word with the rest of the line
 abbrev with_rest : List ℕ → List ℕ → Result (List ℕ × List ℕ) Cause
 with_rest rest word = Ok (word, rest)
 
--- what `word_field` gives behind its space
+-- what `word_field` returns after its space
 abbrev word_behind : List ℕ → Result (List ℕ × List ℕ) Cause
 word_behind bytes = not_empty (word_of bytes) >>= with_rest (behind_word bytes)
 
@@ -68,7 +68,7 @@ number_behind (b ∷ bs) n len some is h =
     let count : suc len ≡ len + 1 = omega arith in
     (behind_space b bs is ∙ word_is bs n len h ∙ ap (λ k. Ok (spelled n, drop k (b ∷ bs))) count, omega (arith, h.within))
 
--- a digit behind a space, before a space or the line's end
+-- a digit after a space, before a space or the end of the line
 pub digit_at_front : (line : List ℕ) (d : ℕ) → 2 ≤ length line → get_or line 0 0 ≡ space → IsAsciiDigit (get_or line 1 0) → d ≡ get_or line 1 0 - 48 → (2 < length line → get_or line 2 0 ≡ 32) → IsNumberAtFront line d 2
 digit_at_front [] d long begins range is ended = absurd (omega arith)
 digit_at_front (a ∷ []) d long begins range is ended = absurd (omega arith)
@@ -85,7 +85,7 @@ digit_at_front (a ∷ b ∷ rest) d long begins range is ended =
       lone = λ zero. refl;
     })
 
--- a field whose word is read as a value
+-- a field whose word has this value
 field_is : {T : Type 0} (number : List ℕ → Option T) (line word rest : List ℕ) (value : T) → word_field line ≡ Ok (word, rest) → number word ≡ Some value → number_field number line ≡ Ok (value, rest)
 field_is number line word rest value field reads = rw (field, reads)
 

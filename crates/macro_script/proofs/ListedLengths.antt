@@ -33,7 +33,7 @@ length-send view message =
     let number = space ∷ spelled message.number ++ w in
     omega (arith, length-append (spelled view) number, length-append (spelled message.number) w, length-append (spelled_int message.w) l, length-append (spelled_int message.l) text, length-append (spelled_bytes message.text) (quote ∷ []))
 
--- what a slice of bytes holds
+-- the items of a slice of bytes are bytes
 pub are_bytes : (bytes : List ℕ) → ((k : ℕ) → get_or bytes k 0 < 256) → AllByRecursion (λ b. b < 256) bytes
 are_bytes [] all = tt
 are_bytes (b ∷ bs) all = (all 0, are_bytes bs (λ k. all (suc k)))

@@ -34,11 +34,11 @@ first_part old new first second some = record {
   appended = some.appended;
 }
 
--- the same text in other words
+-- the same for an equal text
 pub in_words : (first second old new : List ℕ) (r : Result (Unit {0}) AllocError) → first ≡ second → Appends first old new r → Appends second old new r
 in_words first second old new r same h = subst (λ text. Appends text old new r) same h
 
--- a line's end in the pieces that are appended: the space and a quote, the text, and a quote and the LF
+-- the end of a line as the pieces that are appended: a space and a quote, the text, and a quote and the LF
 pub text_end : (text : List ℕ) → (space ∷ spelled_text text) ++ line_feed ∷ [] ≡ (space ∷ quote ∷ []) ++ (spelled_bytes text ++ quote ∷ line_feed ∷ [])
 text_end text = ap (λ bs. space ∷ quote ∷ bs) (append_assoc (spelled_bytes text) (quote ∷ []) (line_feed ∷ []))
 
@@ -63,12 +63,12 @@ part_of_rest n text old mid new is some = subst (AppendsPart old new) (sym (spel
 pub fields_split : (n : ℕ) (numbers : List ℤ) → number_fields numbers ≡ number_fields (take n numbers) ++ number_fields (drop n numbers)
 fields_split n numbers = ap number_fields (sym (take-append-drop n numbers)) ∙ flat_map-append (λ z. space ∷ spelled_int z) (take n numbers) (drop n numbers)
 
--- where a step ran out of memory
+-- a step after which an allocation had failed
 pub stopped : (text old new : List ℕ) (r : Result (Unit {0}) AllocError) → IsErr r → AppendsPart old new text → Appends text old new r
 stopped text old new (Ok done) is some = cc
 stopped text old new (Err refused) is some = some
 
--- where a step ran out of memory, and then as many bytes were appended as fitted
+-- a step at which an allocation failed, after which as many bytes were appended as fitted
 pub front_part : (n : ℕ) (text old mid new : List ℕ) → mid ≡ old → new ≡ mid ++ take n text → AppendsPart old new text
 front_part n text old mid new same is = record {
   part = take n text;
@@ -77,22 +77,22 @@ front_part n text old mid new same is = record {
   appended = is ∙ ap (λ bs. bs ++ take n text) same;
 }
 
--- as many as there was room for, where the text is longer
+-- as many as fit, if the text is longer
 pub fills_room : (n room : ℕ) (text old mid new : List ℕ) → mid ≡ old → new ≡ mid ++ take n text → room ≤ n → room ≤ length text → room ≤ length new - length old
 fills_room n room text old mid new same is most less =
     omega (arith, ap length is, ap length same, length-append mid (take n text), length-take n text)
 
--- all of it, where there was room for that
+-- all of them, if they fit
 pub fitted_whole : (n : ℕ) (text old mid new : List ℕ) → mid ≡ old → new ≡ mid ++ take n text → length text ≤ n → new ≡ old ++ text
 fitted_whole n text old mid new same is fits = is ∙ ap (λ bs. bs ++ take n text) same ∙ ap (λ bs. old ++ bs) (take_all n text fits)
 
--- the same of a text that goes on
+-- the same for a longer text
 pub front_of_more : (n k : ℕ) (first text old mid new : List ℕ) → take k text ≡ first → mid ≡ old → new ≡ mid ++ take n first → AppendsPart old new text
 front_of_more n k first text old mid new begins same is =
     let whole : first ++ drop k text ≡ text = ap (λ bs. bs ++ drop k text) (sym begins) ∙ take-append-drop k text in
     subst (AppendsPart old new) whole (first_part old new first (drop k text) (front_part n first old mid new same is))
 
--- what holds where a step ran out of memory
+-- what holds if an allocation failed
 pub on_refusal : (P : Type 0) (r : Result (Unit {0}) AllocError) → P → OnErr r P
 on_refusal P (Ok done) p = tt
 on_refusal P (Err refused) p = p
@@ -101,7 +101,7 @@ pub stopped_some : (text old new : List ℕ) (r : Result ℕ AllocError) → IsE
 stopped_some text old new (Ok n) is some = cc
 stopped_some text old new (Err refused) is some = some
 
--- one number more
+-- one more number
 pub one_field_more : (numbers : List ℤ) (i : ℕ) (old mid new : List ℕ) → i < length numbers → mid ≡ old ++ number_fields (take i numbers) → new ≡ mid ++ (space ∷ spelled_int (get_or numbers i (pos 0))) → new ≡ old ++ number_fields (take (i + 1) numbers)
 one_field_more numbers i old mid new h so_far more =
     let z = get_or numbers i (pos 0) in
@@ -148,11 +148,11 @@ tail_length text at = ap length (take_rest text at) ∙ length-drop at text
 pub byte_stopped : (text bytes old new : List ℕ) → 0 < length text → bytes ≡ spelled_byte (get_or text 0 0) → AppendsPart old new bytes → AppendsPart old new (spelled_bytes text)
 byte_stopped text bytes old new h is some = part_of_front 1 text old new (subst (AppendsPart old new) (is ∙ sym (byte_at_front text h)) some)
 
--- .. where memory runs out at it
+-- an allocation failed at the byte at the front
 pub byte_refused : (text old new : List ℕ) (r : Result ℕ AllocError) → IsErr r → 0 < length text → AppendsPart old new (spelled_byte (get_or text 0 0)) → AppendsSome text old new r
 byte_refused text old new r refused h some = stopped_some text old new r refused (byte_stopped text (spelled_byte (get_or text 0 0)) old new h refl some)
 
--- Pieces of a list's items, one after another.
+-- Successive pieces of a list.
 take_item : {X : Type 0} (xs : List X) (i : ℕ) (x : X) → slice_get xs i ≡ Some x → (take (i + 1) xs ≡ take i xs ++ x ∷ []) × (drop i xs ≡ x ∷ drop (i + 1) xs)
 take_item [] i x h = cc
 take_item (y ∷ ys) zero x h = let same : y ≡ x = cc in (ap (λ z. z ∷ []) same, ap (λ z. z ∷ ys) same)

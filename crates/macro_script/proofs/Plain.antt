@@ -1,4 +1,4 @@
--- Bytes that stand for themselves, and what they are read as.
+-- Bytes that are spelled by themselves, and their reading.
 use Rattle.std.proofs.Common.{◌≡◌, ◌≢◌, ℕ, zero, suc, ◌+◌, ◌<◌, ◌≤◌, List, [], ◌∷◌, ◌++◌, length, get_or, take, drop, refl, sym, ◌∙◌, ap, subst, arith, Result, Ok, Err, append_assoc, append-nil, length-drop, drop-drop, get_or-drop, slice_range, ◌-◌}
 use Rattle.std.proofs.lemmas.List.{take_rest}
 use Rattle.std.specs.Prelude.{◌==◌, ◌&&◌, ◌||◌, nat_le}
@@ -19,7 +19,7 @@ plain_byte b low high a c =
     cond-false (b == quote || b == backslash) _ _ (or_from _ _ (ne_eqb b quote a) (ne_eqb b backslash c)) ∙
     cond-true (nat_le 0x20 b && nat_le b 0x7E) _ _ (and_from _ _ (le-leb 0x20 b low) (le-leb b 0x7E high))
 
--- bytes in front of what is read
+-- bytes before what is read
 abbrev pub with_bytes : List ℕ → Result (List ℕ × List ℕ) Cause → Result (List ℕ × List ℕ) Cause
 with_bytes bytes (Ok read) = Ok (bytes ++ read.0, read.1)
 with_bytes bytes (Err cause) = Err cause
@@ -36,7 +36,7 @@ with_bytes-none : (read : Result (List ℕ × List ℕ) Cause) → with_bytes []
 with_bytes-none (Ok read) = refl
 with_bytes-none (Err cause) = refl
 
--- a run of bytes that stand for themselves
+-- a run of bytes that are spelled by themselves
 pub run_is_read : (n : ℕ) (text : List ℕ) → n ≤ length text → ArePlainBefore text n → ((k : ℕ) → get_or text k 0 < 256) → text_past 0 text ≡ with_bytes (take n text) (text_past 0 (drop n text))
 run_is_read zero text h plain bytes = sym (with_bytes-none (text_past 0 text))
 run_is_read (suc n) [] h plain bytes = absurd (omega arith)
@@ -45,12 +45,12 @@ run_is_read (suc n) (b ∷ bs) h plain bytes =
     ap (with_byte b) (run_is_read n bs (omega arith) (λ k low. plain (suc k) (omega arith)) (λ k. bytes (suc k))) ∙
     with_byte-one b (with_bytes (take n bs) (text_past 0 (drop n bs))) ∙ with_bytes-append (b ∷ []) (take n bs) (text_past 0 (drop n bs))
 
--- What is read of a spelling of which `at` bytes are read to these bytes.
+-- The state of reading a spelling: the first `at` bytes of it gave these bytes.
 pub record IsReadSoFar (spelling : List ℕ) (at : ℕ) (bytes : List ℕ) : Type 0 where
   pub within : at ≤ length spelling
   pub read : text_past 0 spelling ≡ with_bytes bytes (text_past 0 (drop at spelling))
 
--- the run at the front, where it is all that is read so far
+-- the run at the front, if nothing else has been read
 pub read_first_run : (spelling : List ℕ) (n : ℕ) (copied : List ℕ) → n ≤ length spelling → ArePlainBefore spelling n → ((k : ℕ) → get_or spelling k 0 < 256) → copied ≡ take n spelling → IsReadSoFar spelling n copied
 read_first_run spelling n copied h plain all is = subst (IsReadSoFar spelling n) (sym is) (record { within = h; read = run_is_read n spelling h plain all })
 
@@ -78,7 +78,7 @@ read_close spelling at bytes so_far h front = (
 abbrev pub tail : List ℕ → ℕ → List ℕ
 tail spelling at = slice_range spelling at (length spelling)
 
--- after a run that was copied
+-- behind a run that was copied
 pub read_copied : (spelling : List ℕ) (at n : ℕ) (bytes copied : List ℕ) → IsReadSoFar spelling at bytes → n ≤ length (tail spelling at) → ArePlainBefore (tail spelling at) n → ((k : ℕ) → get_or spelling k 0 < 256) → copied ≡ bytes ++ slice_range spelling at (at + n) → IsReadSoFar spelling (at + n) copied
 read_copied spelling at n bytes copied so_far h plain all is =
     let count : at + n - at ≡ n = omega arith in
@@ -106,7 +106,7 @@ read_wrong spelling at bytes so_far front =
     let at-front : IsFront (drop at spelling) Wrong = subst (λ bs. IsFront bs Wrong) (take_rest spelling at) front in
     so_far.read ∙ ap (with_bytes bytes) at-front
 
--- a text that is one run, with its closing quote behind
+-- a text that is one run, with its closing quote
 closed : (text : List ℕ) → get_or text 0 0 ≡ quote → (0 < length text) × (text_past 0 text ≡ Ok ([], drop 1 text))
 closed [] is = cc
 closed (b ∷ bs) is = (omega arith, cond-true (b == quote) _ _ (eq-eqb b quote is))

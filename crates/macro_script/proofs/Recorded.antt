@@ -1,4 +1,4 @@
--- What is added of a reply is all that the view recorded in it.
+-- The message that is added for a reply is everything that the view recorded in it.
 use Rattle.std.proofs.Common.{◌≡◌, ◌≤◌, ℕ, Bool, true, false, cond, List, [], ◌∷◌, ◌++◌, length, map, drop, zero, suc, ◌+◌, refl, ap, sym, subst, arith}
 use Rattle.std.specs.Prelude.{◌<◌, slice_get, filter, find, Some}
 use Rattle.std.proofs.lemmas.List.{append-nil}
@@ -28,7 +28,7 @@ records_all view reply few =
     subst (λ notes. length (map told_message (filter (is_recording view) notes)) ≤ 1 → map (sending view) (map told_message (filter (is_recording view) notes)) ≡ sends_for view (find (is_recording view) reply.notes)) (sym same)
     (first_is_all view reply.notes) few
 
--- Looking for the note from place to place.
+-- The search for the note, place by place.
 
 pub found_here : (view place : ℕ) (notes : List Notice) (n : Notice) → slice_get notes place ≡ Some n → is_recording view n ≡ true
     → (place < length notes) × (find (is_recording view) (drop place notes) ≡ Some n)

@@ -15,7 +15,7 @@ more_digits n h small =
 pub two_digits : (n : ℕ) → 10 ≤ n → n < 100 → spelled n ≡ (48 + n / 10 % 10) ∷ (48 + n % 10) ∷ []
 two_digits n h small = more_digits n h (omega arith) ∙ ap (λ front. front ++ (48 + n % 10) ∷ []) (one_digit (n / 10) (omega arith))
 
--- a tenth of a tenth
+-- a tenth of a tenth is a hundredth
 tenth : (n : ℕ) → n < 10000 → n / 10 / 10 ≡ n / 100
 tenth n h = omega arith
 

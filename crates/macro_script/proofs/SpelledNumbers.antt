@@ -1,4 +1,4 @@
--- Which words spell numbers.
+-- The words that spell numbers.
 use Rattle.std.proofs.Common.{◌≡◌, ℕ, zero, suc, ◌+◌, ◌-◌, ◌*◌, ◌^◌, ◌<◌, ◌≤◌, List, ◌∷◌, length, get_or, take, refl, sym, length-take, ◌∙◌, ap, subst, arith, pos, negsuc, Option, Some, None, decimal, SomeIff, IfSome, lt-ltb}
 use Rattle.std.specs.Str.Parse.{digits_value, AllDigits}
 use Rattle.std.proofs.lemmas.Str.Parse.{numerals_by_value, tells_digits, digit_at, digits_value_short}
@@ -62,7 +62,7 @@ one_digit_more ds i value digit h range is all so_far =
     let same : digit ≡ digit_value (get_or ds i 0) = omega arith in
     (digits_more 10 ds i h all (omega arith), ap (λ v. v * 10 + digit) so_far ∙ ap (λ d. digits_value 10 (take i ds) * 10 + d) same ∙ sym (digits_value_more 10 ds i h))
 
--- What `magnitude` answers of a word that is short and has no needless zero.
+-- The result of `magnitude` for a word that is short and has no needless zero.
 pub magnitude_only : (word : List ℕ) (r : Option ℕ) → SomeIff r (AllDigits 10 word) (digits_value 10 word) → 0 < length word → length word ≤ 19 → (get_or word 0 0 ≡ 48 → length word ≤ 1) → IfSome r (λ n. word ≡ spelled n)
 magnitude_only word None h some short lone = tt
 magnitude_only word (Some n) h some short lone = spelled-digits word h.0 some short lone ∙ ap spelled (sym h.1)
@@ -78,6 +78,6 @@ natural_some word n is h = ap natural is ∙ natural-spelled n h
 pub integer_some : (word : List ℕ) (n : ℕ) → word ≡ spelled n → n < 2 ^ 63 → integer word ≡ Some (pos n)
 integer_some word n is h = ap integer is ∙ integer-spelled (pos n) (lt-ltb n (2 ^ 63) h)
 
--- behind a sign
+-- after a sign
 pub negative_some : (digits : List ℕ) (n : ℕ) → digits ≡ spelled (suc n) → n < 2 ^ 63 → integer (45 ∷ digits) ≡ Some (negsuc n)
 negative_some digits n is h = ap (λ ds. integer (45 ∷ ds)) is ∙ integer-spelled (negsuc n) (lt-ltb n (2 ^ 63) h)

@@ -33,12 +33,12 @@ one_line text end before here =
       omega (arith, length-drop (end + 1) text),
     )
 
--- commands in front of those that are read
+-- commands before those that are read
 abbrev pub after_commands : List Command → Result (List Command) ScriptFault → Result (List Command) ScriptFault
 after_commands done (Ok commands) = Ok (done ++ commands)
 after_commands done (Err fault) = Err fault
 
--- What is read of a text of which the lines before `rest` gave these commands.
+-- The state of reading a text: the lines before `rest` gave these commands.
 pub record IsReadTo (version : ℕ) (text : List ℕ) (number : ℕ) (rest : List ℕ) (done : List Command) : Type 0 where
   pub read : read_from version 2 text ≡ after_commands done (read_from version number rest)
   pub room : number + length rest ≤ length text + 2
@@ -64,7 +64,7 @@ read_fault version text number rest line after done fault so_far split here =
     let more : Command → Result (List Command) ScriptFault = λ c. read_from version (number + 1) after >>= (λ cs. Ok (c ∷ cs)) in
     so_far.read ∙ ap (after_commands done) (cut version number rest line after split.0 ∙ ap (λ r. r >>= more) here)
 
--- What a line that is read, or want of memory, makes of the whole.
+-- How the result of reading a line, or a failed allocation, decides that of the whole.
 pub fault_found : (version : ℕ) (text : List ℕ) (number : ℕ) (rest line after : List ℕ) (done : List Command) (fault : ScriptFault) → IsReadTo version text number rest done → (slice_split (λ b. b == line_feed) rest ≡ line ∷ slice_split (λ b. b == line_feed) after) × (length after < length rest) → OrMemory (at_line number line (read_command version line)) (Err fault) → OrMemory (read_from version 2 text) (Err fault)
 fault_found version text number rest line after done fault so_far split (inl is) = inl (sym (read_fault version text number rest line after done fault so_far split (sym is)))
 fault_found version text number rest line after done fault so_far split (inr refused) = let same : fault ≡ OutOfMemory = cc in inr (ap Err same)

@@ -12,7 +12,7 @@ use Rattle.ed_model.specs.ScriptLaws.{OnlyListingsAreRead}
 use Rattle.macro_script.specs.Lines.{OrMemory}
 use Rattle.macro_script.specs.Scripts.{IsProper}
 
--- a text of one line or more
+-- a text of at least one line
 pub from_first : (text first rest : List ℕ) → length text ≤ 16777216 → slice_split (λ b. b == line_feed) text ≡ first ∷ slice_split (λ b. b == line_feed) rest → reading text ≡ (at_line 1 first (read_version first) >>= (λ version. read_from version 2 rest))
 from_first text first rest short split =
     reads_within text (at_line 1 first (read_version first) >>= (λ version. read_from version 2 rest)) (le-leb (length text) 16777216 short) (ap read_script split ∙ read_script-first first rest)

@@ -1,11 +1,11 @@
--- What appending leaves.
+-- The effect of appending.
 use Rattle.std.specs.Prelude.{◌≡◌, ℕ, ℤ, List, [], ◌∷◌, ◌++◌, Option, Some, None, Result, Ok, Err, flat_map, length, take, ◌<◌, ◌≤◌}
 use Rattle.std.proofs.Common.{Bor}
 use Rattle.std.specs.declared.alloc.AllocError.{AllocError}
 use Rattle.ed_model.specs.Text.{line_feed}
 use Rattle.ed_model.specs.Spelling.{space, spelled_int, spelled_bytes, spelled_text}
 
--- where memory runs out, only a part of the text, from its front, may have been appended
+-- if an allocation failed, only a front part of the text may have been appended
 pub record AppendsPart (old new text : List ℕ) : Type 0 where
   pub part : List ℕ
   pub left : List ℕ
@@ -17,16 +17,16 @@ abbrev pub Appends : List ℕ → List ℕ → List ℕ → Result (Unit {0}) Al
 Appends text old new (Ok done) = new ≡ old ++ text
 Appends text old new (Err refused) = AppendsPart old new text
 
--- numbers, each behind a space
+-- numbers, each after a space
 abbrev pub number_fields : List ℤ → List ℕ
 number_fields numbers = flat_map (λ z. space ∷ spelled_int z) numbers
 
--- a text behind a space, if there is one
+-- a text after a space, if there is one
 abbrev pub text_field : Option (List ℕ) → List ℕ
 text_field None = []
 text_field (Some text) = space ∷ spelled_text text
 
--- a line of a word, numbers and a text
+-- a line: a word, numbers and a text
 abbrev pub line_of : List ℕ → List ℤ → Option (List ℕ) → List ℕ
 line_of word numbers text = word ++ (number_fields numbers ++ (text_field text ++ line_feed ∷ []))
 

@@ -16,15 +16,15 @@ pub record Recording : Type 0 where
 abbrev pub sending : ℕ → Message → Command
 sending view message = SendMessage view message
 
--- whether the note tells the view that it records
+-- whether the note is the view's notification of a recorded message
 abbrev pub is_recording : ℕ → Notice → Bool
 is_recording view n = n.code == macro_record && n.view == view
 
--- that note of a reply, which has one at most
+-- that note of a reply, which has at most one
 abbrev pub recording_note : ℕ → Response → Option Notice
 recording_note view reply = find (is_recording view) reply.notes
 
--- where it stands among the reply's notes, if there is one
+-- its place among the reply's notes, if there is one
 abbrev pub IsPlaceOf : Option Notice → List Notice → Option ℕ → Type 0
 IsPlaceOf found notes None = found ≡ None
 IsPlaceOf found notes (Some place) = (place < length notes) × (slice_get notes place ≡ found)
@@ -37,7 +37,7 @@ sends_for view (Some n) = sending view (told_message n) ∷ []
 abbrev pub recorded_sends : ℕ → Response → List Command
 recorded_sends view reply = sends_for view (recording_note view reply)
 
--- it is all that the view recorded in the reply, where that is one message at most, as in each reply of a session
+-- that is everything that the view recorded in the reply, if it is at most one message, as in each reply of a session
 abbrev pub RecordsAll : Type 0
 RecordsAll =
     (view : ℕ) (reply : Response) → length (recorded_messages view (reply ∷ [])) ≤ 1

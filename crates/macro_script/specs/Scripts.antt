@@ -1,4 +1,4 @@
--- What every script keeps.
+-- What every script guarantees.
 use Rattle.std.specs.Prelude.{◌≡◌, ℕ, List, length, IsTrue}
 use Rattle.std.specs.List.{AllByRecursion}
 use Rattle.ed_types.specs.declared.script.Command.{Command}

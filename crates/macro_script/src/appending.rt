@@ -1,4 +1,4 @@
-//! Pieces of text, appended to an output.
+//! Appending of pieces of text to an output.
 
 ghost use Rattle.std.specs.Prelude.{◌≡◌, ◌+◌, ◌-◌, ◌∷◌, ◌++◌, [], ◌<◌, ◌≤◌, length, take, vec_len, vec_capacity, IsErr, OnErr};
 ghost use Rattle.ed_model.specs.Spelling.{spelled, spelled_int, spelled_byte, spelled_bytes, spelled_text};
@@ -15,7 +15,8 @@ fn append_bytes(out: &mut Vec<u8>, bytes: &[u8]) -> Result<(), AllocError>
     out.extend_from_slice(bytes)
 }
 
-/// Where more memory has been refused: appends as many of the bytes as fit without it, and answers the refusal.
+/// The slow path of `append_each`, after an allocation failed: appends as many of the bytes as fit without one, and
+/// returns the error.
 #[cold]
 fn append_front(out: &mut Vec<u8>, bytes: &[u8]) -> Result<(), AllocError>
     ensures front { out.new.items ≡ out.old.items ++ take (vec_capacity out.old - vec_len out.old) bytes.now }
@@ -26,7 +27,7 @@ fn append_front(out: &mut Vec<u8>, bytes: &[u8]) -> Result<(), AllocError>
     Err(AllocError)
 }
 
-/// Appends bytes at once. Where memory is refused, it leaves what appending them one by one leaves: as many as fit.
+/// Appends bytes at once. If the allocation fails, appends as many as fit, as if they were appended one by one.
 fn append_each(out: &mut Vec<u8>, bytes: &[u8]) -> Result<(), AllocError>
     ensures appended { Appends bytes.now out.old.items out.new.items result }
     ensures left { OnErr result (vec_capacity out.old - vec_len out.old ≤ length out.new.items - length out.old.items) }
@@ -37,8 +38,9 @@ fn append_each(out: &mut Vec<u8>, bytes: &[u8]) -> Result<(), AllocError>
     }
 }
 
-/// Appends a space and digits at once. Where memory is refused, it leaves what appending the space and then the digits leaves: the
-/// space, if it fits. That space is a constant: bytes that the cold call took from `field` would have to lie in memory for it.
+/// Appends a space and digits at once. If the allocation fails, appends the space if it fits, as if space and digits
+/// were appended separately. That space is a constant: if the cold call took it from `field`, `field` would have to lie
+/// in memory.
 fn append_spaced(out: &mut Vec<u8>, field: &[u8]) -> Result<(), AllocError>
     requires { take 1 field.now ≡ 32 ∷ [] }
     ensures appended { Appends field.now out.old.items out.new.items result }
@@ -51,6 +53,10 @@ fn append_spaced(out: &mut Vec<u8>, field: &[u8]) -> Result<(), AllocError>
 }
 
 /// Appends a number that is not negative, in decimal digits.
+///
+/// # Errors
+///
+/// `AllocError` if the allocation fails. A front part of the digits may be appended then.
 pub fn append_number(out: &mut Vec<u8>, number: u64) -> Result<(), AllocError>
     ensures { Appends (spelled number) out.old.items out.new.items result }
 {
@@ -58,7 +64,11 @@ pub fn append_number(out: &mut Vec<u8>, number: u64) -> Result<(), AllocError>
     append_bytes(out, buffer.format(number).as_bytes())
 }
 
-/// Appends a number, with `-` before its digits where it is negative.
+/// Appends a number in decimal digits, with `-` before them if it is negative.
+///
+/// # Errors
+///
+/// `AllocError` if an allocation fails. A front part may be appended then.
 pub fn append_integer(out: &mut Vec<u8>, value: i64) -> Result<(), AllocError>
     ensures { Appends (spelled_int value) out.old.items out.new.items result }
 {
@@ -66,7 +76,7 @@ pub fn append_integer(out: &mut Vec<u8>, value: i64) -> Result<(), AllocError>
     append_bytes(out, buffer.format(value).as_bytes())
 }
 
-/// The digit of a number below 10.
+/// Returns the digit of a number below 10.
 fn digit(value: u64) -> u8
     requires { value < 10 }
     ensures { result ≡ 48 + value }
@@ -74,8 +84,8 @@ fn digit(value: u64) -> u8
     b'0' + value as u8
 }
 
-/// Appends a space and a number of up to four digits, as one array: its length is fixed in each case, so that the bytes are stored
-/// without a call.
+/// Appends a space and a number of up to four digits, as one array. Its length is a constant in each case, so that the
+/// bytes are stored without a call.
 fn append_short_field(out: &mut Vec<u8>, number: u64) -> Result<(), AllocError>
     requires { number < 10000 }
     ensures { Appends (32 ∷ spelled number) out.old.items out.new.items result }
@@ -95,7 +105,7 @@ fn append_short_field(out: &mut Vec<u8>, number: u64) -> Result<(), AllocError>
     append_spaced(out, &[b' ', digit(number / 1000), hundreds, tens, ones])
 }
 
-/// Appends a space and a number, however long.
+/// Appends a space and a number of any length.
 fn append_long_field(out: &mut Vec<u8>, number: i64) -> Result<(), AllocError>
     ensures { Appends (32 ∷ spelled_int number) out.old.items out.new.items result }
 {
@@ -114,7 +124,7 @@ fn append_field(out: &mut Vec<u8>, number: i64) -> Result<(), AllocError>
     }
 }
 
-/// Appends numbers, each behind a space.
+/// Appends numbers, each after a space.
 fn append_fields(out: &mut Vec<u8>, numbers: &[i64]) -> Result<(), AllocError>
     ensures { Appends (number_fields numbers.now) out.old.items out.new.items result }
 {
@@ -124,7 +134,7 @@ fn append_fields(out: &mut Vec<u8>, numbers: &[i64]) -> Result<(), AllocError>
     Ok(())
 }
 
-/// Appends the spelling of a byte, as an array whose length is fixed in each case, so that it is stored without a call.
+/// Appends the spelling of a byte, as an array. Its length is a constant in each case, so that it is stored without a call.
 fn append_byte(out: &mut Vec<u8>, byte: u8) -> Result<(), AllocError>
     ensures { Appends (spelled_byte byte) out.old.items out.new.items result }
 {
@@ -133,12 +143,12 @@ fn append_byte(out: &mut Vec<u8>, byte: u8) -> Result<(), AllocError>
         4 => append_bytes(out, &bytes),
         2 => append_bytes(out, &bytes[..2]),
         1 => append_bytes(out, &bytes[..1]),
-        // There is no other length: this arm spares the proof of that.
+        // There is no other length. This arm saves the proof of that.
         _ => append_bytes(out, &bytes[..len]),
     }
 }
 
-/// Appends the spelling of the first bytes, and says of how many, one at least.
+/// Appends the spelling of the first bytes, at least one, and returns their number.
 #[tactic(auto, using(crate::proofs::Pieces::byte_refused))]
 fn append_some(out: &mut Vec<u8>, text: &[u8]) -> Result<usize, AllocError>
     requires { 0 < length text.now }
@@ -164,7 +174,11 @@ fn append_spelled(out: &mut Vec<u8>, text: &[u8]) -> Result<(), AllocError>
     Ok(())
 }
 
-/// Appends a text, spelled between quotes.
+/// Appends the spelling of a text, between quotes.
+///
+/// # Errors
+///
+/// `AllocError` if an allocation fails. A front part may be appended then.
 pub fn append_text(out: &mut Vec<u8>, text: &[u8]) -> Result<(), AllocError>
     ensures { Appends (spelled_text text.now) out.old.items out.new.items result }
 {
@@ -195,7 +209,7 @@ fn append_end(out: &mut Vec<u8>, text: Option<&[u8]>) -> Result<(), AllocError>
     }
 }
 
-/// Appends what follows a line's word: numbers and a text.
+/// Appends what follows the word of a line: numbers and a text.
 fn append_behind_word(
     out: &mut Vec<u8>,
     numbers: &[i64],
@@ -207,7 +221,11 @@ fn append_behind_word(
     append_end(out, text)
 }
 
-/// Appends a line of a word, numbers and a text. It is compiled into its callers, where the word and so its length are known.
+/// Appends a line: a word, numbers and a text. Inlined into its callers, where the word and so its length are constants.
+///
+/// # Errors
+///
+/// `AllocError` if an allocation fails. A front part of the line may be appended then.
 #[inline]
 pub fn append_line(
     out: &mut Vec<u8>,

@@ -1,4 +1,4 @@
-//! Scripts, assembled from their text.
+//! Assembling of scripts from their text.
 
 ghost use Rattle.std.specs.Prelude.{◌≡◌, ◌⊎◌, Err};
 ghost use Rattle.ed_types.specs.declared.script.ScriptFault.TheVariants.{OutOfMemory};
@@ -10,11 +10,12 @@ use ed_model::laws_of_scripts;
 use ed_types::ScriptFault;
 use std::alloc::Global;
 
-/// The script that the bytes spell, in the version that their first line names.
+/// Returns the script that the bytes spell, in the version that their first line names.
 ///
 /// # Errors
 ///
-/// The first fault of bytes that spell none, with its line, counted from 1; `OutOfMemory` where memory is refused.
+/// `BadLine` with the first line at fault, counted from 1, or `TooLong`, if the bytes spell no script; `OutOfMemory` if
+/// an allocation fails.
 pub fn assemble(alloc: Global, bytes: &[u8]) -> Result<Script, ScriptFault>
     ensures { (result ≡ reading bytes.now) ⊎ (result ≡ Err OutOfMemory) }
 {

@@ -1,4 +1,4 @@
-//! Commands, read from their lines.
+//! Reading of commands from their lines.
 
 ghost use Rattle.std.specs.Prelude.{◌≡◌, option_map};
 ghost use Rattle.ed_model.specs.Reading.{verb_in, verbs_of, command_of, opens, closes, loads, sends, expects, read_command as read_command_of};
@@ -17,7 +17,7 @@ pub enum Version {
     Two,
 }
 
-/// Which command a line is.
+/// The kinds of commands.
 #[derive(Clone, Copy)]
 pub enum Verb {
     Open,
@@ -27,7 +27,7 @@ pub enum Verb {
     Expect,
 }
 
-/// The command that a word names in a version.
+/// Returns the kind of command that a word names in a version, or `None`.
 fn named(version: Version, word: &[u8]) -> Option<Verb>
     ensures { option_map verb_meant result ≡ verb_in (verbs_of (number_of version)) word.now }
 {
@@ -83,7 +83,11 @@ fn read_send(alloc: Global, fields: &mut Fields) -> Result<Command, Stop>
     Ok(fields.ended(Command::SendMessage { view, message })?)
 }
 
-/// The command of a line of a version.
+/// Reads the command of a line in a version.
+///
+/// # Errors
+///
+/// `Stop::Fault` if the line is no command of the version, and `Stop::OutOfMemory` if an allocation fails.
 pub fn read_command(alloc: Global, version: Version, line: &[u8]) -> Result<Command, Stop>
     ensures { Answers (read_command_of (number_of version) line.now) result }
 {

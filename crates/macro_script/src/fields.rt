@@ -1,4 +1,4 @@
-//! The fields of a line, read from the left.
+//! Reading of the fields of a line, from the left.
 
 ghost use Rattle.std.specs.Prelude.{◌≡◌, ◌<◌, IfSome, IsTrue, length, slice_index, ◌==◌};
 ghost use Rattle.std.specs.List.{position_or_len};
@@ -13,7 +13,7 @@ use ed_types::{Bytes, Cause, Command};
 use std::alloc::Global;
 use std::marker::Model;
 
-/// What is left of a line.
+/// The rest of a line.
 #[derive(Drop)]
 pub struct Fields<'a> {
     rest: &'a [u8],
@@ -27,7 +27,7 @@ impl<'a> Model for Fields<'a> {
     ghost view = { λ fields. fields.rest.now };
 }
 
-/// The length of the word at the front, in bytes.
+/// Returns the length of the word at the front, in bytes.
 fn word_len(line: &[u8]) -> usize
     ensures place { result ≡ position_or_len (λ b. b == 32) line.now }
     ensures len { result ≡ length (word_of line.now) }
@@ -40,14 +40,14 @@ fn word_len(line: &[u8]) -> usize
     line.len()
 }
 
-/// Whether no byte but a space stands at the place.
+/// Returns whether the word ends at `place`: the byte there is a space, or the line is over.
 fn ends_word(line: &[u8], place: usize) -> bool
     ensures { IsTrue result → place < length line.now → slice_index line.now place ≡ 32 }
 {
     place >= line.len() || line[place] == b' '
 }
 
-/// The number of one digit at the front behind a space, if one stands there: most numbers have one.
+/// Returns the number of a single digit at the front after a space, if there is one: most numbers have one digit.
 fn lone_digit(line: &[u8]) -> Option<u8>
     ensures { IfSome result (λ digit. IsNumberAtFront line.now digit 2) }
 {
@@ -68,14 +68,14 @@ fn lone_digit(line: &[u8]) -> Option<u8>
 }
 
 impl<'a> Fields<'a> {
-    /// All fields of a line.
+    /// Returns all fields of a line.
     pub fn new(line: &'a [u8]) -> Self
         ensures { result ≡ line.now }
     {
         Fields { rest: line }
     }
 
-    /// The word at the front, up to the next space or the end.
+    /// Takes the word at the front, up to the next space or the end.
     pub fn word(&mut self) -> &'a [u8]
         ensures word { result.now ≡ word_of self.old }
         ensures rest { self.new ≡ behind_word self.old }
@@ -85,7 +85,7 @@ impl<'a> Fields<'a> {
         word
     }
 
-    /// Passes one byte, which has to be this.
+    /// Skips one byte, which must be `byte`.
     fn pass(&mut self, byte: u8) -> Result<(), Cause>
         ensures { rest_of result self.new ≡ behind byte self.old }
     {
@@ -98,7 +98,7 @@ impl<'a> Fields<'a> {
         }
     }
 
-    /// The next word, behind one space.
+    /// Takes the next word, after one space.
     fn next_word(&mut self) -> Result<&'a [u8], Cause>
         ensures { and_rest (lent result) self.new ≡ word_field self.old }
     {
@@ -110,7 +110,11 @@ impl<'a> Fields<'a> {
         Ok(word)
     }
 
-    /// The next number from 0 to 4,294,967,295.
+    /// Takes the next number from 0 to 4,294,967,295.
+    ///
+    /// # Errors
+    ///
+    /// `BadShape` if no space and word are left, and `BadNumber` if the word is no such number.
     pub fn natural(&mut self) -> Result<u32, Cause>
         ensures { and_rest result self.new ≡ number_field natural_of self.old }
     {
@@ -122,7 +126,11 @@ impl<'a> Fields<'a> {
         numbers::natural(word).ok_or(Cause::BadNumber)
     }
 
-    /// The next number of 64 bits.
+    /// Takes the next number of 64 bits.
+    ///
+    /// # Errors
+    ///
+    /// `BadShape` if no space and word are left, and `BadNumber` if the word is no such number.
     pub fn integer(&mut self) -> Result<i64, Cause>
         ensures { and_rest result self.new ≡ number_field integer_of self.old }
     {
@@ -134,7 +142,12 @@ impl<'a> Fields<'a> {
         numbers::integer(word).ok_or(Cause::BadNumber)
     }
 
-    /// The next text, behind one space.
+    /// Takes the next text, after one space.
+    ///
+    /// # Errors
+    ///
+    /// `Stop::Fault` with `BadShape` if no space and quote come first, or `BadText` if the text is spelled wrongly;
+    /// `Stop::OutOfMemory` if an allocation fails.
     pub fn text(&mut self, alloc: Global) -> Result<Bytes, Stop>
         ensures { AnswersAndLeaves (text_field self.old) result self.new }
     {
@@ -145,7 +158,11 @@ impl<'a> Fields<'a> {
         Ok(text)
     }
 
-    /// The command, if nothing is left.
+    /// Returns `command` if nothing is left of the line.
+    ///
+    /// # Errors
+    ///
+    /// `BadShape` if something is left.
     pub fn ended(&self, command: Command) -> Result<Command, Cause>
         ensures { result ≡ ended_by command self.now }
     {

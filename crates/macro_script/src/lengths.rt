@@ -1,4 +1,4 @@
-//! Lengths of listed lines, without making them.
+//! Lengths of listed lines, computed without the lines.
 
 ghost use Rattle.std.specs.Prelude.{◌≡◌, ◌+◌, ◌≤◌, length, SomeIff, IsTrue, ◌<◌, ◌^◌};
 ghost use Rattle.std.specs.List.{AllByRecursion};
@@ -11,7 +11,7 @@ use crate::spelled::spell_byte;
 use ed_types::Command;
 use itoa::Buffer;
 
-/// The length of a number and of the space before it.
+/// Returns the length of a number and of the space before it.
 fn number_len(value: i64) -> usize
     ensures len { result ≡ length (spelled_int value) + 1 }
     ensures short { result ≤ 41 }
@@ -21,7 +21,7 @@ fn number_len(value: i64) -> usize
     buffer.format(value).len() + 1
 }
 
-/// The same of a number that is not negative.
+/// Like `number_len`, for a number that is not negative.
 fn id_len(id: u32) -> usize
     ensures len { result ≡ length (spelled id) + 1 }
     ensures short { result ≤ 41 }
@@ -30,7 +30,7 @@ fn id_len(id: u32) -> usize
     number_len(i64::from(id))
 }
 
-/// The length of a text's spelling, without quotes, unless it passes the limit of a line.
+/// Returns the length of a text's spelling, without quotes, or `None` if it exceeds the limit of a line.
 fn text_len(text: &[u8]) -> Option<usize>
     ensures len { SomeIff result (length (spelled_bytes text.now) ≤ 65536) (length (spelled_bytes text.now)) }
     ensures typed { AllByRecursion (λ b. b < 256) text.now }
@@ -45,14 +45,14 @@ fn text_len(text: &[u8]) -> Option<usize>
     Some(len)
 }
 
-/// The length, unless it passes the limit of a line.
+/// Returns the length, or `None` if it exceeds the limit of a line.
 fn within_limit(len: usize) -> Option<usize>
     ensures { SomeIff result (len ≤ 65536) len }
 {
     if len > LINE_LIMIT { None } else { Some(len) }
 }
 
-/// The length of the listed line that sends a message, unless it passes the limit.
+/// Returns the length in bytes of the listed line that sends a message, or `None` if it exceeds the limit.
 pub fn send_len(view: u32, number: u32, w: i64, l: i64, text: &[u8]) -> Option<usize>
     ensures typed { FitsTypes (sending view (record { number = number; w = w; l = l; text = text.now })) }
     ensures len { SomeIff result (length (listed_command (sending view (record { number = number; w = w; l = l; text = text.now }))) ≤ 65536) (length (listed_command (sending view (record { number = number; w = w; l = l; text = text.now })))) }
@@ -65,7 +65,7 @@ pub fn send_len(view: u32, number: u32, w: i64, l: i64, text: &[u8]) -> Option<u
     }
 }
 
-/// The length of a command's listed line, unless it passes the limit.
+/// Returns the length in bytes of a command's listed line, or `None` if it exceeds the limit.
 pub fn line_len(command: &Command) -> Option<usize>
     ensures typed { FitsTypes command.now }
     ensures len { SomeIff result (length (listed_command command.now) ≤ 65536) (length (listed_command command.now)) }

@@ -1,4 +1,4 @@
-//! Lines of a script.
+//! Reading of the lines of a script.
 
 ghost use Rattle.std.specs.Prelude.{◌≡◌, ◌≤◌, ◌<◌, ◌^◌, ◌==◌, length, [], ◌∷◌, MatchOption, if◌then◌else◌, Err, Ok, ◌*◌, vec_len, vec_capacity, IfOk};
 ghost use Rattle.std.specs.List.{slice_split};
@@ -18,7 +18,7 @@ use std::alloc::Global;
 /// The greatest length of a line, without its LF, in bytes.
 pub const LINE_LIMIT: usize = 65_536;
 
-/// The first line, without its LF, and what stands behind it, if a line is ended.
+/// Returns the first line without its LF, and what comes behind it, or `None` if no LF ends a line.
 pub fn split_line(text: &[u8]) -> Option<(&[u8], &[u8])>
     ensures { SplitsLine text.now result }
 {
@@ -28,7 +28,7 @@ pub fn split_line(text: &[u8]) -> Option<(&[u8], &[u8])>
     Some((&text[..end], &text[end + 1..]))
 }
 
-/// The fault of a last line that has no LF.
+/// Returns the fault of a last line without an LF. Lines are counted from 1.
 pub fn unended(number: u64, line: &[u8]) -> ScriptFault
     ensures { result ≡ BadLine number (if fits_line line.now then NoLineEnd else LineTooLong) }
 {
@@ -43,7 +43,11 @@ pub fn unended(number: u64, line: &[u8]) -> ScriptFault
     }
 }
 
-/// The version that the first line names.
+/// Returns the version that the first line names.
+///
+/// # Errors
+///
+/// `BadLine` if it names none.
 pub fn read_version(line: &[u8]) -> Result<Version, ScriptFault>
     ensures { version_numbers result ≡ at_line 1 line.now (read_version_of line.now) }
 {
@@ -61,7 +65,7 @@ pub fn read_version(line: &[u8]) -> Result<Version, ScriptFault>
     Err(ScriptFault::BadLine { line: 1, cause })
 }
 
-/// The command of a line.
+/// Reads the command of a line.
 fn read_line(
     alloc: Global,
     version: Version,
@@ -86,7 +90,11 @@ fn read_line(
     }
 }
 
-/// The commands of the lines behind the first.
+/// Reads the commands of the lines after the first.
+///
+/// # Errors
+///
+/// `BadLine` with the first line at fault, counted from 1, and `OutOfMemory` if an allocation fails.
 pub fn read_lines(alloc: Global, version: Version, text: &[u8]) -> Result<Vec<Command>, ScriptFault>
     requires { length text.now ≤ 16777216 }
     ensures lines { ReadsLines (number_of version) text.now result }

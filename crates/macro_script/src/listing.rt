@@ -1,4 +1,4 @@
-//! Scripts, listed as text.
+//! Listing of scripts as text.
 
 ghost use Rattle.std.specs.Prelude.{◌≡◌, ◌∷◌, [], pos, Ok, IfOk, MatchResult};
 ghost use Rattle.ed_types.specs.declared.script.Command.TheVariants.{SendMessage};
@@ -13,7 +13,7 @@ use ed_model::laws_of_scripts;
 use ed_types::{Command, Message, ScriptFault};
 use std::alloc::{AllocError, Global};
 
-/// The numbers of a message that is sent, in the order of its line.
+/// Returns the numbers of a sent message, in the order of its line.
 fn send_numbers(view: u32, message: &Message) -> [i64; 4]
     ensures { result ≡ pos view ∷ pos message.now.number ∷ message.now.w ∷ message.now.l ∷ [] }
 {
@@ -25,7 +25,7 @@ fn send_numbers(view: u32, message: &Message) -> [i64; 4]
     ]
 }
 
-/// Appends the line of a message that is sent.
+/// Appends the line of a sent message.
 fn append_send(out: &mut Vec<u8>, view: u32, message: &Message) -> Result<(), AllocError>
     ensures { Appends (ended_line (listed_command (SendMessage view message.now))) out.old.items out.new.items result }
 {
@@ -33,7 +33,7 @@ fn append_send(out: &mut Vec<u8>, view: u32, message: &Message) -> Result<(), Al
     append_line(out, b"send", &numbers, Some(message.text.as_slice()))
 }
 
-/// Appends a command's line.
+/// Appends the line of a command.
 fn append_command(out: &mut Vec<u8>, command: &Command) -> Result<(), AllocError>
     ensures { Appends (ended_line (listed_command command.now)) out.old.items out.new.items result }
 {
@@ -48,11 +48,11 @@ fn append_command(out: &mut Vec<u8>, command: &Command) -> Result<(), AllocError
     }
 }
 
-/// The listing of a script, in version 2. `assemble` reads it as the script.
+/// Returns the listing of a script, in version 2. `assemble` reads it as the same script.
 ///
 /// # Errors
 ///
-/// `OutOfMemory` where memory is refused.
+/// `OutOfMemory` if an allocation fails.
 pub fn list(alloc: Global, script: &Script) -> Result<Vec<u8>, ScriptFault>
     ensures read_back { IfOk result (λ text. reading text.items ≡ Ok script.now) }
     ensures listed { MatchResult result (λ text. text.items ≡ listing 2 script.now) (λ fault. fault ≡ OutOfMemory) }

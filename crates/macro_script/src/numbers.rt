@@ -1,17 +1,17 @@
-//! Numbers as words.
+//! Reading of numbers from words.
 
 ghost use Rattle.std.specs.Prelude.{◌≡◌, ℕ, ◌<◌, ◌≤◌, ◌^◌, IfSome, Some, SomeIff, MatchBool, length, slice_index, ◌∷◌};
 ghost use Rattle.std.specs.Str.Parse.{AllDigits, digits_value};
 ghost use Rattle.ed_model.specs.Spelling.{spelled};
 ghost use Rattle.ed_model.specs.Reading.{natural as natural_of, integer as integer_of};
 
-/// More digits than any number of 64 bits that scripts have.
+/// The most digits of a number that scripts have.
 const MOST_DIGITS: usize = 19;
 
 /// The magnitude of the least number of 64 bits.
 const LEAST_MAGNITUDE: u64 = 1 << 63;
 
-/// The value of decimal digits, if the bytes are digits.
+/// Returns the value of decimal digits, or `None` if a byte is no digit.
 fn value_of_digits(digits: &[u8]) -> Option<u64>
     requires { length digits.now ≤ 19 }
     ensures { SomeIff result (AllDigits 10 digits.now) (digits_value 10 digits.now) }
@@ -26,7 +26,7 @@ fn value_of_digits(digits: &[u8]) -> Option<u64>
     Some(value)
 }
 
-/// Whether a zero stands before other bytes.
+/// Returns whether a zero comes before other bytes.
 fn has_leading_zero(word: &[u8]) -> bool
     ensures { MatchBool result
         ((1 < length word.now) × (slice_index word.now 0 ≡ 48))
@@ -35,7 +35,7 @@ fn has_leading_zero(word: &[u8]) -> bool
     word.len() > 1 && word[0] == b'0'
 }
 
-/// The number that the word spells, if it has up to 19 digits.
+/// Returns the number that the word spells, if it has at most 19 digits.
 fn magnitude(word: &[u8]) -> Option<u64>
     ensures only { IfSome result (λ n. word.now ≡ spelled n) }
     ensures each { (n : ℕ) → n < 10 ^ 19 → word.now ≡ spelled n → result ≡ Some n }
@@ -52,7 +52,7 @@ fn magnitude(word: &[u8]) -> Option<u64>
     value_of_digits(word)
 }
 
-/// The number from 0 to 4,294,967,295 that the word spells.
+/// Returns the number from 0 to 4,294,967,295 that the word spells, or `None`.
 pub fn natural(word: &[u8]) -> Option<u32>
     ensures { result ≡ natural_of word.now }
 {
@@ -63,7 +63,7 @@ pub fn natural(word: &[u8]) -> Option<u32>
     Some(value as u32)
 }
 
-/// The number of 64 bits that the word spells.
+/// Returns the number of 64 bits that the word spells, or `None`.
 pub fn integer(word: &[u8]) -> Option<i64>
     ensures { result ≡ integer_of word.now }
 {
@@ -77,7 +77,7 @@ pub fn integer(word: &[u8]) -> Option<i64>
     Some(value as i64)
 }
 
-/// The negative number of 64 bits that the word spells behind its sign.
+/// Returns the negative number of 64 bits whose digits after the sign are these, or `None`.
 fn negative(digits: &[u8]) -> Option<i64>
     ensures { result ≡ integer_of (45 ∷ digits.now) }
 {

@@ -1,4 +1,4 @@
-//! The text that a run prints, piece by piece.
+//! The output of a run, piece by piece.
 
 ghost use Rattle.std.specs.Prelude.{◌≡◌, pos, flat_map};
 ghost use Rattle.ed_types.specs.Heard.{with_text};
@@ -12,13 +12,17 @@ use ed_types::{Note, Outcome, Refusal, Reply};
 use std::alloc::AllocError;
 
 /// Appends the line of an answer.
+///
+/// # Errors
+///
+/// `AllocError` if an allocation fails. A front part of the line may be appended then.
 pub fn append_answer(out: &mut Vec<u8>, value: i64, text: &[u8]) -> Result<(), AllocError>
     ensures { Appends (printed_answer value text.now) out.old.items out.new.items result }
 {
     append_line(out, b"=", &[value], Some(text))
 }
 
-/// The numbers of a note, in the order of its line.
+/// Returns the numbers of a note, in the order of its line.
 fn note_numbers(note: &Note) -> [i64; 13]
     ensures { result ≡ numbers_of_note note.entry.now }
 {
@@ -67,7 +71,7 @@ fn append_reply(out: &mut Vec<u8>, reply: &Reply) -> Result<(), AllocError>
     append_notes(out, reply)
 }
 
-/// The number of a refusal, as scripts print it.
+/// Returns the number of a refusal, as scripts print it.
 fn refusal_number(refusal: Refusal) -> i64
     ensures { result ≡ pos (number_of_refusal refusal) }
 {
@@ -75,6 +79,10 @@ fn refusal_number(refusal: Refusal) -> i64
 }
 
 /// Appends what an outcome prints.
+///
+/// # Errors
+///
+/// `AllocError` if an allocation fails. A front part may be appended then.
 pub fn append_outcome(out: &mut Vec<u8>, outcome: &Outcome) -> Result<(), AllocError>
     ensures { Appends (printed_outcome outcome.now) out.old.items out.new.items result }
 {

@@ -12,11 +12,11 @@ use ed_types::{Bytes, Command, Message, Note, Reply, ScriptFault};
 use std::alloc::{AllocError, Global};
 use std::marker::Model;
 
-/// SCN_MACRORECORD, by which a view that records is told of a message.
+/// `SCN_MACRORECORD` of Scintilla, the notification of a recorded message.
 const MACRO_RECORD: u32 = 2009;
 
-/// Makes a script of what a view records: it is fed the replies of a session, and takes from each the message that the view
-/// is told of. Contracts see the view and the commands so far.
+/// Makes a script of what a view records. `feed` takes the replies of a session, and adds the message that each of them
+/// records for the view. A contract sees the view and the commands so far.
 #[derive(Debug, Drop)]
 pub struct Recorder {
     alloc: Global,
@@ -32,14 +32,14 @@ impl Model for Recorder {
     ghost view = { λ r. record { view = r.view; commands = r.script } };
 }
 
-/// Whether a note tells the view that it records a message.
+/// Returns whether a note is the view's notification of a recorded message.
 fn tells_recording(view: u32, note: &Note) -> bool
     ensures { (text : List ℕ) → result ≡ is_recording view (with_text note.entry.now text) }
 {
     note.code == MACRO_RECORD && note.view == view
 }
 
-/// Where the note of a reply stands that tells the view what it records, if there is one.
+/// Returns the place of such a note among those of a reply, if there is one.
 fn find_recording(view: u32, reply: &Reply) -> Option<usize>
     ensures { IsPlaceOf (recording_note view reply.now) reply.now.notes result }
 {
@@ -53,7 +53,7 @@ fn find_recording(view: u32, reply: &Reply) -> Option<usize>
     None
 }
 
-/// A copy of bytes.
+/// Copies bytes.
 fn copied(alloc: Global, bytes: &[u8]) -> Result<Bytes, AllocError>
     ensures { IfOk result (λ copy. copy ≡ bytes.now) }
 {
@@ -63,7 +63,7 @@ fn copied(alloc: Global, bytes: &[u8]) -> Result<Bytes, AllocError>
 }
 
 impl Recorder {
-    /// A recorder of a view, which has recorded nothing yet. Takes no memory.
+    /// Returns a recorder of a view, which has recorded nothing yet. Allocates nothing.
     pub fn new(alloc: Global, view: u32) -> Self
         ensures { result ≡ record { view = view; commands = [] } }
     {
@@ -74,13 +74,12 @@ impl Recorder {
         }
     }
 
-    /// Adds the message that the reply records for the view, if it has such a note; another reply adds nothing and needs no
-    /// memory.
+    /// Adds the message that the reply records for the view, if it has such a note. Otherwise adds and allocates nothing.
     ///
     /// # Errors
     ///
-    /// `TooLong` where the script with that message would pass a limit, as of `Script::push`; else `OutOfMemory` where memory
-    /// is refused. The recorder is then as it was.
+    /// `TooLong` if the script with that message would exceed a limit, like `Script::push`; otherwise `OutOfMemory` if
+    /// an allocation fails. The recorder is then unchanged.
     pub fn feed(&mut self, reply: &Reply) -> Result<(), ScriptFault>
         ensures too_long { (result ≡ Err TooLong) ↔ (keeps_limits (self.old.commands ++ recorded_sends self.old.view reply.now) ≡ false) }
         ensures refused { IfErr result (λ fault. (fault ≡ TooLong) ⊎ (fault ≡ OutOfMemory)) }
@@ -88,7 +87,7 @@ impl Recorder {
         ensures added { OnOk result (self.new ≡ record self.old { commands = self.old.commands ++ recorded_sends self.old.view reply.now }) }
         ensures kept { OnErr result (self.new ≡ self.old) }
     {
-        // It says that the script so far keeps the limits.
+        // brings the fact that the script so far keeps the limits
         let _ = self.script.commands();
         let Some(index) = find_recording(self.view, reply) else {
             return Ok(());
@@ -97,14 +96,14 @@ impl Recorder {
         self.add(note, text)
     }
 
-    /// Adds the message that a note tells.
+    /// Adds the message of a note.
     fn add(&mut self, note: &Note, text: &[u8]) -> Result<(), ScriptFault>
         ensures too_long { (result ≡ Err TooLong) ↔ (keeps_limits (self.old.commands ++ sending self.old.view (told_message (with_text note.entry.now text.now)) ∷ []) ≡ false) }
         ensures refused { IfErr result (λ fault. (fault ≡ TooLong) ⊎ (fault ≡ OutOfMemory)) }
         ensures added { OnOk result (self.new ≡ record self.old { commands = self.old.commands ++ sending self.old.view (told_message (with_text note.entry.now text.now)) ∷ [] }) }
         ensures kept { OnErr result (self.new ≡ self.old) }
     {
-        // Whether it fits is asked before its text is copied, so that want of memory does not hide that it is too long.
+        // The limits are checked before the text is copied, so that a failed allocation does not hide that it is too long.
         let (number, w, l) = (note.message, note.w, note.l);
         if !self.script.fits_send(self.view, number, w, l, text) {
             return Err(ScriptFault::TooLong);
@@ -119,7 +118,7 @@ impl Recorder {
         })
     }
 
-    /// The script of all that was recorded. Takes no memory.
+    /// Returns the script of everything that was recorded. Allocates nothing.
     pub fn finish(self) -> Script
         ensures { result ≡ self.commands }
     {
@@ -128,7 +127,7 @@ impl Recorder {
     }
 }
 
-/// What is added of a reply is all that the view recorded in it, where that is one message at most.
+/// The message that is added for a reply is everything that the view recorded in it, if that is at most one message.
 pub fn all_is_recorded()
     ensures { RecordsAll }
 {}

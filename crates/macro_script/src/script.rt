@@ -1,4 +1,4 @@
-//! Scripts.
+//! Scripts as values.
 
 ghost use Rattle.std.specs.Prelude.{◌≡◌, ◌⊎◌, ◌↔◌, ◌++◌, ◌∷◌, ◌*◌, ◌≤◌, [], length, vec_len, vec_capacity, OnOk, OnErr, IfErr, Ok, Err, false};
 ghost use Rattle.ed_types.specs.declared.script.ScriptFault.TheVariants.{TooLong, OutOfMemory};
@@ -34,7 +34,7 @@ impl Model for Script {
 
     ghost view = { λ script. script.commands.items };
 
-    // There is room for no more than twice the commands.
+    // The capacity is at most twice the number of commands.
     ghost invariant = { λ script. record {
       proper : IsProper script.commands.items script.listed;
       few : vec_capacity script.commands ≤ 2 * vec_len script.commands;
@@ -42,7 +42,7 @@ impl Model for Script {
 }
 
 impl Script {
-    /// A script of no commands. Takes no memory.
+    /// Returns a script without commands. Allocates nothing.
     pub fn new(alloc: Global) -> Self
         ensures { result ≡ [] }
     {
@@ -52,7 +52,7 @@ impl Script {
         }
     }
 
-    /// A script of commands whose listing has this length.
+    /// Returns the script of commands whose listing has this length.
     pub(crate) fn of_listing(commands: Vec<Command>, listed: usize) -> Self
         requires proper { IsProper commands.items listed }
         requires few { vec_capacity commands ≤ 2 * vec_len commands }
@@ -61,14 +61,14 @@ impl Script {
         Script { commands, listed }
     }
 
-    /// The length of the listing, in bytes.
+    /// Returns the length of the listing, in bytes.
     pub(crate) fn listed_len(&self) -> usize
         ensures { result ≡ length (listing 2 self.now) }
     {
         self.listed
     }
 
-    /// The commands, lent. Takes no memory.
+    /// Returns the commands as a slice.
     pub fn commands(&self) -> &[Command]
         ensures commands { result.now ≡ self.now }
         ensures within { IsScript 2 self.now }
@@ -76,7 +76,7 @@ impl Script {
         self.commands.as_slice()
     }
 
-    /// Whether the script with one message more, sent to the view, keeps the limits. Takes no memory.
+    /// Returns whether the script keeps the limits with one more message, sent to `view`. Allocates nothing.
     pub(crate) fn fits_send(&self, view: u32, number: u32, w: i64, l: i64, text: &[u8]) -> bool
         ensures { result ≡ keeps_limits (self.now ++ sending view (record { number = number; w = w; l = l; text = text.now }) ∷ []) }
     {
@@ -86,12 +86,12 @@ impl Script {
         }
     }
 
-    /// Adds a command at the end.
+    /// Appends a command.
     ///
     /// # Errors
     ///
-    /// `TooLong` where its line or the whole would pass its limit in the listing, `OutOfMemory` where memory is refused. The script is
-    /// then as it was.
+    /// `TooLong` if its line or the script would exceed its limit in the listing, and `OutOfMemory` if an allocation
+    /// fails. The script is then unchanged.
     pub fn push(&mut self, command: Command) -> Result<(), ScriptFault>
         ensures too_long { (result ≡ Err TooLong) ↔ (keeps_limits (self.old ++ command ∷ []) ≡ false) }
         ensures refused { IfErr result (λ fault. (fault ≡ TooLong) ⊎ (fault ≡ OutOfMemory)) }

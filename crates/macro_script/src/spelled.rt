@@ -1,9 +1,9 @@
-//! How bytes are spelled in texts.
+//! The spelling of bytes in texts.
 
 ghost use Rattle.std.specs.Prelude.{◌≡◌, ℕ, ◌<◌, ◌≤◌, ◌∷◌, [], length, take, slice_index, IsTrue};
 ghost use Rattle.ed_model.specs.Spelling.{hex_digit as hex_digit_of, spelled_byte};
 
-/// The digit that stands for a number below 16.
+/// Returns the digit of a number below 16.
 fn hex_digit(value: u8) -> u8
     requires { value < 16 }
     ensures { result ≡ hex_digit_of value }
@@ -15,7 +15,7 @@ fn hex_digit(value: u8) -> u8
     }
 }
 
-/// The spelling of a byte, and its length, 1 to 4 bytes.
+/// Returns the spelling of a byte, and its length, from 1 to 4 bytes.
 pub fn spell_byte(byte: u8) -> ([u8; 4], usize)
     ensures spelling { take result.1 result.0 ≡ spelled_byte byte }
     ensures len { result.1 ≡ length (spelled_byte byte) }
@@ -29,14 +29,14 @@ pub fn spell_byte(byte: u8) -> ([u8; 4], usize)
     }
 }
 
-/// Whether a byte is spelled by an escape of these two digits.
+/// Returns whether an escape of these two digits spells the byte.
 pub fn is_escape(byte: u8, high: u8, low: u8) -> bool
     ensures { IsTrue result → spelled_byte byte ≡ 92 ∷ 120 ∷ high ∷ low ∷ [] }
 {
     (byte < 0x20 || byte > 0x7E) && hex_digit(byte / 16) == high && hex_digit(byte % 16) == low
 }
 
-/// How many bytes at the front stand for themselves.
+/// Returns how many bytes at the front are spelled by themselves.
 pub fn plain_len(text: &[u8]) -> usize
     ensures within { result ≤ length text.now }
     ensures plain { (k : ℕ) → k < result → spelled_byte (slice_index text.now k) ≡ slice_index text.now k ∷ [] }

@@ -11,7 +11,7 @@ use std::alloc::{AllocError, AllocFailed};
 pub enum Stop {
     /// The line is at fault.
     Fault(Cause),
-    /// A growth was refused.
+    /// An allocation failed.
     OutOfMemory,
 }
 

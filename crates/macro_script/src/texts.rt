@@ -1,4 +1,4 @@
-//! Texts, read from their spelling.
+//! Reading of texts from their spelling.
 
 ghost use Rattle.std.specs.Prelude.{◌≡◌, ℕ, ◌+◌, ◌<◌, ◌≤◌, ◌++◌, ◌∷◌, [], length, drop, slice_index, IfSome, IfNone, IfOk, OnOk, false, true};
 ghost use Rattle.ed_model.specs.Spelling.{hex_digit, hex_value as hex_value_of, spelled_byte};
@@ -11,18 +11,18 @@ use crate::stop::Stop;
 use ed_types::{Bytes, Cause};
 use std::alloc::{AllocError, Global};
 
-/// What stands at the front of a text's spelling.
+/// The front of a text's spelling.
 #[derive(Clone, Copy)]
 pub enum Front {
     /// The closing quote.
     Closing,
-    /// A byte's spelling, and its length.
+    /// The spelling of a byte: the byte, and the length of its spelling.
     Byte(u8, usize),
     /// Nothing that spells a byte.
     Wrong,
 }
 
-/// What a hexadecimal digit stands for; other bytes stand for anything.
+/// Returns the value of a hexadecimal digit. For other bytes the result does not matter.
 fn hex_value(digit: u8) -> u16
     ensures { result ≡ hex_value_of digit }
 {
@@ -33,14 +33,14 @@ fn hex_value(digit: u8) -> u16
     }
 }
 
-/// The byte at a place, 0 past the end.
+/// Returns the byte at `place`, or 0 past the end.
 fn byte_at(text: &[u8], place: usize) -> u8
     ensures { result ≡ slice_index text.now place }
 {
     if place < text.len() { text[place] } else { 0 }
 }
 
-/// What the front would spell.
+/// Returns the byte that the front would spell.
 fn front_byte(text: &[u8]) -> u16
     ensures { result ≡ front_byte_of text.now }
 {
@@ -53,8 +53,8 @@ fn front_byte(text: &[u8]) -> u16
     16 * hex_value(byte_at(text, 2)) + hex_value(byte_at(text, 3))
 }
 
-/// What a hexadecimal digit stands for; other bytes stand for anything. It is found without a branch, which would be guessed wrongly
-/// half of the time, since digits come in no order.
+/// Returns the value of a hexadecimal digit. For other bytes the result does not matter. It has no branch, since a
+/// processor would mispredict half of them: digits come in no order.
 fn digit_value(digit: u8) -> u8
     ensures value { (v : ℕ) → v < 16 → digit ≡ hex_digit v → result ≡ v }
     ensures below { result < 16 }
@@ -62,7 +62,7 @@ fn digit_value(digit: u8) -> u8
     ((digit & 0xF) + 9 * (digit >> 6)) & 0xF
 }
 
-/// The byte that an escape of two digits at the front spells, if there is one.
+/// Returns the byte that an escape of two digits at the front spells, if there is one.
 fn escaped_byte(text: &[u8]) -> Option<u8>
     ensures { IfSome result (λ byte. IsFront text.now (Byte byte 4)) }
 {
@@ -77,7 +77,7 @@ fn escaped_byte(text: &[u8]) -> Option<u8>
     }
 }
 
-/// What stands at the front.
+/// Returns the front of a spelling.
 fn front_of(text: &[u8]) -> Front
     ensures { IsFront text.now result }
 {
@@ -92,7 +92,7 @@ fn front_of(text: &[u8]) -> Front
     }
 }
 
-/// What stands at the front, found by spelling what the front would spell.
+/// The slow path of `front_of`: spells the byte that the front would spell, and compares.
 fn other_front(text: &[u8]) -> Front
     ensures { IsFront text.now result }
 {
@@ -115,7 +115,7 @@ fn other_front(text: &[u8]) -> Front
     }
 }
 
-/// Appends a run of bytes, if it has any: mostly none stand between two escapes.
+/// Appends a run of bytes, if it is not empty. It usually is between two escapes.
 fn append_run(text: &mut Vec<u8>, run: &[u8]) -> Result<(), AllocError>
     ensures { OnOk result (text.new.items ≡ text.old.items ++ run.now) }
 {
@@ -125,7 +125,7 @@ fn append_run(text: &mut Vec<u8>, run: &[u8]) -> Result<(), AllocError>
     text.extend_from_slice(run)
 }
 
-/// A copy of bytes, which takes memory only where there are some, and no more than they need.
+/// Copies bytes. Allocates exactly what they need, and nothing if there are none.
 fn copied(alloc: Global, bytes: &[u8]) -> Result<Bytes, AllocError>
     ensures { IfOk result (λ copy. copy ≡ bytes.now) }
 {
@@ -136,7 +136,12 @@ fn copied(alloc: Global, bytes: &[u8]) -> Result<Bytes, AllocError>
     Ok(Bytes::new(copy))
 }
 
-/// The text up to its closing quote, and how many bytes its spelling has, with that quote.
+/// Reads a text up to its closing quote. Returns the text, and the length of its spelling with that quote.
+///
+/// # Errors
+///
+/// `Stop::Fault` with `BadText` if it is spelled wrongly or no quote closes it, and `Stop::OutOfMemory` if an
+/// allocation fails.
 pub fn read_text(alloc: Global, spelling: &[u8]) -> Result<(Bytes, usize), Stop>
     ensures { ReadsText spelling.now result }
 {
@@ -148,7 +153,7 @@ pub fn read_text(alloc: Global, spelling: &[u8]) -> Result<(Bytes, usize), Stop>
     Ok((text, run + 1))
 }
 
-/// The same, where so many bytes at the front stand for themselves.
+/// Like `read_text`, if `run` bytes at the front are spelled by themselves.
 fn read_behind(alloc: Global, spelling: &[u8], run: usize) -> Result<(Bytes, usize), Stop>
     requires within { run ≤ length spelling.now }
     requires plain { (k : ℕ) → k < run → spelled_byte (slice_index spelling.now k) ≡ slice_index spelling.now k ∷ [] }
