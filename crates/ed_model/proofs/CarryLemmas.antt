@@ -14,10 +14,10 @@ length-carried_unless_empty : {R : Type 0} (together : List R → R) (types : Li
 length-carried_unless_empty together types step text [] rows = refl
 length-carried_unless_empty together types step text (b ∷ bs) rows = length-carried together (moved_start step) (line_starts types text) (line_starts types (b ∷ bs)) rows
 
--- a step leaves a row for each line of the new text, one for a text that is empty
+-- a step leaves a row for each line of the new text, also if that is empty
 pub length-carried_by : {R : Type 0} (together : List R → R) (types : LineEndTypes) (step : Step) (text : List ℕ) (rows : List R) → length (carried_by together types step text rows) ≡ line_count types (edited step text)
 length-carried_by together types step text rows = length-carried_unless_empty together types step text (edited step text) rows
 
--- other line ends leave a row for each line
+-- new line end types leave a row for each line
 pub length-regrouped : {R : Type 0} (together : List R → R) (old new : LineEndTypes) (text : List ℕ) (rows : List R) → length (regrouped together old new text rows) ≡ line_count new text
 length-regrouped together old new text rows = length-carried together (λ s. s) (line_starts old text) (line_starts new text) rows

@@ -1,4 +1,4 @@
--- Texts that undo goes back to, over the changes of a document.
+-- The texts to which undo goes back, over the changes of a document.
 use Rattle.std.proofs.Common.{◌≡◌, ℕ, zero, suc, ◌+◌, ◌-◌, ◌<◌, ◌≤◌, ◌==◌, nat_lt, not, ◌&&◌, ◌||◌, Bool, true, false, ℤ, List, [], ◌∷◌, ◌++◌, length, take, drop, map, replicate, refl, ap, ◌∙◌, sym, subst, arith, Some}
 use Rattle.std.proofs.lemmas.List.{length-map}
 use Rattle.ed_model.specs.declared.plan.DocumentChange.TheVariants as change
@@ -19,13 +19,13 @@ use Rattle.ed_model.proofs.HistoryLemmas.{both_hold, where_true, where_false, wh
 use Rattle.ed_model.proofs.TransactionLemmas.{undo_makes_its_steps, redo_makes_its_steps}
 use Rattle.ed_model.proofs.UndoLemmas.{undo_keeps_earlier_texts, redo_is_one_transaction_more, seals_keep_earlier_texts, begun_step_is_one_transaction_more, joined_step_keeps_earlier_texts, begun_container_step_is_one_transaction_more, joined_container_step_keeps_earlier_texts}
 
--- A history and its text, in place of a document.
+-- `KeepsEarlierTexts` for a history and its text, in place of a document.
 abbrev pub Keeps : History → List ℕ → History → List ℕ → Type 0
 Keeps h text g changed =
     (k : ℕ) → 0 < k → k ≤ length g.past →
     (length g.past ≤ length h.past + k) × (undone_text k g.past changed ≡ undone_text (length h.past + k - length g.past) h.past text)
 
--- Three ways to keep earlier texts: as many transactions, one more, one less.
+-- Three ways to keep earlier texts: with the same number of transactions, with one more, and with one fewer.
 
 same_count : (n m k : ℕ) → n ≡ m → n + k - m ≡ k
 same_count n m k e = omega arith
@@ -53,14 +53,14 @@ pub keeps_one_less : (h g : History) (text changed : List ℕ) → length h.past
 keeps_one_less h g text changed e same k some within =
     (omega arith, same k ∙ ap (λ n. undone_text n h.past text) (sym (one_less_count (length h.past) (length g.past) k e)))
 
--- no past, nothing to keep
+-- without a past there is nothing to keep
 pub keeps_none : (h g : History) (text changed : List ℕ) → g.past ≡ [] → Keeps h text g changed
 keeps_none h g text changed e k some within = let none : length g.past ≡ 0 = ap length e in absurd (omega arith)
 
 pub keeps_same : (h : History) (text : List ℕ) → Keeps h text h text
 keeps_same h text = keeps_as_many h h text text refl (λ k. refl)
 
--- after another change that keeps as many transactions and their texts
+-- a change that keeps earlier texts, followed by one that keeps the number of transactions and their texts
 pub keeps_then_same : (h g g' : History) (text changed changed' : List ℕ) → length g'.past ≡ length g.past →
     ((k : ℕ) → undone_text (suc k) g'.past changed' ≡ undone_text (suc k) g.past changed) → Keeps h text g changed → Keeps h text g' changed'
 keeps_then_same h g g' text changed changed' e same keeps zero some within = absurd (omega arith)
@@ -140,7 +140,7 @@ container_step_keeps token coalesce h text =
     both_hold (λ (g : History). Keeps h text g text) (coalesce || not h.collecting) a (sealed_outside_groups a)
     (λ e. kept) (λ e. keeps_then_sealed h a (sealed_outside_groups a) text text (seals_change_no_change a) kept)
 
--- The steps of a message: after the first each joins.
+-- The steps of a message: each step after the first joins.
 
 open_and_modified : (sealed saved deep alike : Bool) → sealed ≡ false → saved ≡ false → (not sealed && not saved && (deep || true || alike)) ≡ true
 open_and_modified true saved deep alike e f = cc
@@ -166,14 +166,14 @@ joins_after later c d h false e j =
     (sym (append_begins later c h (begins_when h.collecting (joins later c h) e j)))
     (open_and_modified false (at_save_point a) (nat_lt 0 a.depth) (belongs d (c ∷ [])) refl (append_leaves_the_save_point later c h e))
 
--- a later step joins a change that was appended
+-- a later step joins the transaction of the change that was appended before it
 pub next_joins : (later : Bool) (c d : Change) (h : History) → h.collecting ≡ true → joins true d (appended later c h) ≡ true
 next_joins later c d h e = joins_after later c d h (joins later c h) e refl
 
 still_collecting : (later : Bool) (c : Change) (h : History) → h.collecting ≡ true → (appended later c h).collecting ≡ true
 still_collecting later c h e = ap (λ (g : History). g.collecting) (where_collecting later c h e) ∙ e
 
--- as many transactions, and the same texts before them
+-- the same number of transactions, and the same texts before them
 pub record SameEarlierTexts (scene after : Scene) : Type 0 where
   pub count : length (history_of after).past ≡ length (history_of scene).past
   pub texts : (k : ℕ) → undone_text (suc k) (history_of after).past (text_of_scene after) ≡ undone_text (suc k) (history_of scene).past (text_of_scene scene)
@@ -319,7 +319,7 @@ document_changes_keep_earlier_texts bytes (change.FillIndicator indicator start 
 
 -- The states of a document.
 
--- the latest state is the latest with as many transactions as it has
+-- the latest state is the latest with its number of transactions
 latest_itself : (d : Document) (states : List Document) → latest_with (length d.history.past - 0) (d ∷ states) ≡ Some (text_of d)
 latest_itself d states =
     where_true (length d.history.past == length d.history.past - 0) (Some (text_of d)) (latest_with (length d.history.past - 0) states)
@@ -332,7 +332,7 @@ pub goes_back_at_first : GoesBackAtFirst
 goes_back_at_first d states none zero within = latest_itself d states
 goes_back_at_first d states none (suc k) within = absurd (omega (arith, ap length none))
 
--- an earlier state, where the latest has another number of transactions
+-- an earlier state is the latest with n transactions, if the latest state has another number
 latest_earlier : (n : ℕ) (d : Document) (states : List Document) → (length d.history.past ≡ n → ⊥) → latest_with n (d ∷ states) ≡ latest_with n states
 latest_earlier n d states other = where_false (length d.history.past == n) (Some (text_of d)) (latest_with n states) (apart (length d.history.past) n other)
 

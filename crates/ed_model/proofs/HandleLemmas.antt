@@ -1,4 +1,4 @@
--- Handles are given once: what a change of a document does to how often they stand in its rows.
+-- Each handle is given once: how often it is in a document's rows after a change.
 use Rattle.std.proofs.Common.{ℕ, ◌<◌, ◌≤◌, List, [], ◌∷◌, ◌++◌, map, ap, ◌∙◌, arith}
 use Rattle.std.specs.Prelude.{slice_index_or}
 use Rattle.std.proofs.lemmas.List.{map-append}
@@ -16,7 +16,7 @@ use Rattle.ed_model.proofs.SoundMarkers.{set_occurrences, with_markers_occurrenc
 pub steps_give_no_handle : StepsGiveNoHandle
 steps_give_no_handle types step text rows handle = handles_carried_by handle types step text rows
 
--- new markers have handles from the next one on
+-- new markers have handles from the next handle on
 new_markers_give_no_old : (line : ℕ) (numbers : List ℕ) (d : Document) (handle : ℕ) → handle < d.next_handle
     → occurrences handle (handles_in (with_new_markers line numbers d).rows) ≤ occurrences handle (handles_in d.rows)
 new_markers_give_no_old line numbers d handle below =

@@ -1,4 +1,4 @@
--- The undo history. Facts on lists of transactions and on save points first, then those on histories by cases of their tests.
+-- The undo history. First facts on lists of transactions and on save points, then facts on histories by cases of their tests.
 use Rattle.std.proofs.Common.{◌≡◌, ℕ, suc, ◌+◌, ◌-◌, ◌<◌, ◌≤◌, ◌==◌, nat_le, not, ◌&&◌, ◌||◌, cond, if◌then◌else◌, Bool, true, false, ℤ, List, [], ◌∷◌, length, map, refl, ap, ◌∙◌, sym, subst, arith, Option, Some, None}
 use Rattle.std.proofs.lemmas.Bool.{eqb-true, eq-eqb, leb-true}
 use Rattle.std.proofs.lemmas.List.{length-map}
@@ -8,7 +8,7 @@ use Rattle.ed_model.specs.HistoryLaws.{NotCollectingAppendsNothing, KeepsAllButT
 
 -- Tests.
 
--- both sides of a test hold
+-- if both branches of a test have P, the choice has P
 pub both_hold : {A : Type 0} (P : A → Type 0) (b : Bool) (x y : A) → (b ≡ true → P x) → (b ≡ false → P y) → P (cond b x y)
 both_hold P true x y h k = h refl
 both_hold P false x y h k = k refl
@@ -46,7 +46,7 @@ pub sealed_twice : (ts : List Transaction) → seal_first (seal_first ts) ≡ se
 sealed_twice [] = refl
 sealed_twice (t ∷ ts) = refl
 
--- outside groups a history has its last transaction sealed, and in a group it is as it was
+-- outside groups the last transaction is sealed, and in a group the history does not change
 pub outside_groups : (P : History → Type 0) (h : History) → (h.depth ≡ 0 → P (with_last_sealed h)) → P h → P (sealed_outside_groups h)
 outside_groups P h outside inside = both_hold P (h.depth == 0) (with_last_sealed h) h (λ e. outside (eqb-true h.depth 0 e)) (λ e. inside)
 
@@ -96,7 +96,7 @@ group_begun_changes_no_change h =
 pub group_begun_is_deeper : GroupBegunIsDeeper
 group_begun_is_deeper h = refl
 
--- ending a group: nothing without one, else one group less, and a seal at the outermost
+-- ending a group: nothing changes without a group; otherwise there is one group fewer, and the end of the outermost seals
 pub group_end : (P : History → Type 0) (h : History) → P h → P (sealed_outside_groups (record h { depth = h.depth - 1 })) → P (group_ended h)
 group_end P h none some = both_hold P (h.depth == 0) h (sealed_outside_groups (record h { depth = h.depth - 1 })) (λ e. none) (λ e. some)
 
@@ -119,7 +119,7 @@ group_ended_is_less_deep h =
 
 -- Append.
 
--- the history with a change appended, joined or not
+-- the history after a change is appended, joined or not
 abbrev pub collected : Bool → Change → History → History
 collected joined c h = record h { past = with_change joined c h.past; future = []; save_point = reachable (length h.past) h.save_point }
 
@@ -134,7 +134,7 @@ append_keeps_all_but_the_past later c h e =
     subst (KeepsAllButThePast h) (sym (where_collecting later c h e))
     (record { future = refl; save_point = refl; depth = refl; collecting = e })
 
--- what a change that joins tells of the history
+-- what holds of the history if a change joins
 pub joined_last : (later : Bool) (c : Change) (h : History) (ts : List Transaction) → joins_last later c h ts ≡ true →
     (length (with_change true c ts) ≡ length ts) × (first_changes (with_change true c ts) ≡ c ∷ first_changes ts) × (at_save_point h ≡ false)
 joined_last later c h [] e = cc
@@ -146,12 +146,12 @@ joined_last later c h (t ∷ ts) e = (refl, refl, not_saved t.is_sealed (at_save
     not_saved false true d e = cc
     not_saved false false d e = refl
 
--- the first of these transactions with the change in it
+-- the transactions after a change joined the first of them
 joined : (later : Bool) (c : Change) (h : History) (t : Transaction) (ts : List Transaction) (b : Bool) → b ≡ true → h.past ≡ t ∷ ts →
     with_change b c h.past ≡ record t { changes = c ∷ t.changes } ∷ ts
 joined later c h t ts b e p = ap (λ (x : Bool). with_change x c h.past) e ∙ ap (with_change true c) p
 
--- a transaction that is joined is open
+-- a transaction that a change joins is not sealed
 pub joined_open : (later : Bool) (c : Change) (h : History) (t : Transaction) (ts : List Transaction) → joins_last later c h (t ∷ ts) ≡ true → t.is_sealed ≡ false
 joined_open later c h t ts e = first_false t.is_sealed (at_save_point h) _ e
   where
@@ -201,7 +201,7 @@ count_of later c h false j e = refl
 pub append_counts : AppendCounts
 append_counts later c h = count_of later c h h.collecting (joins later c h) refl
 
--- a save point that can be reached from a past of n is at most n
+-- a save point that can be reached from a past of n transactions is at most n
 reached_is_lower : (n k m : ℕ) (b : Bool) → (b ≡ true → k ≤ n) → n < m → is_number m (cond b (Some k) None) ≡ false
 reached_is_lower n k m true within lower = apart k m (λ e. omega (arith, within refl))
 reached_is_lower n k m false within lower = refl
@@ -326,7 +326,7 @@ back_again h (t ∷ ts) e some = record {
 pub undo_then_redo_gives_back_the_history : UndoThenRedoGivesBackTheHistory
 undo_then_redo_gives_back_the_history h some = back_again h h.past refl some
 
--- histories that are the same but for seals count as modified alike
+-- histories that differ only in seals count as modified alike
 pub same_modified : (h g : History) → SameButForSeals h g → at_save_point g ≡ at_save_point h
 same_modified h g s =
     ap (λ (p : Option ℕ). is_number (length g.past) p) s.save_point

@@ -1,4 +1,4 @@
--- Steps taken back.
+-- Steps followed by their inverses.
 use Rattle.std.proofs.Common.{◌≡◌, ℕ, suc, ◌+◌, ◌-◌, ◌≤◌, List, [], ◌∷◌, ◌++◌, length, take, drop, map, refl, ap, ◌∙◌, sym, subst, arith, append_assoc, length-append, length-drop}
 use Rattle.std.specs.List.{slice_range}
 use Rattle.std.proofs.lemmas.List.{length-take-le, take-append-drop, reverse-append}
@@ -14,9 +14,9 @@ pub inverse_of_inverse : InverseOfInverse
 inverse_of_inverse (Insert p bytes) = refl
 inverse_of_inverse (Delete p bytes) = refl
 
--- what stands before a place, up to a place after it, and behind
+-- the bytes before a place, those of a range, and those after it
 
--- the part before a place p within the text stays in front of anything put behind it
+-- the bytes before a place p of the text are the first p bytes, whatever follows them
 pub front_kept : {A : Type 0} (p : ℕ) (text rest : List A) → p ≤ length text → take p (take p text ++ rest) ≡ take p text
 front_kept p text rest h =
     let n = length-take-le p text h in
@@ -27,14 +27,14 @@ behind_kept p text rest h =
     let n = length-take-le p text h in
     subst (λ (k : ℕ). drop k (take p text ++ rest) ≡ rest) n (drop-append_seam (take p text) rest)
 
--- behind what was put in stands what stood there before
+-- after the inserted bytes come the bytes that were there before
 pub behind_put_in : {A : Type 0} (p : ℕ) (text put rest : List A) → p ≤ length text → drop (p + length put) (take p text ++ (put ++ rest)) ≡ rest
 behind_put_in p text put rest h =
     let n = length-take-le p text h in
     subst (λ (k : ℕ). drop (k + length put) (take p text ++ (put ++ rest)) ≡ rest) n
     (drop-append-add (take p text) (put ++ rest) (length put) ∙ drop-append_seam put rest)
 
--- what is put in and taken out again leaves the text
+-- inserting and then deleting the same bytes restores the text
 pub put_in_taken_out : {A : Type 0} (p : ℕ) (put text : List A) → p ≤ length text →
     take p (take p text ++ put ++ drop p text) ++ drop (p + length put) (take p text ++ put ++ drop p text) ≡ text
 put_in_taken_out p put text h =
@@ -43,7 +43,7 @@ put_in_taken_out p put text h =
     let behind = behind_put_in p text put (drop p text) h in
     rw assoc (rw (front, behind) (take-append-drop p text))
 
--- what is taken out and put in again leaves the text
+-- deleting and then inserting the same bytes restores the text
 pub taken_out_put_in : {A : Type 0} (p n : ℕ) (taken text : List A) → p ≤ length text → slice_range text p (p + n) ≡ taken →
     take p (take p text ++ drop (p + n) text) ++ taken ++ drop p (take p text ++ drop (p + n) text) ≡ text
 taken_out_put_in p n taken text h stands =
@@ -101,7 +101,7 @@ pub fit_after_steps : (first second : List Step) (text : List ℕ) → FitInTurn
 fit_after_steps [] second text h k = k
 fit_after_steps (step ∷ first) second text h k = (h.0, fit_after_steps first second (edited step text) h.1 k)
 
--- the first step is taken back last
+-- the first step is undone last
 pub first_taken_back_last : (step : Step) (steps : List Step) → inverses (step ∷ steps) ≡ inverses steps ++ (inverse_of step ∷ [])
 first_taken_back_last step steps = reverse-append (inverse_of step ∷ []) (map inverse_of steps)
 

@@ -1,5 +1,5 @@
--- The walk over old lines and new ones goes part by part: rows of lines that stay are as they were, a line that comes has a
--- fresh row, and where a line goes two rows are joined.
+-- The walk over old lines and new ones can be split into parts: rows of lines that stay do not change, a new line gets a fresh
+-- row, and a line that is joined to another joins their rows.
 use Rattle.std.proofs.Common.{ℕ, zero, suc, ◌≡◌, ◌+◌, ◌-◌, ◌<◌, ◌≤◌, Bool, true, false, cond, List, [], ◌∷◌, ◌++◌, map, length, take, drop, filter, zip, count_by, get_or, slice_range, eqb, leb, ltb, sym, refl, ap, ap₂, ◌∙◌, inl, inr, arith, ◌≢◌, one-add, le_refl}
 use Rattle.std.specs.List.{prefix_len, AllByRecursion}
 use Rattle.std.specs.List.Sorted.{IsNonDecreasing}
@@ -10,22 +10,22 @@ use Rattle.ed_model.specs.MergeLaws.{lines_before, merged}
 use Rattle.ed_model.specs.proved.Lists.{each_weaker}
 use Rattle.ed_model.specs.proved.Rising.{Rises, Climbs, Climbs_weaker, Rises_weaker, count-cons}
 
--- what holds of each element
+-- facts on each element
 
--- what holds of each element holds of each that is left
+-- if P holds for each element of a list, it holds for each element of the rest
 pub each_drop : {X : Type 0} (P : X → Type 0) (k : ℕ) (xs : List X) → AllByRecursion P xs → AllByRecursion P (drop k xs)
 each_drop P zero xs h = h
 each_drop P (suc k) [] h = h
 each_drop P (suc k) (x ∷ xs) h = each_drop P k xs h.1
 
--- what rises before a number is below it
+-- the elements before t in a rising list are below t
 pub rises_before : (low t : ℕ) (xs ys : List ℕ) → Rises low (xs ++ t ∷ ys) → AllByRecursion (λ x. x < t) xs × (low ≤ t)
 rises_before low t [] ys r = (tt, r.0)
 rises_before low t (x ∷ xs) ys r =
     let rest : AllByRecursion (λ y. y < t) xs × (x + 1 ≤ t) = rises_before (x + 1) t xs ys r.1 in
     ((omega arith, rest.0), omega (arith, r.0, rest.1))
 
--- what is left of a rising list rises
+-- the rest of a rising list rises
 pub rises_rest : (low : ℕ) (xs ys : List ℕ) → Rises low (xs ++ ys) → Rises low ys
 rises_rest low [] ys r = r
 rises_rest low (x ∷ xs) ys r = Rises_weaker (x + 1) low ys (omega (arith, r.0)) (rises_rest (x + 1) xs ys r.1)
@@ -51,7 +51,7 @@ prefix_all : (p : ℕ → Bool) (xs : List ℕ) → AllByRecursion (λ y. p y �
 prefix_all p [] h = refl
 prefix_all p (x ∷ xs) h = rw (h.0, prefix_all p xs h.1) (one-add (length xs))
 
--- the walk over two parts, where the lines of the first come before the start of the second
+-- the walk over two parts, if the lines of the first are before the start of the second
 pub merged-append : {R : Type 0} (together : List R → R) (moved : ℕ → ℕ) (old other : List ℕ) (s : ℕ) (new : List ℕ) (t : ℕ) (news : List ℕ) (rows others : List R) → length old ≡ length rows → AllByRecursion (λ u. u < t) new → AllByRecursion (λ o. moved o < t) old → AllByRecursion (λ o. t ≤ moved o) other → merged together moved (old ++ other) (s ∷ new ++ (t ∷ news)) (rows ++ others) ≡ merged together moved old (s ∷ new) rows ++ merged together moved other (t ∷ news) others
 merged-append together moved old other s [] t news rows others h b f l =
     let k : lines_before moved t (old ++ other) ≡ length old =
@@ -68,7 +68,7 @@ merged-append {R} together moved old other s (u ∷ new) t news rows others h b 
     (ap (λ (rest : List R). together (take count rows) ∷ rest)
     (merged-append together moved (drop count old) other u new t news (drop count rows) others (omega (arith, length-drop count old, length-drop count rows)) b.1 (each_drop (λ o. moved o < t) count old f) l))
 
--- where each line's start stays, the rows are as they were
+-- if each line keeps its start, the rows stay
 pub merged_same : {R : Type 0} (together : List R → R) → ((row : R) → together (row ∷ []) ≡ row) → (moved : ℕ → ℕ) (low : ℕ) (old : List ℕ) (rows : List R) → Rises low (map moved old) → length old ≡ length rows → merged together moved old (map moved old) rows ≡ rows
 merged_same together alone moved low [] [] r h = refl
 merged_same together alone moved low [] (x ∷ rows) r h = absurd (omega arith)
@@ -80,7 +80,7 @@ merged_same together alone moved low (o ∷ p ∷ old) (x ∷ y ∷ rows) r h =
     rw (lt-ltb (moved o) (moved p) (omega (arith, r.1.0)), le-ltb (moved p) (moved p) (le_refl (moved p)))
     (ap₂ (λ a l. a ∷ l) (alone x) (merged_same together alone moved (moved o + 1) (p ∷ old) (y ∷ rows) r.1 (omega arith)))
 
--- a line that comes before the others has a fresh row
+-- a new line before the others gets a fresh row
 pub merged_fresh : {R : Type 0} (together : List R → R) → ((row : R) → together (row ∷ []) ≡ row) → (moved : ℕ → ℕ) (low s : ℕ) (old : List ℕ) (rows : List R) → Rises low (map moved old) → length old ≡ length rows → merged together moved old (s ∷ map moved old) rows ≡ together [] ∷ rows
 merged_fresh together alone moved low s [] [] r h = refl
 merged_fresh together alone moved low s [] (x ∷ rows) r h = absurd (omega arith)
@@ -95,9 +95,9 @@ merged_joined together alone moved low s a b (o ∷ old) x y rows r f g h =
     rw (lt-ltb (moved a) (moved o) (omega (arith, r.0)), lt-ltb (moved b) (moved o) (omega (arith, r.0)), le-ltb (moved o) (moved o) (le_refl (moved o)))
     (ap (λ l. together (x ∷ y ∷ []) ∷ l) (merged_same together alone moved low (o ∷ old) rows r h))
 
--- std's words for lists in order
+-- lists in order, as std states it
 
--- a list that does not fall, from std's words
+-- a list that does not fall, as std states it, climbs
 pub climbs_from_non_decreasing : (low : ℕ) (xs : List ℕ) → (0 < length xs → low ≤ get_or xs 0 0) → IsNonDecreasing xs → Climbs low xs
 climbs_from_non_decreasing low [] h r = tt
 climbs_from_non_decreasing low (x ∷ []) h r = (h (omega arith), tt)
@@ -106,7 +106,7 @@ climbs_from_non_decreasing low (x ∷ y ∷ xs) h r = (
   climbs_from_non_decreasing x (y ∷ xs) (λ _. r 0 1 0 (omega arith) (omega arith)) (λ i j d m l. r (suc i) (suc j) d (omega arith) (omega arith)),
 )
 
--- a monotone function of a list that does not fall
+-- a monotone function of a list that climbs climbs
 pub climbs_of_keys : (key : ℕ → ℕ) → ((x y : ℕ) → x ≤ y → key x ≤ key y) → (low : ℕ) (xs : List ℕ) → Climbs low xs → Climbs (key low) (map key xs)
 climbs_of_keys key m low [] c = tt
 climbs_of_keys key m low (x ∷ xs) c = (m low x c.0, climbs_of_keys key m x xs c.1)
@@ -121,13 +121,13 @@ none_upto : (key : ℕ → ℕ) (low line : ℕ) (old : List ℕ) → Climbs low
 none_upto key low line [] c h = refl
 none_upto key low line (o ∷ old) c h = rw (count-cons (λ x. leb (key x) line) o old, lt-leb (key o) line (omega (arith, c.0)), none_upto key (key o) line old c.1 (omega (arith, c.0))) refl
 
--- no row stands on a line where no old start lies
+-- no row goes to a line that contains no old start
 pub none_on : {R : Type 0} (key : ℕ → ℕ) (line : ℕ) (old : List ℕ) (rows : List R) → AllByRecursion (λ o. key o ≢ line) old → filter (λ (e : ℕ × R). eqb (key e.0) line) (zip old rows) ≡ []
 none_on key line [] rows h = refl
 none_on key line (o ∷ old) [] h = refl
 none_on key line (o ∷ old) (r ∷ rows) h = rw (ne_eqb (key o) line h.0) (none_on key line old rows h.1)
 
--- rows on one line are a block, where the lines do not fall
+-- the rows on one line are consecutive, if the lines do not fall
 pub block_of_rows : {R : Type 0} (key : ℕ → ℕ) (low line : ℕ) (old : List ℕ) (rows : List R) → Climbs low (map key old) → length old ≡ length rows → map (λ (e : ℕ × R). e.1) (filter (λ (e : ℕ × R). eqb (key e.0) line) (zip old rows)) ≡ slice_range rows (count_by (λ o. ltb (key o) line) old) (count_by (λ o. leb (key o) line) old)
 block_of_rows key low line [] [] c h = refl
 block_of_rows key low line [] (r ∷ rows) c h = absurd (omega arith)

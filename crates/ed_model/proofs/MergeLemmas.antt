@@ -1,4 +1,4 @@
--- Carry is the walk over the old lines and the new ones: the rows that come to a line are a block of the old ones.
+-- Carry is the walk over the old lines and the new ones: the rows that go to a line are consecutive old rows.
 use Rattle.std.proofs.Common.{ℕ, zero, suc, ◌≡◌, ◌+◌, ◌<◌, ◌≤◌, Bool, true, cond, ◌&&◌, List, [], ◌∷◌, map, length, take, drop, filter, zip, count_by, eqb, leb, ltb, sym, refl, ap, ap₂, ◌∙◌, inl, inr, arith, one-add, le_refl}
 use Rattle.std.specs.List.{range_with_len}
 use Rattle.std.proofs.lemmas.Bool.{cond_both, cases_lt, cases_eq, eq-eqb, ne_eqb, lt-ltb, le-ltb, le-leb, lt-leb}
@@ -35,7 +35,7 @@ second_of_zip [] (r ∷ rows) h = absurd (omega arith)
 second_of_zip (o ∷ old) [] h = absurd (omega arith)
 second_of_zip (o ∷ old) (r ∷ rows) h = ap (λ l. r ∷ l) (second_of_zip old rows (omega arith))
 
--- what is left of a list that does not fall does not fall
+-- the rest of a list that does not fall does not fall
 pub Climbs-drop : (low k : ℕ) (xs : List ℕ) → Climbs low xs → Climbs low (drop k xs)
 Climbs-drop low zero xs r = r
 Climbs-drop low (suc k) [] r = tt
@@ -74,7 +74,7 @@ rest_rows moved low next (o ∷ old) (r ∷ rows) c h =
       | inr above ↦ rw (le-ltb (moved o) next above, le-leb next (moved o) above) (ap (λ l. (o, r) ∷ l) (all_from moved (moved o) next old rows c.1 above))
     ]
 
--- which line, of those from the second on
+-- the line of a position, among the lines from the second on
 
 count_le_one : (s x : ℕ) → count_by (λ y. leb y x) (s ∷ []) ≤ 1
 count_le_one s x = rw (count-cons (λ y. leb y x) s []) (cond_both (leb s x) 1 0 (λ n. n + 0 ≤ 1) (λ _. omega arith) (λ _. omega arith))

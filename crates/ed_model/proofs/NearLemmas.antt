@@ -1,4 +1,4 @@
--- A step carries rows by the walk, which may stay about the step.
+-- A step carries rows by the walk, which may be limited to the lines near the step.
 use Rattle.std.proofs.Common.{ℕ, zero, suc, ◌≡◌, ◌+◌, ◌-◌, ◌<◌, ◌≤◌, true, cond, List, [], ◌∷◌, ◌++◌, map, length, take, drop, get_or, slice_range, leb, ltb, sym, refl, ap, ap₂, subst, ◌∙◌, inl, inr, arith, le_refl, append-nil, append_assoc, map-id}
 use Rattle.std.specs.List.{AllByRecursion}
 use Rattle.std.proofs.lemmas.Bool.{cases_lt, lt-ltb, le-ltb, ltb-true, leb-true}
@@ -20,7 +20,7 @@ use Rattle.ed_model.proofs.StepLemmas.{start_keeps_order}
 use Rattle.ed_model.proofs.MergeLemmas.{carried_is_merged}
 use Rattle.ed_model.proofs.JoinLemmas.{each_drop, rises_front, rises_before, rises_rest, climbs_each, climbs_of_keys, merged-append, merged_same}
 
--- what a step does to starts before it and behind it
+-- how a step moves the starts before it and after it
 
 -- a start before the step stays
 pub start_before_stays : (step : Step) (q : ℕ) → q < place_of step → moved_start step q ≡ q
@@ -33,7 +33,7 @@ moved_on_below p n o t h l = grind (arith, nat_tests)
 moved_back_below : (p n o t : ℕ) → o < p + n + 3 → p + n + 3 ≤ t → moved_back p n o < moved_back p n t
 moved_back_below p n o t h l = grind (arith, nat_tests)
 
--- a start about the step comes before one behind it
+-- a moved start near the step is before a moved start after it
 pub start_behind_stays_behind : (step : Step) (o t : ℕ) → o < end_of step + 3 → end_of step + 3 ≤ t → moved_start step o < moved_start step t
 start_behind_stays_behind (Insert p bytes) o t h l = moved_on_below p (length bytes) o t h l
 start_behind_stays_behind (Delete p bytes) o t h l = moved_back_below p (length bytes) o t h l
@@ -58,7 +58,7 @@ moved_on_is p n s h = rw (le-ltb s p (omega arith)) refl
 moved_back_is : (p n s : ℕ) → p + n + 3 ≤ s → s - n ≡ moved_back p n s
 moved_back_is p n s h = rw (le-ltb s p (omega arith), le-ltb s (p + n) (omega arith)) refl
 
--- where lines start after any step
+-- the line starts after any step
 pub starts_after_step : (types : LineEndTypes) (step : Step) (text : List ℕ) → place_of step ≤ length text → line_starts types (edited step text) ≡ starts_before (place_of step) (line_starts types text) ++ starts_about types (place_of step) (end_of step) (put_in step) text ++ map (moved_start step) (starts_from (end_of step + 3) (line_starts types text))
 starts_after_step types (Insert p bytes) text h =
     let behind : List ℕ = starts_from (p + 3) (line_starts types text) in
@@ -144,13 +144,13 @@ place_upto_end : (step : Step) → place_of step ≤ end_of step
 place_upto_end (Insert p bytes) = omega arith
 place_upto_end (Delete p bytes) = omega arith
 
--- at the beginning of the text the starts about a step begin with 0
+-- at the start of the text the starts near a step begin with 0
 about_zero : (types : LineEndTypes) (end : ℕ) (bytes text : List ℕ) → (0 < length (starts_about types 0 end bytes text)) × (get_or (starts_about types 0 end bytes text) 0 0 ≡ 0)
 about_zero types end bytes text =
     let e : length bytes + 3 ≡ suc (length bytes + 2) = omega arith in
     rw (starts_about_is types 0 end bytes text (omega arith), e) (omega arith, refl)
 
--- what a step carries
+-- the rows after a step
 
 climbs_moved : (types : LineEndTypes) (step : Step) (text : List ℕ) → Climbs 0 (map (moved_start step) (line_starts types text))
 climbs_moved types step text =
@@ -161,7 +161,7 @@ unless_some : {R : Type 0} (together : List R → R) (types : LineEndTypes) (ste
 unless_some together types step text [] rows h = absurd (omega arith)
 unless_some together types step text (b ∷ bs) rows h = refl
 
--- a step that leaves a text carries rows by the walk
+-- a step that leaves some text carries rows by the walk
 pub step_carries_by_walking : {R : Type 0} (together : List R → R) (types : LineEndTypes) (step : Step) (text : List ℕ) (rows : List R) → length rows ≡ line_count types text → 0 < length (edited step text) → carried_by together types step text rows ≡ merged together (moved_start step) (line_starts types text) (line_starts types (edited step text)) rows
 step_carries_by_walking together types step text rows h some =
     unless_some together types step text (edited step text) rows some
@@ -171,13 +171,13 @@ step_carries_by_walking together types step text rows h some =
 pub empty_text_has_a_fresh_row : {R : Type 0} (together : List R → R) (types : LineEndTypes) (step : Step) (text : List ℕ) (rows : List R) → edited step text ≡ [] → carried_by together types step text rows ≡ together [] ∷ []
 empty_text_has_a_fresh_row together types step text rows e = ap (λ after. carried_unless_empty together types step text after rows) e
 
--- the first line about a step, and the first behind it
+-- the first line near a step, and the first line after it
 
 first_upto_last : (types : LineEndTypes) (step : Step) (text : List ℕ) → first_line_about step (line_starts types text) ≤ first_line_behind step (line_starts types text)
 first_upto_last types step text =
     omega (arith, count_before_monotone (place_of step) (end_of step + 3) (line_starts types text) (omega (arith, place_upto_end step)))
 
--- the starts before the first line about the step are the first ones
+-- the starts before the first line near the step are the first ones
 front_is : (types : LineEndTypes) (step : Step) (text : List ℕ) → take (first_line_about step (line_starts types text)) (starts_before (place_of step) (line_starts types text)) ≡ take (first_line_about step (line_starts types text)) (line_starts types text)
 front_is types step text =
     let starts : List ℕ = line_starts types text in
@@ -199,7 +199,7 @@ new_form types step text h =
     ∙ ap (λ l. l ++ moved) (append_assoc (take first starts) (drop first before) about)
     ∙ append_assoc (take first starts) (drop first before ++ about) moved
 
--- the new starts about a step begin with one that no later start comes before
+-- the first of the new starts near a step is at most each later start
 head_about : (types : LineEndTypes) (step : Step) (text : List ℕ) → 0 < count_before (place_of step) (line_starts types text) → (0 < length (new_starts_about types step text)) × AllByRecursion (λ o. get_or (new_starts_about types step text) 0 0 ≤ moved_start step o) (drop (first_line_about step (line_starts types text)) (line_starts types text))
 head_about types step text some =
     let starts : List ℕ = line_starts types text in
@@ -250,14 +250,14 @@ head_of_new types step text =
       | inr none ↦ head_at_zero types step text (omega arith)
     ]
 
--- where lines start after a step, by the first line about it and the first behind it
+-- the line starts after a step, by the first line near it and the first line after it
 pub starts_change_nearby : (types : LineEndTypes) (step : Step) (text : List ℕ) → place_of step ≤ length text → line_starts types (edited step text) ≡ take (first_line_about step (line_starts types text)) (line_starts types text) ++ new_starts_about types step text ++ map (moved_start step) (drop (first_line_behind step (line_starts types text)) (line_starts types text))
 starts_change_nearby types step text h =
     let starts : List ℕ = line_starts types text in
     new_form types step text h
     ∙ sym (append_assoc (take (first_line_about step starts) starts) (new_starts_about types step text) (map (moved_start step) (drop (first_line_behind step starts) starts)))
 
--- both lines are among the lines of the text
+-- both lines are lines of the text
 pub lines_about_in_range : (types : LineEndTypes) (step : Step) (text : List ℕ) → (first_line_about step (line_starts types text) < line_count types text) × (first_line_about step (line_starts types text) ≤ first_line_behind step (line_starts types text)) × (first_line_behind step (line_starts types text) ≤ line_count types text)
 lines_about_in_range types step text = (
   omega (arith, some_line types text, count_by-le-length (λ s. ltb s (place_of step)) (line_starts types text)),
@@ -265,11 +265,11 @@ lines_about_in_range types step text = (
   count_by-le-length (λ s. ltb s (end_of step + 3)) (line_starts types text),
 )
 
--- there is a new start about every step
+-- there is a new start near every step
 pub some_start_about : (types : LineEndTypes) (step : Step) (text : List ℕ) → 0 < length (new_starts_about types step text)
 some_start_about types step text = (head_of_new types step text).0
 
--- the walk may stay about the step: the rows before it and behind it are as they were
+-- the walk may be limited to the lines near the step: the rows before them and after them stay
 pub step_carries_nearby : {R : Type 0} (together : List R → R) → JoinsRows together → (types : LineEndTypes) (step : Step) (text : List ℕ) (rows : List R) → length rows ≡ line_count types text → place_of step ≤ length text → 0 < length (edited step text) → carried_by together types step text rows ≡ take (first_line_about step (line_starts types text)) rows ++ merged together (moved_start step) (slice_range (line_starts types text) (first_line_about step (line_starts types text)) (first_line_behind step (line_starts types text))) (new_starts_about types step text) (slice_range rows (first_line_about step (line_starts types text)) (first_line_behind step (line_starts types text))) ++ drop (first_line_behind step (line_starts types text)) rows
 step_carries_nearby {R} together j types step text rows h fits some =
     let starts : List ℕ = line_starts types text in
@@ -311,7 +311,7 @@ step_carries_nearby {R} together j types step text rows h fits some =
     ∙ walk
     ∙ sym (append_assoc (take first rows) (merged together moved mid news (slice_range rows first last)) (drop last rows))
 
--- where the document comes to know other line ends, rows are carried by the walk too
+-- after new line end types the rows are those of the walk too
 pub regrouping_carries_by_walking : {R : Type 0} (together : List R → R) (old new : LineEndTypes) (text : List ℕ) (rows : List R) → length rows ≡ line_count old text → regrouped together old new text rows ≡ merged together (λ start. start) (line_starts old text) (line_starts new text) rows
 regrouping_carries_by_walking together old new text rows h =
     let starts : List ℕ = line_starts old text in

@@ -1,4 +1,5 @@
--- Plans of queries, and of messages that take no memory: what they come to. A fact on the plan, shown for each kind.
+-- Plans of queries and of messages marked N, and what performing them leaves
+-- unchanged. Facts on plans are shown for each kind of message.
 use Rattle.std.proofs.Common.{◌≡◌, ℕ, nat_lt, Bool, true, false, cond, List, [], refl, Option, Some, None, Ok, Err}
 use Rattle.ed_types.specs.declared.kind.Kind.{Kind}
 use Rattle.ed_types.specs.declared.kind.Kind.TheVariants as kinds
@@ -21,7 +22,7 @@ use Rattle.ed_model.specs.FreePlans.{IsFreeDocumentChange, IsFreePlan, IsFreePla
 
 -- Queries.
 
--- a plan that only answers or hands out
+-- a plan that only answers or hands out a text
 abbrev pub IsQuietPlan : Plan → Type 0
 IsQuietPlan (plan.Answer value) = Unit {0}
 IsQuietPlan (plan.HandOut value start count) = Unit {0}
@@ -34,12 +35,12 @@ IsQuietPlan (plan.ChangeDocument change value) = ⊥
 IsQuietPlan (plan.ChangeView change value) = ⊥
 IsQuietPlan (plan.ChangeSession change value) = ⊥
 
--- or a refusal
+-- such a plan, or a refusal
 abbrev pub IsQuiet : Planned → Type 0
 IsQuiet (Err refusal) = Unit {0}
 IsQuiet (Ok p) = IsQuietPlan p
 
--- such a plan leaves the session
+-- such a plan leaves the session unchanged
 pub quiet_plan_leaves : (r : Request) (p : Plan) → IsQuietPlan p → (performed r p).0 ≡ r.session
 quiet_plan_leaves r (plan.Answer value) h = refl
 quiet_plan_leaves r (plan.HandOut value start count) h = refl
@@ -52,7 +53,7 @@ quiet_plan_leaves r (plan.ChangeDocument change value) h = absurd h
 quiet_plan_leaves r (plan.ChangeView change value) h = absurd h
 quiet_plan_leaves r (plan.ChangeSession change value) h = absurd h
 
--- An argument keeps a plan among those of a fact that every refusal has.
+-- If each refusal has P, a plan with an argument has P if it has P for each argument in range.
 module _ (P : Planned → Type 0) (refused : (e : Refusal) → P (Err e)) where
   pub with_argument_keeps : {A : Type 0} (a : Option A) (act : A → Planned) → ((x : A) → P (act x)) → P (with_argument a act)
   with_argument_keeps None act h = refused _
@@ -66,7 +67,7 @@ module _ (P : Planned → Type 0) (refused : (e : Refusal) → P (Err e)) where
   either_keeps true x y hx hy = hx
   either_keeps false x y hx hy = hy
 
--- A fact on plans: it answers or hands out, or is refused.
+-- The plan of a query answers, hands out, or is a refusal.
 refusal_is_quiet : (e : Refusal) → IsQuiet (Err e)
 refusal_is_quiet e = tt
 
@@ -78,7 +79,7 @@ quiet_with_line line bad act b h = with_line_keeps IsQuiet refusal_is_quiet line
 
 ruleset quiet_arguments = (quiet_with_argument, quiet_with_line)
 
--- every query's plan is quiet
+-- the plan of every query is quiet
 pub query_is_quiet : (kind : Kind) (r : Request) → (marks_of kind).q ≡ true → IsQuiet (plan_of kind r)
 query_is_quiet kinds.GetLength r h = tt
 query_is_quiet kinds.GetCharAt r h = tt
@@ -141,7 +142,7 @@ query_is_quiet kinds.GetLineEndTypesActive r h = tt
 query_is_quiet kinds.GetTargetText r h = tt
 query_is_quiet _ r h = cc
 
--- Messages that take no memory.
+-- Messages marked N.
 
 pub silent_change_tells_nothing : (sender : View) (views : List View) (old new : Document) (c : DocumentChange) → IsFreeDocumentChange c → change_told sender views old new c ≡ []
 silent_change_tells_nothing sender views old new (document_change.SetReadOnly on) h = refl
@@ -166,7 +167,7 @@ silent_change_tells_nothing sender views old new (document_change.StyleBytes cou
 silent_change_tells_nothing sender views old new (document_change.NeedStyle start past) h = absurd h
 silent_change_tells_nothing sender views old new (document_change.FillIndicator indicator start count value) h = absurd h
 
--- such a plan hands out no text
+-- a free plan hands out no text
 pub free_plan_has_no_text : (r : Request) (p : Plan) → IsFreePlan p → (performed r p).1.text ≡ []
 free_plan_has_no_text r (plan.Answer value) h = refl
 free_plan_has_no_text r (plan.HandOut value start count) h = absurd h
@@ -179,7 +180,7 @@ free_plan_has_no_text r (plan.ChangeDocument change value) h = refl
 free_plan_has_no_text r (plan.ChangeView change value) h = refl
 free_plan_has_no_text r (plan.ChangeSession change value) h = refl
 
--- and has no note
+-- a free plan has no notes
 pub free_plan_has_no_note : (r : Request) (p : Plan) → IsFreePlan p → (performed r p).1.notes ≡ []
 free_plan_has_no_note r (plan.Answer value) h = refl
 free_plan_has_no_note r (plan.HandOut value start count) h = absurd h
@@ -218,7 +219,7 @@ release_is_free (Some d) = either_keeps IsFreePlanned refusal_is_free (nat_lt 0 
 
 ruleset free_arguments = (free_with_argument, free_with_line, free_either, found_target_is_free)
 
--- the plan of every message that takes no memory is free
+-- the plan of every message marked N is free
 pub message_without_memory_is_free : MarkedPlansAreFree
 message_without_memory_is_free kinds.GetLength r h = tt
 message_without_memory_is_free kinds.GetCharAt r h = tt

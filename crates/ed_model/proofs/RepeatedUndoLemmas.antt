@@ -1,4 +1,4 @@
--- Undo and redo, message after message.
+-- Repeated UNDO and REDO messages.
 use Rattle.std.proofs.Common.{◌≡◌, ℕ, zero, suc, ◌+◌, ◌<◌, ◌≤◌, true, false, nat_lt, ◌&&◌, List, [], ◌∷◌, length, refl, ap, ◌∙◌, sym, arith, Option, Some}
 use Rattle.std.specs.Prelude.{◌==◌}
 use Rattle.std.proofs.lemmas.Bool.{lt-ltb}
@@ -16,7 +16,7 @@ use Rattle.ed_model.proofs.UndoMessageLemmas.{undone_document, redone_document, 
 use Rattle.ed_model.proofs.SoundHistory.{undone_then_redone_is_the_same}
 use Rattle.ed_model.proofs.SoundFinding.{document_sound}
 
--- What undo and redo make of the numbers of transactions.
+-- The numbers of transactions after undo and redo.
 
 length_sealed : (ts : List Transaction) → length (seal_first ts) ≡ length ts
 length_sealed [] = refl
@@ -33,13 +33,13 @@ redone_to h (t ∷ ts) some = (refl, refl)
 can_act : (depth n : ℕ) → depth ≡ 0 → 0 < n → (depth == 0 && nat_lt 0 n) ≡ true
 can_act depth n e some = rw (e, lt-ltb 0 n some) refl
 
--- A document stands where a scene does: it has its text and its history, and can be written.
+-- A document in the state of a scene's document: it has its text and its history, and is not read-only.
 record StandsAt (scene : Scene) (d : Document) : Type 0 where
   text : text_of d ≡ text_of scene.document
   history : d.history ≡ scene.document.history
   written : d.read_only ≡ false
 
--- the document of this id is there and stands so
+-- the document with this id exists, and is in that state
 abbrev IsThere : ℕ → Scene → Session → Type 0
 IsThere id scene s = (d : Document) × (document_at s.documents id ≡ Some d) × StandsAt scene d
 
@@ -66,7 +66,7 @@ redone_there scene d e stands is = record {
   written = is.read_only ∙ stands.written;
 }
 
--- So messages go with scenes.
+-- Each answered message changes the document as undo or redo changes the scene.
 
 undos_there : (id : ℕ) (sent : List (ℕ × Message)) (scene : Scene) (s t : Session) → IsThere id scene s → scene.document.history.depth ≡ 0
     → length sent ≤ length scene.document.history.past → AreAnswered Undo id sent s t → IsThere id (undos (length sent) scene) t
@@ -100,7 +100,7 @@ redos_there id (m ∷ rest) scene s t there depth enough h =
     (made.0, sym (ap (document_at done.0.documents) is.document) ∙ made.1, redone_there scene at.0 made.0 at.2 made.2)
     (numbers.0 ∙ depth) (omega (arith, numbers.1)) h.4
 
--- after k undos there are k transactions more to be redone
+-- after k undos the future has k transactions more
 undos_count : (k : ℕ) (scene : Scene) → k ≤ length scene.document.history.past
     → ((undos k scene).document.history.depth ≡ scene.document.history.depth) × (k ≤ length (undos k scene).document.history.future)
 undos_count k scene enough = let more = go k scene enough in (more.0, omega (arith, more.1))

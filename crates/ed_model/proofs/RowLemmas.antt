@@ -1,4 +1,4 @@
--- Rows where lines stay, come and go, in the words of the laws.
+-- Rows of lines that stay, of new lines, and of lines that are joined, as the laws state them.
 use Rattle.std.proofs.Common.{ℕ, ◌≡◌, ◌≢◌, ◌↔◌, ◌+◌, ◌<◌, ◌≤◌, List, [], ◌∷◌, ◌++◌, map, length, count_by, fold, get_or, slice_range, All, Contains, leb, ltb, refl, ap, ap₂, ◌∙◌, inl, inr, arith, le_refl, append-nil, append_assoc}
 use Rattle.std.specs.List.{AllByRecursion}
 use Rattle.std.specs.List.Sorted.{IsNonDecreasing, IsStrictlyIncreasing}
@@ -24,7 +24,7 @@ rows_join = record {
   one_by_one = λ first second rows. ap (λ markers. record first { markers = markers }) (simp (append-nil, append_assoc));
 }
 
--- a view's flags are those of the first
+-- joined flags are those of the first
 pub flags_join : JoinsRows flags_together
 flags_join = record { alone = λ flags. refl; one_by_one = λ first second rows. refl }
 
@@ -33,7 +33,7 @@ pub joined_pairwise : {R : Type 0} (together : List R → R) → JoinsRows toget
 joined_pairwise together j row [] = j.alone row
 joined_pairwise together j row (second ∷ rows) = j.one_by_one row second rows ∙ joined_pairwise together j (together (row ∷ second ∷ [])) rows
 
--- places on one line
+-- positions on one line
 
 apart : (types : LineEndTypes) (text : List ℕ) (p q k start : ℕ) → k < length (line_starts types text) → get_or (line_starts types text) k start ≡ start → p < start → start ≤ q → line_of (line_starts types text) p ≡ line_of (line_starts types text) q → ⊥
 apart types text p q k start h e low high same =
@@ -59,7 +59,7 @@ together_where_none types text p q h none =
       | inr same ↦ omega arith
     ]
 
--- two places are on one line just where no line starts between them
+-- two positions are on one line if and only if no line starts between them
 pub places_on_one_line : (types : LineEndTypes) (text : List ℕ) (p q : ℕ) → p ≤ q → (line_of (line_starts types text) p ≡ line_of (line_starts types text) q) ↔ ((start : ℕ) → Contains (line_starts types text) start → p < start → start ≤ q → ⊥)
 places_on_one_line types text p q h = (
   λ same start c low high. apart types text p q c.0 start c.1 c.2 low high same,
@@ -72,7 +72,7 @@ map_twice : (f g : ℕ → ℕ) (xs : List ℕ) → map g (map f xs) ≡ map (λ
 map_twice f g [] = refl
 map_twice f g (x ∷ xs) = ap (λ l. g (f x) ∷ l) (map_twice f g xs)
 
--- the rows that come to a line are a block of the old rows
+-- the rows that go to a line are consecutive old rows
 pub rows_come_in_blocks : {R : Type 0} (moved : ℕ → ℕ) (old new : List ℕ) (rows : List R) (line : ℕ) → IsNonDecreasing (map moved old) → length old ≡ length rows → rows_on moved old new rows line ≡ slice_range rows (count_by (λ start. ltb (line_of new (moved start)) line) old) (count_by (λ start. leb (line_of new (moved start)) line) old)
 rows_come_in_blocks moved old new rows line c h =
     let climbs : Climbs 0 (map moved old) = climbs_from_non_decreasing 0 (map moved old) (λ _. omega arith) c in
@@ -80,12 +80,12 @@ rows_come_in_blocks moved old new rows line c h =
     (rw (map_twice moved (line_of new) old) at (climbs_of_keys (line_of new) (line_of_monotone new) 0 (map moved old) climbs))
     h
 
--- no row comes to a line where no old start lies
+-- no row goes to a line that contains no old start
 pub lines_without_old_row : {R : Type 0} (moved : ℕ → ℕ) (old new : List ℕ) (rows : List R) (line : ℕ) → All (λ start. line_of new (moved start) ≢ line) old → rows_on moved old new rows line ≡ []
 lines_without_old_row {R} moved old new rows line h =
     ap (map (λ (e : ℕ × R). e.1)) (none_on (λ start. line_of new (moved start)) line old rows (recursion_from_All (λ start. line_of new (moved start) ≢ line) old h))
 
--- carry is the walk, in std's words
+-- carry is the walk, for lists as std states it
 pub carries_by_walking : {R : Type 0} (together : List R → R) (moved : ℕ → ℕ) (old new : List ℕ) (rows : List R) → IsNonDecreasing (map moved old) → IsStrictlyIncreasing new → length old ≡ length rows → carried together moved old new rows ≡ merged together moved old new rows
 carries_by_walking together moved old new rows c r h =
     carried_is_merged together moved 0 old new rows (climbs_from_non_decreasing 0 (map moved old) (λ _. omega arith) c) (rises_from_increasing 0 new (λ _. omega arith) r) h
@@ -112,7 +112,7 @@ rises_from_each : (low m : ℕ) (xs : List ℕ) → Rises low xs → AllByRecurs
 rises_from_each low m [] r h = tt
 rises_from_each low m (x ∷ xs) r h = (omega (arith, h.0), r.1)
 
--- where each start stays, so do the rows
+-- if each start stays, the rows stay
 pub rows_of_lines_that_stay : {R : Type 0} (together : List R → R) → JoinsRows together → (moved : ℕ → ℕ) (old : List ℕ) (rows : List R) → IsStrictlyIncreasing (map moved old) → length old ≡ length rows → carried together moved old (map moved old) rows ≡ rows
 rows_of_lines_that_stay together j moved old rows i h =
     let rises : Rises 0 (map moved old) = rises_from_increasing 0 (map moved old) (λ _. omega arith) i in
@@ -130,7 +130,7 @@ walk_to_one_more {R} together j moved (o ∷ old) start later rows rest r h l =
     (climbs_each start moved later (Climbs_weaker (start + 1) start (map moved later) (omega arith) (Climbs_from_rises (start + 1) (map moved later) after.1)))
     ∙ ap₂ (λ (a b : List R). a ++ b) (merged_same together j.alone moved 0 (o ∷ old) rows stay h) (merged_fresh together j.alone moved (start + 1) start later rest after.1 l)
 
--- a line that comes has a fresh row
+-- a new line gets a fresh row
 pub one_line_comes : {R : Type 0} (together : List R → R) → JoinsRows together → (moved : ℕ → ℕ) (old : List ℕ) (start : ℕ) (later : List ℕ) (rows rest : List R) → IsStrictlyIncreasing (map moved old ++ (start ∷ map moved later)) → length old ≡ length rows → length later ≡ length rest → carried together moved (old ++ later) (map moved old ++ (start ∷ map moved later)) (rows ++ rest) ≡ rows ++ (together [] ∷ rest)
 one_line_comes together j moved old start later rows rest i h l =
     let rises : Rises 0 (map moved old ++ (start ∷ map moved later)) = rises_from_increasing 0 (map moved old ++ (start ∷ map moved later)) (λ _. omega arith) i in
@@ -150,7 +150,7 @@ walk_to_one_less {R} together j moved (o ∷ old) kept gone later rows first sec
     ∙ ap₂ (λ (a b : List R). a ++ b) (merged_same together j.alone moved 0 (o ∷ old) rows stay h)
     (merged_joined together j.alone moved (moved gone + 1) (moved kept) kept gone later first second rest g (omega (arith, c.1.0)) (omega arith) l)
 
--- the row of a line that goes is joined to the one before it
+-- the row of a line that is joined to the one before it is joined to that line's row
 pub one_line_goes : {R : Type 0} (together : List R → R) → JoinsRows together → (moved : ℕ → ℕ) (old : List ℕ) (kept gone : ℕ) (later : List ℕ) (rows : List R) (first second : R) (rest : List R) → IsStrictlyIncreasing (map moved old ++ (moved kept ∷ map moved later)) → IsNonDecreasing (map moved (old ++ (kept ∷ gone ∷ later))) → All (λ start. moved gone < moved start) later → length old ≡ length rows → length later ≡ length rest → carried together moved (old ++ (kept ∷ gone ∷ later)) (map moved old ++ (moved kept ∷ map moved later)) (rows ++ (first ∷ second ∷ rest)) ≡ rows ++ (together (first ∷ second ∷ []) ∷ rest)
 one_line_goes together j moved old kept gone later rows first second rest i n behind h l =
     let new : List ℕ = map moved old ++ (moved kept ∷ map moved later) in

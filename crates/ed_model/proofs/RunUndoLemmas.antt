@@ -1,4 +1,4 @@
--- Documents go on from what they were, message by message, and so undo goes back to earlier states of every run.
+-- Documents keep their earlier texts, message by message, so undo goes back to earlier states of every run.
 use Rattle.std.proofs.Common.{◌≡◌, ℕ, ◌+◌, ◌-◌, ◌≤◌, ◌==◌, nat_lt, cond, Bool, true, false, List, [], ◌∷◌, ◌++◌, length, map, refl, ap, ◌∙◌, sym, subst, arith, Option, Some, None, Result, Ok, Err}
 use Rattle.std.specs.Prelude.{option_map, ◌||◌, nat_le}
 use Rattle.std.specs.Option.{option_or}
@@ -50,7 +50,7 @@ use Rattle.ed_model.proofs.SoundRuns.{edit_steps_fit, redo_steps_fit, command_so
 
 -- Lists of documents.
 
--- a document goes on from what it was, and was left alone unless `Own` tells of it
+-- a document keeps its earlier texts, and was left alone unless `Own` holds for it
 abbrev GoesOnBut : (ℕ → Type 0) → Option Document → Document → Type 0
 GoesOnBut Own None d = d.history.past ≡ []
 GoesOnBut Own (Some old) d = KeepsEarlierTexts old d × ((Own d.id → ⊥) → IsLeftAlone old d)
@@ -75,7 +75,7 @@ goes_on_same Own d = (keeps_same d.history (text_of d), λ other. record { text 
 lists_go_on_same : (Own : ℕ → Type 0) (ds : List Document) → ListsGoOn Own ds ds
 lists_go_on_same Own ds id d e = subst (λ (o : Option Document). GoesOnBut Own o d) (sym e) (goes_on_same Own d)
 
--- one document replaced by one that goes on from it
+-- one document replaced by one that keeps its earlier texts
 lists_go_on_replaced : (ds : List Document) (old new : Document) → document_at ds new.id ≡ Some old → KeepsEarlierTexts old new → ListsGoOn (λ id. id ≡ new.id) ds (with_document new ds)
 lists_go_on_replaced ds old new found keeps id d e = go (id == new.id) refl
   where
@@ -94,7 +94,7 @@ lists_go_on_replaced ds old new found keeps id d e = go (id == new.id) refl
         apart_false : (id == new.id) ≡ true → (id == new.id) ≡ false → ⊥
         apart_false p q = cc
 
--- documents that are relisted: only their views and references change
+-- documents of which only the views and references change
 pub record IsRelisted (d e : Document) : Type 0 where
   pub id : e.id ≡ d.id
   pub history : e.history ≡ d.history
@@ -128,7 +128,7 @@ lists_go_on_mapped Own ds es g r h id d e = go (document_at es id) refl (sym (ma
         let is : g x ≡ d = cc in
         subst (GoesOnBut Own (document_at ds id)) is (goes_on_relisted Own (document_at ds id) x (g x) (r x) (h id x found))
 
--- found in rising documents, an id is not below them
+-- the id of a document in a rising list is at least the list's bound
 rise_found : (low high : ℕ) (ds : List Document) (id : ℕ) (d : Document) → Rise low high (map (λ (x : Document). x.id) ds) → document_at ds id ≡ Some d → low ≤ id
 rise_found low high [] id d rise e = cc
 rise_found low high (x ∷ xs) id d rise e = go (x.id == id) refl e (λ f. rise_found (x.id + 1) high xs id d rise.2 f)
@@ -137,7 +137,7 @@ rise_found low high (x ∷ xs) id d rise e = go (x.id == id) refl e (λ f. rise_
     go true t f rest = let same = eqb-true x.id id t in let first : low ≤ x.id = rise.0 in omega arith
     go false t f rest = let first : low ≤ x.id = rise.0 in let later : x.id + 1 ≤ id = rest f in omega arith
 
--- what lives was there, as it is
+-- a document that still has a reference was in the list before, unchanged
 living_from : (low high : ℕ) (ds : List Document) (id : ℕ) (d : Document) → Rise low high (map (λ (x : Document). x.id) ds) → document_at (living ds) id ≡ Some d → document_at ds id ≡ Some d
 living_from low high [] id d rise e = e
 living_from low high (x ∷ xs) id d rise e = go (nat_lt 0 (references x)) e (λ f. living_from (x.id + 1) high xs id d rise.2 f)
@@ -161,7 +161,7 @@ mapped_ids : (g : Document → Document) → ((d : Document) → IsRelisted d (g
 mapped_ids g r [] = refl
 mapped_ids g r (d ∷ ds) = ap (λ n. n ∷ map (λ (x : Document). x.id) (map g ds)) (r d).id ∙ ap (λ ids. d.id ∷ ids) (mapped_ids g r ds)
 
--- the documents of other ones relisted, of which some go
+-- documents whose views and references change, and of which some are dropped
 lists_go_on_relisted : (Own : ℕ → Type 0) (ds es : List Document) (g : Document → Document) (low high : ℕ) → ((d : Document) → IsRelisted d (g d)) →
     Rise low high (map (λ (x : Document). x.id) es) → ListsGoOn Own ds es → ListsGoOn Own ds (living (map g es))
 lists_go_on_relisted Own ds es g low high r rise h =
@@ -180,7 +180,7 @@ lists_go_on_pushed Own ds new none id d e =
     go None f = alone (new.id == id) f
     go (Some x) f = subst (GoesOnBut Own (Some x)) (let same : x ≡ d = cc in same) (goes_on_same Own x)
 
--- Relistings.
+-- Changes of views and references.
 
 same_listed : (d : Document) → IsRelisted d d
 same_listed d = record { id = refl; history = refl; cells = refl; read_only = refl }
@@ -200,7 +200,7 @@ held_more_relisted id d = both_hold (IsRelisted d) (d.id == id) (record d { held
 held_less_relisted : (id : ℕ) (d : Document) → IsRelisted d (held_less id d)
 held_less_relisted id d = both_hold (IsRelisted d) (d.id == id) (record d { held_by_callers = d.held_by_callers - 1 }) d (λ e. record { id = refl; history = refl; cells = refl; read_only = refl }) (λ e. same_listed d)
 
--- What a plan does.
+-- The documents after a plan.
 
 attached_go_on : (Own : ℕ → Type 0) (ds : List Document) (s : Session) (o : Option Document) (v : View) (high : ℕ) → Rise 0 high (map (λ (x : Document). x.id) s.documents) →
     ListsGoOn Own ds s.documents → ListsGoOn Own ds (with_attached o v s).documents
@@ -238,7 +238,7 @@ edit_made_id steps scene =
 own_document : (r : Request) → IsSoundRequest r → document_at r.session.documents r.document.id ≡ Some r.document
 own_document r h = ap (document_at r.session.documents) (document_id r.session.documents r.view.document r.document h.document) ∙ h.document
 
--- the request's document replaced by one that goes on from it
+-- the request's document replaced by one that keeps its earlier texts
 own_replaced : (r : Request) (new : Document) → IsSoundRequest r → new.id ≡ r.document.id → KeepsEarlierTexts r.document new → ListsGoOn (λ id. id ≡ r.view.document) r.session.documents (with_document new r.session.documents)
 own_replaced r new h same keeps =
     let own : new.id ≡ r.view.document = same ∙ document_id r.session.documents r.view.document r.document h.document in
@@ -279,12 +279,12 @@ performed_goes_on r plan.Redo h fit =
 
 -- Messages.
 
--- what comes of a message lets the documents go on
+-- after a message the documents keep their earlier texts
 abbrev LetsGoOn : (ℕ → Type 0) → Session → Result (Session × Response) Refusal → Type 0
 LetsGoOn Own s (Ok done) = ListsGoOn Own s.documents done.0.documents
 LetsGoOn Own s (Err refusal) = Unit {0}
 
--- the view shows the document of this id
+-- the view is attached to the document with this id
 abbrev IsShownBy : Option View → ℕ → Type 0
 IsShownBy None id = ⊥
 IsShownBy (Some v) id = id ≡ v.document
@@ -334,7 +334,7 @@ message_goes_on : (Own : ℕ → Type 0) (s : Session) (o : Result (Session × R
 message_goes_on Own s (Ok done) k = all_go_on Own s done.0 k
 message_goes_on Own s (Err refusal) k = all_go_on Own s s (lists_go_on_same Own s.documents)
 
--- no document is anyone's own
+-- the documents that opening or closing a view may change: none
 abbrev Nobodys : ℕ → Type 0
 Nobodys id = ⊥
 
@@ -379,7 +379,7 @@ commands_let_documents_go_on files (Expect value) s h = all_go_on Nobodys s.sess
 
 -- Runs.
 
--- in this session undo goes back to texts of these sessions
+-- undo in this session goes back to texts of these sessions
 abbrev pub GoesBackIn : Session → List Session → Type 0
 GoesBackIn s sessions = (id : ℕ) (d : Document) → document_at s.documents id ≡ Some d → GoesBackAmong d (states_of id sessions)
 

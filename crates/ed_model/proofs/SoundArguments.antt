@@ -1,4 +1,4 @@
--- What the arguments of messages come to: numbers in range for the request.
+-- The arguments of messages: the numbers that they give are in range for the request.
 use Rattle.std.proofs.Common.{◌≡◌, ℕ, zero, suc, ◌+◌, ◌-◌, ◌<◌, ◌≤◌, min, Bool, true, false, cond, List, [], ◌∷◌, length, get_or, reverse, refl, sym, subst, arith}
 use Rattle.std.specs.Prelude.{ℤ, pos, negsuc, ◌&&◌, nat_lt, nat_le, Option, Some, None, if◌then◌else◌, find, slice_get, unwrap_or}
 use Rattle.std.specs.List.{range_with_len, AllByRecursion}
@@ -130,7 +130,7 @@ pub all_reverse : {X : Type 0} (P : X → Type 0) (xs : List X) → AllByRecursi
 all_reverse P [] a = tt
 all_reverse P (x ∷ xs) a = subst (AllByRecursion P) (sym (reverse-append (x ∷ []) xs)) (all_append P (reverse xs) (x ∷ []) (all_reverse P xs a.1) (a.0, tt))
 
--- a match lies within the text
+-- a match is within the text
 pub match_bound : (flags : ℕ) (text pattern : List ℕ) (from to n place : ℕ) → from ≤ n → to ≤ n → match_in flags text pattern from to ≡ Some place → place + length pattern ≤ n
 match_bound flags text [] from to n place f t e = let same : min from to ≡ place = cc in omega arith
 match_bound flags text (b ∷ bs) from to n place f t e = go (nat_le from to) refl e

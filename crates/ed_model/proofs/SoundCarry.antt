@@ -1,4 +1,4 @@
--- What is carried over a step: line 0 stays visible, and no handle comes to stand more often.
+-- Carry keeps line 0 visible, and repeats no handle.
 use Rattle.std.proofs.Common.{◌≡◌, ℕ, ◌+◌, ◌<◌, ◌≤◌, Bool, true, false, cond, List, [], ◌∷◌, ◌++◌, length, map, refl, ap, ◌∙◌, arith, length-append}
 use Rattle.std.specs.Prelude.{◌==◌, filter, flat_map, zip}
 use Rattle.std.specs.List.{range_with_len}
@@ -76,7 +76,7 @@ occurrences_append n xs ys = simp (filter-append, length-append)
 abbrev pub handles_of : Row → List ℕ
 handles_of row = map (λ (m : Marker). m.handle) row.markers
 
--- the handles of rows that meet are those of all of them
+-- the handles of rows that meet are the handles of all of them
 map_flat : (rows : List Row) → map (λ (m : Marker). m.handle) (flat_map (λ (r : Row). r.markers) rows) ≡ handles_in rows
 map_flat [] = refl
 map_flat (row ∷ rows) = map-append (λ (m : Marker). m.handle) row.markers (flat_map (λ (r : Row). r.markers) rows) ∙ ap (λ t. handles_of row ++ t) (map_flat rows)
@@ -85,11 +85,11 @@ handles_together : (rows : List Row) → handles_of (rows_together rows) ≡ han
 handles_together [] = refl
 handles_together (row ∷ rows) = map_flat (row ∷ rows)
 
--- the rows whose key is k
+-- the rows with the key k
 abbrev selected : (ℕ → ℕ) → List (ℕ × Row) → ℕ → List Row
 selected key entries k = map (λ (e : ℕ × Row). e.1) (filter (λ (e : ℕ × Row). key e.0 == k) entries)
 
--- how often the handle stands in the selections for these keys
+-- how often the handle is in the rows selected for these keys
 abbrev total : ℕ → (ℕ → ℕ) → List (ℕ × Row) → List ℕ → ℕ
 total h key entries [] = 0
 total h key entries (k ∷ ks) = occurrences h (handles_in (selected key entries k)) + total h key entries ks
@@ -151,7 +151,7 @@ zipped_at_most h (x ∷ xs) (row ∷ rows) =
     let b = occurrences_append h (handles_of row) (handles_in rows) in
     omega arith
 
--- no handle stands more often after rows are carried
+-- no handle is in the rows more often after they are carried
 pub handles_carried : (h : ℕ) (moved : ℕ → ℕ) (old new : List ℕ) (rows : List Row)
     → occurrences h (handles_in (carried rows_together moved old new rows)) ≤ occurrences h (handles_in rows)
 handles_carried h moved old new rows =

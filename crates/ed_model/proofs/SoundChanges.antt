@@ -1,4 +1,4 @@
--- Changes of a document that are no edit keep it sound, and the views on it in place.
+-- Changes of a document that are no edit keep it sound, and its views fit it.
 use Rattle.std.proofs.Common.{◌≡◌, ℕ, zero, suc, ◌+◌, ◌<◌, ◌≤◌, min, Bool, true, false, cond, List, [], ◌∷◌, ◌++◌, length, map, get_or, set, take, drop, replicate, refl, ap, sym, ◌∙◌, subst, inl, inr, ◌⊎◌, arith, length-append}
 use Rattle.std.specs.Prelude.{◌==◌, not, filter, slice_set, slice_index_or}
 use Rattle.std.specs.List.{AllByRecursion}
@@ -32,7 +32,7 @@ IsFitOn d (change.StyleBytes count) = d.end_styled + count ≤ length d.cells
 IsFitOn d (change.FillIndicator indicator start count value) = start + count ≤ length d.cells
 IsFitOn d other = Unit {0}
 
--- Parts that change alone.
+-- Changes of one part alone.
 
 pub history_changed : (limits : Limits) (d : Document) (h : History) → IsSoundDocument limits d → FitsText (limit_of limits d) (text_of d) h → IsSoundDocument limits (record d { history = h })
 history_changed limits d h was fits = record {
@@ -294,7 +294,7 @@ styled_stands : (new : List ℕ) (d : Document) (v : View) → StandsOn d v → 
 styled_stands new d v on =
     stands_kept d (styled new d) v (length_from_bytes (styled new d).cells d.cells (styled_bytes new d)) (ap (line_count d.line_end_types) (styled_bytes new d)) refl on
 
--- a change keeps the document's id, and a view on it well placed
+-- a change keeps the document's id, and a view that fits the document still fits it
 pub changed_id : (bytes : List ℕ) (what : DocumentChange) (d : Document) → (changed_document bytes what d).id ≡ d.id
 changed_id bytes (change.SetReadOnly on) d = refl
 changed_id bytes _ d = refl

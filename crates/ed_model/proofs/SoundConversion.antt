@@ -1,4 +1,4 @@
--- The steps that turn line ends into one kind fit the text one after another.
+-- The steps of a conversion of line ends can be performed one after another.
 use Rattle.std.proofs.Common.{◌≡◌, ℕ, ◌+◌, ◌-◌, ◌≤◌, ◌<◌, Bool, true, false, List, [], ◌∷◌, ◌++◌, length, take, drop, refl, ap, sym, ◌∙◌, subst, arith, append_assoc, length-append}
 use Rattle.std.specs.Prelude.{slice_range, ◌==◌}
 use Rattle.std.proofs.lemmas.List.{take_at, drop_at}
@@ -68,7 +68,7 @@ unwanted_fits to (b ∷ bs) after p front e = go (is_unwanted after to b bs) (λ
         subst (λ t. AreStepsOf t (unwanted_from (p + 1) (b == carriage_return) to bs)) (append_assoc front (b ∷ []) bs)
         (rest (b == carriage_return) (p + 1) (front ++ b ∷ []) (simp length-append (omega arith)))
 
--- the steps of a conversion fit the text in turn
+-- the steps of a conversion can be performed on the text, one after another
 pub conversion_fits : (to : LineEnd) (text : List ℕ) → AreStepsOf text (conversion_steps to text)
 conversion_fits to text =
     fit_append IsStepOf (missing_from 0 false to text) (unwanted_from 0 false to (after_steps (missing_from 0 false to text) text)) text

@@ -1,4 +1,4 @@
--- Sound documents, and views that stand well on them, after a step of the text.
+-- After a step of the text a sound document is sound, and its views fit it.
 use Rattle.std.proofs.Common.{◌≡◌, ℕ, ◌≤◌, List, [], ◌∷◌, length, replicate, ap, sym, ◌∙◌, subst, arith}
 use Rattle.std.specs.List.{AllByRecursion}
 use Rattle.std.proofs.lemmas.List.{length-map, length-replicate}
@@ -42,7 +42,7 @@ place_within : (step : Step) (n : ℕ) → InRange n step → place_of step ≤ 
 place_within (Insert p bytes) n h = omega arith
 place_within (Delete p bytes) n h = omega arith
 
--- the range of a step that fits the document's text, in cells
+-- a step that can be performed is in range for the cells
 pub cells_range : (d : Document) (step : Step) → IsStepOf (text_of d) step → InRange (length d.cells) step
 cells_range d step f = subst (λ k. InRange k step) (length_text d) (fits_range (text_of d) step f)
 
@@ -50,7 +50,7 @@ cells_range d step f = subst (λ k. InRange k step) (length_text d) (fits_range 
 pub text_after : (d : Document) (step : Step) → text_of (document_after step d) ≡ edited step (text_of d)
 text_after d step = bytes_of_edited_cells step d.cells
 
--- a sound document is sound after a step that fits, with any history that fits the new text
+-- a sound document is sound after such a step, with any history that fits the new text
 pub document_made : (limits : Limits) (d : Document) (step : Step) (h : History) → IsSoundDocument limits d → IsStepOf (text_of d) step
     → size_after (length d.cells) step ≤ limit_of limits d → FitsText (limit_of limits d) (edited step (text_of d)) h
     → IsSoundDocument limits (record (document_after step d) { history = h })
@@ -72,7 +72,7 @@ document_made limits d step h sound fits room history =
       history = subst (λ t. FitsText (limit_of limits d) t h) (sym (text_after d step)) history;
     }
 
--- a view stands well on the document after a step
+-- a view fits the document after a step
 pub view_made : (d : Document) (step : Step) (h : History) (v : View) → StandsOn d v → StandsOn (record (document_after step d) { history = h }) (moved_view step d v)
 view_made d step h v stands = record {
   anchor = place v.anchor stands.anchor;

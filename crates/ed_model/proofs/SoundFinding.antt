@@ -1,4 +1,4 @@
--- Finding and replacing documents and views in lists of them.
+-- Look-up and replacement of documents and views in lists.
 use Rattle.std.proofs.Common.{◌≡◌, ℕ, ◌+◌, ◌<◌, ◌≤◌, Bool, true, false, cond, List, [], ◌∷◌, ◌++◌, map, refl, ap, sym, ◌∙◌, subst, arith}
 use Rattle.std.specs.Prelude.{Some, ◌==◌, find, filter}
 use Rattle.std.specs.List.{AllByRecursion}
@@ -29,7 +29,7 @@ pub all_filter : {X : Type 0} (P : X → Type 0) (p : X → Bool) → (xs : List
 all_filter P p [] a = tt
 all_filter P p (x ∷ xs) a = cond_both (p x) (x ∷ filter p xs) (filter p xs) (λ ys. AllByRecursion P ys) (λ _. (a.0, all_filter P p xs a.1)) (λ _. all_filter P p xs a.1)
 
--- what is found passes the test, and has what all have
+-- an element that is found passes the test, and has what all elements have
 pub found_all : {X : Type 0} (P : X → Type 0) (test : X → Bool) (xs : List X) (x : X) → AllByRecursion P xs → find test xs ≡ Some x → P x × (test x ≡ true)
 found_all P test [] x all e = absurd (cc)
 found_all {X} P test (y ∷ ys) x all e = go (test y) refl e (λ e. found_all P test ys x all.1 e)
@@ -56,7 +56,7 @@ document_id documents id d e = eqb-true d.id id (found_test (λ (d : Document). 
 pub view_id : (views : List View) (id : ℕ) (v : View) → view_at views id ≡ Some v → v.id ≡ id
 view_id views id v e = eqb-true v.id id (found_test (λ (v : View). v.id == id) views v e)
 
--- A document put in its place.
+-- One document replaced.
 
 pub replaced_found : (documents : List Document) (old new : Document) → document_at documents new.id ≡ Some old → document_at (with_document new documents) new.id ≡ Some new
 replaced_found [] old new e = absurd (cc)
@@ -111,7 +111,7 @@ pub same_ids : (f : View → View) → ((v : View) → (f v).id ≡ v.id) → (v
 same_ids f h [] = refl
 same_ids f h (v ∷ vs) = let a = h v in let b = same_ids f h vs in cc
 
--- Ids are given once.
+-- Each id is given once.
 
 none_above : (P : View → Type 0) (id low high : ℕ) (views : List View) → Rise low high (map (λ (v : View). v.id) views) → id < low
     → AllByRecursion (λ (v : View). v.id ≡ id → P v) views

@@ -1,4 +1,4 @@
--- Changes of a view keep it well placed: as many flags, and line 0 visible.
+-- Changes of a view keep it fit for its document: the number of its flags stays, and line 0 stays visible.
 use Rattle.std.proofs.Common.{◌≡◌, ℕ, zero, suc, ◌+◌, ◌<◌, ◌≤◌, Bool, true, false, cond, List, [], ◌∷◌, length, reverse, refl, ◌∙◌, arith}
 use Rattle.std.specs.Prelude.{nat_lt, nat_le, ◌&&◌, if◌then◌else◌, fold}
 use Rattle.std.proofs.lemmas.List.{length-set}
@@ -12,14 +12,14 @@ use Rattle.ed_model.specs.Session.{Document, View, lines_in}
 use Rattle.ed_model.specs.Changes.{changed_view}
 use Rattle.ed_model.specs.SoundLaws.{StandsOn}
 
--- the places of a change are in range for the document
+-- the lines and positions of a change are in range for the document
 abbrev pub IsFitHere : Document → ViewChange → Type 0
 IsFitHere d (view_change.Select anchor caret) = (anchor ≤ length d.cells) × (caret ≤ length d.cells)
 IsFitHere d (view_change.SetTarget start past) = (start ≤ length d.cells) × (past ≤ length d.cells)
 IsFitHere d (view_change.SetIndicator indicator) = indicator < 32
 IsFitHere d other = Unit {0}
 
--- flags that go with n lines, line 0 visible
+-- flags for n lines, with line 0 visible
 pub record AreFlags (n : ℕ) (flags : List Flags) : Type 0 where
   pub count : length flags ≡ n
   pub first : is_visible flags 0 ≡ true
@@ -93,7 +93,7 @@ with_flags d v flags on h =
     let f = h (record { count = on.lines; first = on.first_line }) in
     record { anchor = on.anchor; caret = on.caret; target_start = on.target_start; target_end = on.target_end; lines = f.count; first_line = f.first; indicator = on.indicator; listed = on.listed }
 
--- a view after a change that fits its document stands well
+-- a view fits its document after a change that does
 pub changed_view_stands : (levels : List ℕ) (what : ViewChange) (d : Document) (v : View) → StandsOn d v → IsFitHere d what → StandsOn d (changed_view levels what v)
 changed_view_stands levels (view_change.Select anchor caret) d v on fit =
     record { anchor = fit.0; caret = fit.1; target_start = on.target_start; target_end = on.target_end; lines = on.lines; first_line = on.first_line; indicator = on.indicator; listed = on.listed }

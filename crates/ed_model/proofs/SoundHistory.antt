@@ -1,4 +1,4 @@
--- The history fits the text: after steps, undo and redo, and after what changes the history alone.
+-- The history fits the text: after steps, after undo and redo, and after changes of the history alone.
 use Rattle.std.proofs.Common.{suc, zero, ◌≡◌, ℕ, ◌+◌, ◌-◌, ◌≤◌, Bool, true, false, cond, List, [], ◌∷◌, ◌++◌, length, map, reverse, refl, ap, sym, ◌∙◌, subst, arith, append_assoc}
 use Rattle.std.specs.Prelude.{ℤ, flat_map, Option, Some, None, ◌==◌, ◌||◌, not}
 use Rattle.std.specs.List.{last_or}
@@ -39,7 +39,7 @@ changes_with joined c [] = refl
 changes_with true c (t ∷ ts) = refl
 changes_with false c (t ∷ ts) = refl
 
--- What changes the history alone.
+-- Changes of the history alone.
 
 pub fresh_fits : {limit : ℕ} (text : List ℕ) → FitsText limit text fresh_history
 fresh_fits text = record { past = tt; future = tt; kept = λ e. (refl, refl) }
@@ -77,7 +77,7 @@ group_ended_fits {limit} text h f =
 
 -- A change appended.
 
--- a step of the text appended, on the text after it
+-- appending a step of the text, on the text after the step
 pub appended_fits : {limit : ℕ} (later : Bool) (step : Step) (text : List ℕ) (h : History) → FitsText limit text h → IsStepOf text step → length text ≤ limit
     → FitsText limit (edited step text) (appended later (TextStep step) h)
 appended_fits {limit} later step text h f fits bounded = go h.collecting refl
@@ -96,7 +96,7 @@ appended_fits {limit} later step text h f fits bounded = go h.collecting refl
       kept = f.kept;
     }
 
--- a container's step appended
+-- appending a container's step
 pub container_fits : {limit : ℕ} (later : Bool) (token : ℤ) (coalesce : Bool) (text : List ℕ) (h : History) → FitsText limit text h
     → FitsText limit text (appended later (ContainerStep token coalesce) h)
 container_fits {limit} later token coalesce text h f = go h.collecting refl
@@ -126,7 +126,7 @@ undo_fits_from {limit} text h (t ∷ ts) e f =
     (fit_front (IsStepWithin limit) (map inverse_of (text_steps t.changes)) (undo_path ts) text
     (subst (λ ss. AreStepsWithin limit text ss) (undo_path_cons t ts) (subst (λ p. AreStepsWithin limit text (undo_path p)) e f.past)))
 
--- what UNDO performs fits the text
+-- the steps of UNDO fit the text
 pub undo_fits : {limit : ℕ} (text : List ℕ) (h : History) → FitsText limit text h → AreStepsWithin limit text (text_steps (undo_changes h))
 undo_fits text h f = undo_fits_from text h h.past refl f
 
@@ -159,7 +159,7 @@ redo_fits_from {limit} text h (t ∷ ts) e f =
     fit_front (IsStepWithin limit) (text_steps (reverse t.changes)) (redo_path ts) text
     (subst (λ ss. AreStepsWithin limit text ss) (redo_path_cons t ts) (subst (λ p. AreStepsWithin limit text (redo_path p)) e f.future))
 
--- what REDO performs fits the text
+-- the steps of REDO fit the text
 pub redo_fits : {limit : ℕ} (text : List ℕ) (h : History) → FitsText limit text h → AreStepsWithin limit text (text_steps (redo_changes h))
 redo_fits text h f = redo_fits_from text h h.future refl f
 
@@ -187,9 +187,9 @@ redone_fits_from {limit} text h (t ∷ ts) e f bounded =
 pub redone_fits : {limit : ℕ} (text : List ℕ) (h : History) → FitsText limit text h → length text ≤ limit → FitsText limit (after_steps (text_steps (redo_changes h)) text) (redone h)
 redone_fits text h f bounded = redone_fits_from text h h.future refl f bounded
 
--- Where the last step leaves the caret.
+-- The caret after the last step.
 
--- a place behind the step, if there is one, within n bytes
+-- the place after the step, if there is one, is at most n
 abbrev pub BehindWithin : Option Step → ℕ → Type 0
 BehindWithin None n = Unit {0}
 BehindWithin (Some step) n = place_behind step ≤ n

@@ -1,4 +1,4 @@
--- Documents list only views that are on them: kept where views change, come and go.
+-- Documents list only views that are attached to them; this is kept when views change, are added and are removed.
 use Rattle.std.proofs.Common.{◌≡◌, ℕ, ◌+◌, ◌-◌, ◌<◌, Bool, true, false, cond, List, [], ◌∷◌, ◌++◌, map, refl, ap, sym, ◌∙◌, subst, arith}
 use Rattle.std.specs.Prelude.{Some, ◌==◌, filter, not, nat_lt}
 use Rattle.std.specs.List.{AllByRecursion}
@@ -34,12 +34,12 @@ lists_mapped f ids views keeps ds all =
     all_weaker (ListsItsViews views) (ListsItsViews (map f views))
     (λ d l. all_weaker (IsViewOn views d.id) (IsViewOn (map f views) d.id) (on_mapped f ids views keeps d.id) d.views l) ds all
 
--- a document with the same id and the same views
+-- a document with the same id and the same list of views
 pub lists_alike : (views : List View) (d d' : Document) → d'.id ≡ d.id → d'.views ≡ d.views → ListsItsViews views d → ListsItsViews views d'
 lists_alike views d d' same_id same_views l =
     subst (λ ids. AllByRecursion (IsViewOn views d'.id) ids) (sym same_views) (subst (λ n. AllByRecursion (IsViewOn views n) d.views) (sym same_id) l)
 
--- Views that come.
+-- Views that are added.
 
 view_before_others : (vs ws : List View) (id : ℕ) (v : View) → view_at vs id ≡ Some v → view_at (vs ++ ws) id ≡ Some v
 view_before_others [] ws id v e = absurd (cc)
@@ -61,7 +61,7 @@ view_last low high (x ∷ xs) v e r =
     let t : (x.id == high) ≡ false = ne_eqb x.id high (λ p. omega arith) in
     rw t (view_last (x.id + 1) high xs v e r.2)
 
--- Views that go.
+-- Views that are removed.
 
 all_without : (P Q : ℕ → Type 0) (id : ℕ) → ((n : ℕ) → (n ≡ id → ⊥) → P n → Q n) → (ids : List ℕ) → AllByRecursion P ids → AllByRecursion Q (without id ids)
 all_without P Q id h [] all = tt
@@ -89,7 +89,7 @@ view_kept (x ∷ xs) id other v ne e = go (x.id == id) refl e (λ e. view_kept x
         rest (subst (λ b. cond b (Some x) (view_at xs other) ≡ Some v) no e)
     go false t e rest = found (x.id == other) e rest
 
--- the view goes, and no document lists it any more
+-- the view is removed, and no document lists it
 pub lists_left : (views : List View) (id : ℕ) (ds : List Document) → AllByRecursion (ListsItsViews views) ds
     → AllByRecursion (ListsItsViews (filter (λ (w : View). not (w.id == id)) views)) (living (map (left_by id) ds))
 lists_left views id ds all =
@@ -98,7 +98,7 @@ lists_left views id ds all =
     (λ d l. all_without (IsViewOn views d.id) (IsViewOn (filter (λ (w : View). not (w.id == id)) views) d.id) id
     (λ n ne on. (on.0, view_kept views id n on.0 ne on.1, on.2)) d.views l) ds all)
 
--- A view that goes to another document.
+-- A view that is attached to another document.
 
 pub lists_attached : (views : List View) (d : Document) (v : View) (ds : List Document) → view_at views v.id ≡ Some v → AllByRecursion (ListsItsViews views) ds
     → AllByRecursion (ListsItsViews (with_view (attached_to d v) views)) (living (map (attached_last v.id d.id) ds))
@@ -134,7 +134,7 @@ lists_attached views d v ds there all =
         (subst (λ n. IsViewOn (with_view (attached_to d v) views) n v.id) (sym (eqb-true e.id d.id t)) itself, tt)
     go e false t l = all_without (IsViewOn views e.id) (IsViewOn (with_view (attached_to d v) views) e.id) v.id (others e.id) e.views l
 
--- References that callers hold are of no account.
+-- References that callers hold do not matter.
 
 pub lists_more : (views : List View) (id : ℕ) (ds : List Document) → AllByRecursion (ListsItsViews views) ds → AllByRecursion (ListsItsViews views) (map (held_more id) ds)
 lists_more views id ds all = all_map (ListsItsViews views) (ListsItsViews views) (held_more id) (λ d l. go d (d.id == id) l) ds all

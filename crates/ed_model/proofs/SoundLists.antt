@@ -1,4 +1,4 @@
--- Lemmas on lists of numbers that rise, on counting, and on line starts.
+-- Lemmas on rising numbers, on counting, and on line starts.
 use Rattle.std.proofs.Common.{◌≡◌, ℕ, zero, suc, ◌+◌, ◌<◌, ◌≤◌, Bool, true, false, cond, List, [], ◌∷◌, length, subst, arith}
 use Rattle.std.specs.Prelude.{filter}
 use Rattle.std.specs.List.{range_with_len}
@@ -27,7 +27,7 @@ rise_filter p low high (x ∷ xs) r = rise_cond low high x xs (filter p xs) (p x
 rise_range_zero : (n : ℕ) → Rise 0 n (range_with_len 0 n)
 rise_range_zero n = let e : 0 + n ≡ n = omega arith in subst (λ h. Rise 0 h (range_with_len 0 n)) e (rise_range 0 n)
 
--- line starts rise, and none passes the length
+-- line starts rise, and none is greater than the length of the text
 pub starts_rise : (types : LineEndTypes) (text : List ℕ) → Rise 0 (length text + 1) (line_starts types text)
 starts_rise types text = rise_filter (is_line_start types text) 0 (length text + 1) (range_with_len 0 (length text + 1)) (rise_range_zero (length text + 1))
 

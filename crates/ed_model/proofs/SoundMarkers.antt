@@ -1,4 +1,4 @@
--- How often handles stand in rows that are changed.
+-- How often handles are in the rows after a change.
 use Rattle.std.proofs.Common.{◌≡◌, ℕ, zero, suc, ◌+◌, ◌<◌, ◌≤◌, Bool, true, false, cond, List, [], ◌∷◌, length, map, get_or, set, refl, arith}
 use Rattle.std.specs.Prelude.{◌==◌, filter, Option, Some, None, not, slice_index_or}
 use Rattle.std.proofs.lemmas.List.{length-set}
@@ -19,7 +19,7 @@ occurrences_cons n m ms = go (m == n)
     go true = omega arith
     go false = omega arith
 
--- a row put in place of another
+-- one row replaced by another
 pub set_occurrences : (h : ℕ) (rows : List Row) (line : ℕ) (new : Row)
     → occurrences h (handles_in (set rows line new)) + occurrences h (handles_of (get_or rows line fresh_row)) ≤ occurrences h (handles_in rows) + occurrences h (handles_of new)
 set_occurrences h [] line new = omega arith
@@ -33,7 +33,7 @@ set_occurrences h (row ∷ rows) (suc line) new =
     let b = occurrences_append h (handles_of row) (handles_in (set rows line new)) in
     omega arith
 
--- markers put in place of a row's own
+-- the markers of a row replaced by others
 pub with_markers_occurrences : (h line : ℕ) (markers : List Marker) (rows : List Row)
     → occurrences h (handles_in (with_markers line markers rows)) + occurrences h (map (λ (m : Marker). m.handle) (slice_index_or rows line fresh_row).markers)
     ≤ occurrences h (handles_in rows) + occurrences h (map (λ (m : Marker). m.handle) markers)
@@ -65,7 +65,7 @@ new_once h handle (n ∷ ns) = go (handle == h) refl (new_once h (handle + 1) ns
     go true t le = let is = eqb-true handle h t in let none = new_below h (handle + 1) ns (omega arith) in omega arith
     go false t le = le
 
--- Markers taken away.
+-- Markers removed.
 
 pub without_first_occurrences : (h number : ℕ) (ms : List Marker) → occurrences h (map (λ (m : Marker). m.handle) (without_first number ms)) ≤ occurrences h (map (λ (m : Marker). m.handle) ms)
 without_first_occurrences h number [] = omega arith

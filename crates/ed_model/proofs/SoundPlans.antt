@@ -1,4 +1,4 @@
--- The plan of each message to a sound session is fit.
+-- In a sound session the plan of each message is fit.
 use Rattle.std.proofs.Common.{◌≡◌, ℕ, ◌+◌, ◌-◌, ◌^◌, ◌<◌, ◌≤◌, min, max, Bool, true, false, cond, List, [], ◌∷◌, length, map, zero, suc, reverse, refl, ap, sym, ◌∙◌, subst, arith}
 use Rattle.std.specs.Prelude.{ℤ, pos, negsuc, int_le, filter, slice_index_or, ◌==◌, ◌&&◌, ◌||◌, not, nat_lt, nat_le, Option, Some, None, Ok, Err, if◌then◌else◌, take, is_some}
 use Rattle.std.specs.List.{range_with_len, list_any}
@@ -302,7 +302,7 @@ no_negative_handle : (n : ℕ) (markers : List Marker) → list_any (LinePlans.h
 no_negative_handle n [] t = cc
 no_negative_handle n (m ∷ ms) t = no_negative_handle n ms t
 
--- a handle that a marker has is below the next one
+-- the handle of a marker is below the next handle
 handle_fits : (r : Request) → IsSoundRequest r → is_some (LinePlans.line_of_handle r) ≡ true → at_least_zero r.message.w < r.document.next_handle
 handle_fits r h t = go (LinePlans.line_of_handle r) refl t
   where

@@ -1,4 +1,4 @@
--- References: attaching, making, holding and releasing documents, and opening and closing views, keep a session sound.
+-- A session stays sound when documents are attached, created, held and released, and when views are opened and closed.
 use Rattle.std.proofs.Common.{◌≡◌, ℕ, zero, suc, ◌+◌, ◌-◌, ◌<◌, ◌≤◌, Bool, true, false, cond, List, [], ◌∷◌, ◌++◌, length, map, replicate, refl, ap, sym, ◌∙◌, subst, arith}
 use Rattle.std.specs.Prelude.{Option, Some, None, ◌==◌, ◌||◌, nat_lt, nat_le, not, filter, IfOk}
 use Rattle.std.specs.List.{AllByRecursion}
@@ -19,7 +19,7 @@ use Rattle.ed_model.proofs.SoundMarkers.{one_if, occurrences_cons}
 use Rattle.ed_model.proofs.SoundListing.{lists_attached, lists_before, lists_left, lists_less, lists_more, view_last}
 use Rattle.ed_model.proofs.SoundFinding.{all_map, all_weaker, all_append, document_id}
 
--- A document with other references.
+-- A document with other views and references.
 
 abbrev pub with_references : List ℕ → ℕ → Document → Document
 with_references views held_by_callers d = record d { views = views; held_by_callers = held_by_callers }
@@ -51,20 +51,20 @@ relisted_stands d v views held_by_callers on listed = record {
   listed = listed;
 }
 
--- a change of references alone
+-- a change of views and references alone
 pub record Relists (g : Document → Document) : Type 0 where
   pub views : Document → List ℕ
   pub held_by_callers : Document → ℕ
   pub is : (d : Document) → g d ≡ with_references (views d) (held_by_callers d) d
 
--- a document that is sound, or would be if it were held
+-- a document that is sound, or would be if it had a reference
 abbrev pub IsSoundIfHeld : Limits → Document → Type 0
 IsSoundIfHeld limits d = IsSoundDocument limits (with_references d.views (d.held_by_callers + 1) d)
 
 pub sound_if_held : (limits : Limits) (d : Document) → IsSoundDocument limits d → IsSoundIfHeld limits d
 sound_if_held limits d was = relisted_sound limits d d.views d.views d.held_by_callers (d.held_by_callers + 1) was (omega arith)
 
--- The living among changed documents.
+-- The documents with a reference, among changed documents.
 
 living_sound_one : (limits : Limits) (g : Document → Document) → Relists g → (d : Document) → IsSoundIfHeld limits d → nat_lt 0 (references (g d)) ≡ true → IsSoundDocument limits (g d)
 living_sound_one limits g r d was t =
@@ -122,12 +122,12 @@ living_found (x ∷ xs) id d e some = go (x.id == id) refl e (λ e. living_found
     go true t e rest = kept (nat_lt 0 (references x)) refl t (let same : x ≡ d = cc in same)
     go false t e rest = skipped (nat_lt 0 (references x)) t (rest e)
 
--- one listed view is a reference
+-- a document that lists one view lists some
 listed_some : (id : ℕ) (ids : List ℕ) → occurrences id ids ≡ 1 → 0 < length ids
 listed_some id [] e = absurd (omega arith)
 listed_some id (x ∷ xs) e = omega arith
 
--- a view on a document that goes on listing it
+-- a view on a document that still lists it
 pub living_view : (g : Document → Document) → Relists g → (ds : List Document) (v : View) → IsSoundView ds v
     → ((d : Document) → document_at ds v.document ≡ Some d → occurrences v.id (g d).views ≡ 1)
     → IsSoundView (living (map g ds)) v
@@ -143,7 +143,7 @@ living_view g r ds v h listed =
       stands = subst (λ e. StandsOn e v) (sym is) (relisted_stands d v (r.views d) (r.held_by_callers d) h.stands once');
     }
 
--- A view that leaves.
+-- Detaching a view.
 
 pub without_other : (id other : ℕ) (ids : List ℕ) → (other ≡ id → ⊥) → occurrences other (without id ids) ≡ occurrences other ids
 without_other id other [] ne = refl
@@ -197,7 +197,7 @@ attached_lists_itself view d =
     let b = without_itself view d.views in
     rw t (omega arith)
 
--- A view fresh on a document.
+-- A view just attached to a document.
 
 pub fresh_visible : (n : ℕ) → is_visible (replicate n fresh_flags) 0 ≡ true
 fresh_visible zero = refl
@@ -222,7 +222,7 @@ same_view_ids : (f : View → View) → ((v : View) → (f v).id ≡ v.id) → (
 same_view_ids f h [] = refl
 same_view_ids f h (v ∷ vs) = let a = h v in let b = same_view_ids f h vs in cc
 
--- a session whose documents are sound if held
+-- a session whose documents are sound if they have a reference
 pub record IsSoundIfAllHeld (s : Session) : Type 0 where
   pub document_ids : Rise 0 s.next_document (map (λ (d : Document). d.id) s.documents)
   pub view_ids : Rise 0 s.next_view (map (λ (v : View). v.id) s.views)
@@ -310,7 +310,7 @@ found_last low high (x ∷ xs) d e r =
 pub view_before : (ds es : List Document) (v : View) → IsSoundView ds v → IsSoundView (ds ++ es) v
 view_before ds es v h = record { document = h.document; found = found_before ds es v.document h.document h.found; stands = h.stands }
 
--- a new document is sound once something refers to it
+-- a new document with a reference is sound
 pub new_document_sound : (limits : Limits) (id options : ℕ) (views : List ℕ) (held_by_callers : ℕ) → 0 < length views + held_by_callers → IsSoundDocument limits (with_references views held_by_callers (new_document id options))
 new_document_sound limits id options views held_by_callers some = record {
   line_starts = are_line_starts Default [];
@@ -329,7 +329,7 @@ new_document_sound limits id options views held_by_callers some = record {
     nothing_kept zero = tt
     nothing_kept (suc n) = (refl, nothing_kept n)
 
--- a session with one more document, held once
+-- a session with one more document, held once by a caller
 pub created_sound : (s : Session) (options : ℕ) → IsSound s → IsSound (with_new_document (with_references [] 1 (new_document s.next_document options)) s)
 created_sound s options h = record {
   document_ids = documents_push s.next_document s.documents (with_references [] 1 (new_document s.next_document options)) refl h.document_ids;
@@ -341,7 +341,7 @@ created_sound s options h = record {
   lists = all_append (ListsItsViews s.views) s.documents (with_references [] 1 (new_document s.next_document options) ∷ []) h.lists (tt, tt);
 }
 
--- a session with one more document that no one refers to yet
+-- a session with one more document that has no reference yet
 pub with_unheld : (s : Session) → IsSound s → IsSoundIfAllHeld (with_new_document (new_document s.next_document 0) s)
 with_unheld s h = record {
   document_ids = documents_push s.next_document s.documents (new_document s.next_document 0) refl h.document_ids;

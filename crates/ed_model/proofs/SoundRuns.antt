@@ -1,4 +1,4 @@
--- What a plan does, a message, a command and a run keep a session sound.
+-- Plans, messages, commands and runs keep a session sound.
 use Rattle.std.proofs.Common.{◌≡◌, ℕ, ◌+◌, ◌≤◌, false, List, [], ◌∷◌, length, reverse, refl, ap, sym, ◌∙◌, subst}
 use Rattle.std.specs.Prelude.{ℤ, Option, Some, None, Result, Ok, Err, IfOk, nat_lt}
 use Rattle.std.specs.List.{last_or}
@@ -186,7 +186,7 @@ session_change_sound r (session_change.Create options) h = created_sound r.sessi
 session_change_sound r (session_change.AddReference id) h = held_more_sound r.session id h.sound
 session_change_sound r (session_change.Release id) h = released_sound r.session id h.sound
 
--- what a fit plan does keeps a session sound
+-- performing a fit plan keeps a session sound
 pub performed_sound : PlansKeepSound
 performed_sound r (plan.Answer value) h fit = h.sound
 performed_sound r (plan.HandOut value start count) h fit = h.sound

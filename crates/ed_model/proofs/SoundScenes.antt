@@ -1,4 +1,4 @@
--- Scenes: soundness over the steps of an edit, of undo and of redo.
+-- Scenes stay sound over the steps of an edit, of undo and of redo.
 use Rattle.std.proofs.Common.{◌≡◌, ℕ, ◌≤◌, Bool, true, false, cond, List, [], ◌∷◌, length, map, refl, ap, sym, ◌∙◌, subst}
 use Rattle.std.specs.Prelude.{Some, ◌==◌, nat_lt, nat_le, if◌then◌else◌}
 use Rattle.std.proofs.lemmas.List.{map-id}
@@ -20,7 +20,7 @@ use Rattle.ed_model.proofs.SoundDocuments.{document_made, view_made, text_after,
 use Rattle.ed_model.proofs.SoundFinding.{document_sound, replaced_found, replaced_twice, all_map}
 use Rattle.ed_model.proofs.SoundSessions.{document_replaced, IsOwner}
 
--- the session that the scene makes is sound, and the sender is a view on its document
+-- the session of the scene is sound, and the sender is a view on the scene's document
 pub record IsSoundScene (sender : ℕ) (s : Session) (scene : Scene) : Type 0 where
   pub sound : IsSound (session_of s scene)
   pub found : document_at (with_document scene.document s.documents) scene.document.id ≡ Some scene.document
@@ -29,7 +29,7 @@ pub record IsSoundScene (sender : ℕ) (s : Session) (scene : Scene) : Type 0 wh
 pub scene_document_sound : (sender : ℕ) (s : Session) (scene : Scene) → IsSoundScene sender s scene → IsSoundDocument s.limits scene.document
 scene_document_sound sender s scene h = document_sound s.limits (with_document scene.document s.documents) scene.document.id scene.document h.sound.documents h.found
 
--- the document of a scene changes, and the views on it with it
+-- changing the document of a scene together with the views on it
 pub scene_changed : (sender : ℕ) (s : Session) (scene : Scene) (d' : Document) (f : View → View) (notes : List Notice) → IsSoundScene sender s scene
     → d'.id ≡ scene.document.id → d'.views ≡ scene.document.views → IsSoundDocument s.limits d' → ((v : View) → (f v).id ≡ v.id) → ((v : View) → (f v).document ≡ v.document)
     → ((v : View) → v.document ≡ scene.document.id → StandsOn scene.document v → StandsOn d' (f v))
@@ -44,7 +44,7 @@ scene_changed sender s scene d' f notes h same alike made keeps_id keeps_documen
       (λ v o e. keeps_document v ∙ o (sym (keeps_id v) ∙ e) ∙ sym same) scene.views h.owner;
 }
 
--- the document alone changes
+-- changing the document alone
 pub scene_document : (sender : ℕ) (s : Session) (scene : Scene) (d' : Document) (notes : List Notice) → IsSoundScene sender s scene
     → d'.id ≡ scene.document.id → d'.views ≡ scene.document.views → IsSoundDocument s.limits d' → ((v : View) → v.document ≡ scene.document.id → StandsOn scene.document v → StandsOn d' v)
     → IsSoundScene sender s (record { document = d'; views = scene.views; notes = notes })
@@ -52,11 +52,11 @@ scene_document sender s scene d' notes h same alike made moves =
     subst (λ vs. IsSoundScene sender s (record { document = d'; views = vs; notes = notes })) (map-id scene.views)
     (scene_changed sender s scene d' (λ (v : View). v) notes h same alike made (λ v. refl) (λ v. refl) moves (λ v ne. refl))
 
--- the notes change
+-- changing the notes
 pub scene_told : (sender : ℕ) (s : Session) (scene : Scene) (notes : List Notice) → IsSoundScene sender s scene → IsSoundScene sender s (record scene { notes = notes })
 scene_told sender s scene notes h = record { sound = h.sound; found = h.found; owner = h.owner }
 
--- the history changes
+-- changing the history
 pub scene_history : (sender : ℕ) (s : Session) (scene : Scene) (h : History) → IsSoundScene sender s scene → FitsText (limit_of s.limits scene.document) (text_of scene.document) h
     → IsSoundScene sender s (with_history h scene)
 scene_history sender s scene h sound fits =
@@ -87,7 +87,7 @@ after_document : (step : Step) (d : Document) (v : View) (b : Bool) → (cond b 
 after_document step d v true = refl
 after_document step d v false = refl
 
--- a step that fits, with a history that fits the new text
+-- a step that can be performed, with a history that fits the new text
 pub scene_step : (sender : ℕ) (s : Session) (scene : Scene) (step : Step) (h : History) (notes : List Notice) → IsSoundScene sender s scene
     → IsStepOf (text_of scene.document) step → size_after (length scene.document.cells) step ≤ limit_of s.limits scene.document
     → FitsText (limit_of s.limits scene.document) (edited step (text_of scene.document)) h
@@ -110,7 +110,7 @@ scene_step sender s scene step h notes sound fits room history =
 pub text_bounded : (limits : Limits) (d : Document) → IsSoundDocument limits d → length (text_of d) ≤ limit_of limits d
 text_bounded limits d sound = subst (λ n. n ≤ limit_of limits d) (sym (length_text d)) sound.bounded
 
--- a text of these steps: they fit in turn, and none passes the limit
+-- there is room for these steps: they can be performed one after another, and each leaves the text within its limit
 pub record IsRoom (s : Session) (scene : Scene) (steps : List Step) : Type 0 where
   pub fits : AreStepsOf (text_of scene.document) steps
   pub within : stays_within (limit_of s.limits scene.document) (length scene.document.cells) steps ≡ true
@@ -165,14 +165,14 @@ pub text_made : (later : Bool) (steps : List Step) (scene : Scene) → text_of (
 text_made later [] scene = refl
 text_made later (step ∷ steps) scene = text_made true steps (step_made later step scene) ∙ ap (after_steps steps) (text_after scene.document step)
 
--- the text that an edit makes
+-- the text after an edit
 pub text_edited : (steps : List Step) (scene : Scene) → text_of (edit_made steps scene).document ≡ after_steps steps (text_of scene.document)
 text_edited steps scene =
     cond_both (nat_lt 1 (length steps)) (sealed_scene (steps_made false steps (sealed_scene scene))) (steps_made false steps scene)
     (λ x. text_of x.document ≡ after_steps steps (text_of scene.document))
     (λ _. text_made false steps (sealed_scene scene)) (λ _. text_made false steps scene)
 
--- What undo and redo leave of a document.
+-- What undo and redo keep of a document.
 
 pub record KeepsItself (d e : Document) : Type 0 where
   pub id : e.id ≡ d.id
@@ -190,13 +190,13 @@ changes_keep who several lines_changed (ContainerStep token coalesce ∷ cs) sce
     let rest = changes_keep who several changed cs (change_performed who several (is_last cs) changed (ContainerStep token coalesce) scene) in
     record { id = rest.id; read_only = rest.read_only; options = rest.options }
 
--- the limit too
+-- they keep the limit too
 pub limit_kept : (limits : Limits) (who several : ℕ) (lines_changed : Bool) (cs : List Change) (scene : Scene)
     → limit_of limits (changes_performed who several lines_changed cs scene).document ≡ limit_of limits scene.document
 limit_kept limits who several lines_changed cs scene =
     ap (λ o. if meets o 0x100 then limits.large_bytes else limits.doc_bytes) (changes_keep who several lines_changed cs scene).options
 
--- Undo and redo: while they go on, the history is left out.
+-- Undo and redo: until they end, the history is left out.
 
 abbrev pub without_history : Scene → Scene
 without_history scene = with_history fresh_history scene

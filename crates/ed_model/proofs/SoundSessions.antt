@@ -1,4 +1,4 @@
--- Soundness is kept where one document and its views change.
+-- A session stays sound when one document and its views change.
 use Rattle.std.proofs.Common.{◌≡◌, ℕ, Bool, true, false, cond, List, map, refl, ap, sym, ◌∙◌, subst, inl, inr, ◌⊎◌}
 use Rattle.std.specs.Prelude.{Some, ◌==◌, if◌then◌else◌}
 use Rattle.std.specs.List.{AllByRecursion}
@@ -8,7 +8,7 @@ use Rattle.ed_model.specs.SoundLaws.{Rise, IsSound, IsSoundDocument, IsSoundView
 use Rattle.ed_model.proofs.SoundFinding.{all_map, all_both, found_all, replaced_found, replaced_other, replaced_all, replaced_ids, same_ids}
 use Rattle.ed_model.proofs.SoundListing.{lists_mapped, lists_alike}
 
--- a document changes, and the views on it with it
+-- replacing a document, and changing the views on it with it
 pub document_replaced : (s : Session) (d d' : Document) (f : View → View) → IsSound s → document_at s.documents d.id ≡ Some d → d'.id ≡ d.id → d'.views ≡ d.views
     → IsSoundDocument s.limits d' → ((v : View) → (f v).id ≡ v.id) → ((v : View) → (f v).document ≡ v.document)
     → ((v : View) → v.document ≡ d.id → StandsOn d v → StandsOn d' (f v))
@@ -44,7 +44,7 @@ document_replaced s d d' f sound found same alike made keeps_id keeps_document m
       stands = h.stands;
     })
 
--- a view changes
+-- replacing a view
 pub view_replaced : (s : Session) (d : Document) (new : View) → IsSound s → document_at s.documents new.document ≡ Some d
     → ((old : View) → view_at s.views new.id ≡ Some old → new.document ≡ old.document) → StandsOn d new
     → IsSound (record s { views = with_view new s.views })
@@ -68,11 +68,11 @@ view_replaced s d new sound found keeps stands = record {
     ids : (v : View) → (in_place_of_view new v).id ≡ v.id
     ids v = by_test v (v.id == new.id) refl
 
--- whose views with the id are on the document
+-- all views with the id are on the document
 abbrev pub IsOwner : ℕ → ℕ → List View → Type 0
 IsOwner sender document views = AllByRecursion (λ (v : View). v.id ≡ sender → v.document ≡ document) views
 
--- the views with the sender's id change
+-- changing the views with the sender's id
 pub sender_changed : (s : Session) (d : Document) (sender : ℕ) (change : View → View) → IsSound s → document_at s.documents d.id ≡ Some d
     → IsOwner sender d.id s.views → ((v : View) → (change v).id ≡ v.id) → ((v : View) → (change v).document ≡ v.document)
     → ((v : View) → StandsOn d v → StandsOn d (change v))

@@ -1,4 +1,4 @@
--- Steps that fit a text: lengths after them, their inverses, and the steps of a replacement and of a conversion.
+-- Steps that can be performed on a text: lengths, inverses, and the steps of a replacement and of a conversion.
 use Rattle.std.proofs.Common.{◌≡◌, ℕ, suc, ◌+◌, ◌-◌, ◌<◌, ◌≤◌, List, [], ◌∷◌, ◌++◌, length, map, take, drop, reverse, refl, ap, sym, ◌∙◌, subst, arith, length-append, length-take, length-drop}
 use Rattle.std.specs.Prelude.{slice_range}
 use Rattle.std.proofs.lemmas.List.{reverse-append}
@@ -8,7 +8,7 @@ use Rattle.ed_model.specs.Edits.{size_after}
 use Rattle.ed_model.specs.SoundLaws.{IsStepOf, IsStepWithin, InTurn, AreStepsOf, AreStepsWithin}
 use Rattle.ed_model.proofs.InverseLemmas.{inverse_fits, inverse_gives_back_the_text, steps_after_steps}
 
--- a step whose place, and what it deletes, lies within n bytes
+-- a step whose place, and the range that it deletes, is within n bytes
 abbrev pub InRange : ℕ → Step → Type 0
 InRange n (Insert p bytes) = p ≤ n
 InRange n (Delete p bytes) = p + length bytes ≤ n
@@ -23,7 +23,7 @@ fits_range text (Delete p bytes) f =
     let h : 0 < length bytes = f.1 in
     omega arith
 
--- lengths after a step
+-- the length after a step
 pub length_edited : {A : Type 0} (n p : ℕ) (xs ys : List A) → length ys ≡ n → p ≤ length xs → length (take p xs ++ ys ++ drop p xs) ≡ length xs + n
 length_edited n p xs ys e h = simp (length-append, length-take, length-drop) (omega arith)
 
@@ -34,7 +34,7 @@ pub length_after : (step : Step) (text : List ℕ) → InRange (length text) ste
 length_after (Insert p bytes) text h = length_edited (length bytes) p text bytes refl h
 length_after (Delete p bytes) text h = length_deleted (length bytes) p text h
 
--- a step that is taken back
+-- the inverse of a step can be performed after it
 pub inverse_is_step : (step : Step) (text : List ℕ) → IsStepOf text step → IsStepOf (edited step text) (inverse_of step)
 inverse_is_step (Insert p bytes) text f = (inverse_fits (Insert p bytes) text f.0, f.1)
 inverse_is_step (Delete p bytes) text f = (inverse_fits (Delete p bytes) text f.0, f.1)
@@ -42,7 +42,7 @@ inverse_is_step (Delete p bytes) text f = (inverse_fits (Delete p bytes) text f.
 pub inverse_returns : (step : Step) (text : List ℕ) → IsStepOf text step → edited (inverse_of step) (edited step text) ≡ text
 inverse_returns step text f = inverse_gives_back_the_text step text f.0
 
--- steps in turn
+-- steps that can be performed one after another
 pub fit_append : (IsSo : List ℕ → Step → Type 0) (xs ys : List Step) (text : List ℕ) → InTurn IsSo text xs → InTurn IsSo (after_steps xs text) ys → InTurn IsSo text (xs ++ ys)
 fit_append IsSo [] ys text f g = g
 fit_append IsSo (x ∷ xs) ys text f g = (f.0, fit_append IsSo xs ys (edited x text) f.1 g)
@@ -55,12 +55,12 @@ pub fit_back : (IsSo : List ℕ → Step → Type 0) (xs ys : List Step) (text :
 fit_back IsSo [] ys text f = f
 fit_back IsSo (x ∷ xs) ys text f = fit_back IsSo xs ys (edited x text) f.1
 
--- steps that make no text past a limit are steps
+-- steps that keep the text within a limit can be performed
 pub within_fits : (limit : ℕ) (steps : List Step) (text : List ℕ) → AreStepsWithin limit text steps → AreStepsOf text steps
 within_fits limit [] text f = tt
 within_fits limit (x ∷ xs) text f = (f.0.0, within_fits limit xs (edited x text) f.1)
 
--- the inverses, last first
+-- the inverses, the last step's first
 abbrev pub reversed : List Step → List Step
 reversed [] = []
 reversed (x ∷ xs) = reversed xs ++ inverse_of x ∷ []
@@ -80,7 +80,7 @@ reversed_returns (x ∷ xs) text f =
 pub inverse_within : {limit : ℕ} (step : Step) (text : List ℕ) → IsStepOf text step → length text ≤ limit → IsStepWithin limit (edited step text) (inverse_of step)
 inverse_within step text f h = (inverse_is_step step text f, rw (inverse_returns step text f) h)
 
--- so inverses make no text past the limit either
+-- inverses keep the text within the limit too
 pub reversed_within : {limit : ℕ} (steps : List Step) (text : List ℕ) → AreStepsWithin limit text steps → length text ≤ limit → AreStepsWithin limit (after_steps steps text) (reversed steps)
 reversed_within [] text f h = tt
 reversed_within {limit} (x ∷ xs) text f h =
@@ -88,7 +88,7 @@ reversed_within {limit} (x ∷ xs) text f h =
     (reversed_within xs (edited x text) f.1 f.0.1)
     (subst (λ t. AreStepsWithin limit t (inverse_of x ∷ [])) (sym (reversed_returns xs (edited x text) (within_fits limit xs (edited x text) f.1))) (inverse_within x text f.0.0 h, tt))
 
--- a replacement
+-- a replacement can be performed
 pub insertion_fits : (p : ℕ) (bytes text : List ℕ) → p ≤ length text → AreStepsOf text (insertion p bytes)
 insertion_fits p [] text h = tt
 insertion_fits p (b ∷ bs) text h = ((h, (let g : 0 < suc (length bs) = omega arith in g)), tt)

@@ -1,4 +1,4 @@
--- Steps: the length of the new text, and positions that stay in it in their order.
+-- Steps: the length of the new text; positions stay in the text, and keep their order.
 use Rattle.std.proofs.Common.{ℕ, ◌+◌, ◌-◌, ◌≤◌, min, Bool, true, false, cond, List, length, leb, ltb, arith}
 use Rattle.std.proofs.lemmas.Bool.Decides.{nat_tests}
 use Rattle.ed_model.specs.Steps.{Step, Insert, Delete, edited, moved_back, moved_start, moved_position}
@@ -20,22 +20,22 @@ moved_on_monotone p n q r h = grind (arith, nat_tests)
 moved_past_monotone : (p n q r : ℕ) → q ≤ r → cond (leb q p) q (q + n) ≤ cond (leb r p) r (r + n)
 moved_past_monotone p n q r h = grind (arith, nat_tests)
 
--- a line's start in the text comes to a place in the new text
+-- a line start in the text is moved to a place in the new text
 pub start_stays_in_range : (step : Step) (text : List ℕ) (q : ℕ) → q ≤ length text → moved_start step q ≤ length (edited step text)
 start_stays_in_range (Insert p bytes) text q h = rw (length-inserted p bytes text) (moved_on_in_range (ltb q p) (length bytes) (length text) q h)
 start_stays_in_range (Delete p bytes) text q h = rw (length-deleted p bytes text) (moved_back_in_range p (length bytes) (length text) q h)
 
--- a position in the text comes to one in the new text
+-- a position in the text is moved to a position in the new text
 pub position_stays_in_range : (step : Step) (text : List ℕ) (q : ℕ) → q ≤ length text → moved_position step q ≤ length (edited step text)
 position_stays_in_range (Insert p bytes) text q h = rw (length-inserted p bytes text) (moved_on_in_range (leb q p) (length bytes) (length text) q h)
 position_stays_in_range (Delete p bytes) text q h = rw (length-deleted p bytes text) (moved_back_in_range p (length bytes) (length text) q h)
 
--- later starts come to no earlier places
+-- a later line start is never moved before an earlier one
 pub start_keeps_order : (step : Step) (q r : ℕ) → q ≤ r → moved_start step q ≤ moved_start step r
 start_keeps_order (Insert p bytes) q r h = moved_on_monotone p (length bytes) q r h
 start_keeps_order (Delete p bytes) q r h = moved_back_monotone p (length bytes) q r h
 
--- later positions come to no earlier ones
+-- a later position is never moved before an earlier one
 pub position_keeps_order : (step : Step) (q r : ℕ) → q ≤ r → moved_position step q ≤ moved_position step r
 position_keeps_order (Insert p bytes) q r h = moved_past_monotone p (length bytes) q r h
 position_keeps_order (Delete p bytes) q r h = moved_back_monotone p (length bytes) q r h

@@ -1,4 +1,4 @@
--- From plans to the table, and from the table to runs.
+-- From facts on plans to facts on the table, and from the table to runs.
 use Rattle.std.proofs.Common.{◌≡◌, ℕ, Bool, true, false, ◌&&◌, cond, List, [], ◌∷◌, refl, ap, ◌∙◌, sym, Option, Some, None, Result, Ok, Err}
 use Rattle.ed_types.specs.declared.kind.Kind.{Kind}
 use Rattle.ed_types.specs.declared.message.Message.{Message}
@@ -22,9 +22,9 @@ same_view v w found e f = cc
 same_document : (v w : View) (d c : Document) (ds : List Document) → w ≡ v → document_at ds v.document ≡ Some d → document_at ds w.document ≡ Some c → c ≡ d
 same_document v w d c ds same e f = cc
 
--- What every refusal but TooLong has, and the answer of the kind to each document, the table has.
+-- If each refusal except TooLong has P, and so does the answer of the kind to each document, the answer of the table has P.
 module _ (P : Answered → Type 0) (refused : (e : Refusal) → (e ≡ TooLong → ⊥) → P (Err e)) (s : Session) (m : Message) (kind : Kind) where
-  -- the answer of the kind at a view and a document has it
+  -- the answer of the kind at a view and a document has P
   abbrev HasAt : View → Document → Type 0
   HasAt v d = P (answered kind (request s v d m) (plan_of kind (request s v d m)))
 
@@ -40,12 +40,12 @@ module _ (P : Answered → Type 0) (refused : (e : Refusal) → (e ≡ TooLong �
   from_view None e h = refused _ (λ e. cc)
   from_view (Some v) e h = from_kind v (kind_of m.number) e (λ d. h v d refl)
 
-  -- the fact of a message, over every view that may send it and its document
+  -- P for the answer of a message, from P for every view and document that the message can meet
   pub of_table : (view : ℕ) → kind_of m.number ≡ Some kind
       → ((v : View) (d : Document) → view_at s.views view ≡ Some v → document_at s.documents v.document ≡ Some d → HasAt v d) → P (table s view m)
   of_table view e h = from_view (view_at s.views view) e h
 
-  -- and at one view and one document
+  -- .. and from P for one view and one document
   pub at_table : (view : ℕ) (v : View) (d : Document) → kind_of m.number ≡ Some kind → view_at s.views view ≡ Some v → document_at s.documents v.document ≡ Some d
       → HasAt v d → P (table s view m)
   at_table view v d k e f h =
@@ -60,7 +60,7 @@ queries_leave_the_session s view m kind e q =
     of_table (LeavesSession s) (λ refusal other. tt) s m kind view e
     (λ v d seen found. quiet_answer kind (request s v d m) _ (query_is_quiet kind (request s v d m) q))
 
--- recording adds no text
+-- a recording adds no text to the reply
 text_if_recorded : (b : Bool) (note : Notice) (reply : Response) → (cond b (record reply { notes = note ∷ reply.notes }) reply).text ≡ reply.text
 text_if_recorded true note reply = refl
 text_if_recorded false note reply = refl
@@ -118,7 +118,7 @@ message_refused : (s : Session) (done : Answered) → is_refused (after_message 
 message_refused s (Ok done) e = cc
 message_refused s (Err refusal) e = refl
 
--- a refused command leaves the session
+-- a refused command leaves the session unchanged
 pub refused_leaves : (files : List (List ℕ)) (c : Command) (s : Running) → is_refused (after_command files c s).1 ≡ true → (after_command files c s).0.session ≡ s.session
 refused_leaves files OpenView s e = opening_refused s.session (opened s.session) e
 refused_leaves files (CloseView view) s e = closing_refused s.session (closed s.session view) e
@@ -129,7 +129,7 @@ refused_leaves files (Expect value) s e = refl
 pub refused_commands_leave_the_session : RefusedCommandsLeaveTheSession
 refused_commands_leave_the_session files c s refusal e = refused_leaves files c s (ap is_refused e)
 
--- the session after a command hangs on the session before it alone
+-- the session after a command depends only on the session before it
 pub same_session_after : (files : List (List ℕ)) (c : Command) (s t : Running) → s.session ≡ t.session → (after_command files c s).0.session ≡ (after_command files c t).0.session
 same_session_after files OpenView s t e = ap (λ (x : Session). (after_opening x (opened x)).0.session) e
 same_session_after files (CloseView view) s t e = ap (λ (x : Session). (after_closing x (closed x view)).0.session) e

@@ -49,9 +49,9 @@ inverses_of_reversed (step ∷ steps) =
     ∙ ap (λ rest. rest ++ (inverse_of step ∷ [])) (inverses_of_reversed steps)
     ∙ sym (reverse-append (inverse_of step ∷ []) (map inverse_of steps))
 
--- Undo and redo make these steps.
+-- Undo and redo perform these steps.
 
--- changes that are performed make the steps among them
+-- performing changes performs the steps among them
 pub text_after_changes : (who several : ℕ) (lines_changed : Bool) (cs : List Change) (scene : Scene) →
     text_of (changes_performed who several lines_changed cs scene).document ≡ after_steps (text_steps cs) (text_of scene.document)
 text_after_changes who several b [] scene = refl
@@ -73,7 +73,7 @@ redo_makes_its_steps scene =
     let cs = redo_changes scene.document.history in
     text_after_changes performed_redo (bit_if (nat_lt 1 (length cs)) multi_step) false cs scene
 
--- Each takes back the other.
+-- Undo and redo restore what the other changed.
 
 -- the steps that redo a transaction just undone
 pub redo_steps_after_undo : (h : History) (past : List Transaction) → 0 < length past →

@@ -12,7 +12,7 @@ use Rattle.ed_model.proofs.InverseLemmas.{inverse_gives_back_the_text, inverses_
 use Rattle.ed_model.proofs.HistoryLemmas.{append_begins, where_collecting, same_as_itself, undo_then_redo_gives_back_the_history}
 use Rattle.ed_model.proofs.TransactionLemmas.{undo_makes_its_steps, redo_makes_its_steps, undo_then_redo_gives_back_the_text, undo_steps_after_redo}
 
--- What the earlier texts hang on: the changes of each transaction, and not its seal.
+-- The earlier texts depend only on the changes of each transaction, not on its seal.
 
 pub nothing_to_undo : (k : ℕ) (text : List ℕ) → undone_text k [] text ≡ text
 nothing_to_undo zero text = refl
@@ -78,7 +78,7 @@ redos_go_on (suc k) scene =
     ∙ ap (redone_text k (redone (history_of scene)).future) (redo_makes_its_steps scene)
     ∙ one_redone k (history_of scene) (history_of scene).future (text_of_scene scene) refl
 
--- after a redo, its transaction's inverse steps give back the text from before
+-- after a redo the inverse steps of its transaction restore the text from before it
 one_more_redone : (k : ℕ) (h : History) (future : List Transaction) (text : List ℕ) → 0 < length future →
     FitInTurn (text_steps (reverse (first_changes future))) text →
     undone_text (suc k) (redone_from h future).past (after_steps (text_steps (reverse (first_changes future))) text) ≡ undone_text k h.past text
@@ -112,12 +112,12 @@ same_after_redo h g s =
 same_same : (h g k : History) → SameButForSeals h g → SameButForSeals g k → SameButForSeals h k
 same_same h g k s t = record { past = t.past ∙ s.past; future = t.future ∙ s.future; save_point = t.save_point ∙ s.save_point; collecting = t.collecting ∙ s.collecting }
 
--- k undos and redos give back the text and the history
+-- k undos followed by k redos restore the text, and the history except for seals
 pub record GivesBack (scene back : Scene) : Type 0 where
   pub text : text_of_scene back ≡ text_of_scene scene
   pub history : SameButForSeals (history_of scene) (history_of back)
 
--- a redo of what comes back to an undone scene gives back the scene from before that undo
+-- a redo after an undo restores the scene from before that undo
 redo_of_undone : (scene back : Scene) → 0 < length (history_of scene).past → FitInTurn (text_steps (undo_changes (history_of scene))) (text_of_scene scene) →
     GivesBack (after_undo scene) back → GivesBack scene (after_redo back)
 redo_of_undone scene back some fits g = record {
@@ -169,7 +169,7 @@ pub begun_container_step_is_one_transaction_more : BegunContainerStepIsOneTransa
 begun_container_step_is_one_transaction_more k later token coalesce h text begins =
     ap (λ (past : List Transaction). undone_text (suc k) past text) (append_begins later (ContainerStep token coalesce) h begins)
 
--- the past once a change joined it
+-- the past after a change joined it
 joined_past : (later : Bool) (c : Change) (h : History) → h.collecting ≡ true → joins later c h ≡ true → (appended later c h).past ≡ with_change true c h.past
 joined_past later c h e j = ap (λ (g : History). g.past) (where_collecting later c h e) ∙ ap (λ b. with_change b c h.past) j
 

@@ -22,7 +22,7 @@ use Rattle.ed_model.proofs.UndoLemmas.{undo_keeps_earlier_texts, one_redone}
 use Rattle.ed_model.proofs.SoundFinding.{document_id, replaced_found}
 use Rattle.ed_model.proofs.SoundScenes.{changes_keep}
 
--- undo and redo that are not refused act, where they can and may
+-- undo and redo that are not refused act, if there is a transaction and the document is not read-only
 acts_if_written : (P : Planned → Type 0) (act : Plan) (b within : Bool) → b ≡ false → P (Ok act) → P (Err TooLong) → P (cond b (Ok plan.Attempt) (cond within (Ok act) (Err TooLong)))
 acts_if_written P act true within e h k = cc
 acts_if_written P act false true e h k = h
@@ -32,7 +32,7 @@ acts : (P : Planned → Type 0) (r : Request) (can : Bool) (cs : List Change) (a
 acts P r true cs act e f h k = acts_if_written P act r.document.read_only (stays_within (limit_of r.session.limits r.document) (size r) (text_steps cs)) f h k
 acts P r false cs act e f h k = cc
 
--- the scene's document with its last transaction undone, and with its next one redone
+-- the scene's document after its last transaction is undone, and after its next one is redone
 pub undone_document : (scene : Scene) → IsUndone scene.document (after_undo scene).document
 undone_document scene =
     let cs = undo_changes scene.document.history in
@@ -51,7 +51,7 @@ redone_document scene =
       texts = λ k. ap (redone_text k (redone scene.document.history).future) (redo_makes_its_steps scene) ∙ one_redone k scene.document.history scene.document.history.future (text_of scene.document) refl;
     }
 
--- in a session whose documents hold this one, the new one takes its place
+-- in a list that has the old document, the new one replaces it
 found_again : (ds : List Document) (id : ℕ) (d e : Document) → document_at ds id ≡ Some d → e.id ≡ d.id → document_at (with_document e ds) id ≡ Some e
 found_again ds id d e found same =
     let here : id ≡ e.id = sym (same ∙ document_id ds id d found) in

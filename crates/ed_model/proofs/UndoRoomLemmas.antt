@@ -1,4 +1,4 @@
--- Undo and redo make no text past its limit, since they go through texts that were there before.
+-- Undo and redo keep the text within its limit, since each text on their way was there before.
 use Rattle.std.proofs.Common.{◌≡◌, ℕ, ◌≤◌, Bool, true, false, cond, not, nat_le, List, [], ◌∷◌, length, refl, ap, ◌∙◌, subst, Err, Some, Ok}
 use Rattle.std.specs.Prelude.{pos}
 use Rattle.std.proofs.lemmas.Bool.{le-leb}
@@ -26,7 +26,7 @@ use Rattle.ed_model.proofs.SoundFinding.{view_id}
 use Rattle.ed_model.proofs.SoundPlans.{request_document}
 use Rattle.ed_model.proofs.TableLemmas.{of_table}
 
--- what is told of the lengths of texts is told of their numbers
+-- the test of `stays_within`, from the lengths of the texts
 within_all : (limit n : ℕ) (steps : List Step) (text : List ℕ) → AreStepsWithin limit text steps → length text ≡ n → stays_within limit n steps ≡ true
 within_all limit n [] text f e = refl
 within_all limit n (x ∷ xs) text f e =

@@ -1,11 +1,11 @@
--- Laws of carry, for rows of any kind.
+-- Laws of carry, for a document's rows and a view's flags.
 use Rattle.std.specs.Prelude.{ℕ, ◌≡◌, List, length}
 use Rattle.ed_model.specs.declared.plan.LineEndTypes.{LineEndTypes}
 use Rattle.ed_model.specs.Lines.{line_count}
 use Rattle.ed_model.specs.Steps.{Step, edited}
 use Rattle.ed_model.specs.Carry.{carried, carried_by, regrouped}
 
--- after a carry there is a row for each line
+-- after a step, or after new line end types, there is a row for each line
 abbrev pub CarriesToEachLine : Type 0 → Type 0
 CarriesToEachLine R =
     (together : List R → R) (moved : ℕ → ℕ) (old new : List ℕ) (rows : List R) → length (carried together moved old new rows) ≡ length new

@@ -1,5 +1,5 @@
--- Changes of a document that are no edit of its text, of a view, and of the session. [Scintilla: markers, styling, indicators,
--- folding, document pointers]
+-- Changes of a document that are no edit of its text, changes of a view, and changes of the session. [Scintilla: markers,
+-- styling, indicators, folding, document pointers]
 use Rattle.std.specs.Prelude.{ℕ, ◌+◌, ◌-◌, ◌==◌, min, not, ◌&&◌, if◌then◌else◌, Bool, true, ℤ, pos, negsuc, List, [], ◌∷◌, ◌++◌, length, map, filter, take, drop, replicate, slice_range, slice_set, slice_index_or, Option, Some, None, sum_by, bit_or, int_le}
 use Rattle.ed_types.specs.Notices.{Notice, Response}
 use Rattle.ed_model.specs.declared.plan.DocumentChange.{DocumentChange}
@@ -27,7 +27,7 @@ use Rattle.ed_model.specs.Performing.{leaving}
 abbrev pub with_markers : ℕ → List Marker → List Row → List Row
 with_markers line markers rows = let row = slice_index_or rows line fresh_row in slice_set rows line (record row { markers = markers })
 
--- markers with these numbers, and handles from `handle` on
+-- markers with these numbers, whose handles count from `handle` on
 abbrev pub new_markers : ℕ → List ℕ → List Marker
 new_markers handle [] = []
 new_markers handle (n ∷ ns) = record { handle = handle; number = n } ∷ new_markers (handle + 1) ns
@@ -41,7 +41,7 @@ abbrev pub without_first : ℕ → List Marker → List Marker
 without_first number [] = []
 without_first number (m ∷ ms) = if m.number == number then ms else m ∷ without_first number ms
 
--- without the first copy of the number, or with none at all
+-- the markers without the first copy of the number; None removes all
 abbrev pub without_marker : Option ℕ → List Marker → List Marker
 without_marker None markers = []
 without_marker (Some number) markers = without_first number markers
@@ -63,13 +63,14 @@ restyled [] cells = cells
 restyled (s ∷ ss) [] = []
 restyled (s ∷ ss) (c ∷ cells) = record c { style = s } ∷ restyled ss cells
 
--- the styles put on the cells from end styled on, and end styled moved behind them; a document without styles keeps none
+-- the document after styling from end styled on, which moves end styled to the end of the styled bytes; a document that keeps no
+-- styles only moves end styled
 abbrev pub styled : List ℕ → Document → Document
 styled new d =
     let cells = if keeps_no_styles d then d.cells else take d.end_styled d.cells ++ restyled new (drop d.end_styled d.cells) in
     record d { cells = cells; end_styled = d.end_styled + length new }
 
--- The document after a change.
+-- The document after a change; `bytes` is the message's text.
 abbrev pub changed_document : List ℕ → DocumentChange → Document → Document
 changed_document bytes (change.SetReadOnly on) d = record d { read_only = on }
 changed_document bytes (change.SetLineEnd to) d = record d { line_end = to }
@@ -98,18 +99,18 @@ changed_document bytes (change.NeedStyle start past) d = record d { end_styled =
 changed_document bytes (change.FillIndicator indicator start count value) d =
     record d { indicators = slice_set d.indicators indicator (filled start count value (slice_index_or d.indicators indicator [])) }
 
--- The views of the document after a change: only a change of line ends regroups their flags.
+-- A view after a change of its document: new line end types regroup its flags; other changes leave it as it is.
 abbrev pub changed_lines : DocumentChange → Document → View → View
 changed_lines (change.SetLineEndTypes to) d v =
     if v.document == d.id then record v { flags = regrouped flags_together d.line_end_types to (text_of d) v.flags } else v
 changed_lines other d v = v
 
--- What is told.
+-- The notes of a change.
 
 abbrev pub line_note : ℕ → ℕ → Notice
 line_note kind line = let n = notes.change_note kind in record n { line = pos line }
 
--- that the line's markers changed, if there are more or fewer
+-- the notes that the line's markers changed (SC_MOD_CHANGEMARKER), if their number did
 abbrev pub marker_note : ℕ → Document → Document → List View → List Notice
 marker_note line old new views =
     if marker_count old.rows == marker_count new.rows then []
@@ -142,7 +143,7 @@ state_note line old new views = if is_same old new then [] else notes.heard view
 abbrev pub document_row : Document → ℕ → Row
 document_row d line = slice_index_or d.rows line fresh_row
 
--- what is told of a change from one document to the other, to these views of it; `sender` is the sending view
+-- The notes of a change that made the document `new` of `old`, to these views of it; `sender` is the sending view.
 abbrev pub change_told : View → List View → Document → Document → DocumentChange → List Notice
 change_told sender views old new (change.SetReadOnly on) = []
 change_told sender views old new (change.SetLineEnd to) = []
@@ -174,7 +175,7 @@ document_change_performed r what value =
       record { value = value; text = []; notes = change_told r.view (watching r.session.views r.document) r.document new what },
     )
 
--- The view after a change.
+-- The view after a change; `levels` are the fold levels of its document's lines.
 abbrev pub changed_view : List ℕ → ViewChange → View → View
 changed_view levels (view_change.Select anchor caret) v = record v { anchor = anchor; caret = caret }
 changed_view levels (view_change.SetTarget start past) v = record v { target_start = start; target_end = past }
@@ -196,7 +197,7 @@ view_change_performed r what = record r.session { views = with_view (changed_vie
 
 -- The session after a change.
 
--- the view leaves its document and is attached last to the other; a document without references goes
+-- a document after the view is detached from it; the document `id` then lists the view last
 abbrev pub attached_last : ℕ → ℕ → Document → Document
 attached_last view id d = let left = left_by view d in if d.id == id then record left { views = left.views ++ view ∷ [] } else left
 

@@ -1,9 +1,9 @@
--- Characters: a text is cut from left to right into CRLF, well-formed sequences of UTF-8, else single bytes.
--- [the well-formed sequences of UTF-8; CRLF as one: own]
+-- Characters: a text is cut from left to right into CRLF, the well-formed sequences of UTF-8, and single bytes where neither
+-- begins. [Unicode's table of well-formed byte sequences of UTF-8; CRLF as one character: own]
 use Rattle.std.specs.Prelude.{ℕ, zero, suc, ◌+◌, ◌-◌, nat_lt, ◌&&◌, Bool, true, false, List, [], ◌∷◌, length, find, reverse, unwrap_or, Option, Some, None}
 use Rattle.ed_model.specs.Matches.{is_from_to}
 
--- CRLF, then the well-formed sequences: the least and the greatest byte at each place of one
+-- CRLF, then the well-formed sequences: for each byte of a sequence the least and the greatest value
 abbrev pub sequences : List (List (ℕ × ℕ))
 sequences =
     ((13, 13) ∷ (10, 10) ∷ [])
@@ -28,17 +28,17 @@ abbrev pub sequence_length : Option (List (ℕ × ℕ)) → ℕ
 sequence_length None = 1
 sequence_length (Some ranges) = length ranges
 
--- how long the first character of the text is
+-- the length of the first character of the text, in bytes
 abbrev pub character_length : List ℕ → ℕ
 character_length text = sequence_length (find (begins_with text) sequences)
 
--- the cuts of a text that begins at place p, `left` bytes before the end of a character
+-- the cuts of a text that begins at position p, inside a character of which `left` bytes remain
 abbrev pub cuts_from : ℕ → ℕ → List ℕ → List ℕ
 cuts_from p left [] = p ∷ []
 cuts_from p zero (b ∷ bs) = p ∷ cuts_from (p + 1) (character_length (b ∷ bs) - 1) bs
 cuts_from p (suc left) (b ∷ bs) = cuts_from (p + 1) left bs
 
--- the places between two characters, and both ends
+-- the places between two characters, and both ends of the text
 abbrev pub cuts : List ℕ → List ℕ
 cuts text = cuts_from 0 0 text
 
@@ -46,6 +46,6 @@ cuts text = cuts_from 0 0 text
 abbrev pub cut_before : List ℕ → ℕ → ℕ
 cut_before text p = unwrap_or (find (λ cut. nat_lt cut p) (reverse (cuts text))) 0
 
--- the least cut above p, or the end
+-- the least cut above p, or the end of the text
 abbrev pub cut_after : List ℕ → ℕ → ℕ
 cut_after text p = unwrap_or (find (nat_lt p) (cuts text)) (length text)

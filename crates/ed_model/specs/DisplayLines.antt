@@ -4,18 +4,18 @@ use Rattle.std.specs.List.{range_with_len, list_all}
 use Rattle.ed_model.specs.Rows.{Flags}
 use Rattle.ed_model.specs.Folding.{is_visible}
 
--- how many visible lines stand before the line
+-- the number of visible lines before the line
 abbrev pub visible_before : List Flags → ℕ → ℕ
 visible_before flags line = count_by (λ (f : Flags). f.visible) (take line flags)
 
--- the display line of a line; for a hidden one, that of the visible line before it
+-- the display line of a line; a hidden line has that of the visible line before it (SCI_VISIBLEFROMDOCLINE)
 abbrev pub display_line : List Flags → ℕ → ℕ
 display_line flags line = visible_before flags (line + 1) - 1
 
 abbrev pub visible_lines : List Flags → List ℕ
 visible_lines flags = filter (is_visible flags) (range_with_len 0 (length flags))
 
--- the line shown at the display line; how many lines there are, past the last
+-- the line at the display line; past the last display line, the number of lines (SCI_DOCLINEFROMVISIBLE)
 abbrev pub line_shown : List Flags → ℕ → ℕ
 line_shown flags display = unwrap_or (slice_get (visible_lines flags) display) (length flags)
 

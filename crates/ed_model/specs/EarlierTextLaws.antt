@@ -1,5 +1,5 @@
--- Undo goes back to texts that stood there: those of the latest earlier states with fewer transactions. Every change of a
--- document keeps this, so that it holds of whole runs.
+-- Undo goes back to earlier texts of the document: each is the text of the latest earlier state that had so many transactions.
+-- Every change of a document keeps this, so it holds in whole runs.
 use Rattle.std.specs.Prelude.{◌≡◌, ℕ, ◌+◌, ◌-◌, ◌==◌, ◌<◌, ◌≤◌, if◌then◌else◌, false, List, [], ◌∷◌, length, Option, Some, None}
 use Rattle.ed_model.specs.declared.plan.DocumentChange.{DocumentChange}
 use Rattle.ed_model.specs.Steps.{Step}
@@ -11,17 +11,17 @@ use Rattle.ed_model.specs.Changes.{changed_document}
 use Rattle.ed_model.specs.InverseLaws.{FitInTurn, text_of_scene, history_of, after_undo, after_redo}
 use Rattle.ed_model.specs.UndoLaws.{undone_text}
 
--- From a document to the document after a change: each text that undo may go back to from the second, it may go back to from
--- the first, with as many transactions left.
+-- A change keeps the earlier texts if each text to which undo can go back after the change is one to which it could go back
+-- before, with as many transactions left.
 abbrev pub KeepsEarlierTexts : Document → Document → Type 0
 KeepsEarlierTexts old new =
     (k : ℕ) → 0 < k → k ≤ length new.history.past →
     (length new.history.past ≤ length old.history.past + k)
     × (undone_text k new.history.past (text_of new) ≡ undone_text (length old.history.past + k - length new.history.past) old.history.past (text_of old))
 
--- Changes that keep them.
+-- Changes that keep the earlier texts.
 
--- the steps of a message, where nothing is kept of the past unless changes are collected
+-- the steps of a message keep them, if undo is collected or the history has no past
 abbrev pub EditsKeepEarlierTexts : Type 0
 EditsKeepEarlierTexts =
     (steps : List Step) (scene : Scene) → FitInTurn steps (text_of_scene scene) →
@@ -36,28 +36,28 @@ RedoKeepsTheTextsBefore =
     (scene : Scene) → FitInTurn (text_steps (redo_changes (history_of scene))) (text_of_scene scene) →
     KeepsEarlierTexts scene.document (after_redo scene).document
 
--- all changes that are no edit, container steps and groups among them
+-- every change of a document that is no edit keeps them, container's steps and groups included
 abbrev pub DocumentChangesKeepEarlierTexts : Type 0
 DocumentChangesKeepEarlierTexts =
     (bytes : List ℕ) (change : DocumentChange) (d : Document) → KeepsEarlierTexts d (changed_document bytes change d)
 
 -- The states of a document, the latest first.
 
--- the text of the latest state with n transactions
+-- the text of the latest state with n transactions in its past
 abbrev pub latest_with : ℕ → List Document → Option (List ℕ)
 latest_with n [] = None
 latest_with n (d ∷ earlier) = if length d.history.past == n then Some (text_of d) else latest_with n earlier
 
--- undo goes back from the latest state to the texts of the latest states with fewer transactions
+-- undo goes back from the latest state, and the texts are those of the latest states with fewer transactions
 abbrev pub GoesBackAmong : Document → List Document → Type 0
 GoesBackAmong d states =
     (k : ℕ) → k ≤ length d.history.past → latest_with (length d.history.past - k) states ≡ Some (undone_text k d.history.past (text_of d))
 
--- so it is of a document without a past
+-- this holds for a document without a past
 abbrev pub GoesBackAtFirst : Type 0
 GoesBackAtFirst = (d : Document) (states : List Document) → d.history.past ≡ [] → GoesBackAmong d (d ∷ states)
 
--- and it stays so
+-- and it holds after each change that keeps the earlier texts
 abbrev pub GoesBackAfterwards : Type 0
 GoesBackAfterwards =
     (old new : Document) (states : List Document) → GoesBackAmong old states → KeepsEarlierTexts old new → GoesBackAmong new (new ∷ states)

@@ -18,7 +18,7 @@ abbrev pub converted_if : Bool → Request → List ℕ → List ℕ
 converted_if true r bytes = converted r.document.line_end bytes
 converted_if false r bytes = bytes
 
--- the bytes that are put in
+-- the bytes that an edit inserts
 abbrev pub source_bytes : Request → Source → List ℕ
 source_bytes r source.Nothing = []
 source_bytes r (source.MessageText count) = take count r.message.text
@@ -34,7 +34,7 @@ abbrev pub size_after : ℕ → Step → ℕ
 size_after n (Insert p bytes) = n + length bytes
 size_after n (Delete p bytes) = n - length bytes
 
--- whether no step takes a text of n bytes past the limit
+-- whether the text, now n bytes long, is within the limit after each of the steps
 abbrev pub stays_within : ℕ → ℕ → List Step → Bool
 stays_within limit n [] = true
 stays_within limit n (step ∷ steps) = nat_le (size_after n step) limit && stays_within limit (size_after n step) steps
@@ -43,21 +43,22 @@ abbrev pub has_steps : List Step → Bool
 has_steps [] = false
 has_steps (step ∷ steps) = true
 
--- what these steps come to: on a read-only document they are only told of, and a text too long is refused
+-- the plan `done` of an edit with these steps; on a read-only document an attempt, if there is a step; TooLong if the text passes
+-- its limit after some step
 abbrev pub edit_of_steps : Request → Plan → List Step → Planned
 edit_of_steps r done steps =
     if r.document.read_only && has_steps steps then Ok plan.Attempt
     else (if stays_within (limit_of r.session.limits r.document) (size r) steps then Ok done else Err TooLong)
 
--- the plan of an edit, with the value that it answers and what follows it
+-- the plan of an edit that answers `value`, and then does what follows it
 abbrev pub edit_plan : Request → Edit → ℤ → Follow → Planned
 edit_plan r change value after = edit_of_steps r (plan.Edit change value after) (steps_of r change)
 
--- an edit that replaces bytes, answers 0, and is followed by nothing
+-- the plan of an edit that replaces bytes and answers 0
 abbrev pub replace_plan : Request → ℕ → ℕ → Source → Planned
 replace_plan r start count from = edit_plan r (edit.Replace start count from) (pos 0) follow.Nothing
 
--- an edit that replaces bytes and leaves anchor and caret behind what it put in
+-- the plan of an edit that replaces bytes, and moves anchor and caret to the end of the inserted bytes
 abbrev pub replace_and_go : Request → ℕ → ℕ → Source → Planned
 replace_and_go r start count from =
     edit_plan r (edit.Replace start count from) (pos 0) (follow.Caret (start + length (source_bytes r from)))

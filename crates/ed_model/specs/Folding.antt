@@ -1,4 +1,4 @@
--- Folding, over the levels of all lines; the flags of lines are a view's. [Scintilla: folding; expansion: own]
+-- Folding, by the fold levels of all lines of a document and the flags of a view. [Scintilla: folding; what expanding shows: own]
 use Rattle.std.specs.Prelude.{ℕ, ◌+◌, ◌-◌, nat_le, nat_lt, not, ◌&&◌, ◌||◌, if◌then◌else◌, Bool, true, false, List, [], ◌∷◌, length, map, find, reverse, fold, slice_index, slice_index_or, slice_set, bit_and, Option, Some, None}
 use Rattle.std.specs.List.{range_with_len, list_all}
 use Rattle.ed_model.specs.Numbers.{meets}
@@ -21,7 +21,7 @@ abbrev pub line_before : ℕ → Option ℕ → ℕ
 line_before lines None = lines - 1
 line_before lines (Some line) = line - 1
 
--- the line before the next line whose number is at most `number`, or the last line
+-- the line before the next line whose number is at most `number`, or the last line if there is no such line
 abbrev pub last_child_at : List ℕ → ℕ → ℕ → ℕ
 last_child_at levels line number =
     line_before (length levels) (find (λ j. nat_le (number_at levels j) number) (range_with_len (line + 1) (length levels - (line + 1))))
@@ -29,29 +29,29 @@ last_child_at levels line number =
 abbrev pub last_child : List ℕ → ℕ → ℕ
 last_child levels line = last_child_at levels line (number_at levels line)
 
--- whether the line is a child of the header
+-- whether the line is a child of the header: a later line, up to the header's last child for its own number
 abbrev pub is_child : List ℕ → ℕ → ℕ → Bool
 is_child levels header line = nat_lt header line && nat_le line (last_child levels header)
 
--- whether the line, somewhere before this one, is a header of a smaller number
+-- whether the line `earlier` is a header with a smaller number than the line `line`
 abbrev pub is_parent_of : List ℕ → ℕ → ℕ → Bool
 is_parent_of levels line earlier = is_header levels earlier && nat_lt (number_at levels earlier) (number_at levels line)
 
--- the chain of fold parents among these earlier lines, the nearest first
+-- the chain of fold parents of a line among these earlier lines, the nearest first
 abbrev pub parents_among : List ℕ → ℕ → List ℕ → List ℕ
 parents_among levels line [] = []
 parents_among levels line (j ∷ js) =
     if is_parent_of levels line j then j ∷ parents_among levels j js else parents_among levels line js
 
--- the fold parent of the line, its fold parent, and so on
+-- the fold parent of the line, the fold parent of that one, and so on
 abbrev pub fold_parents : List ℕ → ℕ → List ℕ
 fold_parents levels line = parents_among levels line (reverse (range_with_len 0 line))
 
--- the nearest earlier header of a smaller number
+-- the nearest earlier header with a smaller number (SCI_GETFOLDPARENT)
 abbrev pub fold_parent : List ℕ → ℕ → Option ℕ
 fold_parent levels line = find (is_parent_of levels line) (reverse (range_with_len 0 line))
 
--- the line itself if it is a header, else its fold parent
+-- the line itself if it is a header, otherwise its fold parent
 abbrev pub fold_header : List ℕ → ℕ → Option ℕ
 fold_header levels line = if is_header levels line then Some line else fold_parent levels line
 
@@ -66,7 +66,7 @@ is_visible flags line = (flags_at flags line).visible
 abbrev pub is_expanded : List Flags → ℕ → Bool
 is_expanded flags line = (flags_at flags line).expanded
 
--- the flags with the lines that pass shown or hidden, as `shown` says of each
+-- the flags in which each line that passes the test is visible as `shown` says, and the other lines stay as they are
 abbrev pub with_visible : (ℕ → Bool) → (ℕ → Bool) → List Flags → List Flags
 with_visible passes shown flags =
     map (λ line. let f = flags_at flags line in if passes line then record f { visible = shown line } else f) (range_with_len 0 (length flags))
@@ -84,27 +84,27 @@ lines_shown first past flags = with_visible (is_between first past) (λ _. true)
 abbrev pub lines_hidden : ℕ → ℕ → List Flags → List Flags
 lines_hidden first past flags = with_visible (λ line. nat_lt 0 line && is_between first past line) (λ _. false) flags
 
--- contracting hides the children
+-- contracting a header hides its children
 abbrev pub contracted : List ℕ → ℕ → List Flags → List Flags
 contracted levels header flags = with_visible (is_child levels header) (λ _. false) (with_expanded header false flags)
 
--- whether each header between that has the line as a child is expanded
+-- whether each header between `header` and the line that has the line as a child is expanded
 abbrev pub is_open_between : List ℕ → List Flags → ℕ → ℕ → Bool
 is_open_between levels flags header line =
     list_all (λ inner. not (is_header levels inner && is_child levels inner line) || is_expanded flags inner) (range_with_len (header + 1) (line - (header + 1)))
 
--- expanding shows a child exactly where no header between is contracted
+-- expanding a header shows each child, except the children of contracted headers between; these it hides
 abbrev pub expanded : List ℕ → ℕ → List Flags → List Flags
 expanded levels header flags =
     with_visible (is_child levels header) (is_open_between levels flags header) (with_expanded header true flags)
 
--- a header made visible, and expanded if it is contracted
+-- the flags after the header is made visible, and expanded if it is contracted
 abbrev pub header_opened : List ℕ → List Flags → ℕ → List Flags
 header_opened levels flags header =
     let shown = lines_shown header (header + 1) flags in
     if is_expanded flags header then shown else expanded levels header shown
 
--- a hidden line made visible, its fold parents first, the outermost before all
+-- the flags after a hidden line is made visible: its fold parents are opened first, the outermost before the others (SCI_ENSUREVISIBLE)
 abbrev pub revealed : List ℕ → ℕ → List Flags → List Flags
 revealed levels line flags =
     if is_visible flags line then flags

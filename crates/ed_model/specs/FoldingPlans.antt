@@ -20,7 +20,7 @@ set_fold_level r =
 abbrev pub get_fold_level : Request → Planned
 get_fold_level r = line_argument r (answer_number base_level) (λ line. answer_number (row_at r line).level)
 
--- with an l of -1 by the line's own number, else by that of l
+-- by the number of l; with an l of -1 by the line's own number
 abbrev pub get_last_child : Request → Planned
 get_last_child r =
     with_argument (some_or_all (2 ^ 31 - 1) r.message.l) (λ level. line_argument r (answer (negsuc 0)) (λ line.
@@ -32,7 +32,7 @@ get_fold_parent r = line_argument r (answer (negsuc 0)) (λ line. answer (line_o
 abbrev pub visible_from_doc_line : Request → Planned
 visible_from_doc_line r = line_argument r (answer (negsuc 0)) (λ line. answer_number (display_line r.view.flags line))
 
--- 0 for a display line that is not above 0
+-- a display line of 0 or less gives line 0
 abbrev pub line_shown_at : Request → ℤ → ℕ
 line_shown_at r (pos n) = if n == 0 then 0 else line_shown r.view.flags n
 line_shown_at r (negsuc n) = 0
@@ -40,7 +40,7 @@ line_shown_at r (negsuc n) = 0
 abbrev pub doc_line_from_visible : Request → Planned
 doc_line_from_visible r = answer_number (line_shown_at r r.message.w)
 
--- the lines from w to l that there are: the first and the one past the last
+-- the end of a range of lines whose last line is l: one past l, at most the number of lines
 abbrev pub past_line : ℕ → ℤ → ℕ
 past_line line_total (pos n) = min (n + 1) line_total
 past_line line_total (negsuc n) = 0
@@ -63,14 +63,14 @@ set_fold_expanded r = line_argument r (answer (pos 0)) (λ line. change_view (vi
 abbrev pub get_fold_expanded : Request → Planned
 get_fold_expanded r = line_argument r (answer (pos 0)) (λ line. answer (flag (is_expanded r.view.flags line)))
 
--- contracts, expands or toggles a header
+-- contracts (0), expands (1) or toggles (2) the header; without a header nothing changes
 abbrev pub fold_by : Request → ℕ → Option ℕ → Planned
 fold_by r action None = answer (pos 0)
 fold_by r action (Some header) =
     if action == 0 || (action == 2 && is_expanded r.view.flags header) then change_view (view_change.Contract header)
     else change_view (view_change.Expand header)
 
--- the line itself if it is a header, else its fold parent
+-- acts on the line itself if it is a header, otherwise on its fold parent
 abbrev pub fold_at : Request → ℕ → Planned
 fold_at r action = line_argument r (answer (pos 0)) (λ line. fold_by r action (fold_header (levels r) line))
 

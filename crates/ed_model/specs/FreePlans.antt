@@ -1,4 +1,4 @@
--- Plans that take no memory, and that they are the plans of all messages that are marked so.
+-- Plans that allocate no memory: the plan of every message marked N is one.
 use Rattle.std.specs.Prelude.{◌≡◌, true, Ok, Err}
 use Rattle.ed_types.specs.declared.kind.Kind.{Kind}
 use Rattle.ed_types.specs.Messages.{marks_of}
@@ -13,7 +13,7 @@ use Rattle.ed_model.specs.declared.plan.Plan.TheVariants as plan
 use Rattle.ed_model.specs.Requests.{Request, Planned}
 use Rattle.ed_model.specs.Table.{plan_of}
 
--- a change of a document that adds nothing to it, and of which nothing is told
+-- a change of a document that adds nothing to it and has no notes
 abbrev pub IsFreeDocumentChange : DocumentChange → Type 0
 IsFreeDocumentChange (document_change.SetReadOnly on) = Unit {0}
 IsFreeDocumentChange (document_change.SetLineEnd to) = Unit {0}
@@ -24,7 +24,7 @@ IsFreeDocumentChange (document_change.CollectUndo on) = Unit {0}
 IsFreeDocumentChange (document_change.SetEndStyled place) = Unit {0}
 IsFreeDocumentChange other = ⊥
 
--- a change of a view but for those of the flags of its lines
+-- a change of a view, except one of the flags of its lines
 abbrev pub IsFreeViewChange : ViewChange → Type 0
 IsFreeViewChange (view_change.ShowLines first past) = ⊥
 IsFreeViewChange (view_change.HideLines first past) = ⊥
@@ -34,7 +34,7 @@ IsFreeViewChange (view_change.Expand line) = ⊥
 IsFreeViewChange (view_change.EnsureVisible line) = ⊥
 IsFreeViewChange other = Unit {0}
 
--- a reference more or less
+-- a change of the number of references that callers hold
 abbrev pub IsFreeSessionChange : SessionChange → Type 0
 IsFreeSessionChange (session_change.AddReference document) = Unit {0}
 IsFreeSessionChange (session_change.Release document) = Unit {0}
@@ -48,11 +48,11 @@ IsFreePlan (plan.ChangeView change value) = IsFreeViewChange change
 IsFreePlan (plan.ChangeSession change value) = IsFreeSessionChange change
 IsFreePlan other = ⊥
 
--- or a refusal
+-- such a plan, or a refusal
 abbrev pub IsFreePlanned : Planned → Type 0
 IsFreePlanned (Err refusal) = Unit {0}
 IsFreePlanned (Ok what) = IsFreePlan what
 
--- the plan of each message that is marked as taking no memory
+-- the plan of each message marked N is one of these
 abbrev pub MarkedPlansAreFree : Type 0
 MarkedPlansAreFree = (kind : Kind) (r : Request) → (marks_of kind).n ≡ true → IsFreePlanned (plan_of kind r)

@@ -1,4 +1,4 @@
--- Laws of markers' handles: steps and changes of a document give no handle anew that was given before.
+-- Laws of markers' handles: no step and no change of a document gives a handle that was given before.
 use Rattle.std.specs.Prelude.{ℕ, ◌<◌, ◌≤◌, List}
 use Rattle.ed_model.specs.declared.plan.LineEndTypes.{LineEndTypes}
 use Rattle.ed_model.specs.declared.plan.DocumentChange.{DocumentChange}
@@ -9,18 +9,18 @@ use Rattle.ed_model.specs.Session.{Document}
 use Rattle.ed_model.specs.Changes.{changed_document}
 use Rattle.ed_model.specs.SoundLaws.{occurrences, handles_in}
 
--- after a step no handle stands in the rows more often than before
+-- after a step no handle is more often in the rows than before
 abbrev pub StepsGiveNoHandle : Type 0
 StepsGiveNoHandle =
     (types : LineEndTypes) (step : Step) (text : List ℕ) (rows : List Row) (handle : ℕ) →
     occurrences handle (handles_in (carried_by rows_together types step text rows)) ≤ occurrences handle (handles_in rows)
 
--- nor does one below the next handle after a change of the document
+-- after a change of the document no handle below the next handle is more often in the rows than before
 abbrev pub ChangesGiveNoOldHandle : Type 0
 ChangesGiveNoOldHandle =
     (bytes : List ℕ) (change : DocumentChange) (d : Document) (handle : ℕ) → handle < d.next_handle →
     occurrences handle (handles_in (changed_document bytes change d).rows) ≤ occurrences handle (handles_in d.rows)
 
--- and the next handle never falls
+-- the next handle never decreases
 abbrev pub NextHandlesNeverFall : Type 0
 NextHandlesNeverFall = (bytes : List ℕ) (change : DocumentChange) (d : Document) → d.next_handle ≤ (changed_document bytes change d).next_handle

@@ -1,4 +1,4 @@
--- Laws of steps: a step taken back, several steps taken back, and a transaction undone and redone.
+-- Laws of inverses: of one step, of several steps, and of a transaction that is undone and redone.
 use Rattle.std.specs.Prelude.{◌≡◌, ℕ, ◌+◌, ◌<◌, ◌≤◌, List, [], ◌∷◌, length, map, reverse, slice_range}
 use Rattle.ed_model.specs.Text.{Cell, bytes_of}
 use Rattle.ed_model.specs.Steps.{Step, Insert, Delete, edited, edited_cells, inverse_of}
@@ -9,17 +9,17 @@ use Rattle.ed_model.specs.Session.{text_of}
 use Rattle.ed_model.specs.Notes.{performed_undo, performed_redo}
 use Rattle.ed_model.specs.Performing.{Scene, transaction_performed}
 
--- the step can be made on the text: it inserts within the text, or the bytes that it deletes stand there
+-- the step can be performed on the text: it inserts within the text, or the bytes that it deletes are there
 abbrev pub Fits : Step → List ℕ → Type 0
 Fits (Insert p bytes) text = p ≤ length text
 Fits (Delete p bytes) text = (p ≤ length text) × (slice_range text p (p + length bytes) ≡ bytes)
 
--- each of the steps can be made in its turn
+-- each of the steps can be performed, one after another
 abbrev pub FitInTurn : List Step → List ℕ → Type 0
 FitInTurn [] text = Unit {0}
 FitInTurn (step ∷ steps) text = Fits step text × FitInTurn steps (edited step text)
 
--- the steps that take these back, the last one first
+-- the inverses of the steps, the last step's first
 abbrev pub inverses : List Step → List Step
 inverses steps = reverse (map inverse_of steps)
 
@@ -29,21 +29,21 @@ inverses steps = reverse (map inverse_of steps)
 abbrev pub InverseOfInverse : Type 0
 InverseOfInverse = (step : Step) → inverse_of (inverse_of step) ≡ step
 
--- a step and its inverse give back the bytes
+-- a step followed by its inverse restores the bytes
 abbrev pub InverseGivesBackTheText : Type 0
 InverseGivesBackTheText = (step : Step) (text : List ℕ) → Fits step text → edited (inverse_of step) (edited step text) ≡ text
 
--- and the inverse can be made
+-- after a step its inverse can be performed
 abbrev pub InverseFits : Type 0
 InverseFits = (step : Step) (text : List ℕ) → Fits step text → Fits (inverse_of step) (edited step text)
 
--- a step and its inverse give back the bytes of cells
+-- a step followed by its inverse restores the bytes of cells
 abbrev pub InverseGivesBackTheBytesOfCells : Type 0
 InverseGivesBackTheBytesOfCells =
     (step : Step) (cells : List Cell) → Fits step (bytes_of cells) →
     bytes_of (edited_cells (inverse_of step) (edited_cells step cells)) ≡ bytes_of cells
 
--- an insertion and its inverse give back the cells, with their styles
+-- an insertion followed by its inverse restores the cells, with their styles
 abbrev pub InsertionTakenBackGivesBackTheCells : Type 0
 InsertionTakenBackGivesBackTheCells =
     (p : ℕ) (bytes : List ℕ) (cells : List Cell) → p ≤ length cells →
@@ -51,12 +51,12 @@ InsertionTakenBackGivesBackTheCells =
 
 -- Several steps.
 
--- steps, and their inverses from the last to the first, give back the bytes
+-- steps followed by their inverses, from the last to the first, restore the bytes
 abbrev pub InversesGiveBackTheText : Type 0
 InversesGiveBackTheText =
     (steps : List Step) (text : List ℕ) → FitInTurn steps text → after_steps (inverses steps) (after_steps steps text) ≡ text
 
--- and the inverses can be made in their turn
+-- after the steps their inverses can be performed, one after another
 abbrev pub InversesFitInTurn : Type 0
 InversesFitInTurn = (steps : List Step) (text : List ℕ) → FitInTurn steps text → FitInTurn (inverses steps) (after_steps steps text)
 
@@ -68,14 +68,14 @@ text_of_scene scene = text_of scene.document
 abbrev pub history_of : Scene → History
 history_of scene = scene.document.history
 
--- the scene once its last transaction is undone, and once its next one is redone
+-- the scene after its last transaction is undone, and after its next one is redone
 abbrev pub after_undo : Scene → Scene
 after_undo scene = transaction_performed performed_undo (undo_changes (history_of scene)) (undone (history_of scene)) scene
 
 abbrev pub after_redo : Scene → Scene
 after_redo scene = transaction_performed performed_redo (redo_changes (history_of scene)) (redone (history_of scene)) scene
 
--- undo makes the steps of the transaction's inverse changes, and redo those of the changes
+-- undo performs the steps of the inverse changes of the last transaction, and redo those of the changes of the next
 abbrev pub UndoMakesItsSteps : Type 0
 UndoMakesItsSteps =
     (scene : Scene) → text_of_scene (after_undo scene) ≡ after_steps (text_steps (undo_changes (history_of scene))) (text_of_scene scene)
@@ -84,14 +84,14 @@ abbrev pub RedoMakesItsSteps : Type 0
 RedoMakesItsSteps =
     (scene : Scene) → text_of_scene (after_redo scene) ≡ after_steps (text_steps (redo_changes (history_of scene))) (text_of_scene scene)
 
--- undo, then redo, gives back the text
+-- undo and then redo restore the text
 abbrev pub UndoThenRedoGivesBackTheText : Type 0
 UndoThenRedoGivesBackTheText =
     (scene : Scene) → 0 < length (history_of scene).past →
     FitInTurn (text_steps (undo_changes (history_of scene))) (text_of_scene scene) →
     text_of_scene (after_redo (after_undo scene)) ≡ text_of_scene scene
 
--- redo, then undo, gives back the text
+-- redo and then undo restore the text
 abbrev pub RedoThenUndoGivesBackTheText : Type 0
 RedoThenUndoGivesBackTheText =
     (scene : Scene) → 0 < length (history_of scene).future →

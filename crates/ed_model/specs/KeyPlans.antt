@@ -1,4 +1,4 @@
--- Plans of the keys.
+-- Plans of the messages on keys.
 -- [Scintilla: keyboard commands]
 use Rattle.std.specs.Prelude.{ℕ, ◌-◌, ◌==◌, if◌then◌else◌}
 use Rattle.ed_model.specs.declared.plan.Source.TheVariants as source
@@ -29,7 +29,7 @@ char_left r = go_to (if selected r == 0 then place_left r else selection_start r
 abbrev pub char_right : Request → Planned
 char_right r = go_to (if selected r == 0 then place_right r else selection_end r)
 
--- deletes the selection, or else from the cut before to the caret
+-- deletes the selection, or if it is empty, from the cut before the caret to the caret
 abbrev pub delete_back : Request → Planned
 delete_back r =
     if selected r == 0 then replace_plan r (place_left r) (r.view.caret - place_left r) source.Nothing

@@ -1,4 +1,4 @@
--- Definitions: the whole behaviour of the component over plain lists.
+-- The definitions: the whole behaviour of the component over plain lists.
 pub mod Numbers
 pub mod Text
 pub mod Lines

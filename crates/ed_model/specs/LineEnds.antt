@@ -1,4 +1,4 @@
--- Line ends of a kind, and turning others into it. [Scintilla: line ends; the order of the steps: own]
+-- Line ends, and the conversion of all of them to one kind (SCI_CONVERTEOLS). [Scintilla: line ends; the order of the steps: own]
 use Rattle.std.specs.Prelude.{ℕ, ◌+◌, ◌==◌, ◌&&◌, ◌||◌, not, if◌then◌else◌, Bool, true, false, List, [], ◌∷◌, ◌++◌, length, fold}
 use Rattle.ed_model.specs.declared.plan.LineEnd.{LineEnd}
 use Rattle.ed_model.specs.declared.plan.LineEnd.TheVariants.{CrLf, Cr, Lf}
@@ -14,7 +14,7 @@ abbrev pub begins_with_line_feed : List ℕ → Bool
 begins_with_line_feed [] = false
 begins_with_line_feed (b ∷ bs) = b == line_feed
 
--- a text with each CRLF, CR and LF turned into the line end; `after_return` says that a CR stands before it
+-- the text with each CRLF, CR and LF replaced by the line end `to`; `after_return` says that the byte before it is a CR
 abbrev pub converted_after : Bool → LineEnd → List ℕ → List ℕ
 converted_after after_return to [] = []
 converted_after after_return to (b ∷ bs) =
@@ -24,10 +24,11 @@ converted_after after_return to (b ∷ bs) =
 abbrev pub converted : LineEnd → List ℕ → List ℕ
 converted to text = converted_after false to text
 
--- The steps that turn a text's line ends into one kind: first each missing byte is put in, left to right, so that each line end
--- of another kind is a CRLF; then each unwanted byte of these is deleted. A step names the place of its own moment.
+-- The steps that convert a text's line ends to one kind. First each missing byte is inserted, left to right, so that each line
+-- end of another kind is a CRLF. Then each unwanted byte of these is deleted, left to right. The place of a step is a position in
+-- the text as it is just before that step.
 
--- whether an LF alone, or a CR alone, is of another kind than wanted
+-- whether an LF that stands alone, or a CR that stands alone, is of another kind than the wanted one
 abbrev pub is_feed_foreign : LineEnd → Bool
 is_feed_foreign CrLf = true
 is_feed_foreign Cr = true
@@ -38,20 +39,20 @@ is_return_foreign CrLf = true
 is_return_foreign Cr = false
 is_return_foreign Lf = true
 
--- whether a CR is missing before the byte, or an LF behind it
+-- whether a CR is missing before the byte, or an LF after it
 abbrev pub lacks_return : Bool → LineEnd → ℕ → Bool
 lacks_return after_return to b = b == line_feed && not after_return && is_feed_foreign to
 
 abbrev pub lacks_feed : LineEnd → ℕ → List ℕ → Bool
 lacks_feed to b bs = b == carriage_return && not (begins_with_line_feed bs) && is_return_foreign to
 
--- the step that puts in what is missing about the byte at p
+-- the step that inserts the missing byte before or after the byte at p
 abbrev pub missing_at : ℕ → Bool → Bool → List Step
 missing_at p true feed = Insert p (carriage_return ∷ []) ∷ []
 missing_at p false true = Insert (p + 1) (line_feed ∷ []) ∷ []
 missing_at p false false = []
 
--- one call for the rest, so that it computes in as many steps as there are bytes
+-- the steps that insert what is missing from position p on; `missing` is a local, so that the rest of the text is computed only once
 abbrev pub missing_from : ℕ → Bool → LineEnd → List ℕ → List Step
 missing_from p after_return to [] = []
 missing_from p after_return to (b ∷ bs) =

@@ -38,14 +38,14 @@ convert_eols r = argument 0 2 r.message.w (λ mode. edit_plan r (edit.ConvertLin
 abbrev pub row_at : Request → ℕ → Row
 row_at r line = slice_index_or r.document.rows line fresh_row
 
--- the mask of a list of markers: bit k for number k
+-- the mask of a list of markers: bit k is set if one has the number k
 abbrev pub mask_of : List Marker → ℕ
 mask_of markers = fold bit_or 0 (map (λ (m : Marker). 2 ^ m.number) markers)
 
 abbrev pub line_mask : Request → ℕ → ℕ
 line_mask r line = mask_of (row_at r line).markers
 
--- whether so many handles are left
+-- whether `count` more handles can be given
 abbrev pub has_handles : Request → ℕ → Bool
 has_handles r count = nat_le (r.document.next_handle + count) (r.session.limits.handles + 1)
 
@@ -54,7 +54,7 @@ marker_add r =
     argument 0 31 r.message.l (λ number. line_argument r (answer (negsuc 0)) (λ line.
     if has_handles r 1 then Ok (plan.ChangeDocument (document_change.AddMarker line number) (pos r.document.next_handle)) else Err TooMany))
 
--- the numbers whose bits are set, rising
+-- the numbers whose bits are set, in rising order
 abbrev pub numbers_in : ℕ → List ℕ
 numbers_in mask = filter (has_bit mask) (range_with_len 0 32)
 
@@ -78,14 +78,14 @@ abbrev pub line_or_none : Option ℕ → ℤ
 line_or_none None = negsuc 0
 line_or_none (Some line) = pos line
 
--- the first of these lines whose mask meets the low 32 bits of l
+-- answers the first of these lines with a marker whose bit is set in the low 32 bits of l, or -1
 abbrev pub first_marked : Request → List ℕ → Planned
 first_marked r candidates = answer (line_or_none (find (λ line. meets (line_mask r line) (low_bits r.message.l)) candidates))
 
 abbrev pub marker_next : Request → Planned
 marker_next r = let from = at_least_zero r.message.w in first_marked r (range_with_len from (line_total r - from))
 
--- how many lines stand up to w
+-- the number of lines up to line w, included
 abbrev pub lines_up_to : ℕ → ℤ → ℕ
 lines_up_to line_total (pos n) = min (n + 1) line_total
 lines_up_to line_total (negsuc n) = 0
@@ -97,7 +97,7 @@ abbrev pub has_handle : ℤ → Marker → Bool
 has_handle (pos handle) m = m.handle == handle
 has_handle (negsuc n) m = false
 
--- the line of the marker with the handle in w
+-- the line that has the marker with the handle w
 abbrev pub line_of_handle : Request → Option ℕ
 line_of_handle r = find (λ line. list_any (has_handle r.message.w) (row_at r line).markers) (range_with_len 0 (line_total r))
 

@@ -1,4 +1,4 @@
--- Lines of a text. A line is known by its start. [Scintilla: line ends; Unicode newline guidelines]
+-- Lines of a text, each known by its start, a position in bytes. [Scintilla: line ends; Unicode newline guidelines]
 use Rattle.std.specs.Prelude.{ℕ, ◌+◌, ◌-◌, Bool, true, false, not, ◌&&◌, ◌||◌, ◌==◌, nat_le, nat_lt, if◌then◌else◌, List, length, filter, count_by, slice_get, slice_index, unwrap_or}
 use Rattle.std.specs.List.{range_with_len}
 use Rattle.ed_model.specs.declared.plan.LineEndTypes.{LineEndTypes}
@@ -9,13 +9,13 @@ abbrev pub knows_unicode : LineEndTypes → Bool
 knows_unicode Default = false
 knows_unicode Unicode = true
 
--- whether U+0085, U+2028 or U+2029 ends before p
+-- whether the bytes of U+0085, U+2028 or U+2029 end at p
 abbrev pub unicode_end_before : List ℕ → ℕ → Bool
 unicode_end_before text p =
     (stands 0x85 text (p - 1) && stands 0xC2 text (p - 2))
     || ((stands 0xA8 text (p - 1) || stands 0xA9 text (p - 1)) && stands 0x80 text (p - 2) && stands 0xE2 text (p - 3))
 
--- whether a line end stands before p: an LF, a CR that no LF follows, or one of Unicode's where the document knows them
+-- whether a line end ends at p: an LF, a CR that no LF follows, or, if the document allows them, one of Unicode's
 abbrev pub line_end_before : LineEndTypes → List ℕ → ℕ → Bool
 line_end_before types text p =
     stands line_feed text (p - 1)
@@ -26,11 +26,11 @@ line_end_before types text p =
 abbrev pub is_line_start : LineEndTypes → List ℕ → ℕ → Bool
 is_line_start types text p = p == 0 || line_end_before types text p
 
--- where the lines start, in order
+-- the starts of all lines, in order
 abbrev pub line_starts : LineEndTypes → List ℕ → List ℕ
 line_starts types text = filter (is_line_start types text) (range_with_len 0 (length text + 1))
 
--- the line that holds position p: how many starts are at most p, less one
+-- the line that contains position p: the number of starts that are at most p, minus one
 abbrev pub line_of : List ℕ → ℕ → ℕ
 line_of starts p = count_by (λ s. nat_le s p) starts - 1
 
@@ -40,17 +40,17 @@ line_count types text = length (line_starts types text)
 abbrev pub start_of_line : LineEndTypes → List ℕ → ℕ → ℕ
 start_of_line types text line = slice_index (line_starts types text) line
 
--- where the next line starts, or the text's length for the last line
+-- the start of the next line, or the text's length for the last line
 abbrev pub start_after_line : LineEndTypes → List ℕ → ℕ → ℕ
 start_after_line types text line = unwrap_or (slice_get (line_starts types text) (line + 1)) (length text)
 
--- how long the line end is that stands before the start p
+-- the length in bytes of the line end before the line start p
 abbrev pub line_end_length : List ℕ → ℕ → ℕ
 line_end_length text p =
     if stands line_feed text (p - 1) then (if stands carriage_return text (p - 2) then 2 else 1)
     else (if stands carriage_return text (p - 1) then 1 else (if stands 0x85 text (p - 1) then 2 else 3))
 
--- where the end of the line begins: for the last line, at the end of the text
+-- the position before the line's line end, or the end of the text for the last line (SCI_GETLINEENDPOSITION)
 abbrev pub end_of_line : LineEndTypes → List ℕ → ℕ → ℕ
 end_of_line types text line =
     if nat_lt (line + 1) (line_count types text)

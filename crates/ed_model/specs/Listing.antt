@@ -1,5 +1,5 @@
--- Scripts as text. A script is lines, each ended by LF: the first names the version, each other is one command, its fields with
--- single spaces between. [own]
+-- Scripts as text. A script is a list of lines, each ended by LF. The first line names the version; each other line is one
+-- command, whose fields have single spaces between them. [own]
 use Rattle.std.specs.Prelude.{⊤, IsTrue, ◌<◌, ◌^◌, ℕ, ◌==◌, ◌&&◌, ◌||◌, nat_le, Bool, true, false, not, List, [], ◌∷◌, ◌++◌, length, flat_map, codes}
 use Rattle.std.specs.List.{AllByRecursion, join_with_byte, list_all}
 use Rattle.ed_types.specs.declared.script.Command.{Command}
@@ -29,7 +29,7 @@ version_line version = codes "sci " ++ spelled version
 abbrev pub listing : ℕ → List Command → List ℕ
 listing version commands = ended_line (version_line version) ++ flat_map (λ command. ended_line (listed_command command)) commands
 
--- Each number of a command is one of its type, and its text is made of bytes. So is each command of a program.
+-- Each number of a command is a value of its Rust type, and its text consists of bytes. Every command of a program is such.
 abbrev pub FitsTypes : Command → Type 0
 FitsTypes OpenView = ⊤
 FitsTypes (CloseView view) = view < 2 ^ 32
@@ -37,7 +37,7 @@ FitsTypes (LoadFile view file) = (view < 2 ^ 32) × (file < 2 ^ 32)
 FitsTypes (SendMessage view message) = (view < 2 ^ 32) × (message.number < 2 ^ 32) × IsTrue (is_64_bits message.w) × IsTrue (is_64_bits message.l) × AllByRecursion (λ b. b < 256) message.text
 FitsTypes (Expect value) = IsTrue (is_64_bits value)
 
--- what version 1 cannot say
+-- whether the command is an `expect`, which version 1 does not have
 abbrev pub is_expect : Command → Bool
 is_expect OpenView = false
 is_expect (CloseView view) = false
@@ -45,7 +45,7 @@ is_expect (LoadFile view file) = false
 is_expect (SendMessage view message) = false
 is_expect (Expect value) = true
 
--- whether the version has words for the commands; there are versions 1 and 2
+-- whether the version has all these commands; there are versions 1 and 2
 abbrev pub speaks : ℕ → List Command → Bool
 speaks version commands = version == 2 || (version == 1 && list_all (λ command. not (is_expect command)) commands)
 
@@ -62,6 +62,7 @@ fits_line line = nat_le (length line) line_limit
 abbrev pub fits_script : List ℕ → Bool
 fits_script text = nat_le (length text) script_limit
 
--- Whether commands are a script: no line and not the whole pass their limits. Both versions' listings are as long.
+-- Whether commands are within the limits of a script: the length of each line, and that of the whole. Listings have the same
+-- length in both versions.
 abbrev pub keeps_limits : List Command → Bool
 keeps_limits commands = list_all (λ command. fits_line (listed_command command)) commands && fits_script (listing 2 commands)

@@ -1,4 +1,4 @@
--- Matches of a text in a range of the document. [Scintilla: searching]
+-- Matches of a pattern in a range of the document (SCI_SEARCHINTARGET). [Scintilla: searching]
 use Rattle.std.specs.Prelude.{ℕ, ◌+◌, ◌-◌, ◌==◌, nat_le, nat_lt, not, ◌&&◌, ◌||◌, if◌then◌else◌, Bool, false, List, [], ◌∷◌, length, map, find, reverse, slice_get, slice_range, min, Option, Some, None}
 use Rattle.std.specs.List.{range_with_len, starts_with}
 use Rattle.ed_model.specs.Numbers.{meets}
@@ -16,11 +16,11 @@ word_start = 0x100000
 abbrev pub is_from_to : ℕ → ℕ → ℕ → Bool
 is_from_to low high b = nat_le low b && nat_le b high
 
--- a to z for A to Z, unless case counts
+-- the byte that is compared: without SCFIND_MATCHCASE, a to z stand for A to Z
 abbrev pub folded : ℕ → ℕ → ℕ
 folded flags b = if meets flags match_case then b else (if is_from_to 65 90 b then b + 32 else b)
 
--- ASCII letters, digits, `_`, and all bytes from 0x80 on
+-- whether the byte belongs to words: ASCII letters and digits, `_`, and all bytes from 0x80 on
 abbrev pub is_word_byte : ℕ → Bool
 is_word_byte b = is_from_to 65 90 b || is_from_to 97 122 b || is_from_to 48 57 b || b == 95 || nat_le 0x80 b
 
@@ -34,18 +34,18 @@ word_before text p = nat_lt 0 p && is_some_word_byte (slice_get text (p - 1))
 abbrev pub word_after : List ℕ → ℕ → Bool
 word_after text p = is_some_word_byte (slice_get text p)
 
--- whether the pattern stands at the place, with the word tests passed; the document's bytes outside the range count for these
+-- whether the pattern matches at the place and passes the tests of words, which look at bytes outside the range too
 abbrev pub is_match : ℕ → List ℕ → List ℕ → ℕ → Bool
 is_match flags text pattern place =
     starts_with ◌==◌ (map (folded flags) (slice_range text place (place + length pattern))) (map (folded flags) pattern)
     && not ((meets flags whole_word || meets flags word_start) && word_before text place)
     && not (meets flags whole_word && word_after text (place + length pattern))
 
--- where a text of this length may begin so as to lie in the range
+-- the places from which `size` bytes lie between `low` and `high`
 abbrev pub starts_within : ℕ → ℕ → ℕ → List ℕ
 starts_within low high size = range_with_len low ((high + 1) - (low + size))
 
--- the first match from `from` to `to`; the last one, if `from` is the greater; an empty pattern stands at the lesser end
+-- the first match between `from` and `to`, or the last one if `from` is greater; an empty pattern matches at the lesser of the two
 abbrev pub match_in : ℕ → List ℕ → List ℕ → ℕ → ℕ → Option ℕ
 match_in flags text [] from to = Some (min from to)
 match_in flags text (b ∷ bs) from to =

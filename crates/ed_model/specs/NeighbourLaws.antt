@@ -1,33 +1,33 @@
--- Laws of line starts under steps: which stay, which move, and which places are to be tested anew, by the bytes about the step
--- alone.
+-- Laws of line starts near a step: which starts stay, which move, and which
+-- places must be tested again. Only the bytes near the step matter.
 use Rattle.std.specs.Prelude.{ℕ, ◌≡◌, ◌+◌, ◌-◌, ◌≤◌, min, nat_le, nat_lt, List, [], ◌++◌, length, map, take, drop, filter, count_by, slice_range}
 use Rattle.std.specs.List.{range_with_len}
 use Rattle.ed_model.specs.declared.plan.LineEndTypes.{LineEndTypes}
 use Rattle.ed_model.specs.Lines.{is_line_start, line_starts}
 use Rattle.ed_model.specs.Steps.{Insert, Delete, edited}
 
--- the bytes about a change that puts `bytes` in the place of what stands from `start` to `end`: they, and up to three on each side
+-- the bytes near a change that replaces the range from `start` to `end` by `bytes`: these bytes, and up to three on each side
 abbrev pub bytes_about : ℕ → ℕ → List ℕ → List ℕ → List ℕ
 bytes_about start end bytes text = slice_range text (start - min start 3) start ++ bytes ++ slice_range text end (end + 3)
 
--- the line starts from `start` to three bytes behind what is put in, told by those bytes
+-- the line starts from `start` to three bytes after the inserted bytes, found from those bytes alone
 abbrev pub starts_about : LineEndTypes → ℕ → ℕ → List ℕ → List ℕ → List ℕ
 starts_about types start end bytes text =
     map (λ place. (start - min start 3) + place)
     (filter (is_line_start types (bytes_about start end bytes text)) (range_with_len (min start 3) (length bytes + 3)))
 
--- the line starts before a place, and those from a place on
+-- the line starts before a place, and those at or after it
 abbrev pub starts_before : ℕ → List ℕ → List ℕ
 starts_before place starts = filter (λ start. nat_lt start place) starts
 
 abbrev pub starts_from : ℕ → List ℕ → List ℕ
 starts_from place starts = filter (λ start. nat_le place start) starts
 
--- how many line starts there are before a place
+-- the number of line starts before a place
 abbrev pub count_before : ℕ → List ℕ → ℕ
 count_before place starts = count_by (λ start. nat_lt start place) starts
 
--- the starts before a place are the first ones, and those from it on are the others
+-- the starts before a place are the first ones, and the starts at or after it are the others
 abbrev pub StartsBeforeAreTheFirst : Type 0
 StartsBeforeAreTheFirst =
     (types : LineEndTypes) (place : ℕ) (text : List ℕ)
@@ -38,7 +38,7 @@ StartsFromAreTheOthers =
     (types : LineEndTypes) (place : ℕ) (text : List ℕ)
     → starts_from place (line_starts types text) ≡ drop (count_before place (line_starts types text)) (line_starts types text)
 
--- after an insertion: the starts before it, those about it, and those at least three bytes behind it, moved on
+-- the line starts after an insertion: those before it, those near it, and those at least three bytes after it, moved forward
 abbrev pub StartsAfterInsertion : Type 0
 StartsAfterInsertion =
     (types : LineEndTypes) (p : ℕ) (bytes text : List ℕ) → p ≤ length text
@@ -47,7 +47,7 @@ StartsAfterInsertion =
     ++ starts_about types p p bytes text
     ++ map (λ start. start + length bytes) (starts_from (p + 3) (line_starts types text))
 
--- after a deletion: the starts before it, those about it, and those at least three bytes behind it, moved back
+-- the line starts after a deletion: those before it, those near it, and those at least three bytes after it, moved back
 abbrev pub StartsAfterDeletion : Type 0
 StartsAfterDeletion =
     (types : LineEndTypes) (p : ℕ) (bytes text : List ℕ) → p ≤ length text
@@ -56,7 +56,7 @@ StartsAfterDeletion =
     ++ starts_about types p (p + length bytes) [] text
     ++ map (λ start. start - length bytes) (starts_from (p + length bytes + 3) (line_starts types text))
 
--- the starts about an insertion are the places from it to three bytes behind it where a line of the new text starts
+-- the line starts near an insertion are the places from it to three bytes after it at which a line of the new text starts
 abbrev pub StartsAboutAnInsertion : Type 0
 StartsAboutAnInsertion =
     (types : LineEndTypes) (p : ℕ) (bytes text : List ℕ) → p ≤ length text

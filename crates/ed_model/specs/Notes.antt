@@ -1,4 +1,4 @@
--- Notes: what is told of, to which views, and in which order. [Scintilla: notifications; order and who hears: own]
+-- Notes: their codes, kinds and fields, and which views are notified in which order. [Scintilla: notifications; order and receivers: own]
 use Rattle.std.specs.Prelude.{ℕ, ℤ, pos, Bool, true, false, List, [], length, map, filter, bit_or}
 use Rattle.ed_types.specs.Notices.{Notice}
 use Rattle.ed_model.specs.Numbers.{meets}
@@ -24,7 +24,7 @@ modified = 2008
 abbrev pub macro_record : ℕ
 macro_record = 2009
 
--- Bits of the kind of SCN_MODIFIED, SC_MOD_ and SC_ left out.
+-- Bits of the kind of SCN_MODIFIED (`modificationType`), named without SC_MOD_ and SC_.
 abbrev pub insert_text : ℕ
 insert_text = 0x1
 
@@ -76,12 +76,12 @@ change_line_state = 0x8000
 abbrev pub container : ℕ
 container = 0x40000
 
--- the bit, if so
+-- the bit if the flag is on, otherwise 0
 abbrev pub bit_if : Bool → ℕ → ℕ
 bit_if true bit = bit
 bit_if false bit = 0
 
--- a note of this code, with no view yet, all else 0 and empty
+-- a note with this code, no view yet, and all other fields 0 or empty
 abbrev pub blank : ℕ → Notice
 blank code = record {
   view = 0;
@@ -103,26 +103,26 @@ blank code = record {
 abbrev pub change_note : ℕ → Notice
 change_note kind = let n = blank modified in record n { kind = kind }
 
--- a change of some bytes
+-- the note of a change of `count` bytes from `start` on
 abbrev pub range_note : ℕ → ℕ → ℕ → Notice
 range_note kind start count = let n = change_note kind in record n { position = pos start; length = pos count }
 
--- before a step, with the bits of who makes it
+-- the note before a step; `bits` says who performs it
 abbrev pub before_note : ℕ → Step → Notice
 before_note bits (Insert p bytes) = let n = range_note (bit_or before_insert bits) p (length bytes) in record n { text = bytes }
 before_note bits (Delete p bytes) = range_note (bit_or before_delete bits) p (length bytes)
 
--- after a step, with by how many lines the text grew
+-- the note after a step; `lines` is by how many the number of lines grew (`linesAdded`)
 abbrev pub after_note : ℕ → ℤ → Step → Notice
 after_note bits lines (Insert p bytes) = let n = range_note (bit_or insert_text bits) p (length bytes) in record n { lines = lines; text = bytes }
 after_note bits lines (Delete p bytes) = let n = range_note (bit_or delete_text bits) p (length bytes) in record n { lines = lines; text = bytes }
 
--- Who hears.
+-- Which views are notified.
 
--- each of these views, in this order
+-- a note to each of these views, in this order
 abbrev pub told : List View → Notice → List Notice
 told views note = map (λ (v : View). record note { view = v.id }) views
 
--- a change is heard by the views whose mask has a bit in common with its kind
+-- a note to each of these views whose mask has a bit in common with the note's kind
 abbrev pub heard : List View → Notice → List Notice
 heard views note = told (filter (λ (v : View). meets v.mask note.kind) views) note

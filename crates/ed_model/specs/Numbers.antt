@@ -1,17 +1,17 @@
 -- Numbers in arguments and answers.
 use Rattle.std.specs.Prelude.{ℕ, ◌-◌, ◌/◌, ◌%◌, ◌^◌, ◌==◌, nat_le, nat_lt, min, not, ◌&&◌, if◌then◌else◌, Bool, true, false, ℤ, pos, negsuc, ◌-ℤ◌, Option, Some, None, bit_and}
 
--- whether it is there, and this number
+-- whether there is a number, and it is n
 abbrev pub is_number : ℕ → Option ℕ → Bool
 is_number n None = false
 is_number n (Some m) = m == n
 
--- a value for a flag
+-- a flag as an answer: 1 or 0
 abbrev pub flag : Bool → ℤ
 flag true = pos 1
 flag false = pos 0
 
--- a flag in an argument: 0 is off, all else on
+-- a flag as an argument: 0 is off, all else on
 abbrev pub is_on : ℤ → Bool
 is_on (pos n) = not (n == 0)
 is_on (negsuc n) = true
@@ -24,7 +24,7 @@ abbrev pub is_minus_one : ℤ → Bool
 is_minus_one (pos n) = false
 is_minus_one (negsuc n) = n == 0
 
--- the number, or 0 for a negative one
+-- the number, or 0 if it is negative
 abbrev pub at_least_zero : ℤ → ℕ
 at_least_zero (pos n) = n
 at_least_zero (negsuc n) = 0
@@ -33,22 +33,22 @@ at_least_zero (negsuc n) = 0
 abbrev pub clamped : ℕ → ℤ → ℕ
 clamped n x = min (at_least_zero x) n
 
--- x, if it lies from low to high
+-- x, if it is in low..high, both included
 abbrev pub within : ℕ → ℕ → ℤ → Option ℕ
 within low high (pos n) = if nat_le low n && nat_le n high then Some n else None
 within low high (negsuc n) = None
 
--- a number that may be -1 for "all", or else lies from 0 to high
+-- x, if it is in 0..high; -1 stands for all
 abbrev pub some_or_all : ℕ → ℤ → Option (Option ℕ)
 some_or_all high (pos n) = if nat_le n high then Some (Some n) else None
 some_or_all high (negsuc n) = if n == 0 then Some None else None
 
--- the line x of as many lines, if there is one
+-- the line x, if it is one of `lines` lines, which count from 0
 abbrev pub line_among : ℕ → ℤ → Option ℕ
 line_among lines (pos n) = if nat_lt n lines then Some n else None
 line_among lines (negsuc n) = None
 
--- the low 32 bits of the two's complement
+-- the low 32 bits of the number in two's complement
 abbrev pub low_bits : ℤ → ℕ
 low_bits (pos n) = n % 2 ^ 32
 low_bits (negsuc n) = (2 ^ 32 - 1) - n % 2 ^ 32

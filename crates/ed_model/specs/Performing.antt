@@ -19,13 +19,13 @@ use Rattle.ed_model.specs.Edits.{steps_of}
 abbrev pub response : ℤ → List ℕ → List Notice → Response
 response value bytes notes = record { value = value; text = bytes; notes = notes }
 
--- an answer without text or notes
+-- a reply with this value, without text and notes
 abbrev pub quiet : ℤ → Response
 quiet value = response value [] []
 
 -- Steps.
 
--- the document after a step of its text
+-- the document after a step of its text; its history stays
 abbrev pub document_after : Step → Document → Document
 document_after step d = record d {
   cells = edited_cells step d.cells;
@@ -34,7 +34,7 @@ document_after step d = record d {
   end_styled = min d.end_styled (place_of step);
 }
 
--- a view of that document
+-- the view after a step of its document
 abbrev pub moved_view : Step → Document → View → View
 moved_view step d v = record v {
   anchor = moved_position step v.anchor;
@@ -47,13 +47,13 @@ moved_view step d v = record v {
 abbrev pub view_after : Step → Document → View → View
 view_after step d v = if v.document == d.id then moved_view step d v else v
 
--- A scene: a document that steps are made on, the views of the session, and what was heard so far.
+-- A scene: a document on which steps are performed, the views of the session, and the notes so far.
 pub record Scene : Type 0 where
   pub document : Document
   pub views : List View
   pub notes : List Notice
 
--- all but the history after a step, heard before and after it with these bits, and with `between` told in between
+-- the scene after a step, with a note before it and one after it with these bits, and the notes `between` in between; the history stays
 abbrev pub step_heard : ℕ → ℕ → List Notice → Step → Scene → Scene
 step_heard before_bits after_bits between step scene =
     let views = watching scene.views scene.document in
@@ -68,11 +68,11 @@ step_heard before_bits after_bits between step scene =
 abbrev pub with_history : History → Scene → Scene
 with_history history scene = let d = scene.document in record scene { document = record d { history = history } }
 
--- that the save point is left, if the document is at it
+-- the notes that the save point is left (SCN_SAVEPOINTLEFT), if undo is collected and the document is at it
 abbrev pub leaving : List View → History → List Notice
 leaving views h = if h.collecting && at_save_point h then notes.told views (notes.blank notes.save_point_left) else []
 
--- a step of a message, appended to the history
+-- the scene after a step of a message is performed and appended to the history; `later` says that it is not the message's first
 abbrev pub step_made : Bool → Step → Scene → Scene
 step_made later step scene =
     let h = scene.document.history in
@@ -87,13 +87,14 @@ steps_made later (step ∷ steps) scene = steps_made true steps (step_made later
 abbrev pub sealed_scene : Scene → Scene
 sealed_scene scene = with_history (sealed_outside_groups scene.document.history) scene
 
--- the steps of one message; of several, the transaction before and their own are sealed
+-- the scene after the steps of one message; a message of several steps seals the last transaction before them, and their own
+-- after them, outside groups
 abbrev pub edit_made : List Step → Scene → Scene
 edit_made steps scene = if nat_lt 1 (length steps) then sealed_scene (steps_made false steps (sealed_scene scene)) else steps_made false steps scene
 
 -- Undo and redo.
 
--- the bits of the last change performed: that it is the last, and whether any changed the number of lines
+-- the bits that only the last change has: SC_LASTSTEPINUNDOREDO, and SC_MULTILINEUNDOREDO if any change altered the number of lines
 abbrev pub last_bits : Bool → Bool → ℕ
 last_bits true lines_changed = bit_or notes.last_step (notes.bit_if lines_changed notes.multi_line)
 last_bits false lines_changed = 0
@@ -105,14 +106,15 @@ is_last (c ∷ cs) = false
 abbrev pub container_note : ℕ → ℤ → Notice
 container_note bits token = let n = notes.change_note (bit_or notes.container bits) in record n { token = token }
 
--- a change performed by undo or redo, with the bit that says which, and the bit that there are several
+-- the scene after a change is undone or redone; `who` is the bit of undo or of
+-- redo, `several` the bit that the transaction has several changes
 abbrev pub change_performed : ℕ → ℕ → Bool → Bool → Change → Scene → Scene
 change_performed who several last lines_changed (TextStep step) scene =
     step_heard who (bit_or (bit_or who several) (last_bits last lines_changed)) [] step scene
 change_performed who several last lines_changed (ContainerStep token coalesce) scene =
     record scene { notes = scene.notes ++ notes.heard (watching scene.views scene.document) (container_note (bit_or (bit_or who several) (last_bits last lines_changed)) token) }
 
--- whether the change alters how many lines the document has
+-- whether the change alters the number of lines of the document
 abbrev pub changes_lines : Change → Document → Bool
 changes_lines (TextStep step) d = not (lines_in d == lines_in (document_after step d))
 changes_lines (ContainerStep token coalesce) d = false
@@ -123,14 +125,14 @@ changes_performed who several lines_changed (c ∷ cs) scene =
     let changed = (if lines_changed then true else changes_lines c scene.document) in
     changes_performed who several changed cs (change_performed who several (is_last cs) changed c scene)
 
--- that the save point is reached or left, if that changed
+-- the notes that the save point is reached or left, if GETMODIFY's answer changed
 abbrev pub save_point_change : List View → Bool → Bool → List Notice
 save_point_change views true true = []
 save_point_change views true false = notes.told views (notes.blank notes.save_point_left)
 save_point_change views false true = notes.told views (notes.blank notes.save_point_reached)
 save_point_change views false false = []
 
--- a transaction undone or redone, after which the history is `new`
+-- the scene after a transaction is undone or redone; `new` is the history afterwards
 abbrev pub transaction_performed : ℕ → List Change → History → Scene → Scene
 transaction_performed who changes new scene =
     let done = changes_performed who (notes.bit_if (nat_lt 1 (length changes)) notes.multi_step) false changes scene in
@@ -151,7 +153,7 @@ with_caret id place views = map (λ (v : View). if v.id == id then record v { an
 abbrev pub with_target : ℕ → ℕ → ℕ → List View → List View
 with_target id start past views = map (λ (v : View). if v.id == id then record v { target_start = start; target_end = past } else v) views
 
--- what follows an edit; `before` is the text as it was
+-- the session after what follows an edit; `before` is the text before the edit
 abbrev pub followed : ℕ → List ℕ → Follow → Session → Session
 followed view before follow.Nothing s = s
 followed view before (follow.Caret place) s = record s { views = with_caret view place s.views }
@@ -163,7 +165,7 @@ edit_performed r change value after =
     let scene = edit_made (steps_of r change) (scene_of r) in
     (followed r.view.id (text r) after (session_of r.session scene), response value [] scene.notes)
 
--- where anchor and caret stand after the last step that undo or redo made
+-- the position of anchor and caret after the last step that undo or redo performed
 abbrev pub place_behind : Step → ℕ
 place_behind (Insert p bytes) = p + length bytes
 place_behind (Delete p bytes) = p
@@ -178,6 +180,6 @@ history_performed r who changes new =
     let s = session_of r.session scene in
     (record s { views = caret_behind r.view.id (latest_text_step (reverse changes)) s.views }, response (pos 0) [] scene.notes)
 
--- byte, style, byte, style and so on
+-- byte, style, byte, style and so on (SCI_GETSTYLEDTEXT)
 abbrev pub styled_text : List Cell → List ℕ
 styled_text cells = flat_map (λ (c : Cell). c.byte ∷ c.style ∷ []) cells

@@ -1,4 +1,4 @@
--- Fit plans: the numbers of a plan are in range for its request.
+-- Fit plans: each number of a plan is in range for its request.
 use Rattle.std.specs.Prelude.{◌≢◌, ℕ, ◌+◌, ◌-◌, ◌^◌, ◌≡◌, ◌≤◌, ◌<◌, true, ℤ, pos, negsuc, int_le, List, length, Option, Some, None, Ok, Err}
 use Rattle.ed_types.specs.declared.kind.Kind.{Kind}
 use Rattle.ed_types.specs.declared.refusal.Refusal.TheVariants.{OutOfMemory}
@@ -27,7 +27,7 @@ use Rattle.ed_model.specs.LinePlans.{numbers_in}
 use Rattle.ed_model.specs.Table.{plan_of, performed}
 use Rattle.ed_model.specs.SoundLaws.{IsSound, AreStepsOf}
 
--- a request of a sound session: its view is found by its id, and its document by the view's
+-- a request of a sound session: its view is the one with that id in the session, and its document is that view's
 pub record IsSoundRequest (r : Request) : Type 0 where
   pub sound : IsSound r.session
   pub view : view_at r.session.views r.view.id ≡ Some r.view
@@ -41,19 +41,19 @@ abbrev pub IsFitEdit : Request → Edit → Type 0
 IsFitEdit r (edit.Replace start count from) = (start + count ≤ size r) × IsFitSource r from
 IsFitEdit r (edit.ConvertLineEnds to) = Unit {0}
 
--- what follows lies in the text that the edit makes; what is taken to the clipboard, in the text before
+-- the places in what follows an edit are in the text after it; a range taken to the clipboard is in the text before it
 abbrev pub IsFitFollow : Request → ℕ → Follow → Type 0
 IsFitFollow r after follow.Nothing = Unit {0}
 IsFitFollow r after (follow.Caret place) = place ≤ after
 IsFitFollow r after (follow.Target start past) = (start ≤ after) × (past ≤ after)
 IsFitFollow r after (follow.Clipboard start count) = start + count ≤ size r
 
--- a number of a marker, or all of them
+-- a marker's number, or None for all markers
 abbrev pub IsMarkerNumber : Option ℕ → Type 0
 IsMarkerNumber None = Unit {0}
 IsMarkerNumber (Some number) = number ≤ 31
 
--- a number of 32 bits, with a sign
+-- a signed 32-bit number
 abbrev pub IsLineState : ℤ → Type 0
 IsLineState state = (int_le (negsuc (2 ^ 31 - 1)) state ≡ true) × (int_le state (pos (2 ^ 31 - 1)) ≡ true)
 
@@ -96,7 +96,7 @@ IsFitSessionChange r (session_change.Create options) = r.session.next_document �
 IsFitSessionChange r (session_change.AddReference id) = (d : Document) × (document_at r.session.documents id ≡ Some d) × (references d < r.session.limits.refs)
 IsFitSessionChange r (session_change.Release id) = (d : Document) × (document_at r.session.documents id ≡ Some d) × (0 < d.held_by_callers)
 
--- no step takes the text past its limit
+-- the text is within its limit after each step
 abbrev pub IsRoomFor : Request → List Step → Type 0
 IsRoomFor r steps = stays_within (limit_of r.session.limits r.document) (size r) steps ≡ true
 
@@ -112,16 +112,16 @@ IsFitPlan r (plan.ChangeView change value) = IsFitViewChange r change
 IsFitPlan r (plan.ChangeSession change value) = IsFitSessionChange r change
 IsFitPlan r other = Unit {0}
 
--- a plan that is no refusal is fit, and no refusal is for want of memory
+-- a plan that is no refusal is fit, and no refusal is OutOfMemory
 abbrev pub IsFitPlanned : Request → Planned → Type 0
 IsFitPlanned r (Ok what) = IsFitPlan r what
 IsFitPlanned r (Err refusal) = refusal ≢ OutOfMemory
 
--- the plan of each message to a sound session is fit
+-- in a sound session the plan of each message is fit
 abbrev pub PlansFit : Type 0
 PlansFit = (kind : Kind) (r : Request) → IsSoundRequest r → IsFitPlanned r (plan_of kind r)
 
--- The steps that a fit plan makes fit the text one after another.
+-- The steps of a fit plan can be performed one after another.
 
 abbrev pub EditStepsFit : Type 0
 EditStepsFit = (r : Request) (change : Edit) → IsFitEdit r change → AreStepsOf (text r) (steps_of r change)
@@ -132,6 +132,6 @@ UndoStepsFit = (r : Request) → IsSoundRequest r → AreStepsOf (text r) (text_
 abbrev pub RedoStepsFit : Type 0
 RedoStepsFit = (r : Request) → IsSoundRequest r → AreStepsOf (text r) (text_steps (redo_changes r.document.history))
 
--- what a fit plan does keeps a session sound
+-- a fit plan leaves a sound session sound
 abbrev pub PlansKeepSound : Type 0
 PlansKeepSound = (r : Request) (what : Plan) → IsSoundRequest r → IsFitPlan r what → IsSound (performed r what).0

@@ -1,4 +1,4 @@
--- The text that a run of a script prints: a line for each outcome, and after a reply's line one for each of its notes. [own]
+-- The text that a run of a script prints: a line for each outcome, and after the line of a reply a line for each of its notes. [own]
 use Rattle.std.specs.Prelude.{ℕ, ℤ, pos, Bool, true, false, List, [], ◌∷◌, ◌++◌, flat_map, codes}
 use Rattle.std.specs.List.{join_with_byte}
 use Rattle.ed_types.specs.declared.refusal.Refusal.{Refusal}
@@ -18,7 +18,7 @@ refusal_number TooLong = 5
 refusal_number BadArgument = 6
 refusal_number TooMany = 7
 
--- a line of fields
+-- a line of fields, with single spaces between them
 abbrev pub printed_line : List (List ℕ) → List ℕ
 printed_line fields = ended_line (join_with_byte space fields)
 

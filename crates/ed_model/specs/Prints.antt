@@ -1,4 +1,4 @@
--- What a script prints, by the definitions alone: it is read, run from a new session, and its outcomes are printed.
+-- What a script prints: it is read, run from a new session with the greatest limits, and its outcomes are printed.
 use Rattle.std.specs.Prelude.{◌≡◌, ℕ, List, [], ◌∷◌, ◌++◌, flat_map, Result, Ok, Err}
 use Rattle.ed_types.specs.declared.script.Command.{Command}
 use Rattle.ed_types.specs.declared.script.ScriptFault.{ScriptFault}
@@ -15,6 +15,6 @@ abbrev pub printed_script : List (List ℕ) → Result (List Command) ScriptFaul
 printed_script files (Ok commands) = printed (outcomes files commands (starting (new_session greatest_limits)))
 printed_script files (Err fault) = []
 
--- the script, given these files, prints the output
+-- the script prints this output when it is run with these files
 abbrev pub Prints : List (List ℕ) → List ℕ → List ℕ → Type 0
 Prints files script output = printed_script files (reading script) ≡ output

@@ -1,5 +1,5 @@
--- The script that a text spells, or the first line at fault with its first cause. The text is taken by lines, and each line by
--- its fields from left to right. [own]
+-- The script that a text spells, or the number of the first line with a fault and the line's first fault. The text is read line
+-- by line, and a line field by field, from left to right. [own]
 use Rattle.std.specs.Prelude.{ℕ, zero, suc, ◌+◌, ◌-◌, ◌*◌, ◌^◌, ◌==◌, ◌&&◌, nat_lt, Bool, if◌then◌else◌, List, [], ◌∷◌, length, drop, ℤ, pos, neg_ℤ, slice_index, bytes_eq, codes, Option, Some, None, ok_or, Result, Ok, Err}
 use Rattle.std.specs.List.{slice_split, before_first, starts_with}
 use Rattle.std.specs.Str.Parse.{digits_value}
@@ -14,19 +14,19 @@ use Rattle.ed_model.specs.Text.{line_feed}
 use Rattle.ed_model.specs.Spelling.{space, quote, backslash, spelled, spelled_int, spelled_byte, hex_value, is_64_bits}
 use Rattle.ed_model.specs.Listing.{version_line, fits_line, fits_script}
 
--- what follows a step that went well
+-- continues with the value of an Ok; an Err stays
 infixl 10 ◌>>=◌
 abbrev pub ◌>>=◌ : {A B E : Type 0} → Result A E → (A → Result B E) → Result B E
 Ok value >>= more = more value
 Err fault >>= more = Err fault
 
--- Numbers. A word is a number exactly where it is the spelling of the number that its digits give.
+-- Numbers. A word is a number if it is the spelling of the number that its digits give.
 
 abbrev pub natural : List ℕ → Option ℕ
 natural word = let n = digits_value 10 word in
     if nat_lt n (2 ^ 32) && bytes_eq word (spelled n) then Some n else None
 
--- the number that a word's digits give, negative behind `-`
+-- the number that a word's digits give; a leading `-` makes it negative
 abbrev pub signed_value : List ℕ → ℤ
 signed_value word = if slice_index word 0 == 0x2D then neg_ℤ (pos (digits_value 10 (drop 1 word))) else pos (digits_value 10 word)
 
@@ -34,9 +34,9 @@ abbrev pub integer : List ℕ → Option ℤ
 integer word = let z = signed_value word in
     if is_64_bits z && bytes_eq word (spelled_int z) then Some z else None
 
--- Texts. A byte is read where its spelling stands.
+-- Texts. A byte is read if its spelling is next.
 
--- the byte that the front would spell: behind `\x` by two digits, behind `\` the byte itself
+-- the byte that the next bytes spell if they are a spelling: after `\x` the one with these two digits, after `\` the byte itself
 abbrev pub front_byte : List ℕ → ℕ
 front_byte text =
     if slice_index text 0 == backslash then
@@ -46,13 +46,13 @@ front_byte text =
 abbrev pub spells_front : List ℕ → ℕ → Bool
 spells_front text b = nat_lt b 256 && starts_with nat_eq text (spelled_byte b)
 
--- the text with a byte in front
+-- the text that was read, with this byte before it
 abbrev pub with_byte : ℕ → Result (List ℕ × List ℕ) Cause → Result (List ℕ × List ℕ) Cause
 with_byte b read = do
   (text, rest) ← read
   Ok (b ∷ text, rest)
 
--- The text up to its closing quote, and what follows it; the first `passed` bytes belong to a spelling that is read already.
+-- The text up to its closing quote, and the rest of the line. The first `passed` bytes belong to a spelling that was read already.
 abbrev pub text_past : ℕ → List ℕ → Result (List ℕ × List ℕ) Cause
 text_past passed [] = Err BadText
 text_past (suc passed) (b ∷ bs) = text_past passed bs
@@ -61,13 +61,13 @@ text_past zero (b ∷ bs) =
     let read = with_byte front (text_past (length (spelled_byte front) - 1) bs) in
     if b == quote then Ok ([], bs) else (if spells_front (b ∷ bs) front then read else Err BadText)
 
--- Fields. Each stands behind one space; reading one leaves what follows it.
+-- Fields. One space precedes each field; reading a field leaves the rest of the line.
 
 abbrev pub behind : ℕ → List ℕ → Result (List ℕ) Cause
 behind c [] = Err BadShape
 behind c (b ∷ bs) = if b == c then Ok bs else Err BadShape
 
--- the bytes up to the next space or the end, and what follows them
+-- the bytes up to the next space or the end of the line, and the rest of the line
 abbrev pub word_of : List ℕ → List ℕ
 word_of line = before_first (λ b. b == space) line
 
@@ -78,7 +78,7 @@ abbrev pub not_empty : List ℕ → Result (List ℕ) Cause
 not_empty [] = Err BadShape
 not_empty (b ∷ bs) = Ok (b ∷ bs)
 
--- a word behind one space, up to the next space or the line's end
+-- the word after one space, up to the next space or the end of the line
 abbrev pub word_field : List ℕ → Result (List ℕ × List ℕ) Cause
 word_field line = do
   fields ← behind space line
@@ -97,12 +97,12 @@ text_field line = do
   text ← behind quote field
   text_past 0 text
 
--- the command, where nothing follows
+-- the command, if nothing follows it on the line
 abbrev pub ended : Command → List ℕ → Result Command Cause
 ended command [] = Ok command
 ended command (b ∷ bs) = Err BadShape
 
--- Lines. The bytes up to the first space say which command it is.
+-- Lines. The bytes up to the first space name the command.
 
 pub data Verb : Type 0 where
   opens closes loads sends expects : Verb
@@ -142,18 +142,18 @@ read_command version line = do
   verb ← ok_or (verb_in (verbs_of version) (word_of line)) UnknownCommand
   command_of verb (behind_word line)
 
--- The version that the first line names.
+-- the version that the first line names
 abbrev pub read_version : List ℕ → Result ℕ Cause
 read_version line = if bytes_eq line (version_line 1) then Ok 1 else (if bytes_eq line (version_line 2) then Ok 2 else Err BadVersion)
 
 -- Whole texts.
 
--- the answer of a line: what it reads, unless the line is too long
+-- the result of a line, unless the line is too long
 abbrev pub at_line : {T : Type 0} → ℕ → List ℕ → Result T Cause → Result T ScriptFault
 at_line number line (Ok value) = if fits_line line then Ok value else Err (BadLine number LineTooLong)
 at_line number line (Err cause) = Err (BadLine number (if fits_line line then cause else LineTooLong))
 
--- The commands of lines, of which the first has this number. What stands behind the last LF is no line: nothing is to stand there.
+-- The commands of the lines, of which the first has this number. The part after the last LF is no line, and must be empty.
 abbrev pub read_lines : ℕ → ℕ → List (List ℕ) → Result (List Command) ScriptFault
 read_lines version number [] = Ok []
 read_lines version number ([] ∷ []) = Ok []

@@ -6,11 +6,11 @@ use Rattle.ed_types.specs.declared.script.Outcome.{Outcome}
 use Rattle.ed_types.specs.declared.script.Outcome.TheVariants.{Opened, Closed, Replied, Refused, Expected}
 use Rattle.ed_model.specs.Notes.{macro_record}
 
--- the message that a note of recording tells
+-- the message that a note SCN_MACRORECORD names
 abbrev pub told_message : Notice → Message
 told_message n = record { number = n.message; w = n.w; l = n.l; text = n.text }
 
--- what the view recorded in these replies, in order
+-- the messages that the view recorded, by the notes of these replies, in order
 abbrev pub recorded_messages : ℕ → List Response → List Message
 recorded_messages view replies =
     map told_message (filter (λ (n : Notice). n.code == macro_record && n.view == view) (flat_map (λ (r : Response). r.notes) replies))

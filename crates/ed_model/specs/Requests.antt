@@ -1,4 +1,4 @@
--- A message on its way: the session, the sending view, its document and the message.
+-- A message with what it meets: the session, the sending view and its document. The arguments of messages.
 use Rattle.std.specs.Prelude.{ℕ, ◌-◌, min, max, if◌then◌else◌, ℤ, pos, List, length, Result, Ok, Err, Option, Some, None}
 use Rattle.ed_types.specs.declared.message.Message.{Message}
 use Rattle.ed_types.specs.declared.refusal.Refusal.{Refusal}
@@ -28,7 +28,7 @@ answer value = Ok (plan.Answer value)
 abbrev pub answer_number : ℕ → Planned
 answer_number n = answer (pos n)
 
--- a change of the document, of the view or of the session, which answers 0
+-- the plan of a change of the document, of the view or of the session, which answers 0
 abbrev pub change_document : DocumentChange → Planned
 change_document change = Ok (plan.ChangeDocument change (pos 0))
 
@@ -38,7 +38,7 @@ change_view change = Ok (plan.ChangeView change (pos 0))
 abbrev pub change_session : SessionChange → Planned
 change_session change = Ok (plan.ChangeSession change (pos 0))
 
--- What requests speak of.
+-- The text and the lines of a request's document, the selection and the target of its view.
 
 abbrev pub text : Request → List ℕ
 text r = text_of r.document
@@ -52,11 +52,11 @@ line_total r = lines_in r.document
 abbrev pub starts : Request → List ℕ
 starts r = line_starts r.document.line_end_types (text r)
 
--- the line that holds the position
+-- the line that contains the position
 abbrev pub line_at : Request → ℕ → ℕ
 line_at r p = line_of (starts r) p
 
--- the ends of the selection, and of the target, the lesser first
+-- the start and the end of the selection, and those of the target; the start is the lesser
 abbrev pub selection_start : Request → ℕ
 selection_start r = min r.view.anchor r.view.caret
 
@@ -69,34 +69,34 @@ target_least r = min r.view.target_start r.view.target_end
 abbrev pub target_greatest : Request → ℕ
 target_greatest r = max r.view.target_start r.view.target_end
 
--- Arguments. The first that is outside its range refuses the message.
+-- Arguments. The first argument outside its range refuses the message with BadArgument.
 
 abbrev pub with_argument : {A : Type 0} → Option A → (A → Planned) → Planned
 with_argument None plan = Err BadArgument
 with_argument (Some a) plan = plan a
 
--- x, from low to high
+-- an argument x in low..high, both included
 abbrev pub argument : ℕ → ℕ → ℤ → (ℕ → Planned) → Planned
 argument low high x plan = with_argument (within low high x) plan
 
--- a length of the message's text, in w
+-- the argument w as a length of the message's text, in bytes
 abbrev pub text_length : Request → (ℕ → Planned) → Planned
 text_length r plan = argument 0 (length r.message.text) r.message.w plan
 
 abbrev pub end_or_size : ℕ → ℤ → ℤ
 end_or_size size l = if is_minus_one l then pos size else l
 
--- a range of the text from w to l, where an l of -1 is the text's end: its start and its end
+-- the range of the text from w to l, as its start and its end; an l of -1 is the end of the text
 abbrev pub text_range : Request → (ℕ → ℕ → Planned) → Planned
 text_range r plan =
     argument 0 (size r) r.message.w (λ start. argument start (size r) (end_or_size (size r) r.message.l) (λ past. plan start past))
 
--- a range of l bytes from w on: its start and its length
+-- the range of l bytes from w on, as its start and its length
 abbrev pub counted_range : Request → (ℕ → ℕ → Planned) → Planned
 counted_range r plan =
     argument 0 (size r) r.message.w (λ start. argument 0 (size r - start) r.message.l (λ count. plan start count))
 
--- a line in w; no such line is answered so, and is no refusal
+-- A line as an argument. A bad line has an answer of its own; it is not refused.
 abbrev pub with_line : Option ℕ → Planned → (ℕ → Planned) → Planned
 with_line None bad plan = bad
 with_line (Some line) bad plan = plan line

@@ -1,8 +1,8 @@
--- What is kept for each line: by the document its markers, fold level and state, by each view whether it is visible and
--- expanded. [Scintilla: markers, folding]
+-- What is kept for each line: a document keeps its markers, fold level and line state; a view keeps whether it is visible and
+-- whether it is expanded. [Scintilla: markers, folding]
 use Rattle.std.specs.Prelude.{ℕ, ℤ, pos, Bool, true, List, [], ◌∷◌, flat_map}
 
--- A marker has a handle that no other of the document ever had, and a number from 0 to 31.
+-- A marker has a handle that no other marker of the document ever had, and a number from 0 to 31.
 pub record Marker : Type 0 where
   pub handle : ℕ
   pub number : ℕ
@@ -19,7 +19,7 @@ base_level = 0x400
 abbrev pub fresh_row : Row
 fresh_row = record { markers = []; level = base_level; state = pos 0 }
 
--- rows that meet: the markers of all, in order, and the level and state of the first
+-- rows that meet on one line: the markers of all, in the order of the rows, and the level and state of the first
 abbrev pub rows_together : List Row → Row
 rows_together [] = fresh_row
 rows_together (row ∷ rows) = record row { markers = flat_map (λ (r : Row). r.markers) (row ∷ rows) }
@@ -31,7 +31,7 @@ pub record Flags : Type 0 where
 abbrev pub fresh_flags : Flags
 fresh_flags = record { visible = true; expanded = true }
 
--- flags that meet: those of the first
+-- flags that meet on one line: those of the first
 abbrev pub flags_together : List Flags → Flags
 flags_together [] = fresh_flags
 flags_together (flags ∷ others) = flags

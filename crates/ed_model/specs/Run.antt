@@ -1,4 +1,4 @@
--- Runs: a list of commands, from a session. [own]
+-- Runs: a list of commands performed from a session. [own]
 use Rattle.std.specs.Prelude.{ℕ, zero, suc, Bool, true, false, ℤ, pos, List, [], ◌∷◌, slice_get, Result, Ok, Err, Option, Some, None}
 use Rattle.ed_types.specs.declared.message.Message.{Message}
 use Rattle.ed_types.specs.declared.refusal.Refusal.{Refusal}
@@ -14,7 +14,8 @@ use Rattle.ed_model.specs.Session.{Session, View, view_at}
 use Rattle.ed_model.specs.Changes.{is_same}
 use Rattle.ed_model.specs.Table.{table, opened, closed}
 
--- The state of a run: the session, and the value of the last command that is no `Expect`, if it has one.
+-- The state of a run: the session, and the value that the last command other
+-- than `Expect` answered; none at the start and after a refusal.
 pub record Running : Type 0 where
   pub session : Session
   pub value : Option ℤ
@@ -34,7 +35,7 @@ abbrev pub after_message : Session → Result (Session × Response) Refusal → 
 after_message s (Ok done) = (record { session = done.0; value = Some done.1.value }, Replied done.1)
 after_message s (Err refusal) = (record { session = s; value = None }, Refused refusal)
 
--- file 1 is the first
+-- the file with the number; the first is file 1
 abbrev pub file_at : List (List ℕ) → ℕ → Option (List ℕ)
 file_at files zero = None
 file_at files (suc k) = slice_get files k
@@ -42,7 +43,7 @@ file_at files (suc k) = slice_get files k
 abbrev pub set_text_message : List ℕ → Message
 set_text_message bytes = record { number = number_of SetText; w = pos 0; l = pos 0; text = bytes }
 
--- a file loaded into a view is its text set; no such view is found before no such file
+-- A file is loaded into a view by SCI_SETTEXT. A view that does not exist is refused before a file that does not exist.
 abbrev pub loaded : Session → ℕ → Option View → Option (List ℕ) → Result (Session × Response) Refusal
 loaded s view None file = Err NoSuchView
 loaded s view (Some v) None = Err BadArgument
@@ -52,7 +53,7 @@ abbrev pub is_met : Option ℤ → ℤ → Bool
 is_met None value = false
 is_met (Some v) value = is_same v value
 
--- one command: the state afterwards and what came of it
+-- the state after a command, and the command's outcome
 abbrev pub after_command : List (List ℕ) → Command → Running → Running × Outcome
 after_command files OpenView s = after_opening s.session (opened s.session)
 after_command files (CloseView view) s = after_closing s.session (closed s.session view)
@@ -61,12 +62,12 @@ after_command files (LoadFile view file) s =
 after_command files (SendMessage view message) s = after_message s.session (table s.session view message)
 after_command files (Expect value) s = (s, Expected (is_met s.value value) value)
 
--- what comes of the commands, in order
+-- the outcomes of the commands, in order
 abbrev pub outcomes : List (List ℕ) → List Command → Running → List Outcome
 outcomes files [] s = []
 outcomes files (c ∷ cs) s = let done = after_command files c s in done.1 ∷ outcomes files cs done.0
 
--- the state after them
+-- the state after the commands
 abbrev pub run_to : List (List ℕ) → List Command → Running → Running
 run_to files [] s = s
 run_to files (c ∷ cs) s = run_to files cs (after_command files c s).0

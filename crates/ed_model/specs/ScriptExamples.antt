@@ -1,4 +1,4 @@
--- Worked examples of scripts: what texts read as, what scripts are listed as, and what outcomes print. [own]
+-- Worked examples of scripts: how texts are read, how scripts are listed, and what outcomes print. [own]
 use Rattle.std.specs.Prelude.{◌≡◌, ℕ, ◌+◌, ◌-◌, ◌^◌, ◌==◌, not, List, [], ◌∷◌, ◌++◌, map, filter, count_by, take, codes, Result, Ok, Err, is_ok, pos, negsuc, true, false}
 use Rattle.std.specs.List.{AllByRecursion, list_any, range_with_len}
 use Rattle.ed_types.specs.declared.refusal.Refusal.TheVariants.{NoSuchView, BadArgument}
@@ -15,7 +15,7 @@ use Rattle.ed_model.specs.Listing.{listing, ended_line}
 use Rattle.ed_model.specs.Reading.{reading}
 use Rattle.ed_model.specs.Printed.{printed}
 
--- Each kind of byte, and the least number of 64 bits.
+-- Each kind of byte, and the least signed 64-bit number.
 abbrev pub every_kind_of_byte : List Command
 every_kind_of_byte =
     OpenView ∷
@@ -41,7 +41,7 @@ OtherCommandsAreRead =
     reading (codes "sci 2\nload 1 4294967295\nclose 0\nexpect -1\n") ≡
     Ok (LoadFile 1 4294967295 ∷ CloseView 0 ∷ Expect (negsuc 0) ∷ [])
 
--- The line stands second, behind `sci 1`, and is refused with the cause.
+-- The line, as the second line of a script after `sci 1`, is refused with the cause.
 abbrev pub IsRefused : Cause → List ℕ → Type 0
 IsRefused cause line = reading (codes "sci 1\n" ++ ended_line line) ≡ Err (BadLine 2 cause)
 
@@ -82,7 +82,7 @@ NoLineEnds =
     (reading (codes "sci 1\nopen") ≡ Err (BadLine 2 NoLineEnd)) ×
     (reading (codes "sci 1\nopen\n ") ≡ Err (BadLine 3 NoLineEnd))
 
--- the first line at fault is named, with its first fault
+-- the first line with a fault is named, with its first fault
 abbrev pub FirstFaults : Type 0
 FirstFaults =
     (reading (codes "sci 1\nopen\nclose 01\nOpen\nclose") ≡ Err (BadLine 3 BadNumber)) ×
@@ -94,7 +94,7 @@ ExpectIsOfVersion2 =
     (reading (codes "sci 2\nexpect 0\n") ≡ Ok (Expect (pos 0) ∷ [])) ×
     (reading (codes "sci 1\nexpect 0\n") ≡ Err (BadLine 2 UnknownCommand))
 
--- A script of 95 bytes, and its prefixes: those that end with a line are scripts, each other lacks the end of its last line.
+-- A script of 95 bytes and its prefixes: a prefix that ends with a line is a script, any other has no LF at the end of its last line.
 abbrev pub script_of_95_bytes : List ℕ
 script_of_95_bytes = codes "sci 1\nopen\nsend 1 2003 0 0 \"ab\\x0a\"\nsend 1 2182 0 0 \"\"\nsend 1 2003 9 0 \"z\"\nsend 1 2007 -1 0 \"\"\n"
 

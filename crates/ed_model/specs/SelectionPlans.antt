@@ -39,7 +39,7 @@ get_selection_empty r = answer (flag (r.view.anchor == r.view.caret))
 abbrev pub select_all : Request → Planned
 select_all r = select 0 (size r)
 
--- to the start of line w, brought into the lines there are
+-- to the start of line w; a w below 0 means the first line, one past the last line the last
 abbrev pub go_to_line : Request → Planned
 go_to_line r = go_to (line_start r (clamped (line_total r - 1) r.message.w))
 
@@ -58,7 +58,7 @@ set_selection_start r = let p = clamped (size r) r.message.w in select p (max p 
 abbrev pub set_selection_end : Request → Planned
 set_selection_end r = let p = clamped (size r) r.message.w in select (min p r.view.anchor) p
 
--- the caret at l, or at the end for a negative l; the anchor at w, or at the caret for a negative w
+-- the caret to l, or to the end of the text if l is negative; the anchor to w, or to the caret if w is negative
 abbrev pub set_sel : Request → Planned
 set_sel r =
     let caret = if is_negative r.message.l then size r else clamped (size r) r.message.l in
@@ -78,7 +78,7 @@ replace_sel r = replace_and_go r (selection_start r) (selected r) (source.Messag
 abbrev pub can_paste : Request → Planned
 can_paste r = answer (flag (if r.document.read_only then false else true))
 
--- a selection that is not empty is taken to the clipboard and deleted
+-- copies a selection that is not empty to the clipboard, and deletes it
 abbrev pub cut : Request → Planned
 cut r =
     if selected r == 0 then answer (pos 0)
@@ -95,7 +95,7 @@ paste r =
     if length r.session.clipboard == 0 then answer (pos 0)
     else replace_and_go r (selection_start r) (selected r) (source.Clipboard r.view.converts_pastes)
 
--- deletes the selection, or else from the caret to the next cut
+-- deletes the selection, or if it is empty, from the caret to the next cut
 abbrev pub clear : Request → Planned
 clear r =
     if selected r == 0 then replace_plan r r.view.caret (cut_after (text r) r.view.caret - r.view.caret) source.Nothing

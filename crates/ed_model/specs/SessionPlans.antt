@@ -17,12 +17,12 @@ use Rattle.ed_model.specs.Requests.{Request, Planned, answer, answer_number, wit
 abbrev pub get_doc_pointer : Request → Planned
 get_doc_pointer r = answer_number r.view.document
 
--- a document by its number
+-- the document with the id
 abbrev pub document_named : Session → ℤ → Option Document
 document_named s (pos id) = document_at s.documents id
 document_named s (negsuc n) = None
 
--- whether one more document can be made
+-- whether an id is left for one more document
 abbrev pub has_document_ids : Session → Bool
 has_document_ids s = nat_le s.next_document s.limits.ids
 

@@ -27,7 +27,7 @@ get_end_styled r = answer_number r.document.end_styled
 abbrev pub start_styling : Request → Planned
 start_styling r = argument 0 (size r) r.message.w (λ place. change_document (document_change.SetEndStyled place))
 
--- how many bytes stand behind end styled
+-- the number of bytes from end styled to the end of the text
 abbrev pub unstyled : Request → ℕ
 unstyled r = size r - r.document.end_styled
 
@@ -50,7 +50,7 @@ set_indicator_current r = argument 0 31 r.message.w (λ indicator. change_view (
 abbrev pub get_indicator_current : Request → Planned
 get_indicator_current r = answer_number r.view.indicator
 
--- a value of 0 stands for 1
+-- a value of 0 is set as 1
 abbrev pub set_indicator_value : Request → Planned
 set_indicator_value r = argument 0 (2 ^ 31 - 1) r.message.w (λ value. change_view (view_change.SetIndicatorValue (max 1 value)))
 
@@ -70,7 +70,7 @@ indicator_clear_range r = fill_indicator r 0
 abbrev pub values_of : Request → ℕ → List ℕ
 values_of r indicator = slice_index_or r.document.indicators indicator []
 
--- bit k for each indicator k that is not 0 at w
+-- bit k is set for each indicator k whose value at w is not 0
 abbrev pub indicator_all_on_for : Request → Planned
 indicator_all_on_for r =
     answer_number (sum (map (λ k. 2 ^ k) (filter (λ k. not (at_place (values_of r k) r.message.w == 0)) (range_with_len 0 32))))
@@ -78,19 +78,19 @@ indicator_all_on_for r =
 abbrev pub indicator_value_at : Request → Planned
 indicator_value_at r = argument 0 31 r.message.w (λ indicator. answer_number (at_place (values_of r indicator) r.message.l))
 
--- how many places from the end of a list on, or from its start on, have the value
+-- how often the value is repeated at the start of a list
 abbrev pub run_length : ℕ → List ℕ → ℕ
 run_length value [] = 0
 run_length value (v ∷ vs) = if v == value then 1 + run_length value vs else 0
 
--- where the longest run of one value that holds the place starts, and where it is past
+-- the start and the end of the longest range around the place in which all values are equal
 abbrev pub run_start : List ℕ → ℕ → ℕ
 run_start values place = place - run_length (slice_index values place) (reverse (take place values))
 
 abbrev pub run_past : List ℕ → ℕ → ℕ
 run_past values place = place + run_length (slice_index values place) (drop place values)
 
--- 0 outside the text
+-- the start or the end of the range around the place; 0 outside the text
 abbrev pub run_end_at : (List ℕ → ℕ → ℕ) → List ℕ → ℤ → ℕ
 run_end_at end_of values (pos place) = if nat_lt place (length values) then end_of values place else 0
 run_end_at end_of values (negsuc n) = 0

@@ -1,8 +1,10 @@
--- The message table: which plan each message has, or which refusal; and what a message to a session comes to.
+-- The message table: the plan or refusal of each message, and what a message to a session does.
 --
--- The way of a message: `table` finds the view, the message's kind and the view's document (`Session`, `Messages`), which make a `Request` (`Requests`); `plan_of` gives its
--- plan or the first refusal that holds, by the family of the message (`TextPlans` to `SessionPlans`, with `Edits` for what edits the text); `performed` does the plan: steps with their
--- notes, undo and redo in `Performing` (over `Steps`, `Carry`, `Rows`, `Indicators`, `History`, `Notes`), all other changes in `Changes` (with `Folding`). A run of messages is in `Run`.
+-- The path of a message: `table` looks up the view, the kind of the message and the view's document (`Session`, `Messages`), and
+-- makes a `Request` of them (`Requests`). `plan_of` gives the plan, or the first refusal that applies: one file for each family
+-- of messages (`TextPlans` to `SessionPlans`), and `Edits` for edits of the text. `performed` performs the plan: steps with their
+-- notes, undo and redo in `Performing` (over `Steps`, `Carry`, `Rows`, `Indicators`, `History` and `Notes`), all other changes in
+-- `Changes` (with `Folding`). `Run` has runs of several commands.
 use Rattle.std.specs.Prelude.{ℕ, ◌+◌, nat_lt, nat_le, ◌==◌, not, ◌||◌, ◌&&◌, if◌then◌else◌, pos, [], ◌∷◌, ◌++◌, length, map, filter, slice_range, Result, Ok, Err, Option, Some, None}
 use Rattle.ed_types.specs.declared.kind.Kind.{Kind}
 use Rattle.ed_types.specs.declared.kind.Kind.TheVariants as kinds
@@ -30,7 +32,7 @@ use Rattle.ed_model.specs.SessionPlans as session_plans
 use Rattle.ed_model.specs.Performing.{quiet, response, edit_performed, history_performed, styled_text}
 use Rattle.ed_model.specs.Changes.{document_change_performed, view_change_performed, session_changed, with_new_document}
 
--- the plan of each message, or the first refusal that holds of it
+-- the plan of each message, or the first refusal that applies
 abbrev pub plan_of : Kind → Request → Planned
 plan_of kinds.AddText r = text_plans.add_text r
 plan_of kinds.InsertText r = text_plans.insert_text r
@@ -177,7 +179,7 @@ plan_of kinds.StartRecord r = session_plans.start_record r
 plan_of kinds.StopRecord r = session_plans.stop_record r
 plan_of kinds.Colourise r = style_plans.colourise r
 
--- what the plan does: the session afterwards, and the reply
+-- the session after the plan, and the reply
 abbrev pub performed : Request → Plan → Session × Response
 performed r (plan.Answer value) = (r.session, quiet value)
 performed r (plan.HandOut value start count) = (r.session, response value (slice_range (text r) start (start + count)) [])
@@ -199,7 +201,7 @@ record_note r =
     let n = notes.blank notes.macro_record in
     record n { view = r.view.id; message = r.message.number; w = r.message.w; l = r.message.l; text = r.message.text }
 
--- a view that records hears of a message that can be recorded, before all else
+-- a view that records is notified of a message marked R (SCN_MACRORECORD), before all other notes
 abbrev pub with_recording : Kind → Request → Response → Response
 with_recording kind r reply =
     if r.view.records && (marks_of kind).r then record reply { notes = record_note r ∷ reply.notes } else reply
@@ -225,17 +227,17 @@ abbrev pub table_from_view : Session → Message → Option View → Result (Ses
 table_from_view s m None = Err NoSuchView
 table_from_view s m (Some v) = table_from_kind s v m (kind_of m.number)
 
--- a message to a view: the session afterwards and the reply, or the first refusal that holds, which leaves the session
+-- A message to a view: the session afterwards with the reply, or the first refusal that applies. A refusal changes nothing.
 abbrev pub table : Session → ℕ → Message → Result (Session × Response) Refusal
 table s view m = table_from_view s m (view_at s.views view)
 
--- a session with these limits, if they are allowed
+-- a new session with these limits, if they are allowed
 abbrev pub limited : Limits → Result Session Refusal
 limited limits = if is_allowed limits then Ok (new_session limits) else Err BadArgument
 
 -- Opening and closing views.
 
--- a view on a new document
+-- the session after a view is opened on a new document, and the view's id
 abbrev pub opened : Session → Result (Session × ℕ) Refusal
 opened s =
     if nat_le s.limits.views (length s.views) || nat_lt s.limits.ids s.next_view || nat_lt s.limits.ids s.next_document then Err TooMany
@@ -248,6 +250,6 @@ closed_view s None = Err NoSuchView
 closed_view s (Some v) =
     Ok (record s { documents = living (map (left_by v.id) s.documents); views = filter (λ (w : View). not (w.id == v.id)) s.views })
 
--- the view goes, and its document loses a reference
+-- the session after a view is closed, whose document loses a reference
 abbrev pub closed : Session → ℕ → Result Session Refusal
 closed s view = closed_view s (view_at s.views view)

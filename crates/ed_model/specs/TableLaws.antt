@@ -1,4 +1,4 @@
--- Laws of the message table: what queries, messages that take no memory, and refusals leave as it was.
+-- Laws of the message table: what queries, messages marked N, and refusals leave unchanged.
 use Rattle.std.specs.Prelude.{◌≡◌, ℕ, Bool, true, false, ◌&&◌, List, [], ◌∷◌, Result, Ok, Err, Some}
 use Rattle.ed_types.specs.declared.kind.Kind.{Kind}
 use Rattle.ed_types.specs.declared.message.Message.{Message}
@@ -13,53 +13,53 @@ use Rattle.ed_model.specs.Notes as notes
 use Rattle.ed_model.specs.Table.{table}
 use Rattle.ed_model.specs.Run.{Running, after_command, run_to}
 
--- What a message comes to.
+-- The answer of a message: a session and a reply, or a refusal.
 
 abbrev pub Answered : Type 0
 Answered = Result (Session × Response) Refusal
 
--- a reply leaves the session; a refusal has no session of its own
+-- a reply with an unchanged session; a refusal has no session
 abbrev pub LeavesSession : Session → Answered → Type 0
 LeavesSession s (Err refusal) = Unit {0}
 LeavesSession s (Ok done) = done.0 ≡ s
 
--- a reply has no text
+-- a reply without text
 abbrev pub HasNoText : Answered → Type 0
 HasNoText (Err refusal) = Unit {0}
 HasNoText (Ok done) = done.1.text ≡ []
 
--- a reply has these notes
+-- a reply with exactly these notes
 abbrev pub HasNotes : List Notice → Answered → Type 0
 HasNotes notes (Err refusal) = Unit {0}
 HasNotes notes (Ok done) = done.1.notes ≡ notes
 
--- the note by which a view that records hears of a message
+-- the note by which a view that records is notified of a message (SCN_MACRORECORD)
 abbrev pub recording : View → Message → Notice
 recording v m =
     let n = notes.blank notes.macro_record in record n { view = v.id; message = m.number; w = m.w; l = m.l; text = m.text }
 
 -- The laws, for every message, session and view.
 
--- a message marked as a query leaves the session
+-- a message marked Q leaves the session unchanged
 abbrev pub QueriesLeaveTheSession : Type 0
 QueriesLeaveTheSession =
     (s : Session) (view : ℕ) (m : Message) (kind : Kind) →
     kind_of m.number ≡ Some kind → (marks_of kind).q ≡ true → LeavesSession s (table s view m)
 
--- a message that takes no memory hands out no text
+-- the reply to a message marked N has no text
 abbrev pub FreeMessagesHandOutNoText : Type 0
 FreeMessagesHandOutNoText =
     (s : Session) (view : ℕ) (m : Message) (kind : Kind) →
     kind_of m.number ≡ Some kind → (marks_of kind).n ≡ true → HasNoText (table s view m)
 
--- unless it is recorded, a message that takes no memory has no note
+-- the reply to a message marked N has no notes, unless the message is recorded
 abbrev pub FreeMessagesHaveNoNote : Type 0
 FreeMessagesHaveNoNote =
     (s : Session) (view : ℕ) (m : Message) (kind : Kind) (v : View) →
     kind_of m.number ≡ Some kind → (marks_of kind).n ≡ true → view_at s.views view ≡ Some v →
     (v.records && (marks_of kind).r) ≡ false → HasNotes [] (table s view m)
 
--- and if it is recorded, it has that note alone
+-- if the message is recorded, the note of the recording is the only one
 abbrev pub RecordedFreeMessagesHaveOneNote : Type 0
 RecordedFreeMessagesHaveOneNote =
     (s : Session) (view : ℕ) (m : Message) (kind : Kind) (v : View) →
@@ -68,7 +68,7 @@ RecordedFreeMessagesHaveOneNote =
 
 -- Runs.
 
--- a command that is refused leaves the session
+-- a command that is refused leaves the session unchanged
 abbrev pub RefusedCommandsLeaveTheSession : Type 0
 RefusedCommandsLeaveTheSession =
     (files : List (List ℕ)) (c : Command) (s : Running) (refusal : Refusal) →
@@ -91,7 +91,7 @@ unrefused files [] s = []
 unrefused files (c ∷ cs) s =
     let done = after_command files c s in kept_unless (is_refused done.1) c (unrefused files cs done.0)
 
--- a run without its refused commands ends in the same session
+-- without its refused commands a run ends in the same session
 abbrev pub RefusedCommandsCanBeLeftOut : Type 0
 RefusedCommandsCanBeLeftOut =
     (files : List (List ℕ)) (cs : List Command) (s : Running) →

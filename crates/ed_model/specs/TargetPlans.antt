@@ -39,7 +39,7 @@ target_whole_document r = set_target 0 (size r)
 abbrev pub get_target_text : Request → Planned
 get_target_text r = hand_out (target_least r) (target_greatest r)
 
--- flags made of whole word, match case and word start
+-- search flags: any combination of SCFIND_WHOLEWORD, SCFIND_MATCHCASE and SCFIND_WORDSTART
 abbrev pub search_flags : ℤ → Option ℕ
 search_flags (pos n) = if bit_and n 0x100006 == n then Some n else None
 search_flags (negsuc n) = None
@@ -50,7 +50,7 @@ set_search_flags r = with_argument (search_flags r.message.w) (λ flags. change_
 abbrev pub get_search_flags : Request → Planned
 get_search_flags r = answer_number r.view.search_flags
 
--- a match becomes the target; without one the target is kept
+-- a match becomes the target, and its start is answered; without a match the target stays, and the answer is -1
 abbrev pub found_target : ℕ → Option ℕ → Planned
 found_target size None = answer (negsuc 0)
 found_target size (Some place) = Ok (plan.ChangeView (view_change.SetTarget place (place + size)) (pos place))
@@ -59,7 +59,7 @@ abbrev pub search_in_target : Request → Planned
 search_in_target r =
     text_length r (λ count. found_target count (match_in r.view.search_flags (text r) (take count r.message.text) r.view.target_start r.view.target_end))
 
--- how much of the text replaces the target: all of it for -1
+-- the length of the replacement, a part of the message's text; -1 is all of it
 abbrev pub replacement_length : ℕ → ℤ → Option ℕ
 replacement_length size (pos n) = if nat_le n size then Some n else None
 replacement_length size (negsuc n) = if n == 0 then Some size else None

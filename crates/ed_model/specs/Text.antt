@@ -13,14 +13,14 @@ bytes_of cells = map (λ (c : Cell). c.byte) cells
 abbrev pub styles_of : List Cell → List ℕ
 styles_of cells = map (λ (c : Cell). c.style) cells
 
--- a byte that is put in has style 0
+-- an inserted byte has style 0
 abbrev pub plain_cell : ℕ → Cell
 plain_cell byte = record { byte = byte; style = 0 }
 
 abbrev pub plain_cells : List ℕ → List Cell
 plain_cells bytes = map plain_cell bytes
 
--- whether this byte stands at the place
+-- whether the byte at the place is this one
 abbrev pub stands : ℕ → List ℕ → ℕ → Bool
 stands byte text place = is_number byte (slice_get text place)
 

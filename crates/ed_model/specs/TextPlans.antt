@@ -14,7 +14,7 @@ use Rattle.ed_model.specs.Characters.{cut_before, cut_after}
 abbrev pub line_start : Request → ℕ → ℕ
 line_start r line = start_of_line r.document.line_end_types (text r) line
 
--- where the line ends, its line end included
+-- the end of the line, after its line end
 abbrev pub line_past : Request → ℕ → ℕ
 line_past r line = start_after_line r.document.line_end_types (text r) line
 
@@ -34,7 +34,7 @@ hand_out start past = Ok (plan.HandOut (pos (past - start)) start (past - start)
 abbrev pub add_text : Request → Planned
 add_text r = text_length r (λ count. replace_and_go r r.view.caret 0 (source.MessageText count))
 
--- where INSERTTEXT inserts: -1 is the caret
+-- the place at which INSERTTEXT inserts; -1 is the caret
 abbrev pub insertion_place : Request → ℤ → Option ℕ
 insertion_place r w = if is_minus_one w then Some r.view.caret else within 0 (size r) w
 
@@ -51,7 +51,7 @@ get_length r = answer_number (size r)
 abbrev pub number_or_zero : Option ℕ → ℕ
 number_or_zero found = unwrap_or found 0
 
--- the number that stands at a place that may be outside
+-- the number at the place, or 0 outside the list
 abbrev pub at_place : List ℕ → ℤ → ℕ
 at_place numbers (pos n) = number_or_zero (slice_get numbers n)
 at_place numbers (negsuc n) = 0
@@ -64,7 +64,7 @@ get_cur_line r =
     let start = line_start r (caret_line r) in
     Ok (plan.HandOut (pos (r.view.caret - start)) start (line_past r (caret_line r) - start))
 
--- where line w ends; for a line at or past the last one the end of the text, before the first -1
+-- the end of line w, before its line end; from the last line on the end of the text; -1 for a negative w
 abbrev pub end_of_line_at : Request → ℤ → ℤ
 end_of_line_at r (pos line) = pos (line_end r line)
 end_of_line_at r (negsuc n) = negsuc 0
@@ -84,7 +84,8 @@ get_text_range r = text_range r hand_out
 abbrev pub line_from_position : Request → Planned
 line_from_position r = answer_number (line_at r (clamped (size r) r.message.w))
 
--- the start of line w; of the selection's line for a negative one; the end of the text just past the last line; else -1
+-- the start of line w; for a negative w that of the line of the selection's
+-- start; for w = L, the number of lines, the end of the text; otherwise -1
 abbrev pub start_of_line_at : Request → ℤ → ℤ
 start_of_line_at r (pos line) =
     if nat_lt line (line_total r) then pos (line_start r line) else (if line == line_total r then pos (size r) else negsuc 0)

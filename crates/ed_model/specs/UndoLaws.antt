@@ -1,4 +1,4 @@
--- Laws of several transactions undone and redone: which texts UNDO goes back to, and that REDO gives back what UNDO took.
+-- Laws of several transactions undone and redone: to which texts undo goes back, and that redo restores what undo took back.
 use Rattle.std.specs.Prelude.{◌≡◌, ℕ, zero, suc, ◌<◌, Bool, true, List, [], ◌∷◌, length, map, reverse, ℤ}
 use Rattle.ed_model.specs.Steps.{Step, edited}
 use Rattle.ed_model.specs.LineEnds.{after_steps}
@@ -15,19 +15,19 @@ undo_steps t = text_steps (map inverse_change t.changes)
 abbrev pub redo_steps : Transaction → List Step
 redo_steps t = text_steps (reverse t.changes)
 
--- the text before the last k transactions of the past, or before all of it
+-- the text before the last k transactions of the past, or before all of them if there are fewer
 abbrev pub undone_text : ℕ → List Transaction → List ℕ → List ℕ
 undone_text zero past text = text
 undone_text (suc k) [] text = text
 undone_text (suc k) (t ∷ ts) text = undone_text k ts (after_steps (undo_steps t) text)
 
--- the text after the next k transactions of the future, or after all of it
+-- the text after the next k transactions of the future, or after all of them if there are fewer
 abbrev pub redone_text : ℕ → List Transaction → List ℕ → List ℕ
 redone_text zero future text = text
 redone_text (suc k) [] text = text
 redone_text (suc k) (t ∷ ts) text = redone_text k ts (after_steps (redo_steps t) text)
 
--- there are k transactions, and each can be undone in its turn
+-- there are k transactions, and they can be undone, one after another
 abbrev pub CanBeUndone : ℕ → List Transaction → List ℕ → Type 0
 CanBeUndone zero past text = Unit {0}
 CanBeUndone (suc k) [] text = ⊥
@@ -50,27 +50,27 @@ UndosGoBack = (k : ℕ) (scene : Scene) → text_of_scene (undos k scene) ≡ un
 abbrev pub RedosGoOn : Type 0
 RedosGoOn = (k : ℕ) (scene : Scene) → text_of_scene (redos k scene) ≡ redone_text k (history_of scene).future (text_of_scene scene)
 
--- k undos, then k redos, give back the text
+-- k undos followed by k redos restore the text
 abbrev pub UndosThenRedosGiveBackTheText : Type 0
 UndosThenRedosGiveBackTheText =
     (k : ℕ) (scene : Scene) → CanBeUndone k (history_of scene).past (text_of_scene scene) →
     text_of_scene (redos k (undos k scene)) ≡ text_of_scene scene
 
--- and the history, but for seals
+-- and the history, except for seals
 abbrev pub UndosThenRedosGiveBackTheHistory : Type 0
 UndosThenRedosGiveBackTheHistory =
     (k : ℕ) (scene : Scene) → CanBeUndone k (history_of scene).past (text_of_scene scene) →
     SameButForSeals (history_of scene) (history_of (redos k (undos k scene)))
 
--- Where undo goes back to is kept by all that is done meanwhile.
+-- No operation changes the texts to which undo goes back.
 
--- a step that begins a transaction: the text before that is the one from before the step
+-- a step that begins a transaction: undoing it leads to the text before the step
 abbrev pub BegunStepIsOneTransactionMore : Type 0
 BegunStepIsOneTransactionMore =
     (k : ℕ) (later : Bool) (step : Step) (h : History) (text : List ℕ) → Fits step text → begins_transaction later (TextStep step) h ≡ true →
     undone_text (suc k) (appended later (TextStep step) h).past (edited step text) ≡ undone_text k h.past text
 
--- a step that joins is undone with the transaction that it joined
+-- a step that joins is undone together with the transaction that it joined
 abbrev pub JoinedStepKeepsEarlierTexts : Type 0
 JoinedStepKeepsEarlierTexts =
     (k : ℕ) (later : Bool) (step : Step) (h : History) (text : List ℕ) → Fits step text → h.collecting ≡ true → joins later (TextStep step) h ≡ true →
@@ -87,13 +87,13 @@ JoinedContainerStepKeepsEarlierTexts =
     (k : ℕ) (later : Bool) (token : ℤ) (coalesce : Bool) (h : History) (text : List ℕ) → h.collecting ≡ true → joins later (ContainerStep token coalesce) h ≡ true →
     undone_text k (appended later (ContainerStep token coalesce) h).past text ≡ undone_text k h.past text
 
--- undo leaves all texts before the one that it went back to
+-- undo keeps all texts before the one to which it went back
 abbrev pub UndoKeepsEarlierTexts : Type 0
 UndoKeepsEarlierTexts =
     (k : ℕ) (h : History) (text : List ℕ) →
     undone_text k (undone h).past (after_steps (text_steps (undo_changes h)) text) ≡ undone_text (suc k) h.past text
 
--- after redo, undo goes back to the text from before it
+-- after redo, undo goes back to the text before the redo
 abbrev pub RedoIsOneTransactionMore : Type 0
 RedoIsOneTransactionMore =
     (k : ℕ) (h : History) (text : List ℕ) → 0 < length h.future → FitInTurn (text_steps (redo_changes h)) text →

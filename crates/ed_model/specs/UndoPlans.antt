@@ -1,4 +1,4 @@
--- Plans of the messages on undo, and on what can be edited at all.
+-- Plans of the messages on undo, save points and read-only documents.
 -- [Scintilla: undo and redo]
 use Rattle.std.specs.Prelude.{◌==◌, nat_lt, not, ◌&&◌, if◌then◌else◌, Bool, pos, List, [], ◌∷◌, Ok, Err}
 use Rattle.ed_types.specs.declared.refusal.Refusal.TheVariants.{TooMany, TooLong}
@@ -24,7 +24,8 @@ text_steps [] = []
 text_steps (TextStep step ∷ cs) = step ∷ text_steps cs
 text_steps (ContainerStep token coalesce ∷ cs) = text_steps cs
 
--- undo or redo, where there is something to act on; no step passes the limit, since the text was there before
+-- undo or redo, if there is a transaction to act on; in a sound session TooLong
+-- never applies, since each text on the way was there before
 abbrev pub act_on_history : Request → Bool → List Change → Plan → Planned
 act_on_history r can changes act =
     if not can then answer (pos 0)
@@ -43,7 +44,7 @@ get_can_undo r = answer (flag (can_undo r.document.history && not r.document.rea
 abbrev pub get_can_redo : Request → Planned
 get_can_redo r = answer (flag (can_redo r.document.history && not r.document.read_only))
 
--- to collect while already collecting changes nothing
+-- does nothing if undo is to be collected and is already
 abbrev pub set_undo_collection : Request → Planned
 set_undo_collection r =
     if is_on r.message.w && r.document.history.collecting then answer (pos 0)

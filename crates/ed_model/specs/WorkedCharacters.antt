@@ -5,7 +5,7 @@ use Rattle.ed_model.specs.Lines.{line_starts, end_of_line, line_of}
 use Rattle.ed_model.specs.Matches.{match_in, whole_word, match_case, word_start}
 use Rattle.ed_model.specs.Characters.{cuts, cut_before, cut_after, character_length}
 
--- `a`, U+00E9, CRLF, and a byte that begins no sequence
+-- `a`, U+00E9, CRLF, and a byte that begins no well-formed sequence
 abbrev pub mixed_text : List ℕ
 mixed_text = 0x61 ∷ 0xC3 ∷ 0xA9 ∷ 0x0D ∷ 0x0A ∷ 0x80 ∷ []
 
@@ -18,7 +18,7 @@ pub record CutsOfAMixedText : Type 0 where
 abbrev pub AllBeginWith : ℕ → List (List ℕ) → Type 0
 AllBeginWith n texts = map character_length texts ≡ replicate (length texts) n
 
--- The least and the greatest sequence of each row of Unicode's table of well-formed sequences.
+-- The least and the greatest sequence of each row in Unicode's table of well-formed sequences.
 pub record WellFormedSequences : Type 0 where
   pub ascii : AllBeginWith 1 ((0x00 ∷ []) ∷ (0x7F ∷ []) ∷ [])
   pub from_c2 : AllBeginWith 2 ((0xC2 ∷ 0x80 ∷ []) ∷ (0xDF ∷ 0xBF ∷ []) ∷ [])
@@ -31,7 +31,7 @@ pub record WellFormedSequences : Type 0 where
   pub of_f4 : AllBeginWith 4 ((0xF4 ∷ 0x80 ∷ 0x80 ∷ 0x80 ∷ []) ∷ (0xF4 ∷ 0x8F ∷ 0xBF ∷ 0xBF ∷ []) ∷ [])
   pub crlf : AllBeginWith 2 ((0x0D ∷ 0x0A ∷ []) ∷ [])
 
--- A byte just outside its range leaves the first byte alone.
+-- If a later byte is just outside its range, the first byte is a character of its own.
 pub record IllFormedSequences : Type 0 where
   pub alone : AllBeginWith 1 ((0x7F ∷ 0x80 ∷ []) ∷ (0x80 ∷ 0x80 ∷ []) ∷ (0xBF ∷ []) ∷ (0xC1 ∷ 0xBF ∷ []) ∷ (0xC2 ∷ 0x7F ∷ []) ∷ (0xDF ∷ 0xC0 ∷ []) ∷ [])
   pub after_e0 : AllBeginWith 1 ((0xE0 ∷ 0x9F ∷ 0x80 ∷ []) ∷ (0xE0 ∷ 0xC0 ∷ 0x80 ∷ []) ∷ (0xE0 ∷ 0xA0 ∷ 0x7F ∷ []) ∷ (0xE0 ∷ 0xBF ∷ 0xC0 ∷ []) ∷ [])

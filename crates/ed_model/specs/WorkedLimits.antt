@@ -1,4 +1,4 @@
--- Worked examples of the limits of a session: what messages answer, or why they are refused.
+-- Worked examples of the limits of a session: what messages answer, or with which refusal.
 use Rattle.std.specs.Prelude.{◌≡◌, ℕ, ℤ, pos, List, [], ◌∷◌, map, codes, Result, Ok, Err}
 use Rattle.ed_types.specs.declared.kind.Kind.{Kind}
 use Rattle.ed_types.specs.declared.kind.Kind.TheVariants.{InsertText, DeleteRange, SetText, AppendText, MarkerAdd, MarkerAddSet, BeginUndoAction, CreateDocument, AddRefDocument, SetDocPointer, ConvertEols, GetLength}
@@ -14,7 +14,7 @@ use Rattle.ed_model.specs.Session.{new_session, greatest_limits}
 use Rattle.ed_model.specs.Table.{limited}
 use Rattle.ed_model.specs.Run.{outcomes, starting}
 
--- the value of an outcome, or its refusal
+-- the value that an outcome answers, or its refusal
 abbrev pub said : Outcome → Result ℤ Refusal
 said (Opened view) = Ok (pos view)
 said Closed = Ok (pos 0)
@@ -22,11 +22,11 @@ said (Replied reply) = Ok reply.value
 said (Refused refusal) = Err refusal
 said (Expected met value) = Ok value
 
--- what is said to each of these commands, in a new session of one view
+-- the answers to these commands, in a new session in which one view was opened
 abbrev pub said_within : Limits → List Command → List (Result ℤ Refusal)
 said_within limits commands = map said (outcomes [] (OpenView ∷ commands) (starting (new_session limits)))
 
--- a message to a view, and to the first
+-- the command that sends a message to a view, and the one that sends it to view 1
 abbrev pub send_to : ℕ → Kind → ℤ → ℤ → List ℕ → Command
 send_to view kind w l text = SendMessage view (record { number = number_of kind; w = w; l = l; text = text })
 
@@ -39,7 +39,7 @@ answer n = Ok (pos n)
 abbrev pub four_bytes : Limits
 four_bytes = record greatest_limits { doc_bytes = 4 }
 
--- and six in a large document
+-- limits of four bytes, and of six in a large document
 abbrev pub six_bytes_if_large : Limits
 six_bytes_if_large = record greatest_limits { doc_bytes = 4; large_bytes = 6 }
 
@@ -69,7 +69,7 @@ pub record AnswersWithinLimits : Type 0 where
   pub text_set_and_appended :
       said_within four_bytes (send SetText (pos 0) (pos 0) (codes "abcd") ∷ send AppendText (pos 1) (pos 0) (codes "e") ∷ send GetLength (pos 0) (pos 0) [] ∷ [])
       ≡ answer 1 ∷ answer 0 ∷ Err TooLong ∷ answer 4 ∷ []
-  -- five bytes are too many; in a large document six are taken, and the seventh is not
+  -- five bytes are too many; a large document takes six, and refuses the seventh
   pub large_document :
       said_within six_bytes_if_large (
       send SetText (pos 0) (pos 0) (codes "abcde") ∷
@@ -95,7 +95,7 @@ pub record AnswersWithinLimits : Type 0 where
   pub ids_used_up :
       said_within two_ids (send CreateDocument (pos 0) (pos 0) [] ∷ send CreateDocument (pos 0) (pos 0) [] ∷ OpenView ∷ [])
       ≡ answer 1 ∷ answer 2 ∷ Err TooMany ∷ Err TooMany ∷ []
-  -- the id of a view that was closed is not given again
+  -- the id of a closed view is not given again
   pub view_ids_used_up :
       said_within two_ids (OpenView ∷ CloseView 1 ∷ OpenView ∷ [])
       ≡ answer 1 ∷ answer 2 ∷ answer 0 ∷ Err TooMany ∷ []
@@ -108,7 +108,7 @@ pub record AnswersWithinLimits : Type 0 where
       ≡ answer 1 ∷ answer 0 ∷ Err TooMany ∷ []
   pub views_used_up : said_within one_view (OpenView ∷ []) ≡ answer 1 ∷ Err TooMany ∷ []
 
--- limits of 0, or above the greatest, are refused
+-- limits of 0, and limits above the greatest, are refused
 abbrev pub SessionsWithinLimits : Type 0
 SessionsWithinLimits =
     let most = greatest_limits in

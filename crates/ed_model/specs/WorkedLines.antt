@@ -1,4 +1,4 @@
--- Worked examples of single definitions: rows and indicators under steps, display lines, folding, and joins.
+-- Worked examples of single definitions: rows and indicators after steps, display lines, folding, and steps that join.
 use Rattle.std.specs.Prelude.{◌≡◌, ℕ, pos, List, [], ◌∷◌, map, length, replicate, ◌++◌, fold, true, false, codes, Bool, Some, None}
 use Rattle.ed_model.specs.declared.plan.LineEndTypes.TheVariants.{Default}
 use Rattle.ed_model.specs.Steps.{Step, Insert, Delete}
@@ -15,7 +15,7 @@ use Rattle.ed_model.specs.History.{History, Transaction, TextStep, fresh_history
 abbrev pub row_with : ℕ → Row
 row_with number = record { markers = record { handle = number; number = number } ∷ []; level = base_level; state = pos 0 }
 
--- `x`, CRLF, `a`, and the numbers of each line's markers after a step: line 0 has a marker 1, line 1 a marker 2
+-- The text is `x`, CRLF, `a`; line 0 has a marker 1, line 1 a marker 2. The numbers of each line's markers after a step.
 abbrev pub markers_after : Step → List (List ℕ)
 markers_after step =
     map (λ (row : Row). map (λ (m : Marker). m.number) row.markers)
@@ -34,7 +34,7 @@ pub record IndicatorUnderSteps : Type 0 where
   pub grown : indicator_after (Insert 2 (codes "xy")) (0 ∷ 1 ∷ 1 ∷ 0 ∷ []) ≡ 0 ∷ 1 ∷ 1 ∷ 1 ∷ 1 ∷ 0 ∷ []
   pub shrunk : indicator_after (Delete 1 (codes "x")) (0 ∷ 1 ∷ 1 ∷ 0 ∷ []) ≡ 0 ∷ 1 ∷ 0 ∷ []
 
--- the flags of a line that is expanded
+-- the flags of an expanded line that is visible or not
 abbrev pub shown : Bool → Flags
 shown visible = record { visible = visible; expanded = true }
 
@@ -45,7 +45,7 @@ pub record DisplayLinesAroundAHiddenLine : Type 0 where
   pub display_lines : map (display_line third_line_hidden) (0 ∷ 1 ∷ 2 ∷ 3 ∷ []) ≡ 0 ∷ 1 ∷ 1 ∷ 2 ∷ []
   pub lines_shown : map (line_shown third_line_hidden) (0 ∷ 1 ∷ 2 ∷ 3 ∷ []) ≡ 0 ∷ 1 ∷ 3 ∷ 4 ∷ []
 
--- a header, within it another header, within that a line, and one more line within the first
+-- a header, inside it another header, inside that a line, and one more line inside the first header
 abbrev pub nested_levels : List ℕ
 nested_levels = 9216 ∷ 9217 ∷ 1026 ∷ 1025 ∷ []
 
@@ -53,7 +53,7 @@ pub record FoldsOfNestedLevels : Type 0 where
   pub last_children : map (last_child nested_levels) (0 ∷ 1 ∷ 2 ∷ 3 ∷ []) ≡ 3 ∷ 2 ∷ 2 ∷ 3 ∷ []
   pub parents : map (fold_parent nested_levels) (0 ∷ 1 ∷ 2 ∷ 3 ∷ []) ≡ None ∷ Some 0 ∷ Some 1 ∷ Some 0 ∷ []
 
--- how many changes each transaction has, the latest first, once these steps were made, one a message
+-- the number of changes in each transaction, the latest first, after these steps, each the step of a message of its own
 abbrev pub transactions_of : List Step → List ℕ
 transactions_of steps =
     map (λ (t : Transaction). length t.changes)
@@ -64,7 +64,7 @@ pub record StepsThatJoin : Type 0 where
   pub typing : transactions_of (Insert 0 (codes "a") ∷ Insert 1 (codes "bc") ∷ Insert 3 (codes "d") ∷ Insert 3 (codes "e") ∷ []) ≡ 1 ∷ 3 ∷ []
   pub not_both : transactions_of (Insert 0 (codes "a") ∷ Delete 0 (codes "a") ∷ Insert 0 (codes "b") ∷ []) ≡ 1 ∷ 1 ∷ 1 ∷ []
 
--- Lines of 80 bytes: each `a` 80 times and the line end.
+-- three lines, each of 80 times `a` and this line end
 abbrev pub long_lines : List ℕ → List ℕ
 long_lines end = let line = replicate 80 0x61 ++ end in line ++ line ++ line
 

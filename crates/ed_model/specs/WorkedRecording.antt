@@ -1,4 +1,4 @@
--- What a view records, worked.
+-- Worked examples of what a view records.
 use Rattle.std.specs.Prelude.{◌≡◌, pos, List, [], ◌∷◌, codes, Result, Ok, Err}
 use Rattle.ed_types.specs.declared.message.Message.{Message}
 use Rattle.ed_types.specs.declared.script.Command.{Command}
@@ -9,12 +9,13 @@ use Rattle.ed_model.specs.Reading.{reading}
 use Rattle.ed_model.specs.Prints.{joined_lines}
 use Rattle.ed_model.specs.Recording.{recorded_messages, replies_in}
 
--- what view 1 records while the script runs
+-- the messages that view 1 records while the script runs
 abbrev pub recorded_in : Result (List Command) ScriptFault → List Message
 recorded_in (Ok commands) = recorded_messages 1 (replies_in (outcomes [] commands (starting (new_session greatest_limits))))
 recorded_in (Err fault) = []
 
--- STARTRECORD, ADDTEXT, GETLENGTH, CHARLEFT, DELETEBACK, STOPRECORD and ADDTEXT again: the first text, the key and the deletion are recorded
+-- Of STARTRECORD, ADDTEXT, GETLENGTH, CHARLEFT, DELETEBACK, STOPRECORD and a second ADDTEXT, the view records the first ADDTEXT,
+-- CHARLEFT and DELETEBACK.
 abbrev pub RecordsWhatCanBeReplayed : Type 0
 RecordsWhatCanBeReplayed =
     recorded_in (reading (joined_lines (

@@ -1,4 +1,4 @@
--- Statements about the definitions for the proofs of the crates above, each with its own proof: nothing here has to be believed.
+-- Statements on the definitions for the proofs of higher crates. Each has its own proof, so nothing here is trusted.
 pub mod Lists
 pub mod Rising
 pub mod Lines

@@ -2,7 +2,7 @@
 
 ghost use Rattle.ed_model.specs.HistoryLaws.{AppendBegins, AppendCounts, AppendJoins, AppendKeepsAllButThePast, AppendLeavesTheSavePoint, CollectingKeepsModified, EmptiedIsAtTheSavePoint, GroupBegunChangesNoChange, GroupBegunIsDeeper, GroupBegunKeepsModified, GroupEndedChangesNoChange, GroupEndedIsLessDeep, GroupEndedKeepsModified, NotCollectingAppendsNothing, NothingJoinsASealedOne, NothingJoinsNone, OthersKeepTheDepth, RedoMovesToThePast, SavedIsAtTheSavePoint, SealsChangeNoChange, SealsKeepModified, SealsOnce, UndoMovesToTheFuture, UndoThenRedoGivesBackTheHistory, UndoThenRedoKeepsModified};
 
-/// What a change that is appended does: it joins the last transaction or begins one, drops the future, and keeps the rest.
+/// An appended change joins the last transaction or begins one, drops the future, and keeps the rest.
 pub fn a_change_is_appended()
     ensures not_collecting { NotCollectingAppendsNothing }
     ensures others { AppendKeepsAllButThePast }
@@ -12,8 +12,8 @@ pub fn a_change_is_appended()
     ensures count { AppendCounts }
 {}
 
-/// When a document counts as modified: after each change that is collected, and neither once saved nor once its history is
-/// forgotten; groups, seals and collecting keep it.
+/// When a document counts as modified: after each change that is collected, but not right after SETSAVEPOINT or EMPTYUNDOBUFFER.
+/// Groups, seals and SETUNDOCOLLECTION do not change it.
 pub fn modified_or_saved()
     ensures append { AppendLeavesTheSavePoint }
     ensures saved { SavedIsAtTheSavePoint }
@@ -25,7 +25,7 @@ pub fn modified_or_saved()
     ensures undo_then_redo { UndoThenRedoKeepsModified }
 {}
 
-/// Seals end joins and change nothing else; groups are counted.
+/// A seal ends joining and changes nothing else; BEGINUNDOACTION and ENDUNDOACTION count groups up and down.
 pub fn seals_and_groups()
     ensures once { SealsOnce }
     ensures end_joins { NothingJoinsASealedOne }
@@ -37,7 +37,7 @@ pub fn seals_and_groups()
     ensures others { OthersKeepTheDepth }
 {}
 
-/// Undo moves a transaction from the past to the future, and redo back.
+/// Undo moves a transaction from the past to the future, and redo moves it back.
 pub fn transactions_move()
     ensures undo { UndoMovesToTheFuture }
     ensures redo { RedoMovesToThePast }

@@ -1,5 +1,5 @@
-//! The written behaviour of the editing component: definitions over plain lists in `specs/`, and here the laws about them and
-//! the worked examples, each a public function with an empty body whose contract says what holds.
+//! The behaviour of the component as definitions over plain lists (`specs/`; `docs/BEHAVIOUR.md` says the same in words), laws of
+//! the definitions, and worked examples. Each law and each example is the contract of a public function with an empty body.
 #![tactic(auto)]
 
 mod carry_laws;

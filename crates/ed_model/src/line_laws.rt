@@ -1,13 +1,13 @@
-//! The laws of lines: where they start, how positions and rows go with a step, each a public function with an empty body
-//! whose contract says what holds of all texts, steps and rows.
+//! The laws of lines: their starts, and how a step moves positions and carries rows. Each is the contract of a public function
+//! with an empty body, and holds for all texts, steps and rows.
 
 ghost use Rattle.ed_model.specs.Rows.{Flags, Row};
 ghost use Rattle.ed_model.specs.LineLaws.{FirstLineStartsAtZero, LineStartsAreExact, LineStartsAreInRange, LineStartsAreLocal, LineStartsAreOnTheirLines, LineStartsMove, LineStartsRise, LinesAreInRange, LinesAreTheLastToStart, LinesFollowPositions, SomeLine};
 ghost use Rattle.ed_model.specs.StepLaws.{CellsFollowBytes, DeletionsShorten, InsertionsLengthen, PositionsKeepTheirOrder, PositionsStayInRange, StartsKeepTheirOrder, StartsStayInRange};
 ghost use Rattle.ed_model.specs.CarryLaws.{CarriesToEachLine, RegroupingLeavesARowForEachLine, StepsLeaveARowForEachLine};
 
-/// Where lines start: the first at 0, each behind the one before it, none past the end, at just the places that the test of
-/// three bytes before and one behind passes.
+/// Line 0 starts at 0, each other line starts after the one before it, and no line starts past the end of the text. Whether a
+/// line starts at a place depends only on the three bytes before it and the one after it.
 pub fn starts_of_lines()
     ensures some_line { SomeLine }
     ensures first { FirstLineStartsAtZero }
@@ -18,7 +18,7 @@ pub fn starts_of_lines()
     ensures moved { LineStartsMove }
 {}
 
-/// Each position is on one line, the last that starts at or before it, and a later position on no earlier line.
+/// Each position is on one line, the last that starts at or before it; a later position is never on an earlier line.
 pub fn lines_of_positions()
     ensures in_range { LinesAreInRange }
     ensures monotone { LinesFollowPositions }
@@ -26,7 +26,7 @@ pub fn lines_of_positions()
     ensures last_to_start { LinesAreTheLastToStart }
 {}
 
-/// A step moves positions and line starts into the new text, in their order; it changes the length by its bytes.
+/// A step moves positions and line starts to places in the new text, and keeps their order. It changes the length by its bytes.
 pub fn positions_after_a_step()
     ensures insertions_lengthen { InsertionsLengthen }
     ensures deletions_shorten { DeletionsShorten }
@@ -37,7 +37,7 @@ pub fn positions_after_a_step()
     ensures starts_in_order { StartsKeepTheirOrder }
 {}
 
-/// After a carry there is a row for each line of the new text, for a document's rows and for a view's.
+/// After a carry a document has a row, and a view has flags, for each line of the new text.
 pub fn rows_match_lines()
     ensures rows_carried { CarriesToEachLine Row }
     ensures flags_carried { CarriesToEachLine Flags }

@@ -1,8 +1,8 @@
-//! Worked examples of scripts: what texts read as, what scripts are listed as, and what outcomes print.
+//! Worked examples of scripts: how texts are read, how scripts are listed, and what outcomes print.
 
 ghost use Rattle.ed_model.specs.ScriptExamples.{EveryKindOfByteIsRead, EveryKindOfByteIsListed, EdgesOfPlainBytes, OtherCommandsAreRead, UnknownCommands, WrongShapes, WrongNumbers, WrongTexts, WrongFirstLines, NoLineEnds, FirstFaults, ExpectIsOfVersion2, PrefixesOfAScript, OutcomesArePrinted, NotesArePrinted};
 
-/// How bytes and commands are spelled, and read.
+/// How bytes and commands are spelled and read.
 pub fn script_spelling()
     ensures every_kind_of_byte_is_read { EveryKindOfByteIsRead }
     ensures every_kind_of_byte_is_listed { EveryKindOfByteIsListed }
@@ -10,7 +10,7 @@ pub fn script_spelling()
     ensures other_commands_are_read { OtherCommandsAreRead }
 {}
 
-/// Lines that are refused, and why.
+/// Lines that are refused, and with which cause.
 pub fn script_lines_at_fault()
     ensures unknown_commands { UnknownCommands }
     ensures wrong_shapes { WrongShapes }

@@ -2,8 +2,8 @@
 
 ghost use Rattle.ed_model.specs.ScriptLaws.{ListingsAreRead, OnlyListingsAreRead, ScriptsHaveOneSpelling, ListingsKeepLimits};
 
-/// A script's listing is read as the script; what is read is a listing; no script has two spellings in one version; and a
-/// listing keeps the limits.
+/// Reading the listing of a script gives the script, and every text that is read is a listing. No script has two spellings in one
+/// version, and each listing is within the limits.
 pub fn laws_of_scripts()
     ensures listings_are_read { ListingsAreRead }
     ensures only_listings_are_read { OnlyListingsAreRead }

@@ -1,17 +1,17 @@
-//! Laws of sound sessions and fit plans. Each is the contract of a function that does nothing.
+//! Laws of sound sessions and of fit plans. Each is the contract of a function with an empty body.
 
 ghost use Rattle.ed_model.specs.SoundLaws.{NewSessionIsSound, MessageKeepsSound, OpeningKeepsSound, ClosingKeepsSound, CommandKeepsSound, IsSoundInEveryStateFrom, IsSoundInEveryState, ThePastCanBeUndone, UndoneThenRedoneIsTheSame};
 ghost use Rattle.ed_model.specs.StandingLaws.{StepsKeepViewsStanding};
 ghost use Rattle.ed_model.specs.PlansFit.{PlansFit, EditStepsFit, UndoStepsFit, RedoStepsFit, PlansKeepSound};
 
-/// The session is sound in every state that a run reaches: from a new session, whatever its limits, and from any sound one.
+/// The session is sound in every state that a run reaches, from a new session with any limits, and from any sound session.
 pub fn session_is_sound()
     ensures in_every_state { IsSoundInEveryState }
     ensures in_every_state_from { IsSoundInEveryStateFrom }
     ensures new_session { NewSessionIsSound }
 {}
 
-/// A message, opening a view, closing one, and any command keep a sound session sound.
+/// Messages, opening and closing a view, and all commands keep a sound session sound.
 pub fn soundness_is_kept()
     ensures by_messages { MessageKeepsSound }
     ensures by_opening { OpeningKeepsSound }
@@ -19,8 +19,8 @@ pub fn soundness_is_kept()
     ensures by_commands { CommandKeepsSound }
 {}
 
-/// The numbers of a plan are in range for its request; the steps that it makes fit the text one after another; and what it does
-/// keeps the session sound.
+/// The numbers of a plan are in range for its request, its steps can be
+/// performed one after another, and performing it keeps the session sound.
 pub fn plans_are_fit()
     ensures in_range { PlansFit }
     ensures edit_steps { EditStepsFit }
@@ -29,13 +29,13 @@ pub fn plans_are_fit()
     ensures keep_sound { PlansKeepSound }
 {}
 
-/// In a sound document all the past can be undone, and as many redos give back the text, and the history but for seals.
+/// In a sound document all transactions of the past can be undone, and as many redos restore the text, and the history except for seals.
 pub fn sound_histories_can_be_undone()
     ensures all_the_past { ThePastCanBeUndone }
     ensures and_redone { UndoneThenRedoneIsTheSame }
 {}
 
-/// A view that stands well on its document stands well on it after a step, which it follows.
+/// A view that fits its document still fits it after a step of the document.
 pub fn steps_keep_views_standing()
     ensures { StepsKeepViewsStanding }
 {}

@@ -2,8 +2,7 @@
 
 ghost use Rattle.ed_model.specs.UndoLaws.{BegunContainerStepIsOneTransactionMore, BegunStepIsOneTransactionMore, JoinedContainerStepKeepsEarlierTexts, JoinedStepKeepsEarlierTexts, RedoIsOneTransactionMore, RedosGoOn, SealsKeepEarlierTexts, UndoKeepsEarlierTexts, UndosGoBack, UndosThenRedosGiveBackTheHistory, UndosThenRedosGiveBackTheText};
 
-/// Some undos go back to the text before as many transactions, and as many redos give back the text, and the history but for
-/// its seals.
+/// k undos go back to the text before the last k transactions, and k redos then restore the text, and the history except for its seals.
 pub fn undos_and_redos()
     ensures undos { UndosGoBack }
     ensures redos { RedosGoOn }
@@ -11,7 +10,7 @@ pub fn undos_and_redos()
     ensures history { UndosThenRedosGiveBackTheHistory }
 {}
 
-/// The texts that undo goes back to stay what they were, whatever is appended, undone, redone or sealed meanwhile.
+/// The texts to which undo goes back do not change, whatever is appended, undone, redone or sealed.
 pub fn earlier_texts_are_kept()
     ensures begun { BegunStepIsOneTransactionMore }
     ensures joined { JoinedStepKeepsEarlierTexts }

@@ -9,32 +9,31 @@ ghost use Rattle.ed_model.specs.RepeatedUndoLaws.{
 };
 ghost use Rattle.ed_model.specs.UndoMessageLaws.{RedoIsNeverTooLong, RedoRedoes, UndoIsNeverTooLong, UndoUndoes};
 
-/// UNDO, if it is answered where there is something to undo, leaves the document with its last transaction undone, and REDO
-/// with its next one redone.
+/// UNDO, if it is answered and there is a transaction to undo, leaves the document with its last transaction undone; REDO leaves
+/// it with its next one redone.
 pub fn undo_and_redo_act()
     ensures undo { UndoUndoes }
     ensures redo { RedoRedoes }
 {}
 
-/// In a sound session UNDO and REDO are never refused as too long: they go through texts that were there before.
+/// In a sound session UNDO and REDO are never refused with TooLong, since each text on their way was there before.
 pub fn undo_and_redo_are_never_too_long()
     ensures undo { UndoIsNeverTooLong }
     ensures redo { RedoIsNeverTooLong }
 {}
 
-/// UNDO messages go back one transaction each, to the text before as many of them, and as many REDO messages lead to the text
-/// that it was, whatever comes between that leaves the document alone.
+/// Each UNDO message goes back one transaction, and as many REDO messages then lead to the text at first. Other commands may come
+/// between if they leave the document alone.
 pub fn undo_and_redo_messages_lead_there_and_back()
     ensures { UndosGoBackThenRedosGoOn }
 {}
 
-/// UNDO messages alone go back one transaction each, whatever comes between that leaves the document alone.
+/// Each UNDO message goes back one transaction. Other commands may come between if they leave the document alone.
 pub fn undo_messages_go_back()
     ensures { UndoMessagesGoBack }
 {}
 
-/// A message leaves all documents alone but that of its view, and views that come and go leave all of them alone: their texts and
-/// histories are as they were.
+/// A message changes the text and the history of no document except that of its view. Opening and closing a view changes those of none.
 pub fn other_documents_are_left_alone()
     ensures messages { MessagesLeaveOtherDocumentsAlone }
     ensures opening { OpeningLeavesDocumentsAlone }

@@ -51,7 +51,7 @@ text_field-is line text rest h =
     let quoted = behind-is quote first.0 second.0 second.1 in
     (whole ∙ ap (λ bs. space ∷ bs) (quoted ∙ ap (λ bs. quote ∷ bs) read.0), read.1)
 
--- the bytes of a literal are those of words
+-- the bytes of a literal are bytes of words
 are_word_bytes : (word : List ℕ) → list_all (λ b. nat_lt 32 b) word ≡ true → AreWordBytes word
 are_word_bytes [] h = tt
 are_word_bytes (b ∷ bs) h = let tests = and_parts (nat_lt 32 b) (list_all (λ b. nat_lt 32 b) bs) h in (ltb-true 32 b tests.0, are_word_bytes bs tests.1)
@@ -110,13 +110,13 @@ pub ended-is : (command whole : Command) (rest : List ℕ) → ended command res
 ended-is command whole [] h = (refl, cc)
 ended-is command whole (b ∷ bs) h = cc
 
--- A command that was read from what stands behind its verb is listed so, and its numbers are of their types.
+-- A command that was read after its verb is listed as it was read, and its numbers fit their types.
 pub record IsReadFrom (verb : Verb) (rest : List ℕ) (command : Command) : Type 0 where
   pub listed : verb_word verb ++ rest ≡ listed_command command
   pub fits : FitsTypes command
   pub expecting : is_expect command ≡ is_expects verb
 
--- the last step: nothing follows
+-- the end of a command: nothing follows its last field
 last_field : (verb : Verb) (command whole : Command) (rest left : List ℕ) → ended command left ≡ Ok whole → FitsTypes command → is_expect command ≡ is_expects verb → (left ≡ [] → verb_word verb ++ rest ≡ listed_command command) → IsReadFrom verb rest whole
 last_field verb command whole rest left h fits expecting listed =
     let parts = ended-is command whole left h in
@@ -156,7 +156,7 @@ command_of-is expects rest command h =
     last_field expects (Expect value.0.0) command rest value.0.1 value.2 value-is.1 refl
     (λ e. ap (λ bs. codes "expect" ++ bs) (value-is.0 ∙ ap (λ bs. space ∷ spelled_int value.0.0 ++ bs) e ∙ append-nil (space ∷ spelled_int value.0.0)))
 
--- A line that is read is the listing of its command; only version 2 says `expect`.
+-- A line that is read is the listing of its command; only version 2 has `expect`.
 pub record IsLineOf (version : ℕ) (line : List ℕ) (command : Command) : Type 0 where
   pub listed : line ≡ listed_command command
   pub fits : FitsTypes command

@@ -10,7 +10,7 @@ use Rattle.ed_model.specs.Spelling.{space}
 use Rattle.ed_model.specs.Reading.{◌>>=◌, behind, word_of, behind_word, not_empty, word_field, number_field}
 use Rattle.ed_model.proofs.lemmas.Spelling.{AreWordBytes}
 
--- nothing, or a space first: what may follow a word
+-- nothing, or a space first, so that a word ends here
 abbrev pub EndsWord : List ℕ → Type 0
 EndsWord [] = Unit {0}
 EndsWord (b ∷ bs) = b ≡ space
@@ -33,19 +33,19 @@ word_and_rest line =
     let n = position_or_len (λ b. b == space) line in
     ap (λ m. take n line ++ drop m line) (length-take n line) ∙ ap (λ bs. take n line ++ bs) (drop_min n line) ∙ take-append-drop n line
 
--- A kind of number: how it is read, how it is spelled, and which numbers there are.
+-- A kind of number: how it is read, how it is spelled, and which numbers have a spelling.
 pub record Spells {T : Type 0} (number : List ℕ → Option T) (spelling : T → List ℕ) (IsOne : T → Type 0) : Type 0 where
   pub word_bytes : (v : T) → IsOne v → AreWordBytes (spelling v)
   pub some : (v : T) → IsOne v → 0 < length (spelling v)
   pub reads : (v : T) → IsOne v → number (spelling v) ≡ Some v
   pub only : (word : List ℕ) (v : T) → number word ≡ Some v → IsOne v × (word ≡ spelling v)
 
--- a step that went well
+-- a sequence of two readings succeeds only if the first does
 pub bind-is : {A B E : Type 0} (r : Result A E) (more : A → Result B E) (v : B) → (r >>= more) ≡ Ok v → (a : A) × (r ≡ Ok a) × (more a ≡ Ok v)
 bind-is (Ok a) more v h = (a, refl, h)
 bind-is (Err e) more v h = cc
 
--- both parts of what a field gives
+-- the two parts of the result of a field
 pub same_field : {A B E : Type 0} (a c : A) (b d : B) → ◌≡◌ {A = Result (A × B) E} (Ok (a, b)) (Ok (c, d)) → (a ≡ c) × (b ≡ d)
 same_field {A} {B} {E} a c b d h =
     let same : ◌≡◌ {A = A × B} (a, b) (c, d) = cc in

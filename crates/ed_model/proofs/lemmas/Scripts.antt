@@ -22,7 +22,7 @@ use Rattle.ed_model.proofs.lemmas.Texts.{AreBytes}
 use Rattle.ed_model.proofs.lemmas.Fields.{bind-is}
 use Rattle.ed_model.proofs.lemmas.Commands.{read_command-listed, read_command-is, IsLineOf}
 
--- bytes that stand in lines: none below the space, so no line feed
+-- bytes of a line: none is below the space, so none is a line feed
 abbrev pub AreLineBytes : List ℕ → Type 0
 AreLineBytes bytes = AllByRecursion (λ b. 32 ≤ b) bytes
 
@@ -44,7 +44,7 @@ spelled_in_line (b ∷ bs) all = joined (spelled_byte b) (spelled_bytes bs)
     (of_test (spelled_byte b) (agree_below_at (λ c. list_all (λ d. nat_le 32 d) (spelled_byte c)) (λ c. true) 256 b refl all.0))
     (spelled_in_line bs all.1)
 
--- a field behind its space, and the fields that follow
+-- a space, a field, and the fields after it
 then_field : (word rest : List ℕ) → AreWordBytes word → AreLineBytes rest → AreLineBytes (space ∷ word ++ rest)
 then_field word rest here there = (omega arith, joined word rest (of_word word here) there)
 
@@ -70,7 +70,7 @@ AreLineBytes-listed (SendMessage view message) fits =
     (then_field (spelled_int message.l) text (AreWordBytes-spelled_int message.l fits.3) text-in))))
 AreLineBytes-listed (Expect value) fits = joined (codes "expect") (space ∷ spelled_int value) (of_test (codes "expect") refl) (last_field (spelled_int value) (AreWordBytes-spelled_int value fits))
 
--- the first line is cut off
+-- splitting cuts off the first line
 pub split_line : (line rest : List ℕ) → AreLineBytes line → slice_split (λ b. b == line_feed) (line ++ line_feed ∷ rest) ≡ line ∷ slice_split (λ b. b == line_feed) rest
 split_line [] rest all = refl
 split_line (b ∷ bs) rest all =
@@ -84,7 +84,7 @@ read_from-line version number line rest all = ap (read_lines version number) (sp
 abbrev pub lines_of : List Command → List ℕ
 lines_of commands = flat_map (λ command. ended_line (listed_command command)) commands
 
--- the line of a command that fits is read
+-- a line within the limit is read as the command on it
 at_line-fits : {T : Type 0} (number : ℕ) (line : List ℕ) (value : T) → fits_line line ≡ true → at_line number line (Ok value) ≡ Ok value
 at_line-fits number line value h = cond-true (fits_line line) (Ok value) _ h
 
@@ -111,7 +111,7 @@ read_from-listed version number (command ∷ commands) says fits within =
     ap (λ r. r >>= more) (at_line-fits number line command tests.0) ∙
     ap (λ r. r >>= (λ cs. Ok (command ∷ cs))) (read_from-listed version (number + 1) commands (says_rest version command commands says) fits.1 tests.1)
 
--- What was read of lines.
+-- How the commands of some lines were read.
 pub record AreLinesOf (version : ℕ) (text : List ℕ) (commands : List Command) : Type 0 where
   pub listed : text ≡ lines_of commands
   pub typed : AllByRecursion FitsTypes commands
@@ -172,13 +172,13 @@ listings_are_read version commands script =
       | inr first ↦ subst P (sym first) (listing_1_is_read commands) script
     ]
 
--- What is read.
+-- How a whole script was read.
 read_version-is_by : (first second : Bool) (version : ℕ) → cond first (Ok 1) (cond second (Ok 2) (Err BadVersion)) ≡ Ok version → ((first ≡ true) × (version ≡ 1)) ⊎ ((second ≡ true) × (version ≡ 2))
 read_version-is_by true second version h = let same : 1 ≡ version = cc in inl (refl, sym same)
 read_version-is_by false true version h = let same : 2 ≡ version = cc in inr (refl, sym same)
 read_version-is_by false false version h = cc
 
--- a script that was read of a text in a version
+-- a script that was read from a text in a version
 record IsReadAs (text : List ℕ) (commands : List Command) (version : ℕ) : Type 0 where
   listed : text ≡ listing version commands
   spoken : speaks version commands ≡ true
@@ -227,7 +227,7 @@ only_listings_are_read text commands h =
     let fits : fits_script (listing 2 commands) ≡ true = sym (fits_either read.0 commands (versions read.0 commands read.1.spoken)) ∙ sym (ap fits_script is) ∙ within.0 in
     (read.0, is, record { spoken = read.1.spoken; typed = read.1.typed; within = and_from _ _ read.1.within fits })
 
--- Two texts that name one version and are read as one script are one text.
+-- Two texts of the same version that are read as the same script are equal.
 versions_differ : codes "sci 2" ≡ codes "sci 1" → ⊥
 versions_differ h = let digits : ◌≡◌ {A = ℕ} 50 49 = ap (λ bs. slice_index bs 4) h in omega arith
 

@@ -1,4 +1,4 @@
--- Spelled numbers stand in words.
+-- The spelling of a number consists of bytes of words.
 use Rattle.std.proofs.Common.{ℕ, suc, ◌≡◌, ◌^◌, ◌<◌, true, List, [], ◌∷◌, arith, ℤ, pos, negsuc}
 use Rattle.std.specs.List.{AllByRecursion}
 use Rattle.std.specs.Str.Parse.{AllDigits}
@@ -7,7 +7,7 @@ use Rattle.std.proofs.lemmas.Bool.{ltb-true}
 use Rattle.ed_model.specs.Spelling.{spelled, spelled_int, is_64_bits}
 use Rattle.ed_model.specs.proved.Spelling.{AllDigits-spelled}
 
--- bytes behind the space stand in words; the line feed and the space don't
+-- bytes greater than the space can be in words; the line feed and the space cannot
 abbrev pub AreWordBytes : List ℕ → Type 0
 AreWordBytes bytes = AllByRecursion (λ b. 32 < b) bytes
 

@@ -19,7 +19,7 @@ text_past-spelled [] rest all = refl
 text_past-spelled (b ∷ bs) rest all =
     ap (text_past 0) (append_assoc (spelled_byte b) (spelled_bytes bs) (quote ∷ rest)) ∙ text_past-spelled_byte b (spelled_bytes bs ++ quote ∷ rest) all.0 ∙ ap (with_byte b) (text_past-spelled bs rest all.1)
 
--- what was read, spelled again
+-- the text that was read, and its spelling
 with_byte-is : (b : ℕ) (read : Result (List ℕ × List ℕ) Cause) (text rest : List ℕ) → with_byte b read ≡ Ok (text, rest) → (tail : List ℕ) × (read ≡ Ok (tail, rest)) × (text ≡ b ∷ tail)
 with_byte-is b (Ok (tail, left)) text rest h =
     let same : ◌≡◌ {A = List ℕ × List ℕ} (b ∷ tail, left) (text, rest) = cc in
@@ -33,7 +33,7 @@ closed b bs text rest is h =
     let P : List ℕ × List ℕ → Type 0 = λ p. (b ∷ bs ≡ spelled_bytes p.0 ++ quote ∷ p.1) × AreBytes p.0 in
     subst P same (ap (λ c. c ∷ bs) is, tt)
 
--- where a spelling is read, it stands at the front
+-- a spelling that is read is at the front
 pub spells_front-is : (bs : List ℕ) (b : ℕ) → spells_front bs b ≡ true → (b < 256) × (bs ≡ spelled_byte b ++ drop (length (spelled_byte b)) bs)
 spells_front-is bs b h =
     let tests = and_parts (nat_lt b 256) (starts_with nat_eq bs (spelled_byte b)) h in

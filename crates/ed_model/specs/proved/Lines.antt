@@ -1,4 +1,4 @@
--- Where lines start: the first at 0, then rising, within the text; and which line a position is on.
+-- Line starts: the first is 0, they rise, and they are in the text. The line that contains a position.
 use Rattle.std.proofs.Common.{ℕ, zero, suc, ◌≡◌, ◌+◌, ◌-◌, ◌<◌, ◌≤◌, Bool, true, false, ◌&&◌, List, ◌∷◌, length, get_or, filter, All, Contains, eqb, append-nil, slice_get, leb, sym, refl, ap, ◌∙◌, ◌↔◌, inl, inr, arith}
 use Rattle.std.specs.List.{range_with_len}
 use Rattle.std.specs.List.Sorted.{IsStrictlyIncreasing}
@@ -13,7 +13,7 @@ use Rattle.ed_model.specs.Text.{stands}
 use Rattle.ed_model.specs.Lines.{is_line_start, unicode_end_before, line_starts, line_of, line_count, start_of_line, knows_unicode}
 use Rattle.ed_model.specs.proved.Rising.{Rises, Climbs, Climbs_from_rises, Rises-filter_range, increasing_from_rises, Contains-filter, Contains-range, range-append, filter_range_none, count_front, count_back, count_at, count_monotone}
 
--- no byte stands past the end
+-- past the end of the text there is no byte
 stands_past : (byte : ℕ) (text : List ℕ) (i : ℕ) → length text ≤ i → stands byte text i ≡ false
 stands_past byte text i h = ap (is_number byte) (slice_get_past text i h)
 
@@ -25,14 +25,14 @@ and_false : (b : Bool) → (b && false) ≡ false
 and_false true = refl
 and_false false = refl
 
--- past the end of the text no line starts
+-- no line starts past the end of the text
 pub no_start_past : (types : LineEndTypes) (text : List ℕ) (p : ℕ) → length text < p → is_line_start types text p ≡ false
 no_start_past types text p h =
     let l : length text ≤ p - 1 = omega arith in
     let z : eqb p 0 ≡ false = ne_eqb p 0 (λ e. omega arith) in
     rw (z, stands_past 10 text (p - 1) l, stands_past 13 text (p - 1) l, no_unicode_end_past text p l) (and_false (knows_unicode types))
 
--- the starts are what passes in any range that goes past the end
+-- the line starts are the places that pass the test, in any range that goes past the end of the text
 pub starts_in_range : (types : LineEndTypes) (text : List ℕ) (n : ℕ) → filter (is_line_start types text) (range_with_len 0 (length text + 1 + n)) ≡ line_starts types text
 starts_in_range types text n =
     rw (
@@ -46,7 +46,7 @@ starts_in_range types text n =
 pub line_starts_rise : (types : LineEndTypes) (text : List ℕ) → Rises 0 (line_starts types text)
 line_starts_rise types text = Rises-filter_range (is_line_start types text) 0 (length text + 1)
 
--- line starts rise, in std's words
+-- line starts rise, as std states it
 pub line_starts_increase : (types : LineEndTypes) (text : List ℕ) → IsStrictlyIncreasing (line_starts types text)
 line_starts_increase types text = increasing_from_rises 0 (line_starts types text) (line_starts_rise types text)
 
@@ -55,7 +55,7 @@ starts_with_zero types text =
     let e : length text + 1 ≡ suc (length text) = omega arith in
     rw e refl
 
--- the first line starts at 0
+-- line 0 starts at 0
 pub first_line_start : (types : LineEndTypes) (text : List ℕ) → get_or (line_starts types text) 0 0 ≡ 0
 first_line_start types text = rw (starts_with_zero types text) refl
 
@@ -63,25 +63,25 @@ first_line_start types text = rw (starts_with_zero types text) refl
 pub some_line : (types : LineEndTypes) (text : List ℕ) → 0 < line_count types text
 some_line types text = rw (starts_with_zero types text) (omega arith)
 
--- .. and at most one line more than bytes
+-- .. and at most one line more than it has bytes
 pub few_lines : (types : LineEndTypes) (text : List ℕ) → line_count types text ≤ length text + 1
 few_lines types text =
     let places : List ℕ = range_with_len 0 (length text + 1) in
     omega (arith, length-filter (is_line_start types text) places, count_by-le-length (is_line_start types text) places, length-range_with_len 0 (length text + 1))
 
--- no line starts past the end
+-- no line starts past the end of the text
 pub line_starts_in_range : (types : LineEndTypes) (text : List ℕ) → All (λ s. s ≤ length text) (line_starts types text)
 line_starts_in_range types text =
     All-filter (is_line_start types text) (λ s. s ≤ length text) (range_with_len 0 (length text + 1))
     (All-from_get_or (λ s. s ≤ length text) (range_with_len 0 (length text + 1)) 0
     (λ i h. omega (arith, get_or-range_with_len 0 (length text + 1) i 0 (omega (arith, length-range_with_len 0 (length text + 1))), length-range_with_len 0 (length text + 1))))
 
--- each start passes the test
+-- each line start passes the test
 pub start_from_contains : (types : LineEndTypes) (text : List ℕ) (p : ℕ) → Contains (line_starts types text) p → is_line_start types text p ≡ true
 start_from_contains types text p c =
     All-contains (λ s. is_line_start types text s ≡ true) (line_starts types text) p (filter_passes (is_line_start types text) (range_with_len 0 (length text + 1))) c
 
--- each place that passes the test is a start
+-- each place that passes the test is a line start
 pub contains_from_start : (types : LineEndTypes) (text : List ℕ) (p : ℕ) → is_line_start types text p ≡ true → Contains (line_starts types text) p
 contains_from_start types text p e =
     elim (cases_lt (length text) p) [
@@ -89,16 +89,16 @@ contains_from_start types text p e =
       | inr within ↦ Contains-filter (is_line_start types text) (range_with_len 0 (length text + 1)) p e (Contains-range (length text + 1) p (omega arith))
     ]
 
--- whether a line starts at a place, from the four bytes near it
+-- whether a line starts at a place depends only on the four bytes around it
 pub same_start : (types : LineEndTypes) (text other : List ℕ) (p q : ℕ) → eqb p 0 ≡ eqb q 0 → slice_get text (p - 3) ≡ slice_get other (q - 3) → slice_get text (p - 2) ≡ slice_get other (q - 2) → slice_get text (p - 1) ≡ slice_get other (q - 1) → slice_get text p ≡ slice_get other q → is_line_start types text p ≡ is_line_start types other q
 same_start types text other p q z three two one here = rw (z, three, two, one, here) refl
 
--- texts that agree on three bytes before a place and one behind it agree on whether a line starts there
+-- if two texts agree on the three bytes before a place and on the one after it, they agree on whether a line starts there
 pub local_start : (types : LineEndTypes) (text other : List ℕ) (p : ℕ) → ((k : ℕ) → p ≤ k + 3 → k ≤ p → slice_get text k ≡ slice_get other k) → is_line_start types text p ≡ is_line_start types other p
 local_start types text other p h =
     same_start types text other p p refl (h (p - 3) (omega arith) (omega arith)) (h (p - 2) (omega arith) (omega arith)) (h (p - 1) (omega arith) (omega arith)) (h p (omega arith) (omega arith))
 
--- .. and so at another place with the same four bytes
+-- .. and so do two places with the same four bytes around them
 pub moved_start_test : (types : LineEndTypes) (text other : List ℕ) (p q : ℕ) → ((k : ℕ) → k ≤ 3 → slice_get text (p + k) ≡ slice_get other (q + k)) → is_line_start types text (p + 3) ≡ is_line_start types other (q + 3)
 moved_start_test types text other p q h =
     same_start types text other (p + 3) (q + 3)
@@ -113,7 +113,7 @@ moved_start_test types text other p q h =
 
 -- lines of positions
 
--- a later position is on no earlier line
+-- a later position is never on an earlier line
 pub line_of_monotone : (starts : List ℕ) (p q : ℕ) → p ≤ q → line_of starts p ≤ line_of starts q
 line_of_monotone starts p q h = omega (arith, count_monotone starts p q h)
 
@@ -121,16 +121,16 @@ line_of_monotone starts p q h = omega (arith, count_monotone starts p q h)
 pub line_of_lt : (starts : List ℕ) (p : ℕ) → 0 < length starts → line_of starts p < length starts
 line_of_lt starts p h = omega (arith, count_by-le-length (λ s. leb s p) starts)
 
--- a line's start is on that line
+-- the start of a line is on that line
 pub line_of_start : (low : ℕ) (starts : List ℕ) (k : ℕ) → Rises low starts → k < length starts → line_of starts (get_or starts k 0) ≡ k
 line_of_start low starts k r h = omega (arith, count_at low starts k r h)
 
--- a line is at most the line of p just where it starts at or before p
+-- a line up to the line of p starts at or before p
 pub start_from_line : (low : ℕ) (starts : List ℕ) (p k : ℕ) → Climbs low starts → get_or starts 0 0 ≤ p → k < length starts → k ≤ line_of starts p → get_or starts k 0 ≤ p
 start_from_line low starts p zero r first h l = first
 start_from_line low starts p (suc k) r first h l = count_front low p starts (suc k) r (omega arith)
 
--- .. and the other way round
+-- .. and a line that starts at or before p is at most the line of p
 pub line_from_start : (low : ℕ) (starts : List ℕ) (p k : ℕ) → Climbs low starts → k < length starts → get_or starts k 0 ≤ p → k ≤ line_of starts p
 line_from_start low starts p k r h l =
     elim (cases_lt (line_of starts p) k) [
@@ -138,7 +138,7 @@ line_from_start low starts p k r h l =
       | inr within ↦ within
     ]
 
--- both, for the starts of a text
+-- both, for the line starts of a text
 pub line_of_last_start : (types : LineEndTypes) (text : List ℕ) (p k : ℕ) → k < line_count types text → (k ≤ line_of (line_starts types text) p) ↔ (start_of_line types text k ≤ p)
 line_of_last_start types text p k h =
     let climbs : Climbs 0 (line_starts types text) = Climbs_from_rises 0 (line_starts types text) (line_starts_rise types text) in (

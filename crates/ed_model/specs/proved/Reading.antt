@@ -1,4 +1,4 @@
--- How scripts are read, line after line.
+-- Scripts are read line by line.
 use Rattle.std.proofs.Common.{◌≡◌, ℕ, ◌+◌, ◌⊎◌, inl, inr, true, List, [], ◌∷◌, refl, sym, ◌∙◌, subst, Result, Ok, Err}
 use Rattle.std.specs.Prelude.{◌==◌, ◌&&◌, not}
 use Rattle.std.specs.List.{list_all, slice_split, onto_first}
@@ -10,7 +10,7 @@ use Rattle.ed_model.specs.Text.{line_feed}
 use Rattle.ed_model.specs.Listing.{is_expect, speaks, fits_script}
 use Rattle.ed_model.specs.Reading.{◌>>=◌, read_command, read_version, at_line, read_lines, read_script, reading}
 
--- what is split has a first part
+-- adding a byte to the first part leaves a first part
 onto_first-some : (b : ℕ) (parts : List (List ℕ)) → (first : List ℕ) × (rest : List (List ℕ)) × (onto_first b parts ≡ first ∷ rest)
 onto_first-some b [] = (b ∷ [], [], refl)
 onto_first-some b (part ∷ parts) = (b ∷ part, parts, refl)
@@ -25,11 +25,11 @@ split-some (b ∷ bs) =
       | inr other ↦ let some = onto_first-some b parts in (some.0, some.1, cond-false (b == line_feed) ([] ∷ parts) (onto_first b parts) other ∙ some.2)
     ]
 
--- the commands of a text from line `number` on
+-- the commands of the text that begins with line `number`
 abbrev pub read_from : ℕ → ℕ → List ℕ → Result (List Command) ScriptFault
 read_from version number text = read_lines version number (slice_split (λ b. b == line_feed) text)
 
--- what the first line says, and then the lines behind it
+-- the command of the first line, and then those of the lines after it
 abbrev pub read_first : ℕ → ℕ → List ℕ → List (List ℕ) → Result (List Command) ScriptFault
 read_first version number line parts = at_line number line (read_command version line) >>= (λ command. read_lines version (number + 1) parts >>= (λ commands. Ok (command ∷ commands)))
 
@@ -40,7 +40,7 @@ read_lines-first version number line text =
     let P : List (List ℕ) → Type 0 = λ parts. read_lines version number (line ∷ parts) ≡ read_first version number line parts in
     subst P (sym some.2) refl
 
--- a script is read from its first line on, which says the version
+-- a script is read from its first line on, which names the version
 pub read_script-first : (line text : List ℕ) → read_script (line ∷ slice_split (λ b. b == line_feed) text) ≡ (at_line 1 line (read_version line) >>= (λ version. read_from version 2 text))
 read_script-first line text =
     let some = split-some text in

@@ -1,4 +1,4 @@
--- Rising lists of numbers, as a filter of a range gives them, and how many of them are at most a number.
+-- Lists of rising numbers, such as a filter of a range gives, and how many of them are at most a given number.
 use Rattle.std.proofs.Common.{ℕ, zero, suc, ◌≡◌, ◌+◌, ◌-◌, ◌<◌, ◌≤◌, Bool, true, false, cond, List, [], ◌∷◌, ◌++◌, map, length, get_or, filter, count_by, Contains, leb, refl, ap, ◌∙◌, inl, inr, arith, le_refl, add-one, add_assoc, map-id, add-zero, zero-add}
 use Rattle.std.specs.List.{range_with_len}
 use Rattle.std.specs.List.Sorted.{IsStrictlyIncreasing}
@@ -8,7 +8,7 @@ use Rattle.std.proofs.lemmas.List.FromFn.{length-range_with_len, get_or-range_wi
 use Rattle.std.proofs.lemmas.List.Sums.{sum_by-cons, sum_by-le-sum_by, count_by-le-length}
 use Rattle.std.proofs.lemmas.Bool.Decides.{nat_tests}
 
--- each number is at least `low`, and above the one before it
+-- each number is at least `low`, and greater than the one before it
 abbrev pub Rises : ℕ → List ℕ → Type 0
 Rises low [] = Unit {0}
 Rises low (x ∷ xs) = (low ≤ x) × Rises (x + 1) xs
@@ -18,22 +18,22 @@ abbrev pub Climbs : ℕ → List ℕ → Type 0
 Climbs low [] = Unit {0}
 Climbs low (x ∷ xs) = (low ≤ x) × Climbs x xs
 
--- what rises from a number rises from a lower one
+-- a list that rises from a number rises from any lower one
 pub Rises_weaker : (low lower : ℕ) (xs : List ℕ) → lower ≤ low → Rises low xs → Rises lower xs
 Rises_weaker low lower [] h r = tt
 Rises_weaker low lower (x ∷ xs) h r = (omega arith, r.1)
 
--- what climbs from a number climbs from a lower one
+-- a list that climbs from a number climbs from any lower one
 pub Climbs_weaker : (low lower : ℕ) (xs : List ℕ) → lower ≤ low → Climbs low xs → Climbs lower xs
 Climbs_weaker low lower [] h r = tt
 Climbs_weaker low lower (x ∷ xs) h r = (omega arith, r.1)
 
--- what rises climbs
+-- a list that rises climbs
 pub Climbs_from_rises : (low : ℕ) (xs : List ℕ) → Rises low xs → Climbs low xs
 Climbs_from_rises low [] r = tt
 Climbs_from_rises low (x ∷ xs) r = (r.0, Climbs_weaker (x + 1) x xs (omega arith) (Climbs_from_rises (x + 1) xs r.1))
 
--- what passes a test, among numbers in a row, rises
+-- the numbers of a range that pass a test rise
 pub Rises-filter_range : (p : ℕ → Bool) (low n : ℕ) → Rises low (filter p (range_with_len low n))
 Rises-filter_range p low zero = tt
 Rises-filter_range p low (suc n) =
@@ -42,18 +42,18 @@ Rises-filter_range p low (suc n) =
     (λ _. (omega arith, rest))
     (λ _. Rises_weaker (low + 1) low (filter p (range_with_len (low + 1) n)) (omega arith) rest)
 
--- an element of a rising list is below the next
+-- an element of a rising list is below the next one
 pub increasing_at : (low : ℕ) (xs : List ℕ) (k : ℕ) → Rises low xs → k + 1 < length xs → get_or xs k 0 < get_or xs (k + 1) 0
 increasing_at low [] k r h = absurd (omega arith)
 increasing_at low (x ∷ []) k r h = absurd (omega arith)
 increasing_at low (x ∷ y ∷ xs) zero r h = omega (arith, r.1.0)
 increasing_at low (x ∷ y ∷ xs) (suc k) r h = rw add-one (rw add-one at (increasing_at (x + 1) (y ∷ xs) k r.1 (omega arith)))
 
--- a rising list in std's words
+-- a list that rises does so as std states it
 pub increasing_from_rises : (low : ℕ) (xs : List ℕ) → Rises low xs → IsStrictlyIncreasing xs
 increasing_from_rises low xs r = λ k h. increasing_at low xs k r h
 
--- a rising list, from std's words
+-- a list that rises as std states it does so here
 pub rises_from_increasing : (low : ℕ) (xs : List ℕ) → (0 < length xs → low ≤ get_or xs 0 0) → IsStrictlyIncreasing xs → Rises low xs
 rises_from_increasing low [] h r = tt
 rises_from_increasing low (x ∷ []) h r = (h (omega arith), tt)
@@ -64,7 +64,7 @@ rises_from_increasing low (x ∷ y ∷ xs) h r = (
 
 -- membership
 
--- an element of the rest is one of the whole
+-- an element of the rest of a list is one of the list
 pub Contains-there : (x y : ℕ) (xs : List ℕ) → Contains xs y → Contains (x ∷ xs) y
 Contains-there x y xs c = (suc c.0, omega (arith, c.1), c.2)
 
@@ -75,7 +75,7 @@ filter_has p (x ∷ xs) y (suc k) e h f =
     let rest : Contains (filter p xs) y = filter_has p xs y k e (omega arith) f in
     cond_both (p x) (x ∷ filter p xs) (filter p xs) (λ l. Contains l y) (λ _. Contains-there x y (filter p xs) rest) (λ _. rest)
 
--- an element that passes is kept
+-- an element that passes the test is kept by the filter
 pub Contains-filter : (p : ℕ → Bool) (xs : List ℕ) (y : ℕ) → p y ≡ true → Contains xs y → Contains (filter p xs) y
 Contains-filter p xs y e c = filter_has p xs y c.0 e c.1 c.2
 
@@ -87,7 +87,7 @@ Contains-range n y h =
 
 -- ranges
 
--- a range is its front and its rest
+-- a range is its front followed by its rest
 pub range-append : (a m n : ℕ) → range_with_len a (m + n) ≡ range_with_len a m ++ range_with_len (a + m) n
 range-append a zero n = rw (zero-add, add-zero)
 range-append a (suc m) n =
@@ -95,13 +95,13 @@ range-append a (suc m) n =
     let f : a + suc m ≡ (a + 1) + m = omega arith in
     rw (e, f) (ap (λ l. a ∷ l) (range-append (a + 1) m n))
 
--- a test that passes no number of a range
+-- if a test passes no number of a range, the filter is empty
 pub filter_range_none : (p : ℕ → Bool) (a n : ℕ) → ((k : ℕ) → a ≤ k → k < a + n → p k ≡ false) → filter p (range_with_len a n) ≡ []
 filter_range_none p a zero h = refl
 filter_range_none p a (suc n) h =
     rw (h a (omega arith) (omega arith)) (filter_range_none p (a + 1) n (λ k l m. h k (omega arith) (omega arith)))
 
--- a test that passes each number of a range, among those that another passes
+-- if a test passes each number of a range, filtering by it changes nothing
 pub filter_range_both : (p q : ℕ → Bool) (a n : ℕ) → ((k : ℕ) → a ≤ k → k < a + n → q k ≡ true) → filter q (filter p (range_with_len a n)) ≡ filter p (range_with_len a n)
 filter_range_both p q a zero h = refl
 filter_range_both p q a (suc n) h =
@@ -137,11 +137,11 @@ filter_range_agree p q a n h =
 
 -- how many numbers are at most x
 
--- a count takes the first element and the rest
+-- the count of a list is that of its first element and that of the rest
 pub count-cons : (p : ℕ → Bool) (x : ℕ) (xs : List ℕ) → count_by p (x ∷ xs) ≡ cond (p x) 1 0 + count_by p xs
 count-cons p x xs = sum_by-cons (λ y. cond (p y) 1 0) x xs
 
--- none is at most x where all are above it
+-- if all elements are greater than x, none is at most x
 pub count_none : (low x : ℕ) (xs : List ℕ) → Climbs low xs → x < low → count_by (λ s. leb s x) xs ≡ 0
 count_none low x [] r h = refl
 count_none low x (y ∷ ys) r h =
@@ -161,14 +161,14 @@ Climbs_at low [] k r h = absurd (omega arith)
 Climbs_at low (x ∷ xs) zero r h = r.0
 Climbs_at low (x ∷ xs) (suc k) r h = omega (arith, r.0, Climbs_at x xs k r.1 (omega arith))
 
--- of numbers that climb, those before the count are at most x
+-- in a climbing list, the elements before the count are at most x
 pub count_front : (low x : ℕ) (xs : List ℕ) (k : ℕ) → Climbs low xs → k < count_by (λ s. leb s x) xs → get_or xs k 0 ≤ x
 count_front low x [] k r h = absurd (omega arith)
 count_front low x (y ∷ ys) zero r h =
     elim (cases_lt x y) [ inl above ↦ absurd (omega (arith, count_none y x (y ∷ ys) (omega arith, r.1) above)) | inr below ↦ below ]
 count_front low x (y ∷ ys) (suc k) r h = count_front y x ys k r.1 (omega (arith, count_cons_le (λ s. leb s x) y ys))
 
--- .. and the others are above it
+-- .. and the others are greater than x
 pub count_back : (low x : ℕ) (xs : List ℕ) (k : ℕ) → Climbs low xs → count_by (λ s. leb s x) xs ≤ k → k < length xs → x < get_or xs k 0
 count_back low x [] k r h l = absurd (omega arith)
 count_back low x (y ∷ ys) zero r h l =
@@ -179,7 +179,7 @@ count_back low x (y ∷ ys) (suc k) r h l =
       | inr below ↦ count_back y x ys k r.1 (omega (arith, count_cons_yes (λ s. leb s x) y ys (le-leb y x below))) (omega arith)
     ]
 
--- .. and that fixes the count
+-- .. and this determines the count
 pub count_is : (low x : ℕ) (xs : List ℕ) (n : ℕ) → Climbs low xs → n ≤ length xs → (0 < n → get_or xs (n - 1) 0 ≤ x) → (n < length xs → x < get_or xs n 0) → count_by (λ s. leb s x) xs ≡ n
 count_is low x xs n r l front back =
     elim (cases_order (count_by (λ s. leb s x) xs) n) [
@@ -188,12 +188,12 @@ count_is low x xs n r l front back =
       | inr (inr more) ↦ absurd (omega (arith, back (omega (arith, count_by-le-length (λ s. leb s x) xs)), count_front low x xs n r more))
     ]
 
--- as many are at most the k-th element as k and one
+-- in a rising list, k + 1 elements are at most the element at k
 pub count_at : (low : ℕ) (xs : List ℕ) (k : ℕ) → Rises low xs → k < length xs → count_by (λ s. leb s (get_or xs k 0)) xs ≡ k + 1
 count_at low xs k r h =
     let e : k + 1 - 1 ≡ k = omega arith in
     count_is low (get_or xs k 0) xs (k + 1) (Climbs_from_rises low xs r) (omega arith) (λ _. rw e (le_refl (get_or xs k 0))) (λ l. increasing_at low xs k r l)
 
--- the count grows with the number
+-- the count does not fall as x grows
 pub count_monotone : (xs : List ℕ) (x y : ℕ) → x ≤ y → count_by (λ s. leb s x) xs ≤ count_by (λ s. leb s y) xs
 count_monotone xs x y h = sum_by-le-sum_by (λ s. cond (leb s x) 1 0) (λ s. cond (leb s y) 1 0) xs (λ s. grind (arith, nat_tests))

@@ -1,19 +1,19 @@
--- How long a step leaves a text, that it does with the bytes of cells what it does with cells, and that styles are no bytes.
+-- The length of the text after a step; the bytes of edited cells; a change of styles changes no byte.
 use Rattle.std.proofs.Common.{ℕ, ◌≡◌, ◌+◌, ◌-◌, ◌≤◌, min, List, [], ◌∷◌, ◌++◌, length, take, drop, refl, sym, ap, ◌∙◌, arith}
 use Rattle.std.proofs.lemmas.List.{length-append, length-take, length-drop, map-append, take-map, drop-map, take-append-drop}
 use Rattle.ed_model.specs.Text.{Cell, bytes_of, plain_cells}
 use Rattle.ed_model.specs.Changes.{restyled}
 use Rattle.ed_model.specs.Steps.{Step, Insert, Delete, edited, edited_cells}
 
--- an insertion makes a text longer by its bytes
+-- an insertion lengthens the text by the inserted bytes
 pub length-inserted : (p : ℕ) (bytes text : List ℕ) → length (edited (Insert p bytes) text) ≡ length text + length bytes
 length-inserted p bytes text = simp (length-append, length-take, length-drop) (omega arith)
 
--- a deletion leaves what stands before and behind it
+-- a deletion leaves the bytes before and after its range
 pub length-deleted : (p : ℕ) (bytes text : List ℕ) → length (edited (Delete p bytes) text) ≡ min p (length text) + (length text - (p + length bytes))
 length-deleted p bytes text = simp (length-append, length-take, length-drop)
 
--- a deletion of bytes that are there makes a text shorter by them
+-- a deletion of bytes that are there shortens the text by them
 pub length-deleted_within : (p : ℕ) (bytes text : List ℕ) → p + length bytes ≤ length text → length (edited (Delete p bytes) text) ≡ length text - length bytes
 length-deleted_within p bytes text h = omega (arith, length-deleted p bytes text)
 
@@ -21,18 +21,18 @@ bytes_of_plain : (bytes : List ℕ) → bytes_of (plain_cells bytes) ≡ bytes
 bytes_of_plain [] = refl
 bytes_of_plain (b ∷ bs) = ap (λ l. b ∷ l) (bytes_of_plain bs)
 
--- a step does with the bytes of cells what it does with cells
+-- the bytes of the edited cells are the edited bytes
 pub bytes_of_edited_cells : (step : Step) (cells : List Cell) → bytes_of (edited_cells step cells) ≡ edited step (bytes_of cells)
 bytes_of_edited_cells (Insert p bytes) cells = simp (map-append, take-map, drop-map, bytes_of_plain)
 bytes_of_edited_cells (Delete p bytes) cells = simp (map-append, take-map, drop-map)
 
--- cells that get other styles keep their bytes
+-- cells that get new styles keep their bytes
 bytes_of_restyled : (styles : List ℕ) (cells : List Cell) → bytes_of (restyled styles cells) ≡ bytes_of cells
 bytes_of_restyled [] cells = refl
 bytes_of_restyled (s ∷ ss) [] = refl
 bytes_of_restyled (s ∷ ss) (c ∷ cells) = ap (λ rest. c.byte ∷ rest) (bytes_of_restyled ss cells)
 
--- .. and so where only those from a place on get them
+-- .. also if only the cells from a place on get new styles
 pub bytes_behind_restyled : (n : ℕ) (styles : List ℕ) (cells : List Cell) → bytes_of (take n cells ++ restyled styles (drop n cells)) ≡ bytes_of cells
 bytes_behind_restyled n styles cells =
     map-append (λ (c : Cell). c.byte) (take n cells) (restyled styles (drop n cells))

@@ -1,4 +1,4 @@
--- The lemmas hold of rows of any kind.
+-- The lemmas hold for rows of any type.
 use Rattle.ed_model.proofs.NearLemmas.{step_carries_by_walking, step_carries_nearby, empty_text_has_a_fresh_row}
 use Rattle.ed_model.proofs.carry_laws.rows_after_a_step.Goals as goal
 

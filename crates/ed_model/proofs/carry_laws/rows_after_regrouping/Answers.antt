@@ -1,4 +1,4 @@
--- The lemma holds of rows of any kind.
+-- The lemma holds for rows of any type.
 use Rattle.ed_model.proofs.NearLemmas.{regrouping_carries_by_walking}
 use Rattle.ed_model.proofs.carry_laws.rows_after_regrouping.Goals as goal
 

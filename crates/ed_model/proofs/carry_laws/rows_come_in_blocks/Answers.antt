@@ -1,4 +1,4 @@
--- The lemmas hold of rows of any kind.
+-- The lemmas hold for rows of any type.
 use Rattle.ed_model.proofs.RowLemmas.{places_on_one_line, rows_come_in_blocks, lines_without_old_row, carries_by_walking}
 use Rattle.ed_model.proofs.carry_laws.rows_come_in_blocks.Goals as goal
 

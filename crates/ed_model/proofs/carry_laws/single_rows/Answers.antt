@@ -1,4 +1,4 @@
--- The lemmas hold of rows of any kind.
+-- The lemmas hold for rows of any type.
 use Rattle.ed_model.proofs.RowLemmas.{rows_of_lines_that_stay, one_line_comes, one_line_goes}
 use Rattle.ed_model.proofs.carry_laws.single_rows.Goals as goal
 

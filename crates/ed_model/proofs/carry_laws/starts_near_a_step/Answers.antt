@@ -1,4 +1,4 @@
--- Each clause is a lemma on the starts about a step.
+-- Each clause is a lemma on the line starts near a step.
 use Rattle.ed_model.specs.proved.Neighbours.{first_line_about_is, first_line_behind_is}
 use Rattle.ed_model.proofs.NearLemmas.{starts_after_step, lines_about_in_range, some_start_about, starts_change_nearby}
 use Rattle.ed_model.proofs.carry_laws.starts_near_a_step.Goals as goal

@@ -1,4 +1,4 @@
--- The lemmas hold of rows of any kind.
+-- The lemmas hold for rows of any type.
 use Rattle.ed_model.proofs.CarryLemmas.{length-carried, length-carried_by, length-regrouped}
 use Rattle.ed_model.proofs.line_laws.rows_match_lines.Goals as goal
 

@@ -1,4 +1,4 @@
--- Each clause is a lemma on where lines start.
+-- Each clause is a lemma on line starts.
 use Rattle.ed_model.specs.proved.Lines.{some_line, first_line_start, line_starts_increase, line_starts_in_range, start_from_contains, contains_from_start, local_start, moved_start_test}
 use Rattle.ed_model.proofs.line_laws.starts_of_lines.Goals as goal
 

@@ -1,4 +1,4 @@
--- Each clause is a lemma on line starts under a change.
+-- Each clause is a lemma on line starts after a change.
 use Rattle.ed_model.specs.proved.Neighbours.{starts_after_insertion, starts_after_deletion, starts_about_insertion, starts_about_deletion}
 use Rattle.ed_model.proofs.neighbour_laws.starts_after_a_step.Goals as goal
 
