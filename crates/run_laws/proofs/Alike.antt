@@ -1,4 +1,4 @@
--- Lists of views that are alike: of the same ids and documents, and the same views of the documents that `Own` tells of.
+-- Two lists of views that are alike: the ids and documents are the same, and the views of documents for which `Own` holds are equal.
 use Rattle.std.proofs.Common.{◌≡◌, ℕ, ◌+◌, ◌<◌, ◌≤◌, Bool, true, false, cond, List, [], ◌∷◌, map, refl, ap, sym, ◌∙◌, subst, arith, Option, Some, None}
 use Rattle.std.specs.Prelude.{◌==◌, filter_map, option_map}
 use Rattle.std.specs.List.{AllByRecursion, cons_option}
@@ -47,19 +47,19 @@ module _ (Own : ℕ → Type 0) where
     alike_through vs ws xs h.1 k.1,
   )
 
-  -- views changed one by one, where those that `Own` tells of stay
+  -- views that are changed one by one, such that those for which `Own` holds stay
   pub alike_changed : (P : View → Type 0) (f : View → View) → ((v : View) → P v → IsAlike v (f v)) → (vs : List View) → AllByRecursion P vs → AreAlike vs (map f vs)
   alike_changed P f h [] all = tt
   alike_changed P f h (v ∷ vs) all = (h v all.0, alike_changed P f h vs all.1)
 
-  -- both lists changed in one way
+  -- the same change of both lists
   pub alike_both : (f : View → View) → ((v w : View) → IsAlike v w → IsAlike (f v) (f w)) → (vs ws : List View) → AreAlike vs ws → AreAlike (map f vs) (map f ws)
   alike_both f h [] [] k = tt
   alike_both f h [] (w ∷ ws) k = k
   alike_both f h (v ∷ vs) [] k = k
   alike_both f h (v ∷ vs) (w ∷ ws) k = (h v w k.0, alike_both f h vs ws k.1)
 
-  -- a change that keeps id and document
+  -- a change that keeps ids and documents
   pub alike_kept : (f : View → View) → ((v : View) → (f v).id ≡ v.id) → ((v : View) → (f v).document ≡ v.document) → (v w : View) → IsAlike v w → IsAlike (f v) (f w)
   alike_kept f id document v w h = record {
     id = id w ∙ h.id ∙ sym (id v);
@@ -67,7 +67,7 @@ module _ (Own : ℕ → Type 0) where
     own = λ o. ap f (h.own (subst Own (document v) o));
   }
 
-  -- what is found in both
+  -- the results of a look-up in both lists
   abbrev pub FoundAlike : Option View → Option View → Type 0
   FoundAlike None None = Unit {0}
   FoundAlike None (Some w) = ⊥
@@ -101,14 +101,14 @@ module _ (Own : ℕ → Type 0) where
       go None (Some w) k f = absurd k
       go (Some x) p k f = absurd (cc)
 
-  -- which views have an id, and the document, stays
+  -- which views exist, and on which documents, stays
   pub kept_on : (P : ℕ → ℕ → Type 0) (vs ws : List View) → AreAlike vs ws → AllByRecursion (λ (v : View). P v.id v.document) vs → AllByRecursion (λ (v : View). P v.id v.document) ws
   kept_on P [] [] h all = tt
   kept_on P [] (w ∷ ws) h all = absurd h
   kept_on P (v ∷ vs) [] h all = absurd h
   kept_on P (v ∷ vs) (w ∷ ws) h all = (subst (λ n. P n w.document) (sym h.0.id) (subst (P v.id) (sym h.0.document) all.0), kept_on P vs ws h.1 all.1)
 
--- what the views of one document are
+-- the views of one document are equal
 pub views_on_alike : (id : ℕ) (vs ws : List View) → AreAlike (λ n. n ≡ id) vs ws → views_on id vs ≡ views_on id ws
 views_on_alike id [] [] h = refl
 views_on_alike id [] (w ∷ ws) h = absurd h
@@ -121,14 +121,14 @@ views_on_alike id (v ∷ vs) (w ∷ ws) h =
     go true t k = let same : w ≡ v = h.0.own (eqb-true v.document id t) in ap (λ x. x ∷ views_on id vs) (sym same) ∙ ap (λ xs. w ∷ xs) k
     go false t k = k
 
--- listed views are heard alike
+-- a document's list of views gives the same views in both lists
 pub watching_alike : (id : ℕ) (vs ws : List View) (ids : List ℕ) → AreAlike (λ n. n ≡ id) vs ws → AllByRecursion (IsViewOn vs id) ids → filter_map (view_at ws) ids ≡ filter_map (view_at vs) ids
 watching_alike id vs ws [] h all = refl
 watching_alike id vs ws (k ∷ ks) h all =
     let here = own_found (λ n. n ≡ id) vs ws k all.0.0 h all.0.1 all.0.2 in
     ap (λ (o : Option View). cons_option o (filter_map (view_at ws) ks)) (here ∙ sym all.0.1) ∙ ap (cons_option (view_at vs k)) (watching_alike id vs ws ks h all.1)
 
--- views changed one by one are found changed
+-- a look-up after a change of all views finds the changed view
 pub changed_found : (f : View → View) → ((v : View) → (f v).id ≡ v.id) → (vs : List View) (id : ℕ) → view_at (map f vs) id ≡ option_map f (view_at vs id)
 changed_found f same [] id = refl
 changed_found f same (v ∷ vs) id = ap (λ n. cond (n == id) (Some (f v)) (view_at (map f vs) id)) (same v) ∙ go (v.id == id) (changed_found f same vs id)
@@ -137,7 +137,7 @@ changed_found f same (v ∷ vs) id = ap (λ n. cond (n == id) (Some (f v)) (view
     go true rest = refl
     go false rest = rest
 
--- Ids are given once.
+-- Each id is given once.
 
 none_above : (P : View → Type 0) (id low high : ℕ) (views : List View) → Rise low high (map (λ (v : View). v.id) views) → id < low → AllByRecursion (λ (v : View). v.id ≡ id → P v) views
 none_above P id low high [] r l = tt

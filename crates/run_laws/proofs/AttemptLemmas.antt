@@ -1,4 +1,4 @@
--- Each message that is marked E tells of an attempt, where there is something to edit in a read-only document: computed for all kinds at once.
+-- Each message marked E makes an attempt to edit a read-only document in which it has something to edit: computed for all kinds at once.
 use Rattle.std.proofs.Common.{◌≡◌, ℕ, Bool, true, false, cond, List, [], ◌∷◌, refl, subst, ◌∙◌, Option, Some, None}
 use Rattle.std.specs.Prelude.{◌==◌, find}
 use Rattle.std.specs.List.{list_all}
@@ -11,7 +11,7 @@ use Rattle.ed_model.specs.Session.{Session}
 use Rattle.ed_model.specs.Table.{table}
 use Rattle.run_laws.specs.EditLaws.{something_to_edit, with_ones, tells_attempt, MarkedMessagesTellAttempts}
 
--- What a test finds of all kinds, it finds of each.
+-- What a test finds for all kinds holds for each kind.
 
 of_found : (test sought : Kind → Bool) (ks : List Kind) (kind : Kind) → list_all test ks ≡ true → find sought ks ≡ Some kind → test kind ≡ true
 of_found test sought [] kind all e = absurd (cc)
@@ -33,7 +33,7 @@ of_group test (g ∷ gs) number kind all e =
     go (Some k) found f here later = here (found ∙ f)
     go None found f here later = later f
 
--- whether the message, if it is marked E, tells of an attempt in this session
+-- whether the message, if it is marked E, makes an attempt in this session
 abbrev tells_if_marked : Session → Kind → Bool
 tells_if_marked s kind = cond (marks_of kind).e (tells_attempt (table s 1 (with_ones kind))) true
 

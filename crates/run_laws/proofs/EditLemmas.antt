@@ -1,4 +1,4 @@
--- A message that is not marked E leaves every text, and tells of no attempt.
+-- A message that is not marked E leaves every text unchanged, and notifies no view of an attempt.
 use Rattle.std.proofs.Common.{◌≡◌, ℕ, Bool, true, false, cond, List, ◌∷◌, replicate, take, refl, ap, ◌∙◌, subst, Option, Some, None, Ok, Err}
 use Rattle.std.specs.Prelude.{◌≢◌, ◌&&◌}
 use Rattle.std.proofs.lemmas.Bool.{eqb-false, and_parts}
@@ -23,7 +23,7 @@ use Rattle.run_laws.proofs.NoteLemmas.{plans_have_codes}
 use Rattle.run_laws.proofs.Going.{own_after, AllFrom, From, AnsweredFrom, table_from}
 use Rattle.run_laws.proofs.SavePointLemmas.{text_styled}
 
--- no change of a document that is no edit changes its text
+-- a change of a document that is no edit keeps its text
 pub text_kept : (bytes : List ℕ) (change : DocumentChange) (d : Document) → text_of (changed_document bytes change d) ≡ text_of d
 text_kept bytes (document_change.StyleRun count style) d = text_styled (replicate count style) d
 text_kept bytes (document_change.StyleBytes count) d = text_styled (take count bytes) d
@@ -47,7 +47,7 @@ text_kept bytes (document_change.SetEndStyled place) d = refl
 text_kept bytes (document_change.NeedStyle start past) d = refl
 text_kept bytes (document_change.FillIndicator indicator start count value) d = refl
 
--- nor does a plan without the leave to edit
+-- so does a plan whose leave does not include edits
 own_text_kept : (r : Request) (p : Plan) (l : Leave) → l.edits ≡ false → KeepsTo l p → text_of (own_after r p) ≡ text_of r.document
 own_text_kept r (plan.Edit change value after) l barred keeps = let may = (and_parts l.edits (may_follow l after) keeps).0 in absurd (cc)
 own_text_kept r plan.Attempt l barred keeps = refl
@@ -97,7 +97,7 @@ abbrev SilentOnAttempts : Answered → Type 0
 SilentOnAttempts (Ok done) = TellsNoAttempt done.1
 SilentOnAttempts (Err refusal) = Unit {0}
 
--- the note of recording is another one
+-- SCN_MACRORECORD is another note
 attempts_if_recorded : (b : Bool) (r : Request) (reply : Response) → TellsNoAttempt reply → TellsNoAttempt (cond b (record reply { notes = record_note r ∷ reply.notes }) reply)
 attempts_if_recorded true r reply h = (eqb-false notes.macro_record notes.modify_attempt refl, h)
 attempts_if_recorded false r reply h = h

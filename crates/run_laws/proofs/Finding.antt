@@ -1,4 +1,4 @@
--- Documents and views found by their ids, in lists of them.
+-- Look-up of documents and views by id.
 use Rattle.std.proofs.Common.{◌≡◌, ℕ, ◌+◌, ◌<◌, ◌≤◌, Bool, true, false, cond, List, [], ◌∷◌, ◌++◌, map, refl, ap, sym, ◌∙◌, subst, arith, Some}
 use Rattle.std.specs.Prelude.{◌==◌, find, nat_lt, option_map}
 use Rattle.std.specs.List.{AllByRecursion}
@@ -12,7 +12,7 @@ pub either : {A : Type 0} (P : A → Type 0) (b : Bool) (x y : A) → P x → P 
 either P true x y h k = h
 either P false x y h k = k
 
--- what is found passes the test
+-- an element that is found passes the test
 pub found_test : {X : Type 0} (test : X → Bool) (xs : List X) (x : X) → find test xs ≡ Some x → test x ≡ true
 found_test test [] x e = absurd (cc)
 found_test {X} test (y ∷ ys) x e = go (test y) refl e (λ e. found_test test ys x e)
@@ -21,7 +21,7 @@ found_test {X} test (y ∷ ys) x e = go (test y) refl e (λ e. found_test test y
     go true t e rest = let same : y ≡ x = cc in subst (λ z. test z ≡ true) same t
     go false t e rest = rest e
 
--- and has what all have
+-- .. and has what all elements have
 pub found_all : {X : Type 0} (P : X → Type 0) (test : X → Bool) (xs : List X) (x : X) → AllByRecursion P xs → find test xs ≡ Some x → P x
 found_all P test [] x all e = absurd (cc)
 found_all {X} P test (y ∷ ys) x all e = go (test y) e (λ e. found_all P test ys x all.1 e)
@@ -36,7 +36,7 @@ document_id ds id d e = eqb-true d.id id (found_test (λ (d : Document). d.id ==
 pub view_id : (vs : List View) (id : ℕ) (v : View) → view_at vs id ≡ Some v → v.id ≡ id
 view_id vs id v e = eqb-true v.id id (found_test (λ (v : View). v.id == id) vs v e)
 
--- A document put in its place.
+-- One document replaced.
 
 pub replaced_found : (ds : List Document) (old new : Document) → document_at ds new.id ≡ Some old → document_at (with_document new ds) new.id ≡ Some new
 replaced_found [] old new e = absurd (cc)
@@ -61,7 +61,7 @@ replaced_other (d ∷ ds) new id ne = go (d.id == new.id) refl (replaced_other d
         rw (a, b) e
     go false t e = rw e refl
 
--- Documents changed one by one.
+-- Documents that are changed one by one.
 
 pub mapped_at : (g : Document → Document) → ((d : Document) → (g d).id ≡ d.id) → (ds : List Document) (id : ℕ) → document_at (map g ds) id ≡ option_map g (document_at ds id)
 mapped_at g same [] id = refl
@@ -78,7 +78,7 @@ mapped_ids g same (d ∷ ds) = ap (λ n. n ∷ map (λ (x : Document). x.id) (ma
 
 -- Ids rise.
 
--- found in rising documents, an id is not below them
+-- the id of a document in a rising list is at least the list's bound
 rise_found : (low high : ℕ) (ds : List Document) (id : ℕ) (d : Document) → Rise low high (map (λ (x : Document). x.id) ds) → document_at ds id ≡ Some d → low ≤ id
 rise_found low high [] id d rise e = cc
 rise_found low high (x ∷ xs) id d rise e = go (x.id == id) refl e (λ f. rise_found (x.id + 1) high xs id d rise.2 f)
@@ -87,7 +87,7 @@ rise_found low high (x ∷ xs) id d rise e = go (x.id == id) refl e (λ f. rise_
     go true t f rest = let same = eqb-true x.id id t in let first : low ≤ x.id = rise.0 in omega arith
     go false t f rest = let first : low ≤ x.id = rise.0 in let later : x.id + 1 ≤ id = rest f in omega arith
 
--- and it is below the next one
+-- .. and below the next id
 pub found_below : (low high : ℕ) (ds : List Document) (id : ℕ) (d : Document) → Rise low high (map (λ (x : Document). x.id) ds) → document_at ds id ≡ Some d → id < high
 found_below low high [] id d rise e = cc
 found_below low high (x ∷ xs) id d rise e = go (x.id == id) refl e (λ f. found_below (x.id + 1) high xs id d rise.2 f)
@@ -96,7 +96,7 @@ found_below low high (x ∷ xs) id d rise e = go (x.id == id) refl e (λ f. foun
     go true t f rest = let same = eqb-true x.id id t in let first : x.id < high = rise.1 in omega arith
     go false t f rest = rest f
 
--- what lives was there, as it is
+-- a document that still has a reference was in the list before, unchanged
 pub living_from : (low high : ℕ) (ds : List Document) (id : ℕ) (d : Document) → Rise low high (map (λ (x : Document). x.id) ds) → document_at (living ds) id ≡ Some d → document_at ds id ≡ Some d
 living_from low high [] id d rise e = e
 living_from low high (x ∷ xs) id d rise e = go (nat_lt 0 (references x)) e (λ f. living_from (x.id + 1) high xs id d rise.2 f)
@@ -113,12 +113,12 @@ living_from low high (x ∷ xs) id d rise e = go (nat_lt 0 (references x)) e (λ
     go true f rest = first (x.id == id) rest f
     go false f rest = later (x.id == id) refl (rise_found (x.id + 1) high xs id d rise.2 (rest f)) (rest f)
 
--- a document with the next id comes last
+-- a document with the next id is added last
 pub rise_pushed : (low next : ℕ) (ds : List Document) (new : Document) → low ≤ next → new.id ≡ next → Rise low next (map (λ (x : Document). x.id) ds) → Rise low (next + 1) (map (λ (x : Document). x.id) (ds ++ new ∷ []))
 rise_pushed low next [] new le same rise = (omega arith, omega arith, tt)
 rise_pushed low next (d ∷ ds) new le same rise =
     let here : d.id < next = rise.1 in (rise.0, omega arith, rise_pushed (d.id + 1) next ds new (omega arith) same rise.2)
 
--- what is found with one pushed is there before or is that one
+-- a look-up after one document is added finds one of the documents before, or the added one
 pub pushed_at : (ds : List Document) (new : Document) (id : ℕ) → document_at (ds ++ new ∷ []) id ≡ option_or (document_at ds id) (document_at (new ∷ []) id)
 pushed_at ds new id = find-append (λ (x : Document). x.id == id) ds (new ∷ [])

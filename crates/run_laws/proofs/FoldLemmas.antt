@@ -1,4 +1,4 @@
--- Fold parents, a line at a time, and how many visible lines stand before one.
+-- Fold parents, found line by line, and the number of visible lines before a line.
 use Rattle.std.proofs.Common.{◌≡◌, ℕ, zero, suc, ◌+◌, ◌-◌, ◌<◌, ◌≤◌, Bool, true, false, cond, List, [], ◌∷◌, ◌++◌, length, filter, reverse, unwrap_or, slice_get, Option, Some, None, inl, inr, refl, ap, subst, ◌∙◌, sym, arith, zero-add, append-nil, length-append, nat_lt}
 use Rattle.std.specs.Prelude.{find}
 use Rattle.std.specs.List.{range_with_len}
@@ -13,7 +13,7 @@ use Rattle.ed_model.specs.proved.Lists.{slice_get_append_right}
 use Rattle.ed_model.specs.proved.Rising.{range-append}
 use Rattle.run_laws.specs.FoldLaws.{parents_from, FoldParentsAreAChain, FoldParentIsTheNearestHeader, LinesWithoutParent, DisplayLinesCountVisibleLines, VisibleLinesAreShown, HiddenLinesHaveThatBefore}
 
--- Fold parents are sought from a line back.
+-- The search for a fold parent goes back from the line.
 
 reverse_more : (m : ℕ) → reverse (range_with_len 0 (m + 1)) ≡ m ∷ reverse (range_with_len 0 m)
 reverse_more m =
@@ -40,7 +40,7 @@ among levels line (suc m) =
 pub fold_parents_are_a_chain : FoldParentsAreAChain
 fold_parents_are_a_chain levels line = among levels line line
 
--- What is found among the lines before one is the nearest there, and nothing is found only where nothing is there.
+-- The header that is found is the nearest one, and none is found only if there is none.
 
 abbrev NoneFrom : List ℕ → ℕ → ℕ → ℕ → Type 0
 NoneFrom levels line first past = (k : ℕ) → first < k → k < past → is_parent_of levels line k ≡ false
@@ -49,7 +49,7 @@ abbrev IsFound : List ℕ → ℕ → ℕ → Option ℕ → Type 0
 IsFound levels line m None = (k : ℕ) → k < m → is_parent_of levels line k ≡ false
 IsFound levels line m (Some parent) = (parent < m) × (is_parent_of levels line parent ≡ true) × NoneFrom levels line parent m
 
--- one more line that was looked at
+-- one more line is searched
 found_next : (levels : List ℕ) (line m : ℕ) (b : Bool) (o : Option ℕ) → is_parent_of levels line m ≡ b → IsFound levels line m o → IsFound levels line (suc m) (cond b (Some m) o)
 found_next levels line m true o e h = (omega arith, e, λ k a c. absurd (omega arith))
 found_next levels line m false None e h = λ k c.
@@ -99,7 +99,7 @@ hidden_lines_have_that_before flags line some h e =
     let back : line - 1 + 1 ≡ line = omega arith in
     ap (λ n. n - 1) (count_by_more_no (λ (f : Flags). f.visible) flags line fresh_flags h e) ∙ ap (λ k. visible_before flags k - 1) (sym back)
 
--- The lines that are shown, up to a line and behind it.
+-- The visible lines up to a line and after it.
 
 filtered_more : (test : ℕ → Bool) (k : ℕ) (b : Bool) → test k ≡ b → filter test (range_with_len 0 (k + 1)) ≡ filter test (range_with_len 0 k) ++ cond b (k ∷ []) []
 filtered_more test k b e =
@@ -122,7 +122,7 @@ shown_before flags (suc k) h =
         ap length (filtered_more (is_visible flags) k false e ∙ append-nil (filter (is_visible flags) (range_with_len 0 k))) ∙ front
         ∙ sym (count_by_more_no (λ (f : Flags). f.visible) flags k fresh_flags (omega arith) e)
 
--- the visible lines before a visible line, that line, and those behind it
+-- the visible lines: those before a visible line, that line, and those after it
 shown_around : (flags : List Flags) (line m : ℕ) → is_visible flags line ≡ true
     → filter (is_visible flags) (range_with_len 0 (line + suc m))
     ≡ filter (is_visible flags) (range_with_len 0 line) ++ line ∷ filter (is_visible flags) (range_with_len (line + 1) m)

@@ -1,5 +1,5 @@
--- How each document goes on, message by message: as the plan of its own view makes it, or as it was. `Goes` says how a document
--- may go on; which views are attached to it, and how many references callers hold, do not count.
+-- How a message changes each document: that of its own view changes by the plan, and the others stay. `Goes` says which changes
+-- are allowed; the views attached to a document, and the number of references that callers hold, do not count.
 use Rattle.std.proofs.Common.{◌≡◌, ℕ, ◌+◌, ◌≤◌, ◌==◌, nat_lt, cond, Bool, true, false, List, [], ◌∷◌, ◌++◌, length, map, refl, ap, ◌∙◌, sym, subst, arith, Option, Some, None, Result, Ok, Err}
 use Rattle.std.specs.Prelude.{option_map, ◌||◌, nat_le}
 use Rattle.std.specs.Option.{option_or}
@@ -40,7 +40,7 @@ own_after r plan.Redo = (transaction_performed notes.performed_redo (redo_change
 own_after r (plan.ChangeDocument change value) = changed_document r.message.text change r.document
 own_after r other = r.document
 
--- It keeps its id.
+-- A plan keeps the document's id.
 
 steps_made_id : (later : Bool) (steps : List Step) (scene : Scene) → (steps_made later steps scene).document.id ≡ scene.document.id
 steps_made_id later [] scene = refl
@@ -97,13 +97,13 @@ own_id r plan.Attempt = refl
 own_id r (plan.ChangeView change value) = refl
 own_id r (plan.ChangeSession change value) = refl
 
--- a document that was made new, with whichever views and references
+-- a new document, with any views and references
 abbrev pub IsMadeNew : Document → Type 0
 IsMadeNew e = (options : ℕ) × (e ≡ record (new_document e.id options) { views = e.views; held_by_callers = e.held_by_callers })
 
 module _ (Goes : Document → Document → Type 0) (same : (d : Document) → Goes d d)
     (relisted : (d e : Document) (views : List ℕ) (held_by_callers : ℕ) → Goes d e → Goes d (record e { views = views; held_by_callers = held_by_callers })) where
-  -- a document goes on from what it was, or it was made new, with an id from the next one on
+  -- a document is the result of an allowed change, or it is new, with an id from the next one on
   abbrev pub From : ℕ → Option Document → Document → Type 0
   From next None e = (next ≤ e.id) × IsMadeNew e
   From next (Some d) e = Goes d e
@@ -114,7 +114,7 @@ module _ (Goes : Document → Document → Type 0) (same : (d : Document) → Go
   pub all_same : (next : ℕ) (ds : List Document) → AllFrom next ds ds
   all_same next ds id e f = subst (λ (o : Option Document). From next o e) (sym f) (same e)
 
-  -- one document replaced by one that goes on from it
+  -- one document replaced by the result of an allowed change
   pub all_replaced : (next : ℕ) (ds : List Document) (old new : Document) → document_at ds new.id ≡ Some old → Goes old new → AllFrom next ds (with_document new ds)
   all_replaced next ds old new found goes id e f = go (id == new.id) refl
     where
@@ -133,7 +133,7 @@ module _ (Goes : Document → Document → Type 0) (same : (d : Document) → Go
   from_relisted next None e views held_by_callers h = (h.0, (h.1.0, ap (λ (x : Document). record x { views = views; held_by_callers = held_by_callers }) h.1.1))
   from_relisted next (Some d) e views held_by_callers h = relisted d e views held_by_callers h
 
-  -- documents whose views and references change
+  -- documents of which the views and references change
   pub all_mapped : (next : ℕ) (ds es : List Document) (views : Document → List ℕ) (held_by_callers : Document → ℕ) → AllFrom next ds es
       → AllFrom next ds (map (λ (d : Document). record d { views = views d; held_by_callers = held_by_callers d }) es)
   all_mapped next ds es views held_by_callers h id e f = go (document_at es id) refl (sym (mapped_at (λ (d : Document). record d { views = views d; held_by_callers = held_by_callers d }) (λ d. refl) es id) ∙ f)
@@ -153,7 +153,7 @@ module _ (Goes : Document → Document → Type 0) (same : (d : Document) → Go
       let g : Document → Document = λ (d : Document). record d { views = views d; held_by_callers = held_by_callers d } in
       all_living next ds (map g es) 0 high (subst (Rise 0 high) (sym (mapped_ids g (λ d. refl) es)) rise) (all_mapped next ds es views held_by_callers h)
 
-  -- a new document comes last
+  -- a new document is added last
   pub all_pushed : (next : ℕ) (ds : List Document) (new : Document) → next ≤ new.id → IsMadeNew new → AllFrom next ds (ds ++ new ∷ [])
   all_pushed next ds new le made id e f = go (document_at ds id) (sym (pushed_at ds new id) ∙ f)
     where
@@ -165,7 +165,7 @@ module _ (Goes : Document → Document → Type 0) (same : (d : Document) → Go
       go None g = alone (new.id == id) g
       go (Some x) g = let is : x ≡ e = cc in subst (λ (y : Document). From next (Some x) y) is (same x)
 
-  -- Relistings.
+  -- Changes of views and references.
 
   abbrev attached_views : ℕ → ℕ → Document → List ℕ
   attached_views view id d = (attached_last view id d).views
@@ -224,7 +224,7 @@ module _ (Goes : Document → Document → Type 0) (same : (d : Document) → Go
       subst (λ (es : List Document). AllFrom s.next_document s.documents (living es)) (sym (mapped_as (held_less id) _ (held_less_is id) s.documents))
       (all_relisted s.next_document s.documents s.documents (λ (d : Document). d.views) (λ (d : Document). (held_less id d).held_by_callers) s.next_document h.document_ids (all_same s.next_document s.documents))
 
-  -- What a plan does.
+  -- The documents after a plan.
 
   own_replaced : (r : Request) (new : Document) → IsSoundRequest r → new.id ≡ r.document.id → Goes r.document new → AllFrom r.session.next_document r.session.documents (with_document new r.session.documents)
   own_replaced r new h at goes =
@@ -262,11 +262,11 @@ module _ (Goes : Document → Document → Type 0) (same : (d : Document) → Go
   answered_from kind r (Err refusal) h fit goes = tt
   answered_from kind r (Ok what) h fit goes = performed_from r what h (goes what fit refl)
 
-  -- the request of a message to a sound session
+  -- the request of a message to a sound session, with its plan
   abbrev pub Sent : Session → ℕ → Message → Kind → Request → Plan → Type 0
   Sent s view m kind r p = IsSoundRequest r × (r.session ≡ s) × (view_at s.views view ≡ Some r.view) × (r.message ≡ m) × (kind_of m.number ≡ Some kind) × (plan_of kind r ≡ Ok p) × IsFitPlan r p
 
-  -- a message to a sound session lets all documents go on, if its plan lets its own
+  -- after a message to a sound session all documents are results of allowed changes, if its own is
   pub table_from : PlansFit → (s : Session) (view : ℕ) (m : Message) → IsSound s
       → ((kind : Kind) (r : Request) (p : Plan) → Sent s view m kind r p → Goes r.document (own_after r p)) → AnsweredFrom s (table s view m)
   table_from fits s view m sound goes =

@@ -1,4 +1,4 @@
--- A handle that has gone stays away.
+-- A handle that no marker has is never given again.
 use Rattle.std.proofs.Common.{◌≡◌, ℕ, ◌+◌, ◌≤◌, List, ap, ◌∙◌, sym, subst, arith, Some}
 use Rattle.ed_model.specs.declared.plan.DocumentChange.{DocumentChange}
 use Rattle.ed_model.specs.Steps.{Step}
@@ -13,7 +13,7 @@ use Rattle.run_laws.proofs.Finding.{document_id, found_below}
 use Rattle.run_laws.proofs.Going.{changed_id}
 use Rattle.run_laws.proofs.Invariants.{run_holds}
 
--- it has gone from the document of this id
+-- no marker of the document with this id has the handle
 abbrev GoneFrom : ℕ → ℕ → Document → Type 0
 GoneFrom id handle d = d.id ≡ id → IsGone handle d
 

@@ -1,4 +1,4 @@
--- The next ids, and the ids of documents and views, command by command.
+-- The next ids, and the ids of documents and views, after each command.
 use Rattle.std.proofs.Common.{◌≡◌, ℕ, ◌+◌, ◌≤◌, ◌<◌, nat_lt, cond, Bool, true, false, List, [], ◌∷◌, ◌++◌, length, map, refl, ap, ◌∙◌, sym, subst, arith, Option, Some, None, Result, Ok, Err}
 use Rattle.std.specs.Prelude.{◌==◌, find, filter, not, nat_le, ◌||◌, option_map}
 use Rattle.std.specs.Option.{option_or}
@@ -40,7 +40,7 @@ use Rattle.run_laws.proofs.Finding.{either, document_id}
 use Rattle.run_laws.proofs.TableWays.{of_table}
 use Rattle.run_laws.proofs.Going.{AllFrom, From, AnsweredFrom, OpenedFrom, ClosedFrom, table_from, opening_from, closing_from, all_same}
 
--- Documents: any change goes.
+-- Documents: any change is allowed.
 
 abbrev pub Any : Document → Document → Type 0
 Any d e = Unit {0}
@@ -167,7 +167,7 @@ lines_ids (document_change.StyleBytes count) d v = refl
 lines_ids (document_change.NeedStyle start past) d v = refl
 lines_ids (document_change.FillIndicator indicator start count value) d v = refl
 
--- the next ids do not fall, and the views keep theirs
+-- the next ids do not decrease, and the views keep their ids
 record Keeps (s t : Session) : Type 0 where
   documents : s.next_document ≤ t.next_document
   views : t.next_view ≡ s.next_view
@@ -257,7 +257,7 @@ loaded_keeps s view None file = tt
 loaded_keeps s view (Some v) None = tt
 loaded_keeps s view (Some v) (Some bytes) = message_keeps s view (set_text_message bytes)
 
--- Whether an id is among views hangs on their ids alone.
+-- Whether a view with an id exists depends only on the ids of the views.
 
 found_among : (views : List View) (id : ℕ) → option_map (λ (v : View). v.id) (view_at views id) ≡ find (λ n. n == id) (ids views)
 found_among [] id = refl
@@ -290,7 +290,7 @@ none_filtered gone (v ∷ vs) id none = go (v.id == id) refl none (λ n. none_fi
     go true t n rest = absurd (cc)
     go false t n rest = kept (v.id == gone) t (rest n)
 
--- What a command does: the next ids do not fall, and an id of no view stays so.
+-- After a command the next ids are not lower, and an id below the next one that no view had is still the id of none.
 record Goes (s t : Session) : Type 0 where
   next_document : s.next_document ≤ t.next_document
   next_view : s.next_view ≤ t.next_view

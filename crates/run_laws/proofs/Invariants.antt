@@ -1,4 +1,4 @@
--- What every change of a document keeps, holds of it in every state of a run.
+-- An invariant that every change of a document keeps holds for the document in every state of a run.
 use Rattle.std.proofs.Common.{◌≡◌, ℕ, ◌≤◌, nat_lt, cond, Bool, true, false, List, [], ◌∷◌, length, refl, arith, Option, Some, None, Result, Ok, Err}
 use Rattle.ed_types.specs.declared.message.Message.{Message}
 use Rattle.ed_types.specs.declared.refusal.Refusal.{Refusal}
@@ -24,8 +24,8 @@ use Rattle.run_laws.proofs.Finding.{either}
 use Rattle.run_laws.proofs.Going.{IsMadeNew, own_after, AllFrom, From, AnsweredFrom, OpenedFrom, ClosedFrom, table_from, opening_from, closing_from}
 use Rattle.run_laws.proofs.IdLemmas.{next_document_rises}
 
--- It holds of a document made new, whose id is at least `low`; steps, histories and other changes keep it, and it says nothing of which
--- views there are and how many references are held.
+-- `Holds` holds for a new document, whose id is at least `low`. Steps, changes of the history and all other changes keep it, and
+-- it does not depend on the views and the references of the document.
 module _ (Holds : Document → Type 0) (low : ℕ) (new : (e : Document) → low ≤ e.id → IsMadeNew e → Holds e)
     (relisted : (e : Document) (views : List ℕ) (held_by_callers : ℕ) → Holds e → Holds (record e { views = views; held_by_callers = held_by_callers }))
     (stepped : (step : Step) (d : Document) → Holds d → Holds (document_after step d))
@@ -121,7 +121,7 @@ module _ (Holds : Document → Type 0) (low : ℕ) (new : (e : Document) → low
   command_holds fits files (SendMessage view message) s h le all = message_holds s.session (table s.session view message) le (table_holds fits s.session view message h) all
   command_holds fits files (Expect value) s h le all = all
 
-  -- in a run from a session whose documents have it, and whose next id is at least `low`, all documents have it
+  -- in a run from a session in which all documents have it, and the next id is at least `low`, all documents have it at the end
   pub run_holds : PlansFit → CommandKeepsSound → (files : List (List ℕ)) (cs : List Command) (s : Running) → IsSound s.session → low ≤ s.session.next_document → OfAll s.session
       → OfAll (run_to files cs s).session
   run_holds fits keeps files [] s h le all = all

@@ -1,4 +1,4 @@
--- Two sessions that agree on a document: its own messages do the same to both, and others leave it in each.
+-- Two sessions that agree on a document: messages to its views do the same in both, and other messages leave it alone in each.
 use Rattle.std.proofs.Common.{◌≡◌, ℕ, ◌==◌, nat_lt, cond, Bool, true, false, List, [], ◌∷◌, ◌++◌, length, map, refl, ap, ◌∙◌, sym, subst, Option, Some, None, Ok, Err}
 use Rattle.std.specs.Prelude.{ℤ, pos, bit_or, reverse, option_map, not}
 use Rattle.std.specs.List.{AllByRecursion}
@@ -48,14 +48,14 @@ use Rattle.run_laws.proofs.LeavingLemmas.{Once, performed_leaves_views, performe
 abbrev Alike : ℕ → List View → List View → Type 0
 Alike id vs ws = AreAlike (λ n. n ≡ id) vs ws
 
--- Scenes of one document, with views that are alike.
+-- Two scenes of one document, with views that are alike.
 record SameScenes (id : ℕ) (a b : Scene) : Type 0 where
   document : b.document ≡ a.document
   notes : b.notes ≡ a.notes
   views : Alike id a.views b.views
   listed : AllByRecursion (IsViewOn a.views id) a.document.views
 
--- the second is the first with other views
+-- the second scene is the first with other views
 as_first : (id : ℕ) (a b : Scene) → SameScenes id a b → b ≡ record a { views = b.views }
 as_first id a b h =
     ap (λ (d : Document). record { document = d; views = b.views; notes = b.notes }) h.document
@@ -76,7 +76,7 @@ listed_after id f same on views (k ∷ ks) all =
 step_alike : (id : ℕ) (step : Step) (d : Document) (vs ws : List View) → Alike id vs ws → Alike id (map (view_after step d) vs) (map (view_after step d) ws)
 step_alike id step d vs ws h = alike_both (λ n. n ≡ id) (view_after step d) (alike_kept (λ n. n ≡ id) (view_after step d) (step_id step d) (step_document step d)) vs ws h
 
--- what is told of a step, to these views
+-- the notes of a step to these views
 abbrev step_told : ℕ → ℕ → List Notice → Step → Document → List Notice → List View → List Notice
 step_told before after between step d earlier views =
     earlier ++ notes.heard views (notes.before_note before step) ++ between
@@ -140,7 +140,7 @@ changes_same id who several lines_changed (c ∷ cs) a b h =
     (changes_performed who several (cond lines_changed true (changes_lines c d)) cs (change_performed who several (is_last cs) (cond lines_changed true (changes_lines c d)) c b))) (sym h.document)
     (changes_same id who several changed cs (change_performed who several (is_last cs) changed c a) (change_performed who several (is_last cs) changed c b) (change_same id who several (is_last cs) changed c a b h))
 
--- a transaction performed on both, from the history that the scene has
+-- a transaction performed in both scenes, with the same history afterwards
 transaction_same : (id who : ℕ) (cs : List Change) (new : History) (a b : Scene) → SameScenes id a b → SameScenes id (transaction_performed who cs new a) (transaction_performed who cs new b)
 transaction_same id who cs new a b h =
     let several = notes.bit_if (nat_lt 1 (length cs)) notes.multi_step in
@@ -168,7 +168,7 @@ record Agree (id : ℕ) (s t : Session) : Type 0 where
 agree_same : (id : ℕ) (s : Session) → Agree id s s
 agree_same id s = record { document = refl; views = all_alike (λ n. n ≡ id) s.views; clipboard = refl; limits = refl }
 
--- the first left as it was by another's message
+-- if a message leaves the document alone in the first session, the session after it still agrees with the second
 agree_left : (id : ℕ) (s u t : Session) → Agree id s u → Agree id s t → Agree id u t
 agree_left id s u t h k = record {
   document = k.document ∙ sym h.document;
@@ -198,7 +198,7 @@ followed_agree id view before (follow.Target start past) s t h =
     record { document = h.document; views = sender_alike id (λ (v : View). record v { target_start = start; target_end = past }) (λ v. refl) (λ v. refl) view s.views t.views h.views; clipboard = h.clipboard; limits = h.limits }
 followed_agree id view before (follow.Clipboard start count) s t h = record { document = h.document; views = h.views; clipboard = refl; limits = h.limits }
 
--- the same document put in its place in both
+-- the same replacement of the document in both sessions
 replaced_agree : (id : ℕ) (s t : Session) (old new new' : Document) → document_at s.documents id ≡ Some old → document_at t.documents id ≡ Some old → new.id ≡ id → new' ≡ new
     → document_at (with_document new' t.documents) id ≡ document_at (with_document new s.documents) id
 replaced_agree id s t old new new' in_s in_t is same =
@@ -207,7 +207,7 @@ replaced_agree id s t old new new' in_s in_t is same =
     ∙ replaced_found t.documents old new (ap (document_at t.documents) is ∙ in_t)
     ∙ sym (ap (document_at (with_document new s.documents)) (sym is) ∙ replaced_found s.documents old new (ap (document_at s.documents) is ∙ in_s))
 
--- a scene of the request that is the same, in the two sessions
+-- scenes that are the same, put back into the two sessions
 scenes_agree : (id : ℕ) (s t : Session) (old : Document) (a b : Scene) → Agree id s t → document_at s.documents id ≡ Some old → a.document.id ≡ id → SameScenes id a b
     → Agree id (session_of s a) (session_of t b)
 scenes_agree id s t old a b h found is same = record {
@@ -288,12 +288,12 @@ steps_of_same : (r : Request) (t : Session) (change : Edit) → t.clipboard ≡ 
 steps_of_same r t (edit.Replace start count from) e = ap (λ (bytes : List ℕ). replacement start count bytes (text r)) (source_same r t from e)
 steps_of_same r t (edit.ConvertLineEnds to) e = refl
 
--- what the plan does in both: the same reply, and sessions that agree
+-- the results of a plan in both sessions: equal replies, and sessions that agree
 record SameDone (id : ℕ) (a b : Session × Response) : Type 0 where
   reply : b.1 ≡ a.1
   sessions : Agree id a.0 b.0
 
--- a sound request of the document's own view
+-- a sound request of a view of the document
 record OwnRequest (id : ℕ) (r : Request) : Type 0 where
   is : r.document.id ≡ id
   found : document_at r.session.documents id ≡ Some r.document
@@ -368,7 +368,7 @@ performed_done id r t (plan.ChangeSession (session_change.Create options) value)
 performed_done id r t (plan.ChangeSession (session_change.AddReference d) value) l barred keeps own h = absurd (cc)
 performed_done id r t (plan.ChangeSession (session_change.Release d) value) l barred keeps own h = absurd (cc)
 
--- Messages of the document's own views.
+-- Messages to views of the document.
 
 abbrev SameAnswer : ℕ → Answered → Answered → Type 0
 SameAnswer id (Ok a) (Ok b) = SameDone id a b
@@ -417,7 +417,7 @@ from_kind_same : (id : ℕ) (s t : Session) (v : View) (m : Message) (o : Option
 from_kind_same id s t v m None barred sound on h = refl
 from_kind_same id s t v m (Some kind) barred sound on h = kind_same id s t v kind m (barred kind refl) sound on h
 
--- a message to a view of the document, or to none
+-- a message to a view of the document, or to no view
 own_message : (id : ℕ) (s t : Session) (view : ℕ) (m : Message) → ((kind : Kind) → kind_of m.number ≡ Some kind → is_about_documents kind ≡ false) → IsSound s
     → ((v : View) → view_at s.views view ≡ Some v → v.document ≡ id) → Agree id s t → SameAnswer id (table s view m) (table t view m)
 own_message id s t view m barred sound on h = go (view_at s.views view) refl
@@ -431,7 +431,7 @@ own_message id s t view m barred sound on h = go (view_at s.views view) refl
         (subst (λ (o : Option View). SameAnswer id (table_from_kind s v m (kind_of m.number)) (table_from_view t m o)) (sym (own_found (λ n. n ≡ id) s.views t.views view v h.views e (on v e)))
         (from_kind_same id s t v m (kind_of m.number) barred sound (on v e) h))
 
--- Messages of other views.
+-- Messages to views of other documents.
 
 once_of : (s : Session) (view : ℕ) (v : View) → IsSound s → view_at s.views view ≡ Some v → Once v.id v.document s.views
 once_of s view v sound sees =
@@ -442,7 +442,7 @@ once_of s view v sound sees =
     turn [] all = tt
     turn (w ∷ ws) all = ((λ e. ap (λ (x : View). x.document) (all.0 (e ∙ view_id s.views view v sees))), turn ws all.1)
 
--- the views stay those of their documents
+-- each view stays on its document
 abbrev Placed : List View → List View → Type 0
 Placed vs ws = AreAlike (λ n. ⊥) vs ws
 
@@ -478,7 +478,7 @@ others_message id s view m barred sound other =
           limits = performed_leaves_limits r p (leave_of kind) none.0 shaped;
         }
 
--- Who goes elsewhere stays so.
+-- A message that goes to another document's view still does so after other messages.
 
 elsewhere_stays : (id k : ℕ) (vs ws : List View) → Placed vs ws → shows_other id (view_at ws k) ≡ shows_other id (view_at vs k)
 elsewhere_stays id k vs ws h = go (view_at vs k) (view_at ws k) (found_alike (λ n. ⊥) vs ws k h)

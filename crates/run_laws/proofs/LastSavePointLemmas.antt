@@ -1,4 +1,4 @@
--- The last save point of a run: there is one for each document, and from it on the law of the save point holds.
+-- The last save point of a run: each document has one, and from it on the law of the save point holds.
 use Rattle.std.proofs.Common.{◌≡◌, ℕ, ◌==◌, cond, Bool, true, false, List, [], ◌∷◌, length, refl, ap, ◌∙◌, sym, subst, inl, inr, Option, Some, None, Ok, Err}
 use Rattle.std.specs.Prelude.{◌⊎◌, not, ◌&&◌, ◌||◌}
 use Rattle.std.specs.Option.{option_or}
@@ -47,7 +47,7 @@ neither_true : (a b : Bool) → (a || b) ≡ false → (a ≡ false) × (b ≡ f
 neither_true true b e = absurd (cc)
 neither_true false b e = (refl, e)
 
--- what came that was not there before is new
+-- a document that did not exist before is new
 abbrev NewIfNone : ℕ → Option Document → Document → Type 0
 NewIfNone next o e = From Any (λ d. tt) (λ d f views held_by_callers h. tt) next o e
 
@@ -64,7 +64,7 @@ created_is_unmodified fits files c s id d sound created there =
         subst (λ (x : Document). at_save_point x.history ≡ true) (sym new.1.1) refl
     go (Some x) p gone e = absurd (cc)
 
--- a document put in its place
+-- one document replaced
 put_in_place : (ds : List Document) (id : ℕ) (old new d : Document) → document_at ds id ≡ Some old → new.id ≡ old.id → at_save_point new.history ≡ true
     → document_at (with_document new ds) id ≡ Some d → at_save_point d.history ≡ true
 put_in_place ds id old new d found same at there =
@@ -123,7 +123,7 @@ saved_is_unmodified fits files c s id d sound gives there =
     go (inl created) = created_is_unmodified fits files c s id d sound created there
     go (inr sets) = set_is_unmodified files c s id d sets there
 
--- GETMODIFY answers 0 there.
+-- GETMODIFY then answers 0.
 
 value_if_recorded : (b : Bool) (r : Request) (reply : Response) → (cond b (record reply { notes = record_note r ∷ reply.notes }) reply).value ≡ reply.value
 value_if_recorded true r reply = refl

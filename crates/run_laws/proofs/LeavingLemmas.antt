@@ -1,4 +1,4 @@
--- What a message that is not about documents leaves of the views and documents that are not its own.
+-- A message that is not about documents leaves the other views, other documents and the clipboard unchanged.
 use Rattle.std.proofs.Common.{◌≡◌, ℕ, ◌==◌, nat_lt, cond, Bool, true, false, List, [], ◌∷◌, length, map, refl, ap, ◌∙◌, sym, subst, Option, Some, None}
 use Rattle.std.specs.Prelude.{reverse}
 use Rattle.std.specs.List.{AllByRecursion}
@@ -28,7 +28,7 @@ use Rattle.run_laws.proofs.IdLemmas.{view_change_ids}
 use Rattle.run_laws.proofs.PlanShapes.{Leave, may_follow, KeepsTo}
 use Rattle.run_laws.proofs.Alike.{IsAlike, AreAlike, alike_same, all_alike, alike_through, alike_changed, kept_on}
 
--- a view keeps its document
+-- a change of a view keeps its document
 pub view_change_document : (levels : List ℕ) (what : ViewChange) (v : View) → (changed_view levels what v).document ≡ v.document
 view_change_document levels (view_change.Select anchor caret) v = refl
 view_change_document levels (view_change.SetTarget start past) v = refl
@@ -45,11 +45,11 @@ view_change_document levels (view_change.Contract line) v = refl
 view_change_document levels (view_change.Expand line) v = refl
 view_change_document levels (view_change.EnsureVisible line) v = refl
 
--- the views with the sender's id are on its document
+-- the views with the sender's id are attached to its document
 abbrev pub Once : ℕ → ℕ → List View → Type 0
 Once sender document views = AllByRecursion (λ (v : View). v.id ≡ sender → v.document ≡ document) views
 
--- `Own` does not tell of the sender's document.
+-- `Own` does not hold for the sender's document.
 module _ (Own : ℕ → Type 0) (sender document : ℕ) (apart : Own document → ⊥) where
   changed_if : (b : Bool) (new v : View) → (b ≡ true → IsAlike Own v new) → IsAlike Own v (cond b new v)
   changed_if true new v h = h refl
@@ -90,7 +90,7 @@ module _ (Own : ℕ → Type 0) (sender document : ℕ) (apart : Own document �
       let changed = cond lines_changed true (changes_lines (ContainerStep token coalesce) scene.document) in
       changes_leave who several changed cs (change_performed who several (is_last cs) changed (ContainerStep token coalesce) scene) e once
 
-  -- the sender alone is changed, and keeps its id and document
+  -- only the sender changes, and keeps its id and document
   sender_leaves : (f : View → View) → ((v : View) → (f v).id ≡ v.id) → ((v : View) → (f v).document ≡ v.document) → (views : List View) → Once sender document views
       → AreAlike Own views (map (λ (v : View). cond (v.id == sender) (f v) v) views)
   sender_leaves f id on views once =
@@ -159,7 +159,7 @@ module _ (Own : ℕ → Type 0) (sender document : ℕ) (apart : Own document �
       alike_through Own r.session.views done.views (caret_behind r.view.id step done.views) here
       (subst (λ n. AreAlike Own done.views (caret_behind n step done.views)) (sym is) (behind_leaves step done.views (once_after r.session.views done.views here once)))
 
-  -- what a plan leaves of the views, if it is not about documents
+  -- the views after a plan that is not about documents
   pub performed_leaves_views : (r : Request) (p : Plan) (l : Leave) → l.documents ≡ false → KeepsTo l p → r.view.id ≡ sender → r.view.document ≡ document → r.document.id ≡ document
       → Once sender document r.session.views → AreAlike Own r.session.views (performed r p).0.views
   performed_leaves_views r (plan.Answer value) l barred keeps is on e once = all_alike Own r.session.views
@@ -185,7 +185,7 @@ module _ (Own : ℕ → Type 0) (sender document : ℕ) (apart : Own document �
   performed_leaves_views r (plan.ChangeSession (session_change.AddReference id) value) l barred keeps is on e once = absurd (cc)
   performed_leaves_views r (plan.ChangeSession (session_change.Release id) value) l barred keeps is on e once = absurd (cc)
 
--- and of another document
+-- the documents after what follows an edit
 followed_others : (view : ℕ) (before : List ℕ) (after : Follow) (s : Session) → (followed view before after s).documents ≡ s.documents
 followed_others view before follow.Nothing s = refl
 followed_others view before (follow.Caret place) s = refl
@@ -214,7 +214,7 @@ performed_leaves_document r (plan.ChangeSession (session_change.Create options) 
 performed_leaves_document r (plan.ChangeSession (session_change.AddReference d) value) l id barred keeps other = absurd (cc)
 performed_leaves_document r (plan.ChangeSession (session_change.Release d) value) l id barred keeps other = absurd (cc)
 
--- and of the clipboard, if it takes nothing there
+-- the clipboard after what follows an edit, if that takes nothing to it
 followed_clipboard : (view : ℕ) (before : List ℕ) (after : Follow) (s : Session) (l : Leave) → l.copies ≡ false → may_follow l after ≡ true
     → (followed view before after s).clipboard ≡ s.clipboard
 followed_clipboard view before follow.Nothing s l barred keeps = refl

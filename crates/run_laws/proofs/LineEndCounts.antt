@@ -1,4 +1,4 @@
--- How many lines a converted text has, where Unicode's line ends do not count.
+-- The number of lines of a converted text, without Unicode line ends.
 use Rattle.std.proofs.Common.{◌≡◌, ℕ, zero, suc, ◌+◌, ◌-◌, ◌≤◌, Bool, true, false, cond, ◌==◌, ◌||◌, ◌&&◌, List, [], ◌∷◌, ◌++◌, length, filter, refl, ap, ◌∙◌, sym, arith}
 use Rattle.std.specs.Prelude.{not}
 use Rattle.std.specs.List.{range_with_len}
@@ -14,7 +14,7 @@ use Rattle.run_laws.proofs.LineEndKinds.{only_after, first_byte}
 
 -- Line ends, counted byte by byte.
 
--- whether a line ends with the byte
+-- whether a line ends after the byte
 abbrev ends_with : ℕ → List ℕ → Bool
 ends_with b bs = (b == 10) || ((b == 13) && not (begins_with_line_feed bs))
 
@@ -22,9 +22,9 @@ abbrev ends : List ℕ → ℕ
 ends [] = 0
 ends (b ∷ bs) = cond (ends_with b bs) 1 0 + ends bs
 
--- Lines start at 0 and behind each.
+-- Lines start at 0 and after each line end.
 
--- a line starts behind the first byte, if one ends with it
+-- a line starts after the first byte if a line ends there
 at_one : (b : ℕ) (bs : List ℕ) → is_line_start Default (b ∷ bs) 1 ≡ ends_with b bs
 at_one b bs = ap (λ c. ((b == 10) || ((b == 13) && not c)) || false) (sym (first_byte bs)) ∙ or_none (ends_with b bs)
   where
@@ -35,7 +35,7 @@ at_one b bs = ap (λ c. ((b == 10) || ((b == 13) && not c)) || false) (sym (firs
 same_test : (z w a b c x y t : Bool) → z ≡ w → a ≡ x → b ≡ y → c ≡ t → (z || ((a || (b && not c)) || false)) ≡ (w || ((x || (y && not t)) || false))
 same_test z w a b c x y t first second third fourth = rw (first, second, third, fourth) refl
 
--- further on where one starts without that byte
+-- after that a line starts where one starts in the text without that byte
 one_on : (b : ℕ) (bs : List ℕ) (k : ℕ) → 1 ≤ k → is_line_start Default (b ∷ bs) (k + 1) ≡ is_line_start Default bs k
 one_on b bs k h =
     let before : k + 1 - 1 ≡ suc (k - 1) = omega arith in
@@ -72,7 +72,7 @@ lines_are_counted text =
     let first : line_count Default text ≡ 1 + length (filter (is_line_start Default text) (range_with_len 1 (length text))) = rw next (omega arith) in
     first ∙ ap (λ n. 1 + n) (later_starts text)
 
--- A conversion leaves as many.
+-- A conversion keeps the number of line ends.
 
 one_end : (to : LineEnd) (bs : List ℕ) → HasOnly to bs → ends (line_end_bytes to ++ bs) ≡ 1 + ends bs
 one_end CrLf bs only = omega arith
@@ -91,7 +91,7 @@ not_both b e n =
     let thirteen : b ≡ 13 = eqb-true b 13 n in
     omega arith
 
--- an LF behind a CR has been counted with it
+-- an LF after a CR was counted with that CR
 ends_after : (to : LineEnd) (text : List ℕ) (f : Bool) → ends (converted_after f to text) + cond (f && begins_with_line_feed text) 1 0 ≡ ends text
 ends_after to [] f = ap (λ c. 0 + cond c 1 0) (and_right f false refl)
 ends_after to (b ∷ bs) f = go (b == 10) (b == 13) f refl refl (λ g. ends_after to bs g)

@@ -1,4 +1,4 @@
--- Which line ends a converted text has.
+-- The line ends of a converted text.
 use Rattle.std.proofs.Common.{◌≡◌, ◌⊎◌, ℕ, zero, suc, ◌+◌, ◌-◌, ◌<◌, ◌≤◌, Bool, true, false, cond, ◌==◌, ◌||◌, ◌&&◌, List, [], ◌∷◌, ◌++◌, length, get_or, take, drop, slice_range, inl, inr, refl, ap, subst, ◌∙◌, sym, arith}
 use Rattle.std.specs.Prelude.{not, filter, nat_lt}
 use Rattle.std.proofs.lemmas.Bool.{true≢false, or_cases, or_left, or_right, and_parts, eqb-true, not-true, lt-ltb, cond-true, cases_eq}
@@ -16,7 +16,7 @@ use Rattle.ed_model.specs.proved.Lines.{line_starts_rise, start_from_contains}
 use Rattle.run_laws.proofs.LineEndLemmas.{other_converted}
 use Rattle.run_laws.specs.LineEndLaws.{HasOnly, ConvertedHaveOnlyThese, ConvertedLinesEndSo, OtherBytesStay, TextsOfTheKindStay, LastKindCounts, bytes_of_end, ends_in_unicode, is_other}
 
--- Line ends of one kind alone: in no text, with another byte in front, and with such a line end in front.
+-- Texts with line ends of one kind: the empty text, one with another byte in front, and one with such a line end in front.
 
 only_in_none : (to : LineEnd) → HasOnly to []
 only_in_none CrLf = (refl, λ p. refl)
@@ -68,7 +68,7 @@ only_after to (b ∷ bs) f = go (b == 10) (b == 13) f refl refl (λ g. only_afte
 pub converted_have_only_these : ConvertedHaveOnlyThese
 converted_have_only_these to text = only_after to text false
 
--- Bytes that stand at a place, as a part of the text.
+-- The bytes at a place, as a range of the text.
 
 one_there : (byte : ℕ) (text : List ℕ) (p : ℕ) → stands byte text p ≡ true → take 1 (drop p text) ≡ byte ∷ []
 one_there byte [] p e = absurd (true≢false (sym e))
@@ -81,7 +81,7 @@ both_there (b ∷ []) zero e f = absurd (true≢false (sym f))
 both_there (b ∷ c ∷ bs) zero e f = ap (λ x. x ∷ c ∷ []) (eqb-true b 13 e) ∙ ap (λ y. 13 ∷ y ∷ []) (eqb-true c 10 f)
 both_there (b ∷ bs) (suc p) e f = both_there bs p e f
 
--- a part that ends at p, by its length
+-- a range that ends at p, from its length
 part_before : (text : List ℕ) (p n : ℕ) → n ≤ p → slice_range text (p - n) p ≡ take n (drop (p - n) text)
 part_before text p n h = let size : p - (p - n) ≡ n = omega arith in ap (λ k. take k (drop (p - n) text)) size
 
@@ -93,7 +93,7 @@ EndsSo to text p = slice_range text (p - line_end_length text p) p ≡ line_end_
 by_length : (to : LineEnd) (text : List ℕ) (p n : ℕ) → n ≤ p → line_end_length text p ≡ n → take n (drop (p - n) text) ≡ line_end_bytes to → EndsSo to text p
 by_length to text p n h e t = ap (λ k. slice_range text (p - k) p) e ∙ part_before text p n h ∙ t
 
--- an LF, or a CR that no LF follows, stands before the start
+-- an LF, or a CR that no LF follows, is just before the start
 abbrev EndsBefore : List ℕ → ℕ → Bool
 EndsBefore text p = stands 10 text (p - 1) || (stands 13 text (p - 1) && not (stands 10 text p))
 
@@ -191,7 +191,7 @@ other_bytes_stay to text = others_stay to text false
 
 -- Texts that are converted twice.
 
--- what stands behind a CR, but for an LF
+-- after a CR the conversion is the same as elsewhere, unless an LF follows
 behind_return : (to : LineEnd) (bs : List ℕ) → begins_with_line_feed bs ≡ false → (f : Bool) → converted_after f to bs ≡ converted_after false to bs
 behind_return to [] none f = refl
 behind_return to (b ∷ bs) none f = rw none refl
@@ -220,7 +220,7 @@ converted_again first to (b ∷ bs) f = go (b == 10) (b == 13) f refl refl (λ g
 pub last_kind_counts : LastKindCounts
 last_kind_counts first to text = converted_again first to text false
 
--- Texts of the kind already.
+-- Texts that already have only line ends of the kind.
 
 returns_stay : (text : List ℕ) → HasOnly Cr text → converted_after false Cr text ≡ text
 returns_stay [] only = refl
@@ -243,7 +243,7 @@ feeds_stay (b ∷ bs) only = go (b == 10) (b == 13) refl refl (feeds_stay bs (λ
     go true false e n rest = ap (λ l. 10 ∷ l) rest ∙ ap (λ c. c ∷ bs) (sym (eqb-true b 10 e))
     go false false e n rest = ap (λ l. b ∷ l) rest
 
--- what stands behind a byte that is no CR, and behind a CRLF
+-- the text after a byte that is no CR, and after a CRLF, has only line ends of the kind too
 only_in_rest : (b : ℕ) (text : List ℕ) → (b == 13) ≡ false → HasOnly CrLf (b ∷ text) → HasOnly CrLf text
 only_in_rest b text n only = (
   (let one : zero + 1 ≡ suc zero = omega arith in sym (only.1 zero ∙ ap (stands 10 (b ∷ text)) one) ∙ n),

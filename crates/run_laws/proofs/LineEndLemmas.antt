@@ -1,4 +1,4 @@
--- What the steps of a conversion leave: first the text with what was missing, then that without what is unwanted.
+-- The text after the steps of a conversion: first the missing bytes are inserted, then the unwanted ones are deleted.
 use Rattle.std.proofs.Common.{◌≡◌, ℕ, ◌+◌, Bool, true, false, cond, ◌==◌, ◌||◌, ◌&&◌, List, [], ◌∷◌, ◌++◌, length, take, drop, refl, ap, subst, ◌∙◌, sym, arith, append_assoc, length-append}
 use Rattle.std.specs.Prelude.{not}
 use Rattle.std.proofs.lemmas.Bool.{true≢false, or_from, and_right, eqb-true}
@@ -11,7 +11,7 @@ use Rattle.ed_model.specs.LineEnds.{line_end_bytes, begins_with_line_feed, conve
 use Rattle.ed_model.specs.proved.Lists.{inserted_between}
 use Rattle.run_laws.specs.LineEndLaws.{StepsConvert}
 
--- The insertions: the text with what is missing, byte by byte.
+-- The insertions: the text with the missing bytes, byte by byte.
 
 abbrev put : Bool → Bool → ℕ → List ℕ → List ℕ
 put true y b rest = 13 ∷ b ∷ rest
@@ -45,7 +45,7 @@ fills to (b ∷ bs) f p front e = go (lacks_return f to b) (lacks_feed to b bs) 
         ∙ rest (p + 1 + 0) (front ++ b ∷ []) (simp length-append (omega arith))
         ∙ append_assoc front (b ∷ []) (filled (b == 13) to bs)
 
--- The deletions: the text without what is unwanted, byte by byte.
+-- The deletions: the text without the unwanted bytes, byte by byte.
 
 abbrev left : Bool → ℕ → List ℕ → List ℕ
 left true b rest = rest
@@ -55,7 +55,7 @@ abbrev kept : Bool → LineEnd → List ℕ → List ℕ
 kept f to [] = []
 kept f to (b ∷ bs) = left (is_unwanted f to b bs) b (kept (b == 13) to bs)
 
--- a byte that is deleted behind a front
+-- deleting a byte after a front
 deleted_between : (p : ℕ) (front : List ℕ) (b : ℕ) (rest : List ℕ) → length front ≡ p → take p (front ++ b ∷ rest) ++ drop (p + 1) (front ++ b ∷ rest) ≡ front ++ rest
 deleted_between p front b rest e =
     let before : take p (front ++ b ∷ rest) ≡ front = take_at front (b ∷ rest) p e in
@@ -76,7 +76,7 @@ keeps to (b ∷ bs) f p front e = go (is_unwanted f to b bs) (λ q start h. keep
         ∙ rest (p + 1) (front ++ b ∷ []) (simp length-append (omega arith))
         ∙ append_assoc front (b ∷ []) (kept (b == 13) to bs)
 
--- Both, one after the other: an LF, a CR, and any other byte.
+-- Insertions followed by deletions, for an LF, for a CR, and for any other byte.
 
 by_byte : (P : ℕ → Type 0) (b : ℕ) → P 10 → P 13 → ((b == 10) ≡ false → (b == 13) ≡ false → P b) → P b
 by_byte P b feed return other = go (b == 10) (b == 13) refl refl
@@ -116,7 +116,7 @@ other_converted f to b bs e n = go (b == 10) (b == 13) e n
 other_both : (f g : Bool) (to : LineEnd) (b : ℕ) (bs : List ℕ) → (b == 10) ≡ false → (b == 13) ≡ false → kept g to (filled f to (b ∷ bs)) ≡ b ∷ kept false to (filled false to bs)
 other_both f g to b bs e n = ap (kept g to) (other_filled f to b bs e n) ∙ other_kept g to b (filled false to bs) e n
 
--- The LF that still comes, where a CR stands before and an LF behind: the CR was the line end.
+-- The LF that is still to come, if the byte before is a CR and the next one an LF: it belongs to the line end of that CR.
 
 abbrev pending : Bool → Bool → List ℕ
 pending true true = 10 ∷ []
@@ -165,7 +165,7 @@ to_both (b ∷ bs) f = by_byte (λ c. FilledTo (c ∷ bs) f) b (feed f (to_both 
 
 -- LF: each CR is deleted.
 
--- what comes first stays first
+-- a text that begins with an LF still does after the insertions
 still_feed : (bs : List ℕ) (f : Bool) → begins_with_line_feed bs ≡ true → begins_with_line_feed (filled f Lf bs) ≡ true
 still_feed [] f e = absurd (true≢false (sym e))
 still_feed (b ∷ bs) f e =
@@ -228,7 +228,7 @@ to_returns (b ∷ bs) f =
     other : (b == 10) ≡ false → (b == 13) ≡ false → TurnedToReturns bs false → TurnedToReturns (b ∷ bs) f
     other e n h = other_both f f Cr b bs e n ∙ ap (λ l. b ∷ l) h ∙ sym (other_converted f Cr b bs e n)
 
--- So all steps leave the converted text.
+-- All steps lead to the converted text.
 
 turned : (to : LineEnd) (text : List ℕ) → kept false to (filled false to text) ≡ converted to text
 turned CrLf text = all_kept (filled false CrLf text) false ∙ to_both text false

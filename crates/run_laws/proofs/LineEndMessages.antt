@@ -1,4 +1,4 @@
--- What CONVERTEOLS leaves of a document.
+-- The document after CONVERTEOLS.
 use Rattle.std.proofs.Common.{◌≡◌, ℕ, Bool, true, false, cond, ◌&&◌, List, [], ◌∷◌, nat_lt, refl, ap, subst, ◌∙◌, sym, ℤ, pos, Option, Some, None, Ok, Err}
 use Rattle.std.specs.Prelude.{option_map, nat_le, length}
 use Rattle.std.proofs.lemmas.Bool.{true≢false, and_parts, cond_both}
@@ -26,7 +26,7 @@ use Rattle.run_laws.proofs.Going.{edit_made_id}
 use Rattle.run_laws.proofs.LineEndLemmas.{steps_convert}
 use Rattle.run_laws.proofs.TableWays.{table_at}
 
--- Steps leave the text that they make, whichever notes are told and whatever the history keeps.
+-- Steps lead to their text, whatever the notes and the history are.
 
 steps_text : (later : Bool) (steps : List Step) (scene : Scene) → text_of (steps_made later steps scene).document ≡ after_steps steps (text_of scene.document)
 steps_text later [] scene = refl
@@ -39,12 +39,12 @@ edit_text steps scene =
     (sealed_scene (steps_made false steps (sealed_scene scene))) (steps_made false steps scene)
     (steps_text false steps (sealed_scene scene)) (steps_text false steps scene)
 
--- the request's document then has this text, if the plan is one
+-- if there is a plan, the request's document has this text after it
 abbrev Leaves : Request → List ℕ → Planned → Type 0
 Leaves r new (Err refusal) = Unit {0}
 Leaves r new (Ok what) = option_map text_of (document_at (performed r what).0.documents r.view.document) ≡ Some new
 
--- the request's document is that of its view
+-- the request's document is the document of its view
 abbrev IsFound : Request → Type 0
 IsFound r = document_at r.session.documents r.view.document ≡ Some r.document
 

@@ -1,4 +1,4 @@
--- Recordings: a view that records goes on recording, hears of each message once, and what it recorded can be sent again.
+-- Recordings: a view that records keeps recording, each message is recorded once, and the messages that it recorded can be sent again.
 use Rattle.std.proofs.Common.{◌≡◌, ℕ, ◌==◌, nat_lt, cond, Bool, true, false, List, [], ◌∷◌, ◌++◌, length, map, refl, ap, ◌∙◌, sym, subst, arith, ◌≤◌, inl, inr, Option, Some, None, Result, Ok, Err}
 use Rattle.std.specs.Prelude.{◌⊎◌, IfOk, ℤ, ◌&&◌, filter, flat_map, reverse, option_map}
 use Rattle.std.specs.List.{AllByRecursion}
@@ -52,7 +52,7 @@ use Rattle.run_laws.proofs.IdLemmas.{view_change_ids}
 use Rattle.run_laws.proofs.NoteLemmas.{NoRecords, plans_tell_no_record}
 use Rattle.run_laws.proofs.RecordingLemmas.{Same, Like, table_after_both}
 
--- The view is there and records.
+-- The view exists and records.
 abbrev Records : ℕ → List View → Type 0
 Records k views = (v : View) × (view_at views k ≡ Some v) × (v.records ≡ true)
 
@@ -180,7 +180,7 @@ attached_records : (o : Option Document) (v : View) (s : Session) → v.records 
 attached_records None v s e h = h
 attached_records (Some d) v s e h = put_records (attached_to d v) s.views v.id refl e h
 
--- the sender goes on recording
+-- the sender keeps recording
 performed_records : (r : Request) (p : Plan) (l : Leave) → l.recording ≡ false → KeepsTo l p → r.view.records ≡ true → Records r.view.id r.session.views → Records r.view.id (performed r p).0.views
 performed_records r (plan.Answer value) l barred keeps e h = h
 performed_records r (plan.HandOut value start count) l barred keeps e h = h
@@ -210,7 +210,7 @@ performed_records r (plan.ChangeSession (session_change.Create options) value) l
 performed_records r (plan.ChangeSession (session_change.AddReference id) value) l barred keeps e h = h
 performed_records r (plan.ChangeSession (session_change.Release id) value) l barred keeps e h = h
 
--- What is recorded of a reply.
+-- The message that a reply records.
 
 abbrev is_own_record : ℕ → Notice → Bool
 is_own_record view n = n.code == notes.macro_record && n.view == view
@@ -239,7 +239,8 @@ recorded_first view kind r reply replies none = go (r.view.records && (marks_of 
     go true = here (r.view.id == view)
     go false = ap (map told_message) (others_skipped view reply.notes rest none)
 
--- What comes of one message: nothing recorded and the session left, or the message recorded, which went to the view, and the view records on.
+-- The result of one message: either nothing is recorded and the session stays,
+-- or the message went to the view, which recorded it and keeps recording.
 abbrev Stepped : ℕ → Session → Sending → Answered → Type 0
 Stepped view s m x =
     (((os : List Outcome) → recorded_messages view (replies_in ((after_message s x).1 ∷ os)) ≡ recorded_messages view (replies_in os)) × ((after_message s x).0.session ≡ s))
@@ -318,7 +319,7 @@ messages_replayed leave view (m ∷ ms) s t all records h =
 
 -- STARTRECORD and STOPRECORD.
 
--- the sender alone is changed, and only in whether it records
+-- only the sender changes, and only in whether it records
 record IsSet (s : Session) (view : ℕ) (on : Bool) (t : Session) : Type 0 where
   sender : View
   found : view_at s.views view ≡ Some sender
@@ -342,7 +343,7 @@ stop_sets s view m e =
     let same : kind ≡ StopRecord = cc in
     subst (λ (k : Kind). SetBy s view false (answered k (request s v d m) (plan_of k (request s v d m)))) (sym same) (record { sender = v; found = sees; same = refl }))
 
--- whether the view records does not count
+-- setting whether the view records changes nothing else
 set_like : (view : ℕ) (v : View) (on : Bool) (views : List View) → v.id ≡ view → AllByRecursion (λ (w : View). w.id ≡ view → w ≡ v) views
     → Like view (with_view (record v { records = on }) views) views
 set_like view v on [] is once = refl
@@ -410,7 +411,7 @@ recordings_can_be_replayed leave keeps sound_runs s view start stop messages beg
     let replayed = messages_replayed leave view messages (starting begun.0) (starting s) may (begun_records s begun.0 view set) (begun_same s begun.0 view sound set) in
     ended_same between ended.0 _ view sound_between unset replayed
 
--- A reply records one message at most for a view.
+-- A reply records at most one message for a view.
 
 one_at_most : (b : Bool) (m : Message) → length (if_recorded b m []) ≤ 1
 one_at_most true m = omega arith

@@ -1,4 +1,4 @@
--- Which codes the notes of plans have: none tells of a recording, since that note is the recorder's own, and only an attempt tells of one.
+-- The codes of the notes of plans: none is SCN_MACRORECORD, which only the recording adds, and only an attempt has SCN_MODIFYATTEMPTRO.
 use Rattle.std.proofs.Common.{◌≡◌, ℕ, ◌==◌, nat_lt, cond, Bool, true, false, List, [], ◌∷◌, ◌++◌, length, refl, Option, Some, None}
 use Rattle.std.specs.Prelude.{ℤ, pos, negsuc, bit_or, filter, ◌&&◌, slice_index_or}
 use Rattle.std.specs.List.{AllByRecursion}
@@ -25,7 +25,8 @@ use Rattle.ed_model.specs.Performing.{last_bits, container_note}
 use Rattle.ed_model.specs.Changes.{line_note, marker_note, range_notes, line_with_handle, document_row, marker_count, is_same}
 use Rattle.run_laws.proofs.Finding.{either}
 
--- What holds of the codes that plans tell, and of that of an attempt where the plan is one, holds of the codes of their notes.
+-- If the codes that plans use have the property, and the code of an attempt has
+-- it if the plan is one, the codes of a plan's notes have it.
 module _ (Code : ℕ → Type 0) (needed : Code notes.style_needed) (reached : Code notes.save_point_reached) (left : Code notes.save_point_left) (modified : Code notes.modified) where
   abbrev pub HasCode : Notice → Type 0
   HasCode n = Code n.code
@@ -161,7 +162,7 @@ module _ (Code : ℕ → Type 0) (needed : Code notes.style_needed) (reached : C
   plans_have_codes r (plan.ChangeView change value) attempt = tt
   plans_have_codes r (plan.ChangeSession change value) attempt = tt
 
--- No note is one of recording.
+-- No note of a plan is SCN_MACRORECORD.
 
 abbrev pub IsNoRecord : Notice → Type 0
 IsNoRecord n = (n.code == notes.macro_record) ≡ false

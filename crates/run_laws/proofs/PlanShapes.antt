@@ -1,4 +1,4 @@
--- What the plan of each message may be, kind by kind, and what it hangs on.
+-- What the plan of each kind of message may do, and what it depends on.
 use Rattle.std.proofs.Common.{◌≡◌, ℕ, Bool, true, false, cond, List, refl, ap, Option, Some, None, Ok, Err}
 use Rattle.std.specs.Prelude.{nat_lt, ◌&&◌}
 use Rattle.ed_types.specs.declared.kind.Kind.{Kind}
@@ -23,8 +23,8 @@ use Rattle.ed_model.specs.Edits.{converted_if}
 use Rattle.ed_model.specs.Table.{plan_of}
 use Rattle.run_laws.specs.MessageKinds.{is_copying, is_about_documents, is_about_recording, is_saving}
 
--- Whether a plan may edit the text, may take bytes to the clipboard, may make, attach, hold or release documents, may start or stop a
--- recording, and may set a save point.
+-- The leave of a plan: whether it may edit the text, take bytes to the clipboard, create, attach, hold or release documents,
+-- start or stop a recording, and set a save point.
 pub record Leave : Type 0 where
   pub edits : Bool
   pub copies : Bool
@@ -41,12 +41,12 @@ leave_of kind = record {
   saves = is_saving kind;
 }
 
--- whether that may follow an edit
+-- whether this may follow an edit
 abbrev pub may_follow : Leave → Follow → Bool
 may_follow l (follow.Clipboard start count) = l.copies
 may_follow l other = true
 
--- the plan keeps to its leave
+-- the plan does only what its leave allows
 abbrev pub KeepsTo : Leave → Plan → Type 0
 KeepsTo l (plan.Edit edit value after) = (l.edits && may_follow l after) ≡ true
 KeepsTo l plan.Attempt = l.edits ≡ true
@@ -64,7 +64,7 @@ KeepsTo l (plan.ChangeDocument document_change.SetSavePoint value) = l.saves ≡
 KeepsTo l (plan.ChangeDocument document_change.ForgetHistory value) = l.saves ≡ true
 KeepsTo l other = Unit {0}
 
--- and is not refused for want of memory
+-- such a plan, or a refusal other than OutOfMemory
 abbrev pub IsShaped : Leave → Planned → Type 0
 IsShaped l (Err OutOfMemory) = ⊥
 IsShaped l (Err other) = Unit {0}
@@ -104,7 +104,7 @@ release_shaped l (Some d) e = shaped_either l (nat_lt 0 d.held_by_callers) (chan
 
 ruleset shapes = (shaped_with_argument, shaped_with_line, shaped_either, shaped_target, shaped_fold, attach_shaped, add_shaped, release_shaped)
 
--- the plan of each kind keeps to the leave of its kind
+-- the plan of each kind does only what the leave of the kind allows
 pub plan_is_shaped : (kind : Kind) (r : Request) → IsShaped (leave_of kind) (plan_of kind r)
 plan_is_shaped kinds.AddText r = search shapes
 plan_is_shaped kinds.InsertText r = search shapes
@@ -251,12 +251,12 @@ plan_is_shaped kinds.StartRecord r = search shapes
 plan_is_shaped kinds.StopRecord r = search shapes
 plan_is_shaped kinds.Colourise r = search shapes
 
--- line ends are converted by the document and its mode alone
+-- the conversion of line ends depends only on the document
 pub same_converted : (b : Bool) (r q : Request) (bytes : List ℕ) → q.document ≡ r.document → converted_if b q bytes ≡ converted_if b r bytes
 same_converted true r q bytes e = ap (λ (d : Document). converted d.line_end bytes) e
 same_converted false r q bytes e = refl
 
--- A plan that is not about documents hangs on the session by its clipboard and limits alone.
+-- A plan that is not about documents depends on the session only through its clipboard and limits.
 pub same_plan : (kind : Kind) (r : Request) (documents : List Document) (views : List View) (next_document next_view : ℕ) → is_about_documents kind ≡ false
     → (let s = r.session in plan_of kind (record r { session = record s { documents = documents; views = views; next_document = next_document; next_view = next_view } })) ≡ plan_of kind r
 same_plan kinds.AddText r documents views next_document next_view e = refl
@@ -407,7 +407,7 @@ same_plan kinds.StartRecord r documents views next_document next_view e = refl
 same_plan kinds.StopRecord r documents views next_document next_view e = refl
 same_plan kinds.Colourise r documents views next_document next_view e = refl
 
--- Whether the sender records does not count, nor which other views there are.
+-- A plan does not depend on whether the sender records, nor on the other views.
 pub same_plan_recording : (kind : Kind) (r : Request) (views : List View) (records : Bool)
     → (let s = r.session in let v = r.view in plan_of kind (record r { session = record s { views = views }; view = record v { records = records } })) ≡ plan_of kind r
 same_plan_recording kinds.AddText r views records = refl
@@ -559,7 +559,7 @@ same_plan_recording kinds.StartRecord r views records = refl
 same_plan_recording kinds.StopRecord r views records = refl
 same_plan_recording kinds.Colourise r views records = refl
 
--- no message that can be recorded starts or stops a recording
+-- no message marked R starts or stops a recording
 pub recorded_is_not_about_recording : (kind : Kind) → (marks_of kind).r ≡ true → is_about_recording kind ≡ false
 recorded_is_not_about_recording kinds.AddText e = refl
 recorded_is_not_about_recording kinds.InsertText e = refl

@@ -1,4 +1,4 @@
--- Whether a view records hangs on nothing else and nothing else hangs on it.
+-- Whether a view records depends on nothing else, and nothing else depends on it.
 use Rattle.std.proofs.Common.{◌≡◌, ℕ, ◌==◌, nat_lt, cond, Bool, true, false, List, [], ◌∷◌, length, map, refl, ap, ◌∙◌, sym, subst, Option, Some, None, Ok, Err}
 use Rattle.std.specs.Prelude.{◌+◌, slice_range, reverse, option_map}
 use Rattle.std.proofs.lemmas.Bool.{eq-eqb}
@@ -126,7 +126,7 @@ module _ (view : ℕ) where
   lines_quiet (document_change.NeedStyle start past) d v = refl
   lines_quiet (document_change.FillIndicator indicator start count value) d v = refl
 
-  -- Scenes of one document, but for who records and what is told.
+  -- Two scenes of one document that differ only in which views record, and in the notes.
   record Scenes (a b : Scene) : Type 0 where
     document : b.document ≡ a.document
     views : Like a.views b.views
@@ -169,12 +169,12 @@ module _ (view : ℕ) where
       changes_scenes who several changed_a changed_b cs (change_performed who several (is_last cs) changed_a (ContainerStep token coalesce) a) (change_performed who several (is_last cs) changed_b (ContainerStep token coalesce) b)
       (record { document = h.document; views = h.views })
 
-  -- Sessions that are the same but for whether the view records.
+  -- Two sessions that differ only in whether the view records.
   pub record Same (s t : Session) : Type 0 where
     pub same : t ≡ record s { views = t.views }
     pub views : Like s.views t.views
 
-  -- the request in the other session, where the sender records or does not
+  -- the same request in the other session, in which the sender may record or not
   abbrev other : Request → List View → Bool → Request
   other r ws b = let s = r.session in let v = r.view in record r { session = record s { views = ws }; view = record v { records = b } }
 
@@ -215,7 +215,7 @@ module _ (view : ℕ) where
   no_flag : (v : View) (b : Bool) → (v.id == view) ≡ true → cond (v.id == view) false v.records ≡ cond (v.id == view) false b
   no_flag v b at = rw at refl
 
-  -- a view whose recording does not count, changed
+  -- changing a view does the same, whether it records or not
   changed_quiet : (levels : List ℕ) (what : ViewChange) (v : View) (b : Bool) → (v.id == view) ≡ true → quiet (changed_view levels what v) ≡ quiet (changed_view levels what (record v { records = b }))
   changed_quiet levels (view_change.SetRecording on) v b at = refl
   changed_quiet levels (view_change.Select anchor caret) v b at = ap (λ c. let w = changed_view levels (view_change.Select anchor caret) v in record w { records = c }) (no_flag v b at)
@@ -278,7 +278,7 @@ module _ (view : ℕ) where
 
   -- Messages to the view.
 
-  -- after both answers the sessions are the same
+  -- the answers of both sessions leave sessions that differ only in that
   abbrev After : Session → Session → Answered → Answered → Type 0
   After s t x y = Same (after_message s x).0.session (after_message t y).0.session
 

@@ -1,4 +1,4 @@
--- The text of the save point stays where undo and redo find it, whatever is done meanwhile.
+-- Undo and redo lead back to the text of the save point, whatever changes come between.
 use Rattle.std.proofs.Common.{◌≡◌, ℕ, zero, suc, ◌+◌, ◌-◌, ◌≤◌, ◌<◌, nat_lt, cond, Bool, true, false, List, [], ◌∷◌, ◌++◌, length, take, drop, replicate, refl, ap, ◌∙◌, sym, subst, arith, inl, inr, Option, Some, None, Result, Ok, Err}
 use Rattle.std.specs.Prelude.{◌⊎◌, ℤ, pos, ◌==◌, ◌&&◌, ◌||◌, not, nat_le, reverse}
 use Rattle.std.proofs.lemmas.Bool.{cases_lt, eqb-true, eqb-false, leb-true, and_parts, ltb-true}
@@ -43,7 +43,7 @@ use Rattle.run_laws.proofs.PlanShapes.{Leave, KeepsTo, IsShaped, leave_of, plan_
 use Rattle.run_laws.proofs.Going.{own_after, AllFrom, From, AnsweredFrom, OpenedFrom, ClosedFrom, table_from, opening_from, closing_from, all_same}
 use Rattle.run_laws.proofs.IdLemmas.{document_ids_never_come_back, next_document_rises}
 
--- The laws of the history that this rests on.
+-- The laws of the history that these proofs use.
 pub record Cited : Type 0 where
   pub begun : BegunStepIsOneTransactionMore
   pub joined : JoinedStepKeepsEarlierTexts
@@ -102,7 +102,7 @@ saved_first now h at k e =
     let zero_left : length h.past - k ≡ 0 = omega arith in
     ((λ le. ap (λ (j : ℕ). undone_text j h.past now) zero_left), (λ lt. absurd (omega arith)))
 
--- styles change no byte
+-- a change of styles changes no byte
 
 bytes_restyled : (styles : List ℕ) (cells : List Cell) → bytes_of (restyled styles cells) ≡ bytes_of cells
 bytes_restyled [] cells = refl
@@ -215,7 +215,7 @@ module _ (c : Cited) (saved : List ℕ) where
       (steps_saved false steps (sealed_scene scene) (first.collecting ∙ collects) fits (seals_saved scene.document.history (sealed_outside_groups scene.document.history) (text_of scene.document) first s)))
       (steps_saved false steps scene collects fits s)
 
-  -- Where nothing is collected the history stays.
+  -- While undo is not collected, the history stays.
 
   sealed_stays : (h : History) → h.past ≡ [] → sealed_outside_groups h ≡ h
   sealed_stays h none =
@@ -369,7 +369,7 @@ module _ (c : Cited) (saved : List ℕ) where
   in_turn [] now h = tt
   in_turn (step ∷ steps) now h = (h.0.0, in_turn steps (edited step now) h.1)
 
-  -- what a plan does to its own document
+  -- the document of a plan's request after the plan
   own_saved : (r : Request) (p : Plan) (l : Leave) → l.saves ≡ false → KeepsTo l p → IsSoundRequest r → IsSoundDocument r.session.limits r.document → IsFitPlan r p
       → (r.document.history.collecting ≡ true) ⊎ (text_of (own_after r p) ≡ text_of r.document) → SavedIn saved r.document → SavedIn saved (own_after r p)
   own_saved r (plan.Edit change value after) l barred keeps sound fit_document fit may s = go r.document.history.collecting refl may

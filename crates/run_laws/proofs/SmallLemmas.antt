@@ -46,7 +46,7 @@ closed_is_other s (Some v) = tt
 pub closing_never_wants_memory : ClosingNeverWantsMemory
 closing_never_wants_memory s view = not_memory (closed_view s (view_at s.views view)) (closed_is_other s (view_at s.views view))
 
--- a document that lists no view is held, since something refers to it
+-- callers hold a document that lists no view, since it has a reference
 held_alone : (ids : List ℕ) (held_by_callers : ℕ) (document : ℕ) → AllByRecursion (IsViewOn [] document) ids → 0 < length ids + held_by_callers → 0 < held_by_callers
 held_alone [] held_by_callers document all some = omega arith
 held_alone (id ∷ ids) held_by_callers document all some = absurd (let e = all.0.1 in cc)

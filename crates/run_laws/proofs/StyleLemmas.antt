@@ -1,4 +1,4 @@
--- A document without styles: no change gives a cell one.
+-- A document that keeps no styles: no change gives a cell one.
 use Rattle.std.proofs.Common.{◌≡◌, ℕ, zero, suc, List, [], ◌∷◌, ◌++◌, take, drop, replicate, refl, sym, subst, arith}
 use Rattle.std.specs.List.{AllByRecursion}
 use Rattle.ed_model.specs.declared.plan.DocumentChange.{DocumentChange}
@@ -39,7 +39,7 @@ plain_edited (Insert p bytes) cells all =
     plain_joined (take p cells ++ plain_cells bytes) (drop p cells) (plain_joined (take p cells) (plain_cells bytes) (plain_taken p cells all) (plain_fresh bytes)) (plain_dropped p cells all)
 plain_edited (Delete p bytes) cells all = plain_joined (take p cells) _ (plain_taken p cells all) (plain_dropped _ cells all)
 
--- a document without styles is styled as before
+-- styling such a document changes no style
 plain_styled : (new : List ℕ) (d : Document) → HasNoStyles d → HasNoStyles (styled new d)
 plain_styled new d h none = rw none (h none)
 

@@ -1,4 +1,4 @@
--- The way of a message through the table.
+-- The path of a message through the table.
 use Rattle.std.proofs.Common.{◌≡◌, ℕ, refl, ap, ◌∙◌, Option, Some, None, Err}
 use Rattle.ed_types.specs.declared.kind.Kind.{Kind}
 use Rattle.ed_types.specs.declared.message.Message.{Message}
@@ -8,10 +8,10 @@ use Rattle.ed_model.specs.Session.{Session, View, Document, view_at, document_at
 use Rattle.ed_model.specs.TableLaws.{Answered}
 use Rattle.ed_model.specs.Table.{table, table_from_view, table_from_kind, table_from_document, answered, plan_of, request}
 
--- What each early refusal has, and the answer of every kind at every view and its document, the table has.
+-- If each early refusal has P, and so does the answer of every kind at every view and its document, the answer of the table has P.
 module _ (P : Answered → Type 0) (no_view : P (Err NoSuchView)) (unknown : P (Err UnknownMessage)) (no_document : P (Err NoSuchDocument))
     (s : Session) (m : Message) where
-  -- the answer of a kind at a view and a document has it
+  -- the answer of a kind at a view and a document has P
   abbrev HasAt : Kind → View → Document → Type 0
   HasAt kind v d = P (answered kind (request s v d m) (plan_of kind (request s v d m)))
 
@@ -35,7 +35,7 @@ module _ (P : Answered → Type 0) (no_view : P (Err NoSuchView)) (unknown : P (
       → P (table s view m)
   of_table view h = from_view (view_at s.views view) h
 
--- the answer where the view, the kind and the document are there
+-- the answer of the table if the view, the kind and the document exist
 pub table_at : (s : Session) (view : ℕ) (m : Message) (v : View) (kind : Kind) (d : Document) → view_at s.views view ≡ Some v → kind_of m.number ≡ Some kind
     → document_at s.documents v.document ≡ Some d → table s view m ≡ answered kind (request s v d m) (plan_of kind (request s v d m))
 table_at s view m v kind d sees is finds =

@@ -1,4 +1,4 @@
--- UNDO and REDO over commands: the messages that act are answered, and all others leave the document alone.
+-- UNDO and REDO between other commands: each UNDO and REDO is answered, and all other commands leave the document alone.
 use Rattle.std.proofs.Common.{◌≡◌, ℕ, zero, suc, ◌≤◌, ◌<◌, cond, Bool, true, false, List, [], ◌∷◌, length, refl, ap, ◌∙◌, sym, subst, arith, inl, inr, Option, Some, None, Result, Ok, Err}
 use Rattle.ed_types.specs.declared.kind.Kind.{Kind}
 use Rattle.ed_types.specs.declared.kind.Kind.TheVariants.{Undo, Redo}
@@ -30,7 +30,7 @@ use Rattle.run_laws.proofs.Finding.{found_below}
 use Rattle.run_laws.proofs.TableWays.{of_table, table_at}
 use Rattle.run_laws.proofs.IdLemmas.{document_ids_never_come_back, next_document_rises}
 
--- The laws that this rests on.
+-- The laws that these proofs use.
 pub record Cited : Type 0 where
   pub fits : PlansFit
   pub keeps : CommandKeepsSound
@@ -66,7 +66,7 @@ done_unless_too_long (Ok done) h fits = (done, refl)
 done_unless_too_long (Err TooLong) h fits = absurd (fits refl)
 done_unless_too_long (Err other) h fits = absurd h
 
--- a kind whose messages to views of documents that are there are answered
+-- a kind of message that is always answered, if its view and document exist
 abbrev IsAlwaysAnswered : Kind → Type 0
 IsAlwaysAnswered kind =
     (s : Session) (view : ℕ) (m : Message) (v : View) (d : Document) → IsSound s → kind_of m.number ≡ Some kind → view_at s.views view ≡ Some v → document_at s.documents v.document ≡ Some d
@@ -86,7 +86,7 @@ redo_is_answered fits s view m v d sound is sees finds =
     (subst DoneOrTooLong (sym (table_at s view m v Redo d sees is finds)) (acts_or_too_long Redo r (can_redo d.history) (redo_changes d.history) plan.Redo))
     (fits s view m sound is)
 
--- Commands that go aside leave the document alone.
+-- Commands that do not concern the document leave it alone.
 
 alone_same : (id : ℕ) (s : Session) (d e : Document) → document_at s.documents id ≡ Some d → document_at s.documents id ≡ Some e → IsLeftAlone d e
 alone_same id s d e found still = let same : d ≡ e = cc in subst (IsLeftAlone d) same (record { text = refl; history = refl; read_only = refl })
@@ -107,7 +107,7 @@ message_alone : MessagesLeaveOtherDocumentsAlone → (id : ℕ) (s : Session) (v
 message_alone law id s view m v (Ok done) sound sees other is d e found still = law s view m v done sound sees is id d e (λ same. other (sym same)) found still
 message_alone law id s view m v (Err refusal) sound sees other is d e found still = alone_same id s d e found still
 
--- a message to a view of another document, or to none
+-- a message to a view of another document, or to no view
 others_alone : MessagesLeaveOtherDocumentsAlone → (id : ℕ) (s : Session) (view : ℕ) (m : Message) → IsSound s → GoesToOthers id s view → LeavesItAlone id s (after_message s (table s view m)).0.session
 others_alone law id s view m sound others =
     of_table (λ x. table s view m ≡ x → LeavesItAlone id s (after_message s x).0.session) (λ is. alone_same id s) (λ is. alone_same id s) (λ is. alone_same id s) s m view
@@ -131,7 +131,7 @@ aside_alone laws files id (SendMessage view m) s sound (inl others) = others_alo
 aside_alone laws files id (SendMessage view m) s sound (inr query) = query_alone id s.session (table s.session view m) (laws.queries s.session view m query.0 query.1 query.2)
 aside_alone laws files id (Expect value) s sound aside = alone_same id s.session
 
--- A document that is there at the end is there all the time.
+-- A document that exists at the end existed all the time.
 still_there : Cited → (files : List (List ℕ)) (c : Command) (cs : List Command) (s : Running) (id : ℕ) (d e : Document) → IsSound s.session → document_at s.session.documents id ≡ Some d
     → document_at (run_to files cs (after_command files c s).0).session.documents id ≡ Some e → (x : Document) × (document_at (after_command files c s).0.session.documents id ≡ Some x)
 still_there laws files c cs s id d e sound found end = go (document_at (after_command files c s).0.session.documents id) refl
@@ -156,7 +156,7 @@ alone_through id s t u l x found left = record {
 alone_here : (id : ℕ) (s : Session) (x : Document) → document_at s.documents id ≡ Some x → LeavesAlone id s s
 alone_here id s x found = record { before = x; after = x; found = found; still_found = found; left = record { text = refl; history = refl; read_only = refl } }
 
--- the messages that act, answered one after another
+-- a number of messages of this kind, answered one after another
 abbrev Chain : Kind → ℕ → ℕ → Session → Session → Type 0
 Chain kind id k s t = (ms : List (ℕ × Message)) × (length ms ≡ k) × AreAnswered kind id ms s t
 
@@ -205,7 +205,7 @@ module _ (laws : Cited) (files : List (List ℕ)) (kind : Kind) (answers : IsAlw
   chained (c ∷ cs) (suc k) origin s e sound alone (inr act) end =
       chained cs (suc k) origin (after_command files c s).0 e (laws.keeps files c s sound) (aside_next c cs origin s e sound alone act.0 end) act.1 end
 
--- a document there at the end of a list of commands, and at its start, was there before the last of them
+-- a document that exists after some commands, and whose id was given before them, existed before them
 there_before : Cited → (files : List (List ℕ)) (cs : List Command) (s : Running) (id : ℕ) (x : Document) → IsSound s.session → id < s.session.next_document
     → document_at (run_to files cs s).session.documents id ≡ Some x → (d : Document) × (document_at s.session.documents id ≡ Some d)
 there_before laws files cs s id x sound below end = go (document_at s.session.documents id) refl

@@ -1,4 +1,4 @@
--- Handles are given once: a handle that no marker of the document has any more, none has ever after.
+-- Each handle is given once: if no marker of the document has a handle any more, none ever has it again.
 use Rattle.std.specs.Prelude.{◌≡◌, ℕ, ◌<◌, List, Some}
 use Rattle.ed_types.specs.declared.script.Command.{Command}
 use Rattle.ed_model.specs.Session.{Document, document_at}

@@ -1,4 +1,4 @@
--- Without views there are only documents that callers hold.
+-- In a session without views, callers hold every document.
 use Rattle.std.specs.Prelude.{◌≡◌, ◌<◌, []}
 use Rattle.std.specs.List.{AllByRecursion}
 use Rattle.ed_model.specs.Session.{Session, Document}

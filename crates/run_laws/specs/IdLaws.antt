@@ -1,5 +1,5 @@
--- Ids are given once: the id of a document or a view that has gone names nothing ever after, and no two views opened in a run have
--- one id.
+-- Each id is given once: the id of a document that was dropped, or of a view that was closed, is never given again, and no two
+-- views opened in a run have the same id.
 use Rattle.std.specs.Prelude.{◌≡◌, ℕ, ◌<◌, ◌≤◌, List, [], ◌∷◌, None}
 use Rattle.ed_types.specs.declared.script.Command.{Command}
 use Rattle.ed_types.specs.declared.script.Outcome.{Outcome}
@@ -8,21 +8,21 @@ use Rattle.ed_model.specs.Session.{document_at, view_at}
 use Rattle.ed_model.specs.SoundLaws.{IsSound, Rise}
 use Rattle.ed_model.specs.Run.{Running, run_to, outcomes}
 
--- an id below the next one that names no document names none after a run
+-- an id below the next one that no document has is the id of no document after a run
 abbrev pub DocumentIdsNeverComeBack : Type 0
 DocumentIdsNeverComeBack =
     (files : List (List ℕ)) (commands : List Command) (s : Running) (id : ℕ) →
     IsSound s.session → id < s.session.next_document → document_at s.session.documents id ≡ None →
     document_at (run_to files commands s).session.documents id ≡ None
 
--- and of views the same
+-- the same for views
 abbrev pub ViewIdsNeverComeBack : Type 0
 ViewIdsNeverComeBack =
     (files : List (List ℕ)) (commands : List Command) (s : Running) (id : ℕ) →
     id < s.session.next_view → view_at s.session.views id ≡ None →
     view_at (run_to files commands s).session.views id ≡ None
 
--- the next ids never fall
+-- the next ids never decrease
 abbrev pub NextIdsNeverFall : Type 0
 NextIdsNeverFall =
     (files : List (List ℕ)) (commands : List Command) (s : Running) →
@@ -37,7 +37,7 @@ opened_ids (Replied reply ∷ os) = opened_ids os
 opened_ids (Refused refusal ∷ os) = opened_ids os
 opened_ids (Expected met value ∷ os) = opened_ids os
 
--- the views that a run opens have rising ids, from the next one on
+-- the views that a run opens have rising ids, from the next id on
 abbrev pub OpenedIdsRise : Type 0
 OpenedIdsRise =
     (files : List (List ℕ)) (commands : List Command) (s : Running) →

@@ -1,4 +1,4 @@
--- The laws of whole runs, in the words of the definitions.
+-- The laws of whole runs, stated with the definitions of `ed_model`.
 pub mod MessageKinds
 pub mod Reached
 pub mod RefusalLaws

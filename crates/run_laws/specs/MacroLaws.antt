@@ -1,4 +1,5 @@
--- Macros: what a view records, sent to it again from where it began, ends where it ended.
+-- Macros: the messages that a view records, sent to it again from the state in
+-- which the recording began, lead to the state in which it ended.
 use Rattle.std.specs.Prelude.{◌≡◌, ◌⊎◌, ◌≤◌, ℕ, ◌==◌, true, false, if◌then◌else◌, List, [], ◌∷◌, length, map, Some, Ok}
 use Rattle.std.specs.List.{AllByRecursion}
 use Rattle.ed_types.specs.declared.kind.Kind.{Kind}
@@ -15,7 +16,7 @@ use Rattle.ed_model.specs.SoundLaws.{IsSound}
 use Rattle.ed_model.specs.Run.{Running, starting, outcomes, run_to}
 use Rattle.run_laws.specs.IsolationLaws.{Sending, sent}
 
--- the session but for whether the view records
+-- the view, as it is while it does not record
 abbrev pub not_recording : ℕ → View → View
 not_recording view v = record v { records = if v.id == view then false else v.records }
 
@@ -25,17 +26,17 @@ without_recording view s = record s { views = map (not_recording view) s.views }
 abbrev pub sent_to : ℕ → Message → Command
 sent_to view m = SendMessage view m
 
--- the message is a query, or goes to the view and can be recorded
+-- the message is a query, or goes to the view and is marked R
 abbrev pub CanStandBetween : ℕ → Sending → Type 0
 CanStandBetween view m =
     (kind : Kind) → kind_of m.1.number ≡ Some kind → ((marks_of kind).q ≡ true) ⊎ ((m.0 ≡ view) × ((marks_of kind).r ≡ true))
 
--- what the view records of these messages, from this session on
+-- the messages that the view records while these are sent, from this session on
 abbrev pub recorded_of : ℕ → List Sending → Session → List Message
 recorded_of view messages s = recorded_messages view (replies_in (outcomes [] (map sent messages) (starting s)))
 
--- Between STARTRECORD and STOPRECORD to a view of a sound session come such messages. What it recorded, sent to it from where it began, ends in the last
--- session, but for whether it records.
+-- Between STARTRECORD and STOPRECORD, sent to a view of a sound session, come such messages. The messages that the view recorded,
+-- sent to it from the session before STARTRECORD, lead to the session after STOPRECORD, except for whether the view records.
 abbrev pub RecordingsCanBeReplayed : Type 0
 RecordingsCanBeReplayed =
     (s : Session) (view : ℕ) (start stop : Message) (messages : List Sending) (begun ended : Session × Response) →
@@ -44,11 +45,11 @@ RecordingsCanBeReplayed =
     kind_of stop.number ≡ Some StopRecord → table (run_to [] (map sent messages) (starting begun.0)).session view stop ≡ Ok ended →
     without_recording view (run_to [] (map (sent_to view) (recorded_of view messages begun.0)) (starting s)).session ≡ ended.0
 
--- A reply records one message at most for a view: the first note of recording that it has for the view is the only one.
+-- A reply records at most one message for a view: its first SCN_MACRORECORD for the view is the only one.
 abbrev pub RecordsOneAtMost : ℕ → Response → Type 0
 RecordsOneAtMost view reply = length (recorded_messages view (reply ∷ [])) ≤ 1
 
--- every reply to a message does so for every view
+-- every reply to a message does so, for every view
 abbrev pub RepliesRecordOneMessage : Type 0
 RepliesRecordOneMessage =
     (s : Session) (sender view : ℕ) (m : Message) (done : Session × Response) → table s sender m ≡ Ok done → RecordsOneAtMost view done.1

@@ -1,15 +1,15 @@
--- The table refuses for reasons of its own: want of memory is none of them.
+-- The table never refuses with OutOfMemory.
 use Rattle.std.specs.Prelude.{◌≡◌, ℕ, Err}
 use Rattle.ed_types.specs.declared.message.Message.{Message}
 use Rattle.ed_types.specs.declared.refusal.Refusal.TheVariants.{OutOfMemory}
 use Rattle.ed_model.specs.Session.{Session}
 use Rattle.ed_model.specs.Table.{table, opened, closed}
 
--- no message is answered by want of memory
+-- no message is refused with OutOfMemory
 abbrev pub MessagesNeverWantMemory : Type 0
 MessagesNeverWantMemory = (s : Session) (view : ℕ) (m : Message) → table s view m ≡ Err OutOfMemory → ⊥
 
--- nor is a view that is opened or closed
+-- opening and closing a view are not refused with OutOfMemory
 abbrev pub OpeningNeverWantsMemory : Type 0
 OpeningNeverWantsMemory = (s : Session) → opened s ≡ Err OutOfMemory → ⊥
 

@@ -23,13 +23,13 @@ SetsNoSavePoint id s (CloseView view) = Unit {0}
 SetsNoSavePoint id s (LoadFile view file) = Unit {0}
 SetsNoSavePoint id s (Expect value) = Unit {0}
 
--- from one state of a document to the next: its changes are collected, or its text stays
+-- from one state of a document to the next, undo is collected, or the text stays
 abbrev pub IsCollected : Option Document → Option Document → Type 0
 IsCollected (Some d) (Some e) = (d.history.collecting ≡ true) ⊎ (text_of e ≡ text_of d)
 IsCollected (Some d) None = Unit {0}
 IsCollected None e = Unit {0}
 
--- over these commands no save point of the document is set, and no text of it changes that is not collected
+-- while these commands run, no save point of the document is set, and its text changes only while undo is collected
 abbrev pub KeepsTheSavePoint : List (List ℕ) → ℕ → List Command → Running → Type 0
 KeepsTheSavePoint files id [] s = Unit {0}
 KeepsTheSavePoint files id (c ∷ cs) s =
@@ -37,14 +37,14 @@ KeepsTheSavePoint files id (c ∷ cs) s =
     SetsNoSavePoint id s.session c × IsCollected (document_at s.session.documents id) (document_at t.session.documents id) × KeepsTheSavePoint files id cs t
 
 -- From a state of a sound session in which a document counts as unmodified, as it does when a save point is set, and over such
--- commands: whenever it counts as unmodified again, groups open or not, its text is that of the first state.
+-- commands: whenever the document counts as unmodified again, with groups open or not, its text is that of the first state.
 abbrev pub UnmodifiedIsTheSavedText : Type 0
 UnmodifiedIsTheSavedText =
     (files : List (List ℕ)) (commands : List Command) (s : Running) (id : ℕ) (d e : Document) →
     IsSound s.session → document_at s.session.documents id ≡ Some d → at_save_point d.history ≡ true → KeepsTheSavePoint files id commands s →
     document_at (run_to files commands s).session.documents id ≡ Some e → at_save_point e.history ≡ true → text_of e ≡ text_of d
 
--- GETMODIFY answers 0 just where the document counts as unmodified
+-- GETMODIFY answers 0 only if the document counts as unmodified
 abbrev pub GetModifyTells : Type 0
 GetModifyTells =
     (s : Session) (view : ℕ) (m : Message) (v : View) (d : Document) (done : Session × Response) →

@@ -1,4 +1,5 @@
--- UNDO and REDO over commands: UNDO messages lead back to earlier states of the run, and REDO messages on, whatever goes aside between.
+-- UNDO and REDO between other commands: UNDO messages lead back to earlier states of the run, and REDO messages forward again, if
+-- the commands between do not concern the document.
 use Rattle.std.specs.Prelude.{◌≡◌, ◌⊎◌, ℕ, zero, suc, ◌-◌, ◌≤◌, true, false, List, [], ◌∷◌, length, Some}
 use Rattle.ed_types.specs.declared.kind.Kind.{Kind}
 use Rattle.ed_types.specs.declared.kind.Kind.TheVariants.{Undo, Redo}
@@ -19,11 +20,11 @@ Acts kind id s (CloseView view) = ⊥
 Acts kind id s (LoadFile view file) = ⊥
 Acts kind id s (Expect value) = ⊥
 
--- the command goes to no view of the document
+-- the view is not on the document
 abbrev pub GoesToOthers : ℕ → Session → ℕ → Type 0
 GoesToOthers id s view = (v : View) → view_at s.views view ≡ Some v → v.document ≡ id → ⊥
 
--- the command goes aside: it goes to views of other documents, is a query, or opens or closes a view
+-- the command does not concern the document: it goes to a view of another document, is a query or an `expect`, or opens or closes a view
 abbrev pub GoesAside : ℕ → Session → Command → Type 0
 GoesAside id s (SendMessage view m) = GoesToOthers id s view ⊎ ((kind : Kind) × (kind_of m.number ≡ Some kind) × ((marks_of kind).q ≡ true))
 GoesAside id s (LoadFile view file) = GoesToOthers id s view
@@ -31,7 +32,7 @@ GoesAside id s OpenView = Unit {0}
 GoesAside id s (CloseView view) = Unit {0}
 GoesAside id s (Expect value) = Unit {0}
 
--- so many of the commands send a message of this kind to a view of the document, and all others go aside
+-- `count` of the commands send a message of this kind to a view of the document, and the others do not concern it
 abbrev pub Act : List (List ℕ) → Kind → ℕ → ℕ → List Command → Running → Type 0
 Act files kind id zero [] s = Unit {0}
 Act files kind id (suc k) [] s = ⊥
@@ -40,9 +41,10 @@ Act files kind id (suc k) (c ∷ cs) s =
     (Acts kind id s.session c × Act files kind id k cs (after_command files c s).0)
     ⊎ (GoesAside id s.session c × Act files kind id (suc k) cs (after_command files c s).0)
 
--- After a run from a new session, of a document that can be written, outside groups, with k transactions or more: over commands of which
--- k are UNDO to views of it, and the others go aside, the document, if it is still there, has the text of the latest state of the run before
--- in which its past had k transactions fewer. Over commands more of which k are REDO so, it has the text that it had at first.
+-- After a run from a new session, a document is not read-only, no group is open, and its past has k transactions or more. Then
+-- come commands of which k send UNDO to views of it, and the others do not concern it. If the document still exists, it has the
+-- text of the latest state of the run before them in which its past had k transactions fewer. After further commands of which k
+-- send REDO in the same way, it has the text that it had at first.
 abbrev pub UndoGoesBackOverCommands : Type 0
 UndoGoesBackOverCommands =
     (files : List (List ℕ)) (limits : Limits) (before undos redos : List Command) (id k : ℕ) (d : Document) →

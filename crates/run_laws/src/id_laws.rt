@@ -3,7 +3,8 @@
 ghost use Rattle.run_laws.specs.HandleRunLaws.{HandlesNeverComeBack};
 ghost use Rattle.run_laws.specs.IdLaws.{DocumentIdsNeverComeBack, NextIdsNeverFall, OpenedIdsRise, ViewIdsNeverComeBack};
 
-/// The id of a document or of a view that has gone names nothing ever after, whatever commands come.
+/// The id of a document that was dropped never names a document again, and the id of a view that was closed never names a view
+/// again, whatever commands follow.
 pub fn ids_never_come_back()
     ensures documents { DocumentIdsNeverComeBack }
     ensures views { ViewIdsNeverComeBack }
@@ -13,12 +14,12 @@ pub fn ids_never_come_back()
     ed_model::soundness_is_kept();
 }
 
-/// The views that a run opens have rising ids, so that no two have one.
+/// The views that a run opens have rising ids, so no two have the same.
 pub fn opened_views_have_rising_ids()
     ensures { OpenedIdsRise }
 {}
 
-/// A handle that no marker of a document has any more, none has ever after.
+/// If no marker of a document has a handle any more, none ever has it again.
 pub fn handles_never_come_back()
     ensures { HandlesNeverComeBack }
 {

@@ -1,11 +1,10 @@
-//! The laws of line ends turned into one kind.
+//! The laws of the conversion of line ends to one kind.
 
 ghost use Rattle.run_laws.specs.LineEndLaws.{ConvertEolsConverts, ConvertedHaveOnlyThese, ConvertedLinesEndSo, LastKindCounts, LineCountStays, OtherBytesStay, StepsConvert, TextsOfTheKindStay};
 
-/// The steps of a conversion leave the converted text. In that no CR and no LF stands but in line ends of the wanted kind, so that
-/// each line but the last ends in these, or in one of Unicode's where the document knows them; all other bytes stay, and there are
-/// as many lines as before. A text of the kind stays as it is, and one that is converted twice is as if converted to the last kind
-/// alone.
+/// The steps of a conversion lead to the converted text. In it each CR and each LF belongs to a line end of the wanted kind, so each line
+/// but the last ends in that kind, or in a Unicode line end if the document allows these. All other bytes stay, and so does the number of
+/// lines. A text of the kind stays as it is, and a text that is converted twice is the text converted to the second kind alone.
 pub fn conversions_leave_one_kind()
     ensures steps { StepsConvert }
     ensures only { ConvertedHaveOnlyThese }
@@ -16,7 +15,7 @@ pub fn conversions_leave_one_kind()
     ensures last_kind { LastKindCounts }
 {}
 
-/// A CONVERTEOLS that is answered leaves a writable document with the converted text, of the kind that was asked for.
+/// CONVERTEOLS, if it is answered and the document is not read-only, leaves the text converted to the kind that it names.
 pub fn convert_eols_converts_the_text()
     ensures { ConvertEolsConverts }
 {}

@@ -2,8 +2,8 @@
 
 ghost use Rattle.run_laws.specs.MacroLaws.{RecordingsCanBeReplayed, RepliesRecordOneMessage, RunsRecordOneMessageAReply};
 
-/// What a view recorded between STARTRECORD and STOPRECORD, sent to it from where it began, ends in the session where it ended, but
-/// for whether it records.
+/// The messages that a view recorded between STARTRECORD and STOPRECORD, sent to it from the session before STARTRECORD, lead to
+/// the session after STOPRECORD, except for whether the view records.
 pub fn recordings_can_be_replayed()
     ensures { RecordingsCanBeReplayed }
 {
@@ -12,7 +12,7 @@ pub fn recordings_can_be_replayed()
     ed_model::session_is_sound();
 }
 
-/// A reply has one note at most by which a view records, for each view: the first one is all that it records for that view.
+/// A reply records at most one message for each view: its first SCN_MACRORECORD for the view is the only one.
 pub fn replies_record_one_message()
     ensures messages { RepliesRecordOneMessage }
     ensures runs { RunsRecordOneMessageAReply }

@@ -1,10 +1,10 @@
-//! The law of undo over commands.
+//! The law of undo between other commands.
 
 ghost use Rattle.run_laws.specs.UndoRunLaws.{UndoGoesBackOverCommands};
 
-/// UNDO messages to any views of a document lead back to the text of the latest earlier state of the run with as many transactions
-/// fewer, and as many REDO messages to the text that it was, whatever comes between that goes to views of other documents, is a query,
-/// or opens or closes a view.
+/// UNDO messages to views of a document lead back to the text of the latest earlier state of the run with as many transactions
+/// fewer, and as many REDO messages lead forward to the text at first. The commands between may go to views of other documents,
+/// be queries, or open and close views.
 pub fn undo_goes_back_over_commands()
     ensures { UndoGoesBackOverCommands }
 {
