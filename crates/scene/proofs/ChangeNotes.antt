@@ -1,4 +1,4 @@
--- The notes of changes that undo or redo performs: no more than was told before.
+-- The notes of the changes that undo or redo performs are at most as many as the need says.
 use Rattle.std.proofs.Common.{◌≡◌, ℕ, zero, suc, ◌+◌, ◌*◌, ◌≤◌, Bool, true, false, cond, List, [], ◌∷◌, ◌++◌, length, refl, ap, ◌∙◌, subst, arith, length-append}
 use Rattle.std.specs.Prelude.{ℤ, filter, filter_map, bit_or, nat_lt, slice_get, Some}
 use Rattle.std.proofs.lemmas.List.{length-map}
@@ -18,7 +18,7 @@ use Rattle.scene.proofs.ToldSoFar.{length_told}
 use Rattle.scene.proofs.KindLemmas.{meets_left, meets_right, meets_more, after_more, hearers_more, before_kind_is, after_kind_is}
 use Rattle.scene.proofs.NeedLemmas.{hear_same, watch_after}
 
--- The bits of a note after a change are among all.
+-- The bits of the note after a change are among all bits.
 
 abbrev pub bits_after : Direction → Bool → Bool → Bool → ℕ
 bits_after direction several last changed = bit_or (bit_or (bits_of direction) (notes.bit_if several notes.multi_step)) (last_bits last changed)
@@ -38,7 +38,7 @@ bits_more Redo false true true m h = meets_left m 0x1140 0x11C0 h
 bits_more Redo false true false m h = meets_left m 0x140 0x11C0 h
 bits_more Redo false false changed m h = meets_left m 0x40 0x11C0 h
 
--- The kinds of a step are among all.
+-- The kinds of a step are among all kinds.
 every_more : (direction : Direction) (s : Step) (m : ℕ) → meets m (performed_kinds (bits_of direction) s) ≡ true → meets m (every_kind (bits_of direction)) ≡ true
 every_more Undo (Insert p bytes) m h = meets_left m 0x15A1 0x41DA3 h
 every_more Undo (Delete p bytes) m h = meets_left m 0x19A2 0x41DA3 h
@@ -49,7 +49,7 @@ container_more : (direction : Direction) (m : ℕ) → meets m (container_kinds 
 container_more Undo m h = meets_left m 0x411A0 0x41DA3 h
 container_more Redo m h = meets_left m 0x411C0 0x41DC3 h
 
--- where no view hears of any kind of change, none hears of these
+-- if no view hears any kind of change, none hears these changes
 pub none_of_all : (direction : Direction) (cs : List Change) (views : List View) → hearers (every_kind (bits_of direction)) views ≡ 0 → notes_of_changes views (bits_of direction) cs ≡ 0
 none_of_all direction [] views none = refl
 none_of_all direction (TextStep s ∷ cs) views none =
@@ -61,7 +61,7 @@ none_of_all direction (ContainerStep token coalesce ∷ cs) views none =
     let rest = none_of_all direction cs views none in
     omega arith
 
--- Each note has no more hearers than the change.
+-- A note has at most as many hearers as its change.
 
 pub before_few : (who : ℕ) (s : Step) (views : List View) → length (heard views (before_note who s)) ≤ hearers (performed_kinds who s) views
 before_few who s views =
@@ -90,7 +90,7 @@ container_few who bits token views more =
     hearers_more n.kind (container_kinds who) views (λ m h. meets_more m notes.container bits (all_bits who) (more m) h) in
     omega arith
 
--- So many notes at most are put for a change.
+-- At most this many notes are appended for a change.
 
 three_parts : (a b c : List Notice) → length (a ++ b ++ [] ++ c) ≡ length a + (length b + length c)
 three_parts a b c = simp length-append (omega arith)
@@ -116,7 +116,7 @@ performed_few direction several last changed (ContainerStep token coalesce) scen
     let c = container_few who bits token W (bits_more direction several last changed) in
     omega arith
 
--- Those that watch after a change hear as those that watched before.
+-- The views that watch after a change hear the same kinds as those before it.
 
 pub record HearAlike (a b : List View) : Type 0 where
   pub hear : (k : ℕ) → hearers k a ≡ hearers k b
@@ -148,7 +148,7 @@ pub bytes_alike : (who : ℕ) (cs : List Change) (a b : List View) → HearAlike
 bytes_alike who [] a b alike = refl
 bytes_alike who (c ∷ cs) a b alike = let x = byte_alike who c a b alike in let y = bytes_alike who cs a b alike in rw (x, y) refl
 
--- Where no view heard of any of the changes, and those that watch hear as those did, none hears of one of them.
+-- If no view heard any of the changes, and the views that watch hear the same kinds, none hears one of the changes.
 
 among_all : (who : ℕ) (cs : List Change) (i : ℕ) (c : Change) (views : List View) → slice_get cs i ≡ Some c → notes_of_change views who c ≤ notes_of_changes views who cs
 among_all who [] i c views at = absurd (cc)

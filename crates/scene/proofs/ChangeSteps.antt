@@ -1,4 +1,4 @@
--- The steps among changes that undo or redo performs, and the room that is left for them.
+-- The steps among the changes that undo or redo performs, and the room left for them.
 use Rattle.std.proofs.Common.{◌≡◌, ℕ, suc, ◌+◌, ◌-◌, ◌^◌, ◌<◌, ◌≤◌, Bool, List, ◌∷◌, length, drop, refl, ap, sym, ◌∙◌, subst, arith, drop-cons}
 use Rattle.std.specs.Prelude.{slice_range, slice_get, Option, Some, IsSomeAnd}
 use Rattle.std.proofs.lemmas.List.{length-drop, length-take}
@@ -31,14 +31,14 @@ use Rattle.scene.proofs.NotesOfSteps.{length_slice}
 
 -- A step of a change.
 
--- what there is is what holds of it
+-- the value of an option has the property that the option has
 pub some_has : {X : Type 0} (o : Option X) (P : X → Type 0) (x : X) → o ≡ Some x → IsSomeAnd o P → P x
 some_has o P x e h = subst (λ p. IsSomeAnd p P) e h
 
 length_part : (text : List ℕ) (p n : ℕ) → length (slice_range text p (p + n)) ≤ length text - p
 length_part text p n = simp (length-take, length-drop) (omega arith)
 
--- the bytes that it deletes stand in the text
+-- the bytes that a step deletes are in the text
 pub deletes_within : (p : ℕ) (bytes text : List ℕ) → Fits (model.Delete p bytes) text → p + length bytes ≤ length text
 deletes_within p bytes text fits =
     let n = length_part text p (length bytes) in
@@ -46,18 +46,18 @@ deletes_within p bytes text fits =
     let w : p ≤ length text = fits.0 in
     omega arith
 
--- it ends in the text
+-- a step ends in the text
 pub ends_in_text : (s : Step) (text : List ℕ) → Fits s text → end_of s ≤ length text
 ends_in_text (model.Insert p bytes) text fits = fits
 ends_in_text (model.Delete p bytes) text fits = deletes_within p bytes text fits
 
--- The outline of a step: the kinds that it is told under, and what it does to positions.
+-- The outline of a step: the kinds of its notes, and its movement of positions.
 
 pub outline_kinds_are : (who : ℕ) (s : Step) → outline_kinds who (outline_of (Text s)) ≡ performed_kinds who s
 outline_kinds_are who (model.Insert p bytes) = refl
 outline_kinds_are who (model.Delete p bytes) = refl
 
--- a change of which no view hears needs no note
+-- a change that no view hears needs no note
 pub needs_no_note : (who : ℕ) (c : Change) (views : List View) → hearers (outline_kinds who (outline_of c)) views ≡ 0
     → note_room 0 0 ≡ note_room (notes_of_change views who c) (bytes_of_change views who c)
 needs_no_note who (Text (model.Insert p bytes)) views none = rw none refl
@@ -68,14 +68,14 @@ pub outline_movement_is : (s : Step) → outline_movement (outline_of (Text s)) 
 outline_movement_is (model.Insert p bytes) = refl
 outline_movement_is (model.Delete p bytes) = refl
 
--- The changes that are left.
+-- The remaining changes.
 
 pub drop_some : {X : Type 0} (xs : List X) (i : ℕ) (x : X) → slice_get xs i ≡ Some x → drop i xs ≡ x ∷ drop (i + 1) xs
 drop_some xs i x e =
     let s : i + 1 ≡ suc i = omega arith in
     rw s (drop-cons xs i x (slice_get_within xs i x e) ∙ ap (λ y. y ∷ drop (suc i) xs) (get_or_from_slice_get xs i x x e))
 
--- the next change fits, and those behind it fit the text after it
+-- the next change fits, and the changes after it fit the text that it leaves
 pub next_fits : (c : Change) (cs : List Change) (text : List ℕ) → AreStepsOf text (text_steps (c ∷ cs)) → ChangeFits c text
 next_fits (Text s) cs text all = all.0.0
 next_fits (ContainerStep token coalesce) cs text all = tt
@@ -89,7 +89,7 @@ pub steps_left : CellsFollowBytes → (who several : ℕ) (last changed : Bool) 
 steps_left law who several last changed (Text s) cs scene all = subst (λ text. AreStepsOf text (text_steps cs)) (sym (text_after law s scene.document)) all.1
 steps_left law who several last changed (ContainerStep token coalesce) cs scene all = all
 
--- Room: what there was, what is free of it by now, and what is still needed is no more than what there is and what was needed in all.
+-- The room in use and the room still needed are together at most the room that there was and the need in all.
 pub record LeavesRoom (old now : DocumentRoom) (free : ℕ) (whole rest : DocumentRoom) : Type 0 where
   pub text : old.text + free + rest.text ≤ now.text + whole.text
   pub lines : old.lines + rest.lines ≤ now.lines + whole.lines
@@ -134,7 +134,7 @@ leaves_none old now free whole so =
     let e = so.bytes in
     record { text_left = omega arith; lines_left = omega arith; insertions_left = omega arith; steps_left = omega arith; bytes_left = omega arith }
 
--- The numbers of a step that there is room for are small.
+-- The numbers of a step that has its room are small.
 
 pub small_count : (types : LineEndTypes) (s : Step) (text : List ℕ) (room : ℕ) → Fits s text → (room_of_step types s).text ≤ room → length text + room < 2 ^ 61
     → length text + count_of (movement_of s) < 2 ^ 64
@@ -146,7 +146,7 @@ pub small_fits : (types : LineEndTypes) (s : Step) (text : List ℕ) (room : ℕ
 small_fits types (model.Insert p bytes) text room fits put bound = let within : p ≤ length text = fits in (omega arith, omega arith)
 small_fits types (model.Delete p bytes) text room fits put bound = let w = deletes_within p bytes text fits in (omega arith, omega arith)
 
--- the lent step's numbers are those of the step that it is
+-- the numbers of a lent step are those of the step that it stands for
 pub small_lent : (step : TextStep) (s : Step) (text : List ℕ) → step_in step text ≡ s → IsStepOn step (length text) → place_of s < 2 ^ 63
     → length (step_bytes s) < 2 ^ 63 → IsSmallStep step
 small_lent (Insert p bytes) s text e on place count = (subst (λ (x : Step). place_of x < 2 ^ 63) (sym e) place, subst (λ (x : Step). length (step_bytes x) < 2 ^ 63) (sym e) count)
@@ -159,6 +159,6 @@ pub lines_of_room : (types : LineEndTypes) (s : Step) → (room_of_step types s)
 lines_of_room types (model.Insert p bytes) = refl
 lines_of_room types (model.Delete p bytes) = refl
 
--- a place in a history has one step
+-- an index of a history has one step
 pub step_same : (o : Option Change) (s s' : Step) → o ≡ Some (Text s) → o ≡ Some (Text s') → s ≡ s'
 step_same o s s' a b = let e : Some (Text s) ≡ Some (Text s') = sym a ∙ b in cc

@@ -1,4 +1,4 @@
--- What the steps of a conversion need: the same for each that puts a byte in, and for each that deletes one.
+-- What the steps of a conversion need: the same for each that inserts a byte, and the same for each that deletes one.
 use Rattle.std.proofs.Common.{suc, ◌≡◌, ℕ, ◌+◌, ◌-◌, ◌*◌, ◌^◌, ◌==◌, min, Bool, true, false, cond, List, [], ◌∷◌, ◌++◌, length, refl, ap, sym, ◌∙◌, arith}
 use Rattle.std.specs.Prelude.{nat_lt, if◌then◌else◌}
 use Rattle.std.proofs.Math.Nat.{mul-suc}
@@ -19,7 +19,7 @@ use Rattle.scene.specs.declared.need.NoteRoom.{NoteRoom}
 use Rattle.scene.specs.Needs.{note_room, leaving_count, notes_of_step, bytes_of_step, notes_of_steps, bytes_of_steps}
 use Rattle.scene.specs.Conversion.{both_rooms, free_behind, bytes_for, capped, capped_notes, capped_room, deletions_of, notes_for, room_of_many, room_of_step, room_of_steps, rooms_added, room_of_steps_beside}
 
--- What holds of a step of a conversion: it needs what this one does.
+-- this step of a conversion needs what that one needs
 pub record NeedsAs (types : LineEndTypes) (views : List View) (one step : Step) : Type 0 where
   pub notes : notes_of_step views step ≡ notes_of_step views one
   pub bytes : bytes_of_step views step ≡ bytes_of_step views one
@@ -66,7 +66,7 @@ many_rooms types views one (s ∷ steps) all =
     ap (λ r. both_rooms r (rooms_added types steps)) all.0.room ∙ ap (both_rooms need) (many_rooms types views one steps all.1)
     ∙ same_room _ _ _ _ _ _ _ _ _ _ (one_more need.text n) (one_more need.lines n) (one_more need.insertions n) (one_more need.steps n) (one_more need.bytes n)
 
--- Those that put a byte in, and those that delete one.
+-- The steps that insert a byte, and those that delete one.
 
 abbrev pub a_put : Step
 a_put = Insert 0 (10 ∷ [])
@@ -103,7 +103,7 @@ take_as types views [] e p b = absurd (omega (arith, e))
 take_as types views (x ∷ []) e p b = record { notes = refl; bytes = refl; room = refl }
 take_as types views (x ∷ y ∷ more) e p b = absurd (omega (arith, e))
 
--- What so many need, as it is told.
+-- What this many steps need, as the code adds it up.
 
 pub puts_notes : (types : LineEndTypes) (views : List View) (to : LineEnd) (text : List ℕ) (count : ℕ) → count ≡ length (missing_from 0 false to text)
     → capped_notes (notes_of_step views a_put * count) (bytes_of_step views a_put * count)
@@ -139,7 +139,7 @@ takes_room types views to text bytes count one e =
     ap (λ k. capped_room (room_of_many k (room_of_step types (Delete 0 bytes)))) e
     ∙ ap capped_room (sym (many_rooms types views (Delete 0 bytes) (deletions_of to text) (takes_as types views (Delete 0 bytes) (take_as types views bytes one) to (completed to text) false 0)))
 
--- Both together.
+-- Insertions and deletions together.
 
 notes_of_both : (views : List View) (a b : List Step) → notes_of_steps views (a ++ b) ≡ notes_of_steps views a + notes_of_steps views b
 notes_of_both views [] b = let e : 0 + notes_of_steps views b ≡ notes_of_steps views b = omega arith in sym e
@@ -185,7 +185,7 @@ both_needs types a b =
     same_room _ _ _ _ _ _ _ _ _ _ (capped_both x.text y.text) (capped_both x.lines y.lines) (capped_both x.insertions y.insertions) (capped_both x.steps y.steps) (capped_both x.bytes y.bytes)
     ∙ ap capped_room (sym (room_of_both types a b))
 
--- A conversion puts bytes in before it takes any out, so no step makes room for one behind it.
+-- A conversion inserts bytes before it deletes any, so no step leaves room for a later one.
 takes_beside : (types : LineEndTypes) (views : List View) (one : Step) (steps : List Step) (free : ℕ) → AllNeedAs types views one steps → (room_of_step types one).text ≡ 0
     → room_of_steps_beside types free steps ≡ rooms_added types steps
 takes_beside types views one [] free all e = refl
@@ -215,7 +215,7 @@ conversion_beside types to text =
     let takes = takes_as types [] one (take_as types [] (10 ∷ []) refl) to (completed to text) false 0 in
     puts_beside types [] (missing_from 0 false to text) (deletions_of to text) (puts_as types [] to text false 0) (takes_beside types [] one (deletions_of to text) 0 takes refl)
 
--- with the notes that the save point is left
+-- together with the notes that the save point is left
 leaving_first : (scene : Scene) (steps : List Step)
     → notes_for steps scene ≡ (if nat_lt 0 (length steps) then leaving_count (watching scene.views scene.document) scene.document.history else 0) + notes_of_steps (watching scene.views scene.document) steps
 leaving_first scene [] = refl

@@ -1,4 +1,4 @@
--- What became of the views, and what is still to become of them, while one after the other follows a step.
+-- The views that followed a step, and those that are still to follow, while one follows after the other.
 use Rattle.std.proofs.Common.{◌≡◌, ℕ, ◌+◌, ◌<◌, ◌≤◌, arith, Bool, true, false, cond, List, [], ◌∷◌, map, refl, ap, sym, ◌∙◌, subst}
 use Rattle.std.specs.Prelude.{◌==◌, Some, None, find, option_map}
 use Rattle.std.proofs.lemmas.Bool.{eqb-true, eqb-false, eq-eqb, ne_eqb}
@@ -13,7 +13,7 @@ use Rattle.scene.specs.Scenes.{views_of, fold_room_in_all, AreNamed}
 use Rattle.scene.specs.Following.{with_followed, followed_at, CanFollow, CanFollowInTurn}
 use Rattle.scene.proofs.Pending.{named_some, named_none}
 
--- what is found passes the test
+-- the element that `find` returns passes the test
 found_test : {X : Type 0} (test : X → Bool) (xs : List X) (x : X) → find test xs ≡ Some x → test x ≡ true
 found_test test [] x e = absurd (cc)
 found_test {X} test (y ∷ ys) x e = go (test y) refl e (λ e. found_test test ys x e)
@@ -25,7 +25,7 @@ found_test {X} test (y ∷ ys) x e = go (test y) refl e (λ e. found_test test y
 pub view_id : (views : List View) (id : ℕ) (v : View) → view_at views id ≡ Some v → v.id ≡ id
 view_id views id v e = eqb-true v.id id (found_test (λ (v : View). v.id == id) views v e)
 
--- Another value at an id.
+-- Replacing the value at an id.
 
 pub value_views : (entries : List (Entry KeptView)) (id : ℕ) (k : KeptView) → AreNamed entries → k.view.id ≡ id
     → views_of (with_value_at id k entries) ≡ with_view k.view (views_of entries)
@@ -58,7 +58,7 @@ value_ids (x ∷ xs) id k = go (x.id == id) refl (value_ids xs id k)
     go true t rest = let same = eqb-true x.id id t in cc
     go false t rest = ap (λ ids. id_of x ∷ ids) rest
 
--- where ids rise there is one value at an id; another one with the same room leaves the room of each
+-- if ids rise, an id has one value; replacing it by one with the same room keeps the room of each
 
 value_above : (entries : List (Entry KeptView)) (low high id : ℕ) (k : KeptView) → Rise low high (map id_of entries) → id < low → with_value_at id k entries ≡ entries
 value_above [] low high id k rise below = refl
@@ -105,13 +105,13 @@ pub follow_none : (movement : Movement) (edits : List LineEdit) (ids : List ℕ)
     → CanFollowInTurn movement edits ids (views_of old.entries) → IsFollowedSoFar movement edits ids ids old old
 follow_none movement edits ids old named can = record { views = refl; named = named; can = can; same = refl; next = refl; room = refl; fold_rooms = λ rise. refl }
 
--- the next view can follow
+-- the view whose turn it is can follow
 pub next_can : (movement : Movement) (edits : List LineEdit) (ids rest after : List ℕ) (id : ℕ) (k : KeptView) (old now : Entries KeptView)
     → IsFollowedSoFar movement edits ids rest old now → rest ≡ id ∷ after → value_at now.entries id ≡ Some k → CanFollow movement edits k.view
 next_can movement edits ids rest after id k old now so e found =
     (subst (λ r. CanFollowInTurn movement edits r (views_of now.entries)) e so.can).0 k.view (named_some now.entries id k so.named found)
 
--- .. and does
+-- that view follows
 pub follow_one : (movement : Movement) (edits : List LineEdit) (ids rest after : List ℕ) (id : ℕ) (k moved : KeptView) (old now new : Entries KeptView)
     → IsFollowedSoFar movement edits ids rest old now → rest ≡ id ∷ after → value_at now.entries id ≡ Some k → moved.view ≡ view_moved movement edits k.view
     → moved.room.hidden ≡ k.room.hidden → contracted_in_all moved ≡ contracted_in_all k
@@ -133,7 +133,7 @@ follow_one movement edits ids rest after id k moved old now new so e found follo
           value_rooms now.entries 0 old.next id k moved (subst (Rise 0 old.next) (sym so.same) rise) found hidden contracted ∙ so.fold_rooms rise;
     })
 
--- no view has the next id
+-- no view has the id whose turn it is
 pub follow_missing : (movement : Movement) (edits : List LineEdit) (ids rest after : List ℕ) (id : ℕ) (old now new : Entries KeptView)
     → IsFollowedSoFar movement edits ids rest old now → rest ≡ id ∷ after → value_at now.entries id ≡ None → new ≡ now
     → IsFollowedSoFar movement edits ids after old new

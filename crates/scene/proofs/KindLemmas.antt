@@ -1,4 +1,4 @@
--- Kinds of notes, and who hears them.
+-- Kinds of notes, and the views that hear them.
 use Rattle.std.proofs.Common.{◌≡◌, ℕ, ◌+◌, ◌<◌, ◌≤◌, Bool, true, false, cond, List, [], ◌∷◌, length, refl, ap, sym, ◌∙◌, subst, arith}
 use Rattle.std.specs.Prelude.{◌==◌, ◌||◌, not, filter, bit_and, bit_or, ℤ}
 use Rattle.std.specs.Int.Bits.{and_zero_l}
@@ -19,7 +19,7 @@ use Rattle.scene.specs.Hearing.{audience_of, with_note_text, hearers, masks_from
 use Rattle.scene.specs.StepNotes.{CanTellMade}
 use Rattle.scene.proofs.ToldSoFar.{length_told}
 
--- what meets a mask meets it with more bits too
+-- a mask without a bit of more kinds has none of fewer
 and_none : (m a b : ℕ) → bit_and m (bit_or b a) ≡ 0 → bit_and m a ≡ 0
 and_none m a b e =
     ap (bit_and m) (sym (and_or_self a b)) ∙ sym (and_assoc a m (bit_or b a)) ∙ ap (λ x. bit_and x a) e ∙ and_zero_l a
@@ -37,7 +37,7 @@ meets_right m a b h = go (bit_and m (bit_or b a) == 0) refl
 pub meets_left : (m a b : ℕ) → meets m a ≡ true → meets m (bit_or a b) ≡ true
 meets_left m a b h = subst (λ k. meets m k ≡ true) (or_comm b a) (meets_right m a b h)
 
--- what meets two kinds together meets one of them
+-- a mask that meets two kinds together meets one of them
 pub meets_either : (m a b c : ℕ) → (meets m a ≡ true → meets m c ≡ true) → (meets m b ≡ true → meets m c ≡ true) → meets m (bit_or a b) ≡ true → meets m c ≡ true
 meets_either m a b c left right h = go (bit_and m b == 0) refl
   where
@@ -48,11 +48,11 @@ meets_either m a b c left right h = go (bit_and m b == 0) refl
         left (ap (λ x. not (x == 0)) (sym same) ∙ h)
     go false t = right (ap not t)
 
--- more of one of the kinds is more of both
+-- a mask that meets two kinds together still meets them if one of them gets more bits
 pub meets_more : (m a b c : ℕ) → (meets m b ≡ true → meets m c ≡ true) → meets m (bit_or a b) ≡ true → meets m (bit_or a c) ≡ true
 meets_more m a b c more = meets_either m a b (bit_or a c) (meets_left m a c) (λ h. meets_right m c a (more h))
 
--- the views that hear a kind hear more kinds too
+-- more kinds have at least as many hearers
 pub hearers_more : (a b : ℕ) (views : List View) → ((m : ℕ) → meets m a ≡ true → meets m b ≡ true) → hearers a views ≤ hearers b views
 hearers_more a b [] h = omega arith
 hearers_more a b (v ∷ vs) h = go (meets v.mask a) refl (hearers_more a b vs h)
@@ -70,7 +70,7 @@ empty_or_some : {X : Type 0} (xs : List X) (P : List X → Type 0) → P [] → 
 empty_or_some [] P a b = a
 empty_or_some (x ∷ xs) P a b = b (omega arith)
 
--- a note that was put for the hearers is one that was heard, if it has the right text where any hears it
+-- the notes appended for the hearers are those that the model says, if the text is right whenever a view hears the note
 pub told_as_heard : (views : List View) (note : Note) (t : NoteText) (shared : List ℕ) (n : Notice) → note.kind ≡ n.kind
     → (0 < hearers n.kind views → with_note_text t note shared ≡ n) → told (audience_of Hearers note.kind views) (with_note_text t note shared) ≡ heard views n
 told_as_heard views note t shared n kind text =
@@ -78,12 +78,12 @@ told_as_heard views note t shared n kind text =
     ∙ empty_or_some (filter (λ (v : View). meets v.mask n.kind) views) (λ vs. told vs (with_note_text t note shared) ≡ told vs n) refl
     (λ some. ap (told (filter (λ (v : View). meets v.mask n.kind) views)) (text some))
 
--- with one that is in it or not
+-- a list with an optional element in front is at least as long as without it
 in_or_not : {X : Type 0} (b : Bool) (x : X) (xs : List X) → (length xs ≤ length (cond b (x ∷ xs) xs)) × (length (cond b (x ∷ xs) xs) ≤ length xs + 1)
 in_or_not true x xs = (omega arith, omega arith)
 in_or_not false x xs = (omega arith, omega arith)
 
--- one that is in the list for both is in that for one of the two
+-- an element that the first list has is in one of the other two
 counted_either : {X : Type 0} (both x y : Bool) (v : X) (together first second : List X) → (both ≡ true → (x || y) ≡ true) → length together ≤ length first + length second
     → length (cond both (v ∷ together) together) ≤ length (cond x (v ∷ first) first) + length (cond y (v ∷ second) second)
 counted_either both true y v together first second h le = let most = in_or_not both v together in let least = in_or_not y v second in omega arith
@@ -91,7 +91,7 @@ counted_either both false true v together first second h le = let most = in_or_n
 counted_either false false false v together first second h le = le
 counted_either true false false v together first second h le = absurd (let wrong : false ≡ true = h refl in cc)
 
--- who hears two kinds together hears one of them
+-- a view that hears two kinds together hears one of them
 meets_one : (m a b : ℕ) → meets m (bit_or a b) ≡ true → (meets m a || meets m b) ≡ true
 meets_one m a b t = go (meets m a) refl
   where
@@ -105,7 +105,7 @@ hearers_either a b (v ∷ vs) =
     counted_either (meets v.mask (bit_or a b)) (meets v.mask a) (meets v.mask b) v (filter (λ (v : View). meets v.mask (bit_or a b)) vs)
     (filter (λ (v : View). meets v.mask a) vs) (filter (λ (v : View). meets v.mask b) vs) (meets_one v.mask a b) (hearers_either a b vs)
 
--- where the masks together have no bit of the kinds, none hears one
+-- if all masks together have no bit of the kinds, no view hears one
 none_from_masks : (kinds masks : ℕ) (views : List View) → bit_and (masks_from masks views) kinds ≡ 0 → (bit_and masks kinds ≡ 0) × (hearers kinds views ≡ 0)
 none_from_masks kinds masks [] e = (e, refl)
 none_from_masks kinds masks (v ∷ vs) e =
@@ -129,12 +129,12 @@ pub after_kind_is : (bits : ℕ) (lines : ℤ) (s : Step) → (after_note bits l
 after_kind_is bits lines (Insert p bytes) = refl
 after_kind_is bits lines (Delete p bytes) = refl
 
--- more bits make more of its kind
+-- more bits make the kind of the note after a step have more bits
 pub after_more : (bits all : ℕ) (s : Step) (m : ℕ) → (meets m bits ≡ true → meets m all ≡ true) → meets m (after_kind bits s) ≡ true → meets m (after_kind all s) ≡ true
 after_more bits all (Insert p bytes) m more h = meets_more m insert_text bits all more h
 after_more bits all (Delete p bytes) m more h = meets_more m delete_text bits all more h
 
--- Where no view hears one of the kinds, none hears a note that is of these.
+-- If no view hears one of the kinds, none hears a note of these kinds.
 unheard : (views : List View) (n : Notice) (kinds : ℕ) → ((m : ℕ) → meets m n.kind ≡ true → meets m kinds ≡ true) → hearers kinds views ≡ 0 → heard views n ≡ []
 unheard views n kinds more none =
     empty_or_some (filter (λ (v : View). meets v.mask n.kind) views) (λ vs. told vs n ≡ []) refl (λ some. absurd (omega (arith, hearers_more n.kind kinds views more)))
@@ -149,7 +149,7 @@ unheard_after views s before all after lines more none =
     unheard views (after_note after lines s) (step_kinds before all s)
     (λ m h. meets_right m (after_kind all s) (before_kind before s) (after_more after all s m (more m) (rw (after_kind_is after lines s) at h))) none
 
--- Where no note is put before a step and none after it, no view hears of it.
+-- If no note is appended before a step and none after it, no view hears the step.
 pub none_by_notes : (views : List View) (s : Step) (before after : ℕ) (lines : ℤ) → length (heard views (before_note before s)) ≡ 0
     → length (heard views (after_note after lines s)) ≡ 0 → hearers (step_kinds before after s) views ≡ 0
 none_by_notes views s before after lines none_before none_after =
@@ -162,7 +162,7 @@ none_by_notes views s before after lines none_before none_after =
     let either = hearers_either (before_kind before s) (after_kind after s) views in
     omega arith
 
--- Where it was counted how many hear.
+-- After the hearers are counted.
 
 pub can_tell : (hears : Bool) (before all after : ℕ) (lines : ℤ) (step : TextStep) (text : List ℕ) (views : List View) (g : Gathered)
     → ((m : ℕ) → meets m after ≡ true → meets m all ≡ true) → IsStepOn step (length text)

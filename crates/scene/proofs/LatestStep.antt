@@ -1,4 +1,4 @@
--- Where the caret goes by the latest step of the text among the first changes.
+-- The caret after the latest step of the text among the first changes.
 use Rattle.std.proofs.Common.{◌≡◌, ℕ, ◌+◌, ◌^◌, ◌<◌, ◌≤◌, List, [], ◌∷◌, length, take, reverse, get_or, refl, ap, sym, ◌∙◌, arith}
 use Rattle.std.specs.Prelude.{slice_get, ℤ, Option, Some}
 use Rattle.std.proofs.lemmas.List.{take_more, take_all, reverse-append}
@@ -12,11 +12,11 @@ use Rattle.document.specs.Undoing.{outline_of, room_of_change}
 use Rattle.scene.specs.Turns.{ChangeFits}
 use Rattle.scene.specs.Undoing.{place_behind_any, place_by}
 
--- where the caret goes, by the first n changes
+-- the place of the caret after the first n changes
 abbrev pub behind_first : List Change → ℕ → Option ℕ
 behind_first cs n = place_behind_any (latest_text_step (reverse (take n cs)))
 
--- by all
+-- the place after all of them
 pub behind_all : (cs : List Change) (n : ℕ) → length cs ≤ n → behind_first cs n ≡ place_behind_any (latest_text_step (reverse cs))
 behind_all cs n all = ap (λ t. place_behind_any (latest_text_step (reverse t))) (take_all n cs all)
 
@@ -58,7 +58,7 @@ pub container_passed : (cs : List Change) (i : ℕ) (c : Change) (token : ℤ) �
 container_passed cs i c token at e =
     ap (λ t. place_behind_any (latest_text_step t)) (one_more cs i c at) ∙ ap place_behind_any (by_container c (reverse (take i cs)) token e)
 
--- The caret, by a change more.
+-- The place after one more change.
 
 pub caret_next : (cs : List Change) (i : ℕ) (c : Change) (o : ChangeOutline) (before : Option ℕ) → slice_get cs i ≡ Some c → o ≡ outline_of c → before ≡ behind_first cs i
     → place_by o before ≡ behind_first cs (i + 1)
@@ -66,7 +66,7 @@ caret_next cs i c (Insert place count) before at e b = sym (insertion_found cs i
 caret_next cs i c (Delete place count) before at e b = sym (deletion_found cs i c place count at e)
 caret_next cs i c (Container token) before at e b = b ∙ sym (container_passed cs i c token at e)
 
--- what is put in ends where places do not run out of numbers
+-- an insertion that has its room ends at a place that is small enough
 pub ends_small : (types : LineEndTypes) (c : Change) (text : List ℕ) (room place count : ℕ) → Insert place count ≡ outline_of c → ChangeFits c text
     → (room_of_change types c).text ≤ room → length text + room < 2 ^ 61 → place + count < 2 ^ 64
 ends_small types (TextStep (model.Insert p bytes)) text room place count e fits put bound =

@@ -1,4 +1,4 @@
--- What steps put is no more than what was told before.
+-- The notes of steps are at most as many as the need says.
 use Rattle.std.proofs.Common.{◌≡◌, ℕ, suc, ◌+◌, ◌<◌, ◌≤◌, Bool, true, false, cond, List, [], ◌∷◌, ◌++◌, map, length, refl, ap, ◌∙◌, arith, length-append}
 use Rattle.std.specs.Prelude.{◌==◌, ◌&&◌, not, nat_le, nat_lt, ℤ, Option, Some, None, filter, filter_map, option_map}
 use Rattle.std.specs.List.{cons_option}
@@ -16,7 +16,7 @@ use Rattle.scene.specs.Needs.{user_kinds, leaving_count, notes_of_steps, bytes_o
 use Rattle.scene.proofs.ToldSoFar.{length_told}
 use Rattle.scene.proofs.KindLemmas.{meets_left, meets_right, hearers_more, before_kind_is, after_kind_is}
 
--- Kinds of a step, whether it begins a transaction or not.
+-- The kinds of a step do not depend on whether it begins a transaction.
 
 made_more : (begins : Bool) (s : Step) (m : ℕ) → meets m (step_kinds performed_user (user_bits begins) s) ≡ true → meets m (user_kinds s) ≡ true
 made_more true s m h = h
@@ -43,7 +43,7 @@ after_few begins lines s views =
     let le : hearers n.kind views ≤ hearers (user_kinds s) views = hearers_more n.kind (user_kinds s) views (λ m h. made_after begins s m (rw (after_kind_is (user_bits begins) lines s) at h)) in
     omega arith
 
--- Those that watch after a step are those that watched before, with the same masks.
+-- The views that watch after a step are those that watched before, with the same masks.
 
 after_id : (s : Step) (d : Document) (v : View) (b : Bool) → (cond b (moved_view s d v) v).id ≡ v.id
 after_id s d v true = refl
@@ -100,7 +100,7 @@ bytes_same : (s : Step) (d : Document) (vs : List View) (steps : List Step)
 bytes_same s d vs [] = refl
 bytes_same s d vs (x ∷ xs) = let a = hear_same (user_kinds x) s d vs in let b = bytes_same s d vs xs in rw (a, b) refl
 
--- A document that collects is not at the save point after a step.
+-- A document that collects steps is not at the save point after a step.
 
 not_behind : (n m : ℕ) (o : Option ℕ) → n < m → is_number m (reachable n o) ≡ false
 not_behind n m None l = refl
@@ -118,7 +118,7 @@ not_there n (Some k) e = go (nat_le k n)
     go true = e
     go false = refl
 
--- a change joins only where the save point is left
+-- a change joins the one before only if the document is not at its save point
 joined_left : (x y z : Bool) → (x && not y && z) ≡ true → y ≡ false
 joined_left true true z h = absurd (cc)
 joined_left true false z h = refl

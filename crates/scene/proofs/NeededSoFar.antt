@@ -1,4 +1,4 @@
--- What the changes so far need of undo or redo, and what those need that are left.
+-- What the changes so far need in undo or redo, and what the remaining ones need.
 use Rattle.std.proofs.Common.{◌≡◌, ℕ, ◌+◌, ◌^◌, ◌<◌, List, [], ◌∷◌, length, ap, ◌∙◌, subst, arith}
 use Rattle.std.specs.Prelude.{slice_get, Some}
 use Rattle.std.proofs.lemmas.Option.{get_or_from_slice_get}
@@ -13,7 +13,7 @@ use Rattle.scene.specs.declared.need.SceneNeed.{SceneNeed}
 use Rattle.scene.specs.Needs.{note_room}
 use Rattle.scene.specs.Undoing.{notes_of_change, bytes_of_change, notes_of_changes, bytes_of_changes, free_behind, room_beside, room_of_changes, rooms_beside, capped, capped_room, capped_notes}
 
--- an amount so far, what is left, and the whole
+-- the amount so far and the remaining amount add up to the whole
 abbrev pub IsSum : ℕ → ℕ → ℕ → Type 0
 IsSum so_far rest whole = (so_far < 2 ^ 64) × (amount_sum so_far rest ≡ capped whole)
 
@@ -74,7 +74,7 @@ needed_room views who types told free rest all need so e =
     same_room _ _ _ _ _ _ _ _ _ _ (sum_all need.document.text whole.text so.text) (sum_all need.document.lines whole.lines so.lines)
     (sum_all need.document.insertions whole.insertions so.insertions) (sum_all need.document.steps whole.steps so.steps) (sum_all need.document.bytes whole.bytes so.bytes)
 
--- Of one change there is nothing to add up.
+-- The need of one change is that of all.
 
 pub one_change : (cs : List Change) (c : Change) → length cs ≡ 1 → slice_get cs 0 ≡ Some c → cs ≡ c ∷ []
 one_change [] c l e = absurd (omega arith)

@@ -17,7 +17,7 @@ use Rattle.scene.specs.StepNotes.{place_in, count_in, text_before}
 pub length_slice : (text : List ℕ) (p count : ℕ) → p + count ≤ length text → length (slice_range text p (p + count)) ≡ count
 length_slice text p count h = simp (length-take, length-drop) (omega arith)
 
--- a note of a range, with any text
+-- a note of a range of bytes, with any text
 abbrev pub TellsRange : Note → ℕ → ℕ → ℕ → Type 0
 TellsRange note kind place count = (text : List ℕ) → with_text note text ≡ (let n = range_note kind place count in record n { text = text })
 
@@ -37,7 +37,7 @@ note_before (Delete p n) bits kind place count text note on k pl c tells =
     let gone = slice_range text p (p + n) in
     same_range note kind (before_kind bits (model.Delete p gone)) place p count (length gone) k pl (c ∙ sym (length_slice text p n on)) tells []
 
--- and with how many lines came
+-- the same with the number of lines added
 pub note_after : (step : TextStep) (bits kind place count : ℕ) (lines : ℤ) (text : List ℕ) (note : Note) → IsStepOn step (length text) → kind ≡ after_kind bits (step_in step text)
     → place ≡ place_in step → count ≡ count_in step → TellsRange note kind place count
     → with_text (record note { lines = lines }) (step_bytes (step_in step text)) ≡ after_note bits lines (step_in step text)

@@ -1,4 +1,4 @@
--- The views that are still to be told, of those that watch.
+-- Of the views that watch, those that are still to be notified.
 use Rattle.std.proofs.Common.{◌≡◌, ℕ, ◌+◌, ◌<◌, ◌≤◌, Bool, true, false, cond, suc, List, [], ◌∷◌, refl, ap, sym, ◌∙◌, subst, length, get_or, drop, arith, drop-cons}
 use Rattle.std.proofs.lemmas.List.{drop_all}
 use Rattle.std.specs.Prelude.{◌==◌, Some, None, find, filter_map, option_map}
@@ -13,7 +13,7 @@ use Rattle.scene.specs.Hearing.{audience_of, belongs}
 abbrev pub view_in : KeptView → View
 view_in k = k.view
 
--- a view that is found by its entry's id is found by its own
+-- a view found by the id of its entry is found by its own id
 pub named_view : (entries : List (Entry KeptView)) (id : ℕ) → AreNamed entries → option_map view_in (value_at entries id) ≡ view_at (views_of entries) id
 named_view [] id named = refl
 named_view (e ∷ es) id named = go (e.id == id) refl (named_view es id named.1)
@@ -30,7 +30,7 @@ named_some entries id k named e = sym (named_view entries id named) ∙ ap (opti
 pub named_none : (entries : List (Entry KeptView)) (id : ℕ) → AreNamed entries → value_at entries id ≡ None → view_at (views_of entries) id ≡ None
 named_none entries id named e = sym (named_view entries id named) ∙ ap (option_map view_in) e
 
--- those of the ids that belong to the audience
+-- of the views with these ids, those in the audience
 abbrev pub pending : Audience → ℕ → List (Entry KeptView) → List ℕ → List View
 pending audience kind entries ids = audience_of audience kind (filter_map (view_at (views_of entries)) ids)
 
@@ -49,7 +49,7 @@ pub pending_missing : (audience : Audience) (kind : ℕ) (entries : List (Entry 
 pending_missing Everyone kind entries id ids named found = let e = named_none entries id named found in rw e refl
 pending_missing Hearers kind entries id ids named found = let e = named_none entries id named found in rw e refl
 
--- the next id, and those behind it
+-- the ids from `i` on are the next id and the ids after it
 pub drop_next : (ids : List ℕ) (i : ℕ) → i < length ids → drop i ids ≡ get_or ids i 0 ∷ drop (i + 1) ids
 drop_next ids i h = let s : i + 1 ≡ suc i = omega arith in rw s (drop-cons ids i 0 h)
 

@@ -1,4 +1,4 @@
--- What was performed of undo or redo, and what is still to be performed.
+-- The changes of undo or redo that were performed, and those that are still to be performed.
 use Rattle.std.proofs.Common.{◌≡◌, ℕ, ◌+◌, ◌-◌, ◌<◌, ◌≤◌, Bool, true, false, List, [], ◌∷◌, map, length, drop, get_or, refl, ap, sym, ◌∙◌, subst, arith, inl, inr}
 use Rattle.std.specs.Prelude.{◌==◌, ◌&&◌, ◌||◌, bit_and, not, nat_lt, slice_get, Some}
 use Rattle.std.proofs.lemmas.List.{length-drop}
@@ -29,7 +29,7 @@ use Rattle.scene.proofs.KindLemmas.{none_by_masks}
 use Rattle.scene.proofs.ChangeNotes.{HearAlike, hear_alike_still, notes_alike, bytes_alike, none_of_all, performed_few, still_none}
 use Rattle.scene.proofs.ChangeSteps.{LeavesRoom, leaves_all, leaves_next, leaves_none, next_fits, steps_left}
 
--- No room is made but what goes out of the text leaves.
+-- No room is added except what deleted bytes leave.
 
 pub made_none : (room : DocumentRoom) → IsAtMost room room no_room
 made_none room = record { text = omega arith; lines = omega arith; insertions = omega arith; steps = omega arith; bytes = omega arith }
@@ -101,7 +101,7 @@ performed_none direction old views gathered can = record {
   fold_rooms = refl;
 }
 
--- where it is known that no view hears of any change, they need no notes
+-- if it is known that no view hears any change, the changes need no notes
 pub quiet_notes : (direction : Direction) (k : Kept) (views : Entries KeptView) (gathered : Gathered) (several quiet : Bool) → CanPerformAll direction k views gathered
     → quiet ≡ (gathered.note_room == 0 || (several && (bit_and (masks_of (watchers k.document views)) (every_kind (bits_of direction)) == 0))) → quiet ≡ true
     → notes_of_changes (watchers k.document views) (bits_of direction) (changes_of direction k.document.history) ≡ 0
@@ -117,7 +117,7 @@ quiet_notes direction k views gathered several quiet can e is =
       | inr apart ↦ none_of_all direction all W (none_by_masks (every_kind who) W (eqb-true _ 0 (and_parts several (bit_and (masks_of W) (every_kind who) == 0) apart).1))
     ]
 
--- and so does the one whose turn it is
+-- and so does the next change
 pub still_quiet : (direction : Direction) (rest : List Change) (changed : Bool) (old now : Kept) (views views' : Entries KeptView) (gathered gathered' : Gathered) (i : ℕ) (c : Change)
     → IsPerformedSoFar direction rest changed old views gathered now views' gathered'
     → notes_of_changes (watchers old.document views) (bits_of direction) (changes_of direction old.document.history) ≡ 0
@@ -266,9 +266,9 @@ performed_all direction rest changed old now views views' gathered gathered' so 
       fold_rooms = so.fold_rooms;
     }
 
--- The history behind them, and the save point.
+-- The history after the changes, and the save point.
 
--- it changed, and this is how
+-- the save point was reached or left, and the notes say which
 pub reached : (views : List View) (is : Bool) → is ≡ true → save_point_change views (not is) is ≡ told views (blank save_point_reached)
 reached views true h = refl
 reached views false h = absurd (cc)

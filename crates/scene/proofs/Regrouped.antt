@@ -1,4 +1,4 @@
--- Views whose flags go with the lines that their document has by other line ends.
+-- The flags of views follow the lines of their document when other line ends count.
 use Rattle.std.proofs.Common.{◌≡◌, ℕ, zero, suc, ◌+◌, ◌-◌, ◌^◌, ◌<◌, Bool, true, false, cond, List, [], ◌∷◌, ◌++◌, map, length, take, drop, refl, ap, sym, ◌∙◌, subst, arith}
 use Rattle.std.specs.Prelude.{◌==◌, nat_le, slice_range, Some}
 use Rattle.std.specs.List.{AllByRecursion}
@@ -28,7 +28,7 @@ use Rattle.scene.specs.Following.{followed_at, CanFollow, CanFollowInTurn}
 use Rattle.scene.proofs.Watching.{ids_of, through, followed_through, through_none, through_once, each_found, not_listed}
 use Rattle.scene.proofs.StepScenes.{length_text, watched_can}
 
--- Line 0 stays visible, since no line comes before it.
+-- Line 0 stays visible, since the edits insert no line before it.
 
 abbrev IsBehind : LineEdit → Type 0
 IsBehind (Come line count) = 0 < line

@@ -1,4 +1,4 @@
--- A scene under a step: each view that stands on the document can follow, all follow as the model says, and stand on it again.
+-- A scene under a step: each view on the document can follow, all follow as the model says, and their positions are in the new text.
 use Rattle.std.proofs.Common.{◌≡◌, ℕ, ◌+◌, ◌^◌, ◌<◌, ◌≤◌, Bool, true, false, cond, List, [], ◌∷◌, map, length, refl, ap, sym, ◌∙◌, subst, arith}
 use Rattle.std.specs.Prelude.{◌==◌, ◌&&◌, Some}
 use Rattle.std.specs.List.{AllByRecursion}
@@ -40,16 +40,16 @@ scene_with d vs ns = record { document = d; views = vs; notes = ns }
 pub length_text : (d : Document) → length (text_of d) ≡ length d.cells
 length_text d = length-map d.cells (λ (c : Cell). c.byte)
 
--- a step of the cells is one of the text
+-- a step that fits the cells fits the text
 pub on_text : (step : TextStep) (d : Document) → IsStepOn step (length d.cells) → IsStepOn step (length (text_of d))
 on_text step d h = subst (IsStepOn step) (sym (length_text d)) h
 
--- it ends in the text
+-- the step ends in the text
 pub end_within : (step : TextStep) (text : List ℕ) → IsStepOn step (length text) → end_of (step_in step text) ≤ length text
 end_within (Insert p bytes) text h = h
 end_within (Delete p n) text h = let l = length_slice text p n h in omega arith
 
--- its numbers are small
+-- the numbers of the step are small
 pub small_step : (types : LineEndTypes) (step : TextStep) (size room : ℕ) → IsStepOn step size → (need_of types step).text ≤ room → size + room < 2 ^ 61 → IsSmallStep step
 small_step types (Insert p bytes) size room on put bound = (omega arith, omega arith)
 small_step types (Delete p n) size room on put bound = (omega arith, omega arith)
@@ -90,7 +90,7 @@ all_ready movement edits d vs (id ∷ ids) can all =
     let v = all.0.0 in
     ((λ u found. let is : Some v ≡ Some u = sym all.0.1 ∙ found in let same : v ≡ u = cc in can u (subst (StandsOn d) same all.0.2)), all_ready movement edits d vs ids can all.1)
 
--- all can follow
+-- all views that watch can follow
 pub watched_can : (movement : Movement) (edits : List LineEdit) (d : Document) (table : Entries KeptView) → IsWatched d table
     → ((v : View) → StandsOn d v → CanFollow movement edits v) → CanFollowInTurn movement edits d.views (views_of table.entries)
 watched_can movement edits d table w can =
@@ -125,7 +125,7 @@ all_pairs : (P Q S : View → Type 0) (vs : List View) → ((v : View) → P v �
 all_pairs P Q S [] h a b = tt
 all_pairs P Q S (v ∷ vs) h a b = (h v a.0 b.0, all_pairs P Q S vs h a.1 b.1)
 
--- all that followed are those of the model after the step
+-- the views after all followed are those of the model after the step
 pub watched_after : (step : Step) (d : Document) (table : Entries KeptView) → IsWatched d table → MovesAreThoseOfSteps → end_of step ≤ length (text_of d)
     → followed_at (movement_of step) (step_edits step d) d.views (views_of table.entries) ≡ map (view_after step d) (views_of table.entries)
 watched_after step d table w moves within =
@@ -145,7 +145,7 @@ watched_after step d table w moves within =
     each v found stand false t =
         through_none (movement_of step) (step_edits step d) d.views v (not_listed d.id d.views (views_of table.entries) v found (eqb-false v.document d.id t) w.listed)
 
--- The scene is watched again.
+-- The scene after a step is watched.
 
 after_id : (step : Step) (d : Document) (v : View) → (view_after step d v).id ≡ v.id
 after_id step d v = go (v.document == d.id)
@@ -204,7 +204,7 @@ watched_again step d h old new law w views named next =
       stand = subst (AllByRecursion (StandsIfOn (record (document_after step d) { history = h }))) (sym views) (after_stand step d h vs law w.stand);
     }
 
--- with another history
+-- the same with another history
 pub watched_with_history : (d : Document) (h : History) (table : Entries KeptView) → IsWatched d table → IsWatched (record d { history = h }) table
 watched_with_history d h table w = record {
   named = w.named;

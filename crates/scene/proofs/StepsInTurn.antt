@@ -1,4 +1,4 @@
--- Steps in turn, out of the room that was made for all of them.
+-- Steps in turn, from the room that was reserved for all of them.
 use Rattle.std.proofs.Common.{zero, suc, ◌≡◌, ℕ, ◌+◌, ◌<◌, ◌≤◌, Bool, true, false, List, [], ◌∷◌, ◌++◌, length, map, take, drop, refl, ap, sym, ◌∙◌, subst, arith, slice_range}
 use Rattle.std.specs.Prelude.{None}
 use Rattle.std.proofs.lemmas.List.{length-append, length-map, length-take, length-drop, map-append, take-map, drop-map}
@@ -26,7 +26,7 @@ use Rattle.scene.specs.proved.Rooms.{appended_collects, deletion_needs, length_r
 use Rattle.scene.proofs.PerformedSoFar.{made_none, made_next, spare_next}
 use Rattle.scene.specs.Conversion.{AreLeft, RoomsStay, changes_for, freed_by_all, bytes_for, deletions_of, notes_for, room_of_step, room_of_steps}
 
--- Notes and their bytes.
+-- Notes, and the bytes of their texts.
 
 few_notes : (steps : List Step) (scene : Scene) (room : ℕ) → notes_needed scene steps ≤ room → notes_for steps scene ≤ room
 few_notes [] scene room h = omega arith
@@ -51,7 +51,7 @@ text_after later s scene after e = ap (λ (x : Scene). text_of x.document) e ∙
 
 -- Rooms.
 
--- a step leaves all room, and makes none but that of what it takes out
+-- a step keeps all room that is left, and adds only that of the bytes it deletes
 pub record StepLeaves (s : Step) (k k' : Kept) (v v' : Entries KeptView) : Type 0 where
   pub text_freed : k.room.text + bytes_out s ≤ k'.room.text + (room_of_step k.document.line_end_types s).text
   pub none_made : IsAtMost k'.room (with_freed (bytes_out s) k.room) no_room
@@ -86,7 +86,7 @@ rooms_next s rest steps k0 k k' v0 v v' n0 n n' texts so p put shared = record {
     less : (a b c d : ℕ) → a + b ≡ c → c ≤ d → a ≤ d
     less a b c d e l = omega arith
 
--- some steps, and then the rest of them
+-- room after some of the steps, and then after the rest
 rooms_both : (rest steps : List Step) (k0 k k' : Kept) (v0 v v' : Entries KeptView) (n0 n n' : Gathered) → RoomsStay rest steps k0 k v0 v n0 n → RoomsStay [] rest k k' v v' n n'
     → RoomsStay [] steps k0 k' v0 v' n0 n'
 rooms_both rest steps k0 k k' v0 v v' n0 n n' so then =
@@ -103,7 +103,7 @@ rooms_both rest steps k0 k k' v0 v v' n0 n n' so then =
       text_room = omega arith;
     }
 
--- the insertions of a conversion, and then the deletions
+-- room after the insertions of a conversion, and then after its deletions
 pub rooms_of_all : (to : LineEnd) (k0 k k' : Kept) (v0 v v' : Entries KeptView) (n0 n n' : Gathered)
     → RoomsStay (deletions_of to (text_of k0.document)) (conversion_steps to (text_of k0.document)) k0 k v0 v n0 n → text_of k.document ≡ completed to (text_of k0.document)
     → RoomsStay [] (unwanted_from 0 false to (text_of k.document)) k k' v v' n n' → RoomsStay [] (conversion_steps to (text_of k0.document)) k0 k' v0 v' n0 n'
@@ -147,13 +147,13 @@ made_left notes_law bytes_law s rest steps later was k0 k k' v0 v v' n0 n n' lef
 length_text : (d : Document) → length (text_of d) ≡ length d.cells
 length_text d = length-map d.cells (λ (c : Cell). c.byte)
 
--- what is left of them and of the deletions behind them, where the text is to be completed
+-- the insertions and deletions that remain from this place on
 pub record PutsLeft (to : LineEnd) (place : ℕ) (later : Bool) (k0 k : Kept) (v0 v : Entries KeptView) (n0 n : Gathered) : Type 0 where
   pub within : place ≤ length k.document.cells
   pub left : AreLeft (missing_in to (text_of k.document) place ++ deletions_of to (text_of k0.document)) later (conversion_steps to (text_of k0.document)) false k0 k v0 v n0 n
   pub text : after_steps (missing_in to (text_of k.document) place) (text_of k.document) ≡ completed to (text_of k0.document)
 
--- the next one
+-- the next insertion
 abbrev pub put_of : ℕ → ℕ → Step
 put_of place byte = Insert place (byte ∷ [])
 
@@ -166,7 +166,7 @@ pub put_next : (to : LineEnd) (start place byte : ℕ) (later : Bool) (k0 k : Ke
 put_next to start place byte later k0 k v0 v n0 n so next =
     subst (λ l. AreLeft (l ++ deletions_of to (text_of k0.document)) later (conversion_steps to (text_of k0.document)) false k0 k v0 v n0 n) next.steps so.left
 
--- it is made
+-- after the next insertion is made, the others remain
 pub put_made :
     NotesAreEnough → BytesAreEnough → (to : LineEnd) (start place byte : ℕ) (later : Bool) (k0 k k' : Kept) (v0 v v' : Entries KeptView) (n0 n n' : Gathered)
     → PutsLeft to start later k0 k v0 v n0 n → IsNextMissing to (text_of k.document) start place byte
@@ -193,7 +193,7 @@ put_made notes_law bytes_law to start place byte later k0 k k' v0 v v' n0 n n' s
     one_longer : (p b : ℕ) (t : List ℕ) → length (take p t ++ (b ∷ []) ++ drop p t) ≡ length t + 1
     one_longer p b t = simp (length-append, length-take, length-drop) (omega arith)
 
--- fewer are left
+-- each insertion makes fewer remain
 pub fewer_puts : (to : LineEnd) (start place byte : ℕ) (text text' : List ℕ) → IsNextMissing to text start place byte → text' ≡ edited (put_of place byte) text
     → length (missing_in to text' (place + 1)) < length (missing_in to text start)
 fewer_puts to start place byte text text' next e =
@@ -218,7 +218,7 @@ take_next to start place later was k0 k v0 v n0 n so next =
 pub take_within : (to : LineEnd) (start place : ℕ) (k : Kept) → IsNextUnwanted to (text_of k.document) start place → place + 1 ≤ length k.document.cells
 take_within to start place k next = let w = next.within in omega (arith, length_text k.document)
 
--- the room that the document's deletion takes is that of the step
+-- the room that a deletion uses in the document is that of its step
 pub take_room : (to : LineEnd) (start place : ℕ) (k : Kept) (P : DocumentRoom → Type 0) → IsNextUnwanted to (text_of k.document) start place
     → P (need_of k.document.line_end_types (lent.Delete place 1)) → P (room_of_step k.document.line_end_types (take_of place k))
 take_room to start place k P next h = subst P (sym (deletion_needs k.document.line_end_types k.document place 1 (take_within to start place k next))) h
@@ -255,7 +255,7 @@ fewer_takes to start place k text' next e =
     let n = ap length next.steps in
     subst (λ t. length (unwanted_in to t place) < length (unwanted_in to (text_of k.document) start)) (sym e) (omega arith)
 
--- a text that has something to be deleted
+-- a text with an unwanted byte is not empty
 pub some_cells : (d : Document) (first second : List ℕ) (count : ℕ) → first ++ second ≡ text_of d → (count ≡ 0 → ⊥) → count ≤ length first + length second → 0 + 1 ≤ length d.cells
 some_cells d first second zero e some few = absurd (some refl)
 some_cells d first second (suc count) e some few = let size = ap length e in omega (arith, length-append first second, length_text d)

@@ -1,4 +1,4 @@
--- What was told of a note, and what is still to be told, while it is put for one view after the other.
+-- The views that were notified of a note, and those that are still to be notified, while one after the other gets its note.
 use Rattle.std.proofs.Common.{◌≡◌, ℕ, ◌+◌, ◌-◌, ◌≤◌, List, [], ◌∷◌, ◌++◌, length, refl, ap, sym, ◌∙◌, subst, arith, append_assoc, length-append}
 use Rattle.std.proofs.lemmas.List.{append-nil, length-map}
 use Rattle.ed_types.specs.Notices.{Notice}
@@ -20,7 +20,7 @@ pub record IsToldSoFar (note : Notice) (whole rest : List View) (old now : Gathe
 pub told_none : (note : Notice) (whole : List View) (old : Gathered) → IsToldSoFar note whole whole old old
 told_none note whole old = record { notes = refl; shared = refl; texts = refl; room = refl }
 
--- the next view is told
+-- the next view is notified
 pub told_one : (note x : Notice) (whole rest next : List View) (v : View) (old now new : Gathered) → IsToldSoFar note whole rest old now → rest ≡ v ∷ next
     → x ≡ record note { view = v.id } → new ≡ record now { notes = now.notes ++ x ∷ []; note_room = now.note_room - 1 } → length whole ≤ old.note_room
     → IsToldSoFar note whole next old new
@@ -34,7 +34,7 @@ told_one note x whole rest next v old now new so e same put room =
       room = let r = so.room in omega arith;
     })
 
--- it is not
+-- the next view is not in the audience
 pub told_same : (note : Notice) (whole rest next : List View) (old now new : Gathered) → IsToldSoFar note whole rest old now → rest ≡ next → new ≡ now
     → IsToldSoFar note whole next old new
 told_same note whole rest next old now new so e same = rw same (subst (λ r. IsToldSoFar note whole r old now) e so)
@@ -50,14 +50,14 @@ told_all note whole rest old now so e room =
     let left : now.note_room ≡ old.note_room - length whole = omega (arith, so.room) in
     gathered_same now.notes (old.notes ++ told whole note) now.shared old.shared now.note_room (old.note_room - length whole) now.text_room old.text_room notes so.shared left so.texts
 
--- where there is room for no note, nobody is told
+-- if there is no room for a note, no view is in the audience
 pub told_nobody : (note : Notice) (whole : List View) (old : Gathered) → old.note_room ≡ 0 → length whole ≤ old.note_room
     → old ≡ record old { notes = old.notes ++ told whole note; note_room = old.note_room - length whole }
 told_nobody note [] old full room =
     gathered_same old.notes (old.notes ++ []) old.shared old.shared old.note_room (old.note_room - 0) old.text_room old.text_room (sym (append-nil old.notes)) refl (omega arith) refl
 told_nobody note (v ∷ vs) old full room = absurd (omega arith)
 
--- there is room for the next
+-- there is room for the next note
 pub room_for_one : (note : Notice) (whole rest next : List View) (v : View) (old now : Gathered) → IsToldSoFar note whole rest old now → rest ≡ v ∷ next
     → length whole ≤ old.note_room → 1 ≤ now.note_room
 room_for_one note whole rest next v old now so e room =
@@ -66,7 +66,7 @@ room_for_one note whole rest next v old now so e room =
     let r = so.room in
     omega arith
 
--- the note for a view, with the text that it has
+-- the note for a view, with its text
 pub note_for_text : (t : NoteText) (note made : Note) (id id' : ℕ) (shared shared' : List ℕ) → ((text : List ℕ) → with_text made text ≡ record (with_text note text) { view = id })
     → id ≡ id' → shared ≡ shared' → with_note_text t made shared ≡ record (with_note_text t note shared') { view = id' }
 note_for_text Empty note made id id' shared shared' h e f = subst (λ i. with_text made [] ≡ record (with_text note []) { view = i }) e (h [])
@@ -74,7 +74,7 @@ note_for_text Shared note made id id' shared shared' h e f =
     subst (λ i. with_text made shared ≡ record (with_text note shared') { view = i }) e
     (subst (λ s. with_text made shared ≡ record (with_text note s) { view = id }) f (h shared))
 
--- a note put for views, told by what it is
+-- the notes appended are those of the model
 pub told_as : (views : List View) (note : Note) (n : Notice) (room : ℕ) (old new : Gathered) → with_text note [] ≡ n
     → new ≡ record old { notes = old.notes ++ told views (with_text note []); note_room = room } → new ≡ record old { notes = old.notes ++ told views n; note_room = room }
 told_as views note n room old new e put = subst (λ m. new ≡ record old { notes = old.notes ++ told views m; note_room = room }) e put
@@ -82,14 +82,14 @@ told_as views note n room old new e put = subst (λ m. new ≡ record old { note
 pub length_told : (views : List View) (n : Notice) → length (told views n) ≡ length views
 length_told views n = length-map views (λ (v : View). record n { view = v.id })
 
--- After a share that puts nothing, one note for some views, and then others.
+-- After a text was shared without a note, one note for each of some views, and then the other notes.
 pub record AreToldInOrder (first second : List Notice) (old shared now : Gathered) : Type 0 where
   pub notes : now.notes ≡ old.notes ++ first ++ second
   pub note_room : now.note_room + (length first + length second) ≡ old.note_room
   pub text_room : now.text_room ≡ shared.text_room
   pub text : now.shared ≡ shared.shared
 
--- the last note, for some views
+-- the last note, for each of some views
 pub record AreAllTold (first second third : List Notice) (old before now : Gathered) : Type 0 where
   pub notes : now.notes ≡ old.notes ++ first ++ second ++ third
   pub note_room : now.note_room + length now.notes ≡ old.note_room + length old.notes
@@ -105,7 +105,7 @@ told_left views note n old new e put =
     let l : length (told views n) ≡ length views = length_told views n in
     rw l (told_as views note n (old.note_room - length views) old new e put)
 
--- Notes that are heard, one list behind the other.
+-- Notes that views hear, one list after the other.
 
 pub heard_in_order : (first second : List Notice) (old shared next now : Gathered) → shared.notes ≡ old.notes → shared.note_room ≡ old.note_room
     → next ≡ record shared { notes = shared.notes ++ first; note_room = shared.note_room - length first }

@@ -1,4 +1,4 @@
--- Views under a step: that those which the document lists follow it one after the other is that each view of it follows it once.
+-- Views under a step: if the views that the document lists follow one after the other, each view of the document follows once.
 use Rattle.std.proofs.Common.{◌≡◌, ℕ, ◌+◌, ◌<◌, ◌≤◌, Bool, true, false, cond, List, [], ◌∷◌, map, length, refl, ap, sym, ◌∙◌, subst, arith}
 use Rattle.std.specs.Prelude.{◌==◌, Option, Some, None, filter, if◌then◌else◌}
 use Rattle.std.specs.List.{AllByRecursion}
@@ -49,7 +49,7 @@ module _ (movement : Movement) (edits : List LineEdit) where
       let t : (v.id == new.id) ≡ false = ne_eqb v.id new.id (λ e. omega arith) in
       rw t (ap (λ us. v ∷ us) (none_with new (v.id + 1) high vs r.2 (omega arith)))
 
-  -- where ids rise, putting the view that followed in its place is that it follows
+  -- if ids rise, replacing a view by the one that followed changes that view alone
   one_at : (id low high : ℕ) (vs : List View) (v : View) → Rise low high (ids_of vs) → view_at vs id ≡ Some v
       → with_view (view_moved movement edits v) vs ≡ map (at id) vs
   one_at id low high [] v r e = absurd (cc)
@@ -103,7 +103,7 @@ module _ (movement : Movement) (edits : List LineEdit) where
       ∙ followed_through ids low high (map (at id) vs) (subst (Rise low high) (sym (at_ids id vs)) r)
       ∙ map_next id ids vs
 
-  -- A view whose id stands in the list never, or once.
+  -- A view whose id is in the list never, or once.
 
   pub through_none : (ids : List ℕ) (v : View) → occurrences v.id ids ≡ 0 → through ids v ≡ v
   through_none [] v e = refl
@@ -131,7 +131,7 @@ module _ (movement : Movement) (edits : List LineEdit) where
           let other : (v.id == id) ≡ false = ne_eqb v.id id (λ p. eqb-false id v.id t (sym p)) in
           rw other (once e)
 
-  -- Each can follow when its turn comes.
+  -- Each view can follow when its turn comes.
 
   other_at : (id other : ℕ) (vs : List View) → (other ≡ id → ⊥) → view_at (map (at id) vs) other ≡ view_at vs other
   other_at id other [] ne = refl
@@ -148,11 +148,11 @@ module _ (movement : Movement) (edits : List LineEdit) where
   abbrev pub Ready : List View → ℕ → Type 0
   Ready vs id = (v : View) → view_at vs id ≡ Some v → CanFollow movement edits v
 
-  -- each id in the list stands in it once
+  -- each id in the list is in it exactly once
   abbrev pub EachOnce : List ℕ → Type 0
   EachOnce ids = AllByRecursion (λ id. occurrences id ids ≡ 1) ids
 
-  -- what stands behind an id that stands nowhere behind
+  -- an id that no later element has stays out of the rest of the list
   fewer : (id : ℕ) (ids whole : List ℕ) (vs : List View) → occurrences id ids ≡ 0 → AllByRecursion (λ k. occurrences k (id ∷ whole) ≡ 1) ids → AllByRecursion (Ready vs) ids
       → AllByRecursion (λ k. occurrences k whole ≡ 1) ids × AllByRecursion (Ready (map (at id) vs)) ids
   fewer id [] whole vs none once ready = (tt, tt)
@@ -182,7 +182,7 @@ module _ (movement : Movement) (edits : List LineEdit) where
             (can_in_turn ids low high (map (at id) vs) (subst (Rise low high) (sym (at_ids id vs)) r) rest.0 rest.1),
       )
 
--- Views where ids rise.
+-- Views with rising ids.
 
 above : (P : View → Type 0) (low high : ℕ) (vs : List View) → Rise low high (ids_of vs) → ((v : View) → low ≤ v.id → P v) → AllByRecursion P vs
 above P low high [] r h = tt
@@ -203,7 +203,7 @@ each_found low high (u ∷ us) r =
           (each_found (u.id + 1) high us r.2) (above (λ v. u.id < v.id) (u.id + 1) high us r.2 (λ v le. omega arith)),
     )
 
--- what is found has what all have
+-- a view that is found has each property that all views have
 pub found_has : (P : View → Type 0) (vs : List View) (id : ℕ) (v : View) → AllByRecursion P vs → view_at vs id ≡ Some v → P v
 found_has P [] id v all e = absurd (cc)
 found_has P (u ∷ us) id v all e = go (u.id == id) e (λ e. found_has P us id v all.1 e)
@@ -212,7 +212,7 @@ found_has P (u ∷ us) id v all e = go (u.id == id) e (λ e. found_has P us id v
     go true e rest = let same : u ≡ v = cc in subst P same all.0
     go false e rest = rest e
 
--- a view of another document is not listed
+-- a view of another document is not in the list
 pub not_listed : (d : ℕ) (ids : List ℕ) (vs : List View) (v : View) → view_at vs v.id ≡ Some v → (v.document ≡ d → ⊥) → AllByRecursion (IsViewOn vs d) ids
     → occurrences v.id ids ≡ 0
 not_listed d [] vs v found ne all = refl

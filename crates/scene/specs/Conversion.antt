@@ -1,4 +1,4 @@
--- Turning the line ends of a document's text into one kind: what the steps need, and how far they are made.
+-- Converting the line ends of a document's text to one kind: what the steps need, and how many of them are made.
 use Rattle.std.specs.Prelude.{◌≡◌, ℕ, ◌+◌, ◌-◌, ◌*◌, ◌≤◌, Bool, false, List, [], ◌∷◌, length, map}
 use Rattle.ed_model.specs.declared.plan.LineEnd.{LineEnd}
 use Rattle.ed_model.specs.declared.plan.LineEndTypes.{LineEndTypes}
@@ -18,18 +18,19 @@ use Rattle.scene.specs.Scenes.{scene_in, fold_room_in_all, IsWatched}
 use Rattle.scene.specs.Needs.{notes_needed, bytes_needed}
 pub use Rattle.scene.specs.Undoing.{freed_by_all, fill_behind_all, SpareLeft, both_rooms, free_behind, capped, capped_room, capped_notes}
 
--- what a step needs of its document
+-- the room that a step needs in its document
 abbrev pub room_of_step : LineEndTypes → Step → DocumentRoom
 room_of_step types (Insert place bytes) = document_room (length bytes) (lines_for_insertion types bytes) 1 1 (length bytes)
 room_of_step types (Delete place bytes) = document_room 0 lines_for_deletion 0 1 (length bytes)
 
--- and steps in turn, where steps before them have left so many bytes of room
+-- the same for steps in turn, if earlier steps have left `free` bytes of room
 abbrev pub room_of_steps_beside : LineEndTypes → ℕ → List Step → DocumentRoom
 room_of_steps_beside types free [] = no_room
 room_of_steps_beside types free (step ∷ steps) =
     let need = room_of_step types step in both_rooms (record need { text = need.text - free }) (room_of_steps_beside types (free_behind free (TextStep step)) steps)
 
--- Steps in turn: of the text, for what stands there at once beyond what stands there now, since what goes out makes room for what comes.
+-- The room that steps in turn need. Of the text it is the most that the length ever grows beyond the length now, since deleted bytes
+-- become room for inserted ones.
 abbrev pub room_of_steps : LineEndTypes → List Step → DocumentRoom
 room_of_steps types steps = room_of_steps_beside types 0 steps
 
@@ -38,7 +39,7 @@ abbrev pub rooms_added : LineEndTypes → List Step → DocumentRoom
 rooms_added types [] = no_room
 rooms_added types (step ∷ steps) = both_rooms (room_of_step types step) (rooms_added types steps)
 
--- the notes and the bytes that steps of a message need; none, where there is no step
+-- the notes and the bytes of texts that the steps of a message need; none if there is no step
 abbrev pub notes_for : List Step → Scene → ℕ
 notes_for [] scene = 0
 notes_for (step ∷ steps) scene = notes_needed scene (step ∷ steps)
@@ -57,8 +58,8 @@ pub record CanMakeSteps (steps : List Step) (k : Kept) (views : Entries KeptView
 abbrev pub changes_for : List Step → List Change
 changes_for steps = map (λ (step : Step). TextStep step) steps
 
--- where of the steps the rest is still to be made, no room was made but what goes out of the text leaves, each view keeps its rooms, there
--- is as much for more views, and none was made for notes and their texts
+-- While the steps `rest` are still to be made, no room was added except what deleted bytes leave. Each view has kept its room, there is
+-- as much room for more views, and none was added for notes and their texts.
 pub record RoomsStay (rest steps : List Step) (before after : Kept) (views views' : Entries KeptView) (notes notes' : Gathered) : Type 0 where
   pub none_made : IsAtMost (with_freed (freed_by_all (changes_for rest)) after.room) (with_freed (freed_by_all (changes_for steps)) before.room) no_room
   pub spare : SpareLeft (changes_for steps) (changes_for rest) before.spare after.spare
@@ -68,8 +69,8 @@ pub record RoomsStay (rest steps : List Step) (before after : Kept) (views views
   pub note_room : notes'.note_room + length notes'.notes ≡ notes.note_room + length notes.notes
   pub text_room : notes'.text_room ≤ notes.text_room
 
--- of the steps on the old scene, those of `rest` are left to be made on the new one, and there is room for them; of both is told
--- whether the first of them is a later one of its message
+-- of the steps on the old scene, those of `rest` remain to be made on the new one, and there is room for them; for both scenes a flag
+-- says whether the first of the steps is a later one of its message
 pub record AreLeft (rest : List Step) (later : Bool) (steps : List Step) (was_later : Bool) (before after : Kept) (views views' : Entries KeptView) (notes notes' : Gathered) : Type 0 where
   pub scene : steps_made later rest (scene_in after.document views'.entries notes'.notes) ≡ steps_made was_later steps (scene_in before.document views.entries notes.notes)
   pub can : CanMakeSteps rest after views' notes'
@@ -80,6 +81,6 @@ pub record AreLeft (rest : List Step) (later : Bool) (steps : List Step) (was_la
 abbrev pub deletions_of : LineEnd → List ℕ → List Step
 deletions_of to text = unwanted_from 0 false to (completed to text)
 
--- the same room for each of so many steps
+-- the same room for each of `count` steps
 abbrev pub room_of_many : ℕ → DocumentRoom → DocumentRoom
 room_of_many count need = document_room (need.text * count) (need.lines * count) (need.insertions * count) (need.steps * count) (need.bytes * count)

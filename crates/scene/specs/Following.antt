@@ -11,12 +11,12 @@ abbrev pub with_followed : Movement → List LineEdit → Option View → List V
 with_followed movement edits None views = views
 with_followed movement edits (Some v) views = with_view (view_moved movement edits v) views
 
--- the views after those of the ids followed, one after the other
+-- the views after those with the ids followed, one after the other
 abbrev pub followed_at : Movement → List LineEdit → List ℕ → List View → List View
 followed_at movement edits [] views = views
 followed_at movement edits (id ∷ ids) views = followed_at movement edits ids (with_followed movement edits (view_at views id) views)
 
--- the view's positions do not run out of numbers, and the edits are of its lines
+-- the positions of the view stay small enough, and the edits are in range for its lines
 pub record CanFollow (movement : Movement) (edits : List LineEdit) (v : View) : Type 0 where
   pub anchor : v.anchor + count_of movement < 2 ^ 64
   pub caret : v.caret + count_of movement < 2 ^ 64
@@ -25,7 +25,7 @@ pub record CanFollow (movement : Movement) (edits : List LineEdit) (v : View) : 
   pub lines : FitLines (length v.flags) edits
   pub few : length v.flags + fresh_lines edits < 2 ^ 64
 
--- and so each of those of the ids, when its turn comes
+-- the same for each of the views with the ids, when its turn comes
 abbrev pub CanFollowInTurn : Movement → List LineEdit → List ℕ → List View → Type 0
 CanFollowInTurn movement edits [] views = Unit {0}
 CanFollowInTurn movement edits (id ∷ ids) views =

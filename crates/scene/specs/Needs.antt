@@ -1,4 +1,4 @@
--- How many notes steps put at most, and how many bytes are shared for them.
+-- How many notes steps append at most, and how many bytes of texts are shared for them.
 use Rattle.std.specs.Prelude.{ℕ, ◌+◌, ◌-◌, ◌*◌, ◌^◌, ◌<◌, ◌≤◌, ◌≡◌, ◌&&◌, if◌then◌else◌, Bool, true, List, [], ◌∷◌, length}
 use Rattle.ed_model.specs.Steps.{Step, step_bytes}
 use Rattle.ed_model.specs.History.{History, at_save_point}
@@ -12,7 +12,7 @@ use Rattle.scene.specs.Hearing.{step_kinds, user_bits, made_kinds, hearers, byte
 abbrev pub note_room : ℕ → ℕ → NoteRoom
 note_room notes bytes = record { notes = notes; bytes = bytes }
 
--- no amount is the greatest that can be asked for, at which sums stop
+-- no amount is the greatest `usize`, at which sums stop
 pub record IsCounted (need : SceneNeed) : Type 0 where
   pub notes : need.notes.notes < 2 ^ 64 - 1
   pub note_bytes : need.notes.bytes < 2 ^ 64 - 1
@@ -22,15 +22,15 @@ pub record IsCounted (need : SceneNeed) : Type 0 where
   pub steps : need.document.steps < 2 ^ 64 - 1
   pub bytes : need.document.bytes < 2 ^ 64 - 1
 
--- each kind that a step of a message may be told under
+-- each kind of note that a step of a message may have
 abbrev pub user_kinds : Step → ℕ
 user_kinds step = step_kinds performed_user (user_bits true) step
 
--- that the save point is left, if the document is at it
+-- how many notes say that the save point is left, if the document is at it
 abbrev pub leaving_count : List View → History → ℕ
 leaving_count views h = if h.collecting && at_save_point h then length views else 0
 
--- one step: a note before and one after it for each view that hears it
+-- the notes of one step: one before and one after it for each view that hears it
 abbrev pub notes_of_step : List View → Step → ℕ
 notes_of_step views step = 2 * hearers (user_kinds step) views
 
@@ -45,20 +45,20 @@ abbrev pub bytes_of_steps : List View → List Step → ℕ
 bytes_of_steps views [] = 0
 bytes_of_steps views (step ∷ steps) = bytes_of_step views step + bytes_of_steps views steps
 
--- what steps of a message need in all, from this scene on
+-- all notes that steps of a message need, from this scene on
 abbrev pub notes_needed : Scene → List Step → ℕ
 notes_needed scene steps = let views = watching scene.views scene.document in leaving_count views scene.document.history + notes_of_steps views steps
 
 abbrev pub bytes_needed : Scene → List Step → ℕ
 bytes_needed scene steps = bytes_of_steps (watching scene.views scene.document) steps
 
--- the first of the steps takes of the notes no more than what the others then need less
+-- the first of the steps uses at most as many notes as the need falls by
 abbrev pub NotesAreEnough : Type 0
 NotesAreEnough =
     (later : Bool) (step : Step) (steps : List Step) (scene : Scene)
     → length (step_made later step scene).notes + notes_needed (step_made later step scene) steps ≤ length scene.notes + notes_needed scene (step ∷ steps)
 
--- and so of the bytes
+-- the same for the bytes of texts
 abbrev pub BytesAreEnough : Type 0
 BytesAreEnough =
     (later : Bool) (step : Step) (steps : List Step) (scene : Scene)
@@ -66,7 +66,7 @@ BytesAreEnough =
     + bytes_needed (step_made later step scene) steps
     ≤ bytes_needed scene (step ∷ steps)
 
--- sealing changes neither
+-- sealing a transaction changes neither need
 abbrev pub SealingNeedsTheSame : Type 0
 SealingNeedsTheSame =
     (steps : List Step) (scene : Scene)

@@ -15,7 +15,7 @@ use Rattle.document.specs.Undoing.{changes_of, save_point_told}
 use Rattle.scene.specs.Scenes.{scene_in, watchers, fold_room_in_all, IsWatched}
 use Rattle.scene.specs.Undoing.{bits_of, freed_by_all, fill_behind_all, bytes_of_changes, notes_of_history, room_of_changes, save_point_notes}
 
--- they are steps of the text one after another, and there is room for them and for the notes that tell of the save point
+-- the changes are steps of the text that fit one after another, and there is room for them and for the notes about the save point
 pub record CanPerformAll (direction : Direction) (k : Kept) (views : Entries KeptView) (gathered : Gathered) : Type 0 where
   pub steps : AreStepsOf (text_of k.document) (text_steps (changes_of direction k.document.history))
   pub room : HasTextRoom k (room_of_changes k.document.line_end_types (changes_of direction k.document.history))
@@ -23,7 +23,7 @@ pub record CanPerformAll (direction : Direction) (k : Kept) (views : Entries Kep
   pub notes : notes_of_history (watchers k.document views) direction k.document.history ≤ gathered.note_room
   pub texts : bytes_of_changes (watchers k.document views) (bits_of direction) (changes_of direction k.document.history) ≤ gathered.text_room
 
--- they are performed, the history is as it was, and there is room for the notes that tell of the save point
+-- all changes are performed, the history is unchanged, and there is room for the notes about the save point
 pub record AreAllPerformed (direction : Direction) (k : Kept) (views : Entries KeptView) (gathered : Gathered)
     (k' : Kept) (views' : Entries KeptView) (gathered' : Gathered) : Type 0 where
   pub scene : scene_in k'.document views'.entries gathered'.notes

@@ -1,4 +1,4 @@
--- A scene as it is kept: a document, the views of the session by their ids, and the notes.
+-- A scene as it is stored: a document, the views of the session by their ids, and the notes.
 use Rattle.std.specs.Prelude.{◌≡◌, ℕ, List, map}
 use Rattle.std.specs.List.{AllByRecursion}
 use Rattle.ed_types.specs.Notices.{Notice}
@@ -18,19 +18,19 @@ scene_in d entries notes = record { document = d; views = views_of entries; note
 abbrev pub watchers : Document → Entries KeptView → List View
 watchers d table = watching (views_of table.entries) d
 
--- for how many lines of a view there is room to be hidden, and for how many to be contracted, in all
+-- how many hidden lines the view has room for, and how many contracted ones, in all
 abbrev pub fold_room_in_all : Entry KeptView → ℕ × ℕ
 fold_room_in_all e = (e.value.room.hidden, contracted_in_all e.value)
 
--- each view is kept under its own id
+-- each view is stored under its own id
 abbrev pub AreNamed : List (Entry KeptView) → Type 0
 AreNamed entries = AllByRecursion (λ (e : Entry KeptView). e.id ≡ e.value.view.id) entries
 
--- a view of the document stands on it
+-- a view of the document has its positions and lines in it
 abbrev pub StandsIfOn : Document → View → Type 0
 StandsIfOn d v = v.document ≡ d.id → StandsOn d v
 
--- each view is kept under its own id, and the ids rise; the document lists the views that are on it, and those stand well on it
+-- each view is stored under its own id, and the ids rise; the document lists the views on it, whose positions and lines are in it
 pub record IsWatched (d : Document) (table : Entries KeptView) : Type 0 where
   pub named : AreNamed table.entries
   pub rise : Rise 0 table.next (map (λ (v : View). v.id) (views_of table.entries))

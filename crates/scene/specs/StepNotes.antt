@@ -1,4 +1,4 @@
--- Steps by where their bytes stand, as notes tell of them.
+-- Steps as notes describe them: by the range of their bytes.
 use Rattle.std.specs.Prelude.{◌≡◌, ℕ, ◌<◌, ◌≤◌, ◌^◌, Bool, true, false, ℤ, List, [], length}
 use Rattle.ed_model.specs.Steps as model
 use Rattle.ed_model.specs.Steps.{step_bytes}
@@ -19,7 +19,7 @@ abbrev pub count_in : TextStep → ℕ
 count_in (Insert place bytes) = length bytes.now
 count_in (Delete place count) = count
 
--- both are numbers that a note can tell
+-- the place and the count are small enough for a note
 abbrev pub IsSmallStep : TextStep → Type 0
 IsSmallStep step = (place_in step < 2 ^ 63) × (count_in step < 2 ^ 63)
 
@@ -32,8 +32,8 @@ abbrev pub note_text_before : TextStep → NoteText
 note_text_before (Insert place bytes) = Shared
 note_text_before (Delete place count) = Empty
 
--- The step was made on this text: if no view hears of it there is no note after it, and if one does its bytes are shared; and
--- there is room for its notes.
+-- The step was made on this text. If no view hears it, there is no note after it; otherwise its bytes are shared. There is room for its
+-- notes.
 pub record CanTellMade (hears : Bool) (bits : ℕ) (lines : ℤ) (step : TextStep) (text : List ℕ) (views : List View) (g : Gathered) : Type 0 where
   pub on : IsStepOn step (length text)
   pub unheard : hears ≡ false → heard views (after_note bits lines (step_in step text)) ≡ []

@@ -22,24 +22,24 @@ use Rattle.scene.specs.Hearing.{hearers}
 abbrev pub change_at : Turn → History → Option Change
 change_at turn h = slice_get (changes_of turn.direction h) turn.index
 
--- the turn of the change at an index, of so many
+-- the turn of the change at `index`, of `count` changes
 abbrev pub turn_of : Direction → ℕ → ℕ → Turn
 turn_of direction index count = record { direction = direction; index = index; several = nat_lt 1 count; last = index + 1 == count }
 
--- a step of the text fits it
+-- if the change is a step of the text, it fits
 abbrev pub ChangeFits : Change → List ℕ → Type 0
 ChangeFits (TextStep step) text = Fits step text
 ChangeFits (ContainerStep token coalesce) text = Unit {0}
 
--- the bit that there are several changes
+-- the bit that says that there are several changes
 abbrev pub several_bits : Turn → ℕ
 several_bits turn = bit_if turn.several multi_step
 
--- the bits of the note after the change, if by then the number of lines is changed or not
+-- the bits of the note after the change; the flag says whether the number of lines has changed by then
 abbrev pub bits_behind : Turn → Bool → ℕ
 bits_behind turn lines_changed = bit_or (bit_or (bits_of turn.direction) (several_bits turn)) (last_bits turn.last lines_changed)
 
--- there is room for the change whose turn it is, and it fits
+-- the change whose turn it is fits, and there is room for it
 pub record CanPerform (turn : Turn) (k : Kept) (views : Entries KeptView) (gathered : Gathered) (change : Change) : Type 0 where
   pub at : change_at turn k.document.history ≡ Some change
   pub fits : ChangeFits change (text_of k.document)
@@ -48,7 +48,7 @@ pub record CanPerform (turn : Turn) (k : Kept) (views : Entries KeptView) (gathe
   pub notes : notes_of_change (watchers k.document views) (bits_of turn.direction) change ≤ gathered.note_room
   pub texts : bytes_of_change (watchers k.document views) (bits_of turn.direction) change ≤ gathered.text_room
 
--- it is performed; `changed` says whether by now the number of lines is changed
+-- that change is performed; `changed` says whether the number of lines has changed by then
 pub record IsPerformed (turn : Turn) (lines_changed changed : Bool) (k : Kept) (views : Entries KeptView) (gathered : Gathered)
     (k' : Kept) (views' : Entries KeptView) (gathered' : Gathered) (change : Change) : Type 0 where
   pub lines : changed ≡ (if lines_changed then true else changes_lines change k.document)
@@ -67,7 +67,7 @@ pub record IsPerformed (turn : Turn) (lines_changed changed : Bool) (k : Kept) (
   pub markers_in_all : k'.spare.markers + marker_count k'.document.rows ≡ k.spare.markers + marker_count k.document.rows
   pub fold_rooms : map fold_room_in_all views'.entries ≡ map fold_room_in_all views.entries
 
--- the views that hear it are told of the step before it is made, and its bytes are shared if any hears of it, as is answered
+-- the views that hear the step are notified before it is made, and its bytes are shared if any view hears it, which `hears` says
 pub record IsToldBefore (who : ℕ) (views : List View) (hears : Bool) (old new : Gathered) (step : Step) : Type 0 where
   pub notes : new.notes ≡ old.notes ++ heard views (before_note who step)
   pub note_room : new.note_room + length (heard views (before_note who step)) ≡ old.note_room
@@ -75,8 +75,8 @@ pub record IsToldBefore (who : ℕ) (views : List View) (hears : Bool) (old new 
   pub unheard : hears ≡ false → hearers (performed_kinds who step) views ≡ 0
   pub shared : hears ≡ true → new.shared ≡ step_bytes step
 
--- the step was made on this text: if no view hears of it there is no note after it, and if one does its bytes are shared; its
--- numbers are small, and there is room for its notes
+-- the step was made on this text: if no view hears it, there is no note after it, and otherwise its bytes are shared; its numbers are
+-- small, and there is room for its notes
 pub record CanTellAfter (hears : Bool) (bits : ℕ) (lines : ℤ) (step : Step) (text : List ℕ) (views : List View) (g : Gathered) : Type 0 where
   pub fits : Fits step text
   pub place : place_of step < 2 ^ 63

@@ -20,23 +20,23 @@ use Rattle.scene.specs.declared.need.NoteRoom.{NoteRoom}
 use Rattle.scene.specs.Hearing.{step_kinds, hearers, bytes_shared}
 use Rattle.scene.specs.Needs.{note_room}
 
--- the bit that says which of the two is performed
+-- the bit for undo or redo
 abbrev pub bits_of : Direction → ℕ
 bits_of Undo = notes.performed_undo
 bits_of Redo = notes.performed_redo
 
--- all bits that the note after a change may have of which change it is
+-- all bits about its change that the note after a change may have
 abbrev pub all_bits : ℕ → ℕ
 all_bits who = bit_or (bit_or who notes.multi_step) (last_bits true true)
 
--- each kind that a change may be told under
+-- each kind of note that a change may have
 abbrev pub performed_kinds : ℕ → Step → ℕ
 performed_kinds who step = step_kinds who (all_bits who) step
 
 abbrev pub container_kinds : ℕ → ℕ
 container_kinds who = bit_or notes.container (all_bits who)
 
--- By its outline: the kinds that a change may be told under, and what it does to positions. A container's step moves none.
+-- By its outline: the kinds of notes that a change may have, and its movement of positions. A container's step moves none.
 
 abbrev pub outline_kinds : ℕ → ChangeOutline → ℕ
 outline_kinds who (outline.Insert place count) = bit_or (bit_or notes.before_insert who) (bit_or notes.insert_text (all_bits who))
@@ -48,12 +48,12 @@ outline_movement (outline.Insert place count) = Inserted place count
 outline_movement (outline.Delete place count) = Deleted place count
 outline_movement (outline.Container token) = Inserted 0 0
 
--- each kind that any change may be told under
+-- each kind of note that any change may have
 abbrev pub every_kind : ℕ → ℕ
 every_kind who =
     bit_or (bit_or (bit_or (bit_or (bit_or notes.before_insert notes.before_delete) notes.insert_text) notes.delete_text) notes.container) (all_bits who)
 
--- Needs of one change, performed with the bit, and of changes in turn.
+-- The need of one change, performed with the bit, and of changes in turn.
 
 abbrev pub notes_of_change : List View → ℕ → Change → ℕ
 notes_of_change views who (TextStep step) = 2 * hearers (performed_kinds who step) views
@@ -75,17 +75,17 @@ abbrev pub both_rooms : DocumentRoom → DocumentRoom → DocumentRoom
 both_rooms a b =
     document_room (a.text + b.text) (a.lines + b.lines) (a.insertions + b.insertions) (a.steps + b.steps) (a.bytes + b.bytes)
 
--- how many bytes a change takes out
+-- how many bytes a change deletes
 abbrev pub freed_by : Change → ℕ
 freed_by (TextStep step) = bytes_out step
 freed_by (ContainerStep token coalesce) = 0
 
--- how many bytes changes take out, in all
+-- how many bytes changes delete, in all
 abbrev pub freed_by_all : List Change → ℕ
 freed_by_all [] = 0
 freed_by_all (c ∷ cs) = freed_by c + freed_by_all cs
 
--- for which indicator's fill there is room behind a change: behind a step of the text for none
+-- the indicator for whose fill there is room after a change: after a step of the text there is none
 abbrev pub fill_behind : Option ℕ → Change → Option ℕ
 fill_behind fill (TextStep step) = None
 fill_behind fill (ContainerStep token coalesce) = fill
@@ -94,17 +94,17 @@ abbrev pub fill_behind_all : Option ℕ → List Change → Option ℕ
 fill_behind_all fill [] = fill
 fill_behind_all fill (c ∷ cs) = fill_behind_all (fill_behind fill c) cs
 
--- What else there is room for, where of all changes the rest is still to be made: markers that go leave their room.
+-- The other room while `rest` of all changes remains to be made: deleted markers leave their room.
 abbrev pub SpareLeft : List Change → List Change → ChangeRoom → ChangeRoom → Type 0
 SpareLeft all rest old now = record now { fill = fill_behind_all now.fill rest } ≡ record old { markers = now.markers; fill = fill_behind_all old.fill all }
 
--- how many bytes of room are free behind a change, of so many before it: what comes takes of them, and what goes leaves its own
+-- how many bytes of room are free after a change, with `free` before it: insertions use them, and deletions add theirs
 abbrev pub free_behind : ℕ → Change → ℕ
 free_behind free (TextStep (Insert place bytes)) = free - length bytes
 free_behind free (TextStep (Delete place bytes)) = amount_sum free (length bytes)
 free_behind free (ContainerStep token coalesce) = free
 
--- the room that it needs beside these
+-- the room that a change needs beyond the free bytes
 abbrev pub room_beside : LineEndTypes → ℕ → Change → DocumentRoom
 room_beside types free c =
     let need = room_of_change types c in record need { text = need.text - free }
@@ -113,11 +113,11 @@ abbrev pub rooms_beside : LineEndTypes → ℕ → List Change → DocumentRoom
 rooms_beside types free [] = no_room
 rooms_beside types free (c ∷ cs) = both_rooms (room_beside types free c) (rooms_beside types (free_behind free c) cs)
 
--- the room that changes in turn need: of the text, for what stands there at once beyond what stands there now
+-- the room that changes in turn need; of the text it is the most that the length ever grows beyond the length now
 abbrev pub room_of_changes : LineEndTypes → List Change → DocumentRoom
 room_of_changes types cs = rooms_beside types 0 cs
 
--- how many notes tell so many views that the save point is reached or left: none where it is neither
+-- how many notes tell the views that the save point is reached or left: none if it is neither
 abbrev pub save_point_notes : Bool → ℕ → ℕ
 save_point_notes told count = if told then count else 0
 
@@ -126,7 +126,7 @@ abbrev pub notes_of_history : List View → Direction → History → ℕ
 notes_of_history views direction h =
     notes_of_changes views (bits_of direction) (changes_of direction h) + save_point_notes (save_point_told direction h) (length views)
 
--- an amount, or the greatest that can be asked for
+-- an amount, or the greatest `usize` if it is more
 abbrev pub capped : ℕ → ℕ
 capped amount = min amount (2 ^ 64 - 1)
 
@@ -136,12 +136,12 @@ capped_room need = document_room (capped need.text) (capped need.lines) (capped 
 abbrev pub capped_notes : ℕ → ℕ → NoteRoom
 capped_notes notes bytes = note_room (capped notes) (capped bytes)
 
--- where the caret goes, by the latest step of the text, if there is one
+-- where the caret goes by the latest step of the text, if there is one
 abbrev pub place_behind_any : Option Step → Option ℕ
 place_behind_any None = None
 place_behind_any (Some step) = Some (place_behind step)
 
--- where it goes by a change and, where that is no step of the text, by those before it
+-- where the caret goes by a change, or by the earlier ones if the change is no step of the text
 abbrev pub place_by : ChangeOutline → Option ℕ → Option ℕ
 place_by (outline.Insert place count) before = Some (place + count)
 place_by (outline.Delete place count) before = Some place

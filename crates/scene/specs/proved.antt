@@ -1,3 +1,4 @@
--- Statements about steps in turn for these proofs and those of the crates above, each with its own proof: nothing here has to be believed.
+-- Statements about steps in turn, each with its own proof, for the proofs of this crate and of the crates above. None of them is an
+-- assumption.
 pub mod Enough
 pub mod Rooms

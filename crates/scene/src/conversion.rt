@@ -1,4 +1,4 @@
-//! The line ends of a document's text turned into one kind: a step for each byte that comes or goes.
+//! Converts the line ends of a document's text to one kind, by a step for each byte inserted or deleted.
 
 ghost use Rattle.std.specs.Prelude.{◌≡◌, ◌≤◌, ◌<◌, ◌+◌, ◌*◌, ◌^◌, [], false, map, if◌then◌else◌, nat_lt, length, MatchOption};
 ghost use Rattle.ed_model.specs.LineEnds.{conversion_steps, missing_from, unwanted_from};
@@ -24,7 +24,7 @@ use line_ends::{
 };
 use notify::NoteList;
 
-// The first byte that is missing from the place on, and where.
+// Returns the place and the value of the first missing byte at `from` or behind it.
 fn missing_behind(document: &Document, from: usize, to: LineEnd) -> Option<(usize, u8)>
     requires { from ≤ length document.now.document.cells }
     ensures { MatchOption result (missing_in to (text_of document.now.document) from ≡ []) (λ found. IsNextMissing to (text_of document.now.document) from found.0 found.1) }
@@ -33,7 +33,7 @@ fn missing_behind(document: &Document, from: usize, to: LineEnd) -> Option<(usiz
     next_missing(first, second, from, to)
 }
 
-// Where the first unwanted byte stands from the place on.
+// Returns the place of the first unwanted byte at `from` or behind it.
 fn unwanted_behind(document: &Document, from: usize, to: LineEnd) -> Option<usize>
     requires { from ≤ length document.now.document.cells }
     ensures { MatchOption result (unwanted_in to (text_of document.now.document) from ≡ []) (λ place. IsNextUnwanted to (text_of document.now.document) from place) }
@@ -42,7 +42,7 @@ fn unwanted_behind(document: &Document, from: usize, to: LineEnd) -> Option<usiz
     next_unwanted(first, second, from, to)
 }
 
-// Puts in what is missing, and answers whether that was something.
+// Inserts each missing byte, and returns whether there was one.
 fn put_missing(
     document: &mut Document,
     views: &mut IdTable<View>,
@@ -53,12 +53,12 @@ fn put_missing(
     ensures left { AreLeft (deletions_of to (text_of document.old.document)) result (conversion_steps to (text_of document.old.document)) false document.old document.new views.old views.new notes.old notes.new }
     ensures text { text_of document.new.document ≡ completed to (text_of document.old.document) }
 {
-    // The law that what was reserved is enough for each step in its turn.
+    // States that the room reserved for all steps is enough for each in its turn.
     needs_are_enough();
     let mut later = false;
     let mut place = 0;
     'putting: while let Some((found, byte)) = missing_behind(document, place, to) {
-        let _ = document.len(); // it says that no place runs out of numbers
+        let _ = document.len(); // states that no place exceeds the range of places
         let step = TextStep::Insert {
             place: found,
             bytes: &[byte],
@@ -70,7 +70,7 @@ fn put_missing(
     later
 }
 
-// Deletes what is unwanted; `later` says whether steps of the message came before.
+// Deletes each unwanted byte. `later` says whether the message made steps before.
 fn take_unwanted(
     document: &mut Document,
     views: &mut IdTable<View>,
@@ -84,7 +84,7 @@ fn take_unwanted(
     ensures next { views.new.next ≡ views.old.next }
     ensures rooms { RoomsStay [] (unwanted_from 0 false to (text_of document.old.document)) document.old document.new views.old views.new notes.old notes.new }
 {
-    // The law that what was reserved is enough for each step in its turn.
+    // States that the room reserved for all steps is enough for each in its turn.
     needs_are_enough();
     let mut place = 0;
     'taking: while let Some(found) = unwanted_behind(document, place, to) {
@@ -116,7 +116,7 @@ fn make_all(document: &mut Document, views: &mut IdTable<View>, notes: &mut Note
     take_unwanted(document, views, notes, to, later);
 }
 
-// How many notes tell that the save point is left, with the first of the steps: none where there is no step.
+// Returns how many notes say that the save point is left by the first of the steps: none if there is no step.
 fn notes_of_leaving(document: &Document, views: &IdTable<View>, to: LineEnd) -> usize
     requires named { AreNamed views.now.entries }
     ensures { result ≡ (if nat_lt 0 (length (conversion_steps to (text_of document.now.document))) then leaving_count (watchers document.now.document views.now) document.now.document.history else 0) }
@@ -129,7 +129,7 @@ fn notes_of_leaving(document: &Document, views: &IdTable<View>, to: LineEnd) -> 
     }
 }
 
-// Whether there is more than one step.
+// Returns whether there is more than one step.
 fn is_several(document: &Document, to: LineEnd) -> bool
     ensures { result ≡ nat_lt 1 (length (conversion_steps to (text_of document.now.document))) }
 {
@@ -137,10 +137,12 @@ fn is_several(document: &Document, to: LineEnd) -> bool
     has_several(first, second, to)
 }
 
-/// Turns each line end of the document's text into this kind, as `SCI_CONVERTEOLS` does: what is missing is put in, then what is
-/// unwanted is deleted, each left to right, a byte a step. Each step is told of to the views that watch and hear it, and
-/// followed by all that watch; if there is more than one, they are a transaction of their own. There must be room for all
-/// of them. Of that room it takes, and makes none but what bytes and markers leave that go.
+/// Converts each line end of the document's text to the kind `to`, as `SCI_CONVERTEOLS` does. It inserts what is missing,
+/// and then deletes what is unwanted, each from left to right, one byte a step.
+///
+/// The views that watch the document and hear a step are notified of it, and all that watch follow it. More than one step
+/// makes a transaction of their own. There must be room for all steps. They use that room, and add only what deleted
+/// bytes and markers leave.
 pub fn convert(
     document: &mut Document,
     views: &mut IdTable<View>,
@@ -162,14 +164,14 @@ pub fn convert(
     if !is_several(document, to) {
         return make_all(document, views, notes, to);
     }
-    // The law that a seal does not change what the steps need.
+    // States that sealing does not change what the steps need.
     needs_are_enough();
     document.seal_outside_groups();
     make_all(document, views, notes, to);
     document.seal_outside_groups();
 }
 
-// What so many steps like this one need, but for the notes that the save point is left.
+// Returns what this many steps like this one need, without the notes that the save point is left.
 fn need_of_many(
     document: &Document,
     views: &IdTable<View>,
@@ -198,7 +200,7 @@ fn need_of_many(
     }
 }
 
-// What the insertions need.
+// Returns what the insertions need.
 fn need_of_insertions(document: &Document, views: &IdTable<View>, to: LineEnd) -> SceneNeed
     requires named { AreNamed views.now.entries }
     ensures notes { result.notes ≡ capped_notes (notes_of_steps (watchers document.now.document views.now) (missing_from 0 false to (text_of document.now.document))) (bytes_of_steps (watchers document.now.document views.now) (missing_from 0 false to (text_of document.now.document))) }
@@ -212,7 +214,7 @@ fn need_of_insertions(document: &Document, views: &IdTable<View>, to: LineEnd) -
     need_of_many(document, views, insertion, count_missing(first, second, to))
 }
 
-// What the deletions need.
+// Returns what the deletions need.
 fn need_of_deletions(document: &Document, views: &IdTable<View>, to: LineEnd) -> SceneNeed
     requires named { AreNamed views.now.entries }
     ensures notes { result.notes ≡ capped_notes (notes_of_steps (watchers document.now.document views.now) (deletions_of to (text_of document.now.document))) (bytes_of_steps (watchers document.now.document views.now) (deletions_of to (text_of document.now.document))) }
@@ -230,7 +232,7 @@ fn need_of_deletions(document: &Document, views: &IdTable<View>, to: LineEnd) ->
     need_of_many(document, views, deletion, count)
 }
 
-/// Returns what a conversion to this kind of line end needs: nothing, if it has no step.
+/// Returns what a conversion to this kind of line end needs: nothing if it has no step.
 pub fn conversion_need(document: &Document, views: &IdTable<View>, to: LineEnd) -> SceneNeed
     requires named { AreNamed views.now.entries }
     ensures notes { result.notes ≡ capped_notes (notes_for (conversion_steps to (text_of document.now.document)) (scene_in document.now.document views.now.entries [])) (bytes_for (conversion_steps to (text_of document.now.document)) (scene_in document.now.document views.now.entries [])) }

@@ -1,9 +1,9 @@
-//! Laws, each a public function with an empty body whose contract says what holds of all scenes and steps.
+//! Laws: public functions with empty bodies, whose contracts state what holds for all scenes and steps.
 
 ghost use Rattle.scene.specs.Needs.{NotesAreEnough, BytesAreEnough, SealingNeedsTheSame};
 
-/// The notes and bytes that steps need in all, told by the scene before them, are enough for each in its turn. Sealing the
-/// last transaction does not change them.
+/// The need of steps for notes and bytes of texts, computed on the scene before them, is enough for each step in its
+/// turn. Sealing the last transaction does not change the need.
 pub fn needs_are_enough()
     ensures notes { NotesAreEnough }
     ensures bytes { BytesAreEnough }

@@ -1,4 +1,4 @@
-//! Moving: the views that watch a document follow a step.
+//! The views that watch a document follow a step.
 
 ghost use Rattle.std.specs.Prelude.{◌≡◌, map};
 ghost use Rattle.ed_model.specs.SoundLaws.{Rise};
@@ -12,7 +12,7 @@ use id_table::IdTable;
 use line_index::{LineChange, LineEdit};
 use selection::Movement;
 
-/// Moves the views of the ids as a step does, one after the other. The edits are what it did to lines.
+/// Moves the views with these ids, one after the other, as a step does. `edits` are its changes of the lines.
 pub(crate) fn follow(ids: &[u32], views: &mut IdTable<View>, movement: Movement, edits: &[LineEdit])
     requires named { AreNamed views.old.entries }
     requires can { CanFollowInTurn movement edits.now ids.now (views_of views.old.entries) }
@@ -30,8 +30,8 @@ pub(crate) fn follow(ids: &[u32], views: &mut IdTable<View>, movement: Movement,
     }
 }
 
-// Moves the views of the ids as a step does that came to lines or took some. It stands apart, so that edits are set up only where
-// there are some.
+// Moves the views with these ids as a step does that adds or removes lines. Out of line, so that the hot path does not compute
+// edits.
 #[inline(never)]
 fn follow_edits(ids: &[u32], views: &mut IdTable<View>, movement: Movement, change: LineChange)
     requires small { SmallLines change.old_lines × SmallLines change.new_lines }
@@ -48,8 +48,8 @@ fn follow_edits(ids: &[u32], views: &mut IdTable<View>, movement: Movement, chan
     follow(ids, views, movement, edits.as_slice());
 }
 
-/// Moves the views of the ids as a step does, one after the other, by what it did to lines. After a step that leaves the lines as
-/// they were, no edits are made.
+/// Moves the views with these ids, one after the other, as a step does that changed the lines in this way. A step that
+/// neither adds nor removes lines needs no edits.
 #[inline(always)]
 pub(crate) fn follow_change(
     ids: &[u32],

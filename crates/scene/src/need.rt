@@ -1,4 +1,4 @@
-//! What steps need of a list of notes, and of their document.
+//! What steps need of a list of notes and of their document.
 
 ghost use Rattle.std.specs.Prelude.{◌≡◌, ◌*◌, true, length};
 ghost use Rattle.ed_model.specs.Session.{text_of};
@@ -15,24 +15,24 @@ use document::{Document, DocumentRoom, TextStep};
 use ed_view::View;
 use id_table::IdTable;
 
-/// How many more notes, and bytes of texts that they share.
+/// Room for notes: how many more, and how many bytes of the texts that they share.
 #[derive(Clone, Copy, Debug, PartialEq, Eq)]
 pub struct NoteRoom {
-    /// Notes.
+    /// The number of notes.
     pub notes: usize,
-    /// Bytes of texts.
+    /// The number of bytes of texts.
     pub bytes: usize,
 }
 
 impl NoteRoom {
-    /// Nothing.
+    /// Returns no room.
     pub fn none() -> Self
         ensures { result ≡ note_room 0 0 }
     {
         NoteRoom { notes: 0, bytes: 0 }
     }
 
-    /// Both together. An amount past the greatest `usize` is that one, for which there is never room.
+    /// Returns the sum of both. A sum beyond the greatest `usize` becomes that number, for which there is never room.
     pub fn plus(self, other: Self) -> Self
         ensures { result ≡ note_room (amount_sum self.notes other.notes) (amount_sum self.bytes other.bytes) }
     {
@@ -43,18 +43,18 @@ impl NoteRoom {
     }
 }
 
-/// How much memory many steps need: undo or redo, or a conversion of line ends. An amount past the greatest `usize` is that
-/// one, which is never there.
+/// The memory that many steps need: those of undo or redo, or of a conversion of line ends. An amount beyond the greatest
+/// `usize` becomes that number, for which there is never room.
 #[derive(Clone, Copy, Debug, PartialEq, Eq)]
 pub struct SceneNeed {
-    /// Notes, and the bytes of texts that they share.
+    /// Notes, and the bytes of the texts that they share.
     pub notes: NoteRoom,
     /// Room in the document.
     pub document: DocumentRoom,
 }
 
 impl SceneNeed {
-    /// Returns whether no amount is the greatest, at which sums stop.
+    /// Returns whether no amount is the greatest `usize`, at which sums stop.
     #[inline]
     pub fn is_counted(&self) -> bool
         ensures counted { result ≡ true → IsCounted self.now }
@@ -70,8 +70,7 @@ impl SceneNeed {
     }
 }
 
-/// Returns how many notes tell that the save point is left, with the next step of a message: none where the document is
-/// not at it.
+/// Returns how many notes say that the next step of a message leaves the save point: none if the document is not at it.
 pub fn leaving_need(document: &Document, views: &IdTable<View>) -> usize
     requires named { AreNamed views.now.entries }
     ensures { result ≡ leaving_count (watchers document.now.document views.now) document.now.document.history }
@@ -82,7 +81,8 @@ pub fn leaving_need(document: &Document, views: &IdTable<View>) -> usize
     0
 }
 
-/// What a step of the text needs, if it is told of before it and after it under these kinds, and so many bytes come or go.
+/// Returns the need of a step of the text whose notes before and after it have these kinds, and which inserts or deletes
+/// this many bytes.
 pub(crate) fn told_need(
     document: &Document,
     views: &IdTable<View>,
@@ -100,8 +100,8 @@ pub(crate) fn told_need(
     }
 }
 
-/// Returns what a step of a message needs at most, but for the notes that the save point is left: nothing where no view
-/// that watches hears it.
+/// Returns what a step of a message needs at most, without the notes that the save point is left. It needs nothing if no
+/// view that watches hears it.
 pub fn note_need(document: &Document, views: &IdTable<View>, step: TextStep) -> NoteRoom
     requires fits { IsStepOn step (length document.now.document.cells) }
     requires named { AreNamed views.now.entries }

@@ -1,4 +1,4 @@
-//! Changes that undo or redo performs, one by one: each told of and followed.
+//! Performs the changes of undo or redo one by one, with their notes and the views that follow.
 
 ghost use Rattle.std.specs.Prelude.{◌≡◌, ◌≤◌, ◌<◌, ◌+◌, ◌-◌, ◌^◌, ◌++◌, ◌==◌, not, true, if◌then◌else◌, [], List, ℕ, length, Some, IsSomeAnd};
 ghost use Rattle.ed_types.specs.Heard.{with_text};
@@ -29,7 +29,7 @@ use line_index::edits_of_steps;
 use notify::{NoteList, blank};
 use selection::Movement;
 
-// Bits of the kind of SCN_MODIFIED, SC_ and SC_MOD_ left out.
+// Bits of the kind of SCN_MODIFIED, with Scintilla's names without SC_ and SC_MOD_.
 const PERFORMED_UNDO: u32 = 0x20;
 
 const PERFORMED_REDO: u32 = 0x40;
@@ -42,18 +42,18 @@ const MULTI_LINE: u32 = 0x1000;
 
 const CONTAINER: u32 = 0x40000;
 
-/// Which change is performed: that at `index`, in the order of performing.
+/// The change whose turn it is: that at `index`, in the order of performing.
 #[derive(Clone, Copy, Debug, PartialEq, Eq)]
 pub(crate) struct Turn {
     pub direction: Direction,
     pub index: usize,
-    /// Whether there are several.
+    /// Whether there are several changes.
     pub several: bool,
-    /// Whether it is the last.
+    /// Whether this is the last change.
     pub last: bool,
 }
 
-// The bit that says which of the two is performed.
+// Returns the bit for undo or redo.
 fn bit_of(direction: Direction) -> u32
     ensures { result ≡ bits_of direction }
 {
@@ -63,14 +63,14 @@ fn bit_of(direction: Direction) -> u32
     }
 }
 
-// All bits that the note after a change may have of which change it is.
+// Returns all bits about its change that the note after a change may have.
 fn all_bits(direction: Direction) -> u32
     ensures { result ≡ every_bit (bits_of direction) }
 {
     bit_of(direction) | MULTI_STEP | LAST_STEP | MULTI_LINE
 }
 
-// The bits of the note after the change.
+// Returns the bits of the note after the change.
 fn bits_after(turn: Turn, lines_changed: bool) -> u32
     ensures { result ≡ bits_behind turn lines_changed }
 {
@@ -80,7 +80,7 @@ fn bits_after(turn: Turn, lines_changed: bool) -> u32
     bit_of(turn.direction) | several | last
 }
 
-/// Each kind of note that the change may be told under.
+/// Returns each kind of note that the change may have.
 pub(crate) fn kinds_of(direction: Direction, outline: ChangeOutline) -> u32
     ensures { result ≡ outline_kinds (bits_of direction) outline }
 {
@@ -93,14 +93,14 @@ pub(crate) fn kinds_of(direction: Direction, outline: ChangeOutline) -> u32
     }
 }
 
-/// Each kind of note that any change may be told under.
+/// Returns each kind of note that any change may have.
 pub(crate) fn kinds_of_all(direction: Direction) -> u32
     ensures { result ≡ every_kind (bits_of direction) }
 {
     BEFORE_INSERT | BEFORE_DELETE | INSERT_TEXT | DELETE_TEXT | CONTAINER | all_bits(direction)
 }
 
-// What the change does to positions: a container's step moves none.
+// Returns how the change moves positions: a container's step moves none.
 fn movement_of_change(outline: ChangeOutline) -> Movement
     ensures { result ≡ outline_movement outline }
 {
@@ -111,7 +111,7 @@ fn movement_of_change(outline: ChangeOutline) -> Movement
     }
 }
 
-// The change, which is one of the text, as a step: looked up once more, since only where a view hears it its bytes are asked for.
+// Returns the change, which is a step of the text. It is looked up again, so that its bytes are read only if a view hears it.
 #[inline(never)]
 fn step_at(document: &Document, turn: Turn) -> TextStep<'_>
     requires { (step : Step) × (change_at turn document.now.document.history ≡ Some (Text step)) }
@@ -127,8 +127,8 @@ fn step_at(document: &Document, turn: Turn) -> TextStep<'_>
     }
 }
 
-// Tells of the change, which is one of the text, before it is made. A view that watches hears of it; its bytes are then shared
-// for the note after it.
+// Notifies the views that watch and hear the change, a step of the text, before it is made. At least one view hears it. Its bytes are
+// shared for the note after it.
 #[inline(never)]
 fn tell_heard_change(document: &Document, views: &IdTable<View>, notes: &mut NoteList, turn: Turn)
     requires { (step : Step) × CanPerform turn document.now views.now notes.old (Text step) × (0 < hearers (performed_kinds (bits_of turn.direction) step) (watchers document.now.document views.now)) }
@@ -136,12 +136,12 @@ fn tell_heard_change(document: &Document, views: &IdTable<View>, notes: &mut Not
 {
     let who = bit_of(turn.direction);
     let step = step_at(document, turn);
-    let _ = document.len(); // it says that the step's numbers are small
+    let _ = document.len(); // states that the numbers of the step are small
     notes.share(document.change_bytes(turn.direction, turn.index), &[]);
     tell_coming(document, views, notes, true, who, step);
 }
 
-// The same, if a view that watches hears of it, and answers whether one does. None is asked where it is known to be `quiet`.
+// Like `tell_heard_change`, if a view that watches hears the change, and returns whether one does. Asks no view if `quiet`.
 fn tell_before_change(
     document: &Document,
     views: &IdTable<View>,
@@ -166,8 +166,8 @@ fn tell_before_change(
     true
 }
 
-// Tells of the change, which is one of the text, after it was made, if a view that watches `hears` of it, where the text had so
-// many lines and has so many now. Its bytes are shared.
+// Notifies the views that watch and hear the change, a step of the text, after it was made, if `hears` says that there is one.
+// `old_lines` and `lines` are the numbers of lines before and after it. Its bytes are shared.
 fn tell_after_change(
     document: &Document,
     views: &IdTable<View>,
@@ -191,15 +191,15 @@ fn tell_after_change(
     tell_made(document, views, notes, true, bits, old_lines, lines, step);
 }
 
-// Whether by now the number of lines is changed.
+// Returns whether the number of lines has changed by now.
 fn is_changed(before: bool, old_lines: usize, lines: usize) -> bool
     ensures { result ≡ (if before then true else not (old_lines == lines)) }
 {
     before || old_lines != lines
 }
 
-// Performs the change, which is one of the text: those views that watch and hear it are told before and after it, and all that
-// watch follow it. Answers whether by now the number of lines is changed.
+// Performs the change, a step of the text: the views that watch and hear it are notified before and after it, and all that watch
+// follow it. Returns whether the number of lines has changed by now.
 fn perform_step(
     document: &mut Document,
     views: &mut IdTable<View>,
@@ -217,7 +217,7 @@ fn perform_step(
     edits_of_steps();
     moves_are_those_of_steps();
     steps_keep_views_standing();
-    let _ = document.len(); // it says that no position runs out of numbers
+    let _ = document.len(); // states that no position exceeds the range of positions
     let hears = tell_before_change(document, views, notes, turn, outline, quiet);
     let old_lines = document.line_count();
     let change = document.make_change(turn.direction, turn.index);
@@ -231,7 +231,7 @@ fn perform_step(
     changed
 }
 
-// A note of a container's own step.
+// Returns a note of a container's own step.
 fn note_of_container(bits: u32, token: i64) -> Note
     ensures { with_text result [] ≡ container_note bits token }
 {
@@ -241,7 +241,8 @@ fn note_of_container(bits: u32, token: i64) -> Note
     note
 }
 
-// Performs a container's own step: those views that watch and hear it are told. It stands apart, for its note is kept.
+// Performs a container's own step: notifies the views that watch and hear it. Out of line, so that the hot path does not pay for the
+// note.
 #[inline(never)]
 fn perform_container(
     document: &Document,
@@ -268,8 +269,8 @@ fn perform_container(
     );
 }
 
-/// Performs a change of this outline; `quiet` says that no view that watches is known to hear of it. Answers whether by now the
-/// number of lines is changed.
+/// Performs a change of this outline. `quiet` says that no view that watches is known to hear it. Returns whether the number
+/// of lines has changed by now.
 pub(crate) fn perform_change(
     document: &mut Document,
     views: &mut IdTable<View>,

@@ -1,4 +1,4 @@
-//! Regrouping: the views that watch a document follow other line ends.
+//! The views that watch a document follow when other line ends count.
 
 ghost use Rattle.std.specs.Prelude.{◌≡◌, List, map};
 ghost use Rattle.ed_model.specs.declared.plan.DocumentChange.TheVariants as change;
@@ -17,8 +17,8 @@ use id_table::IdTable;
 use line_index::{LineEdit, edits_of_settings};
 use selection::Movement;
 
-/// Carries the flags of the views that watch the document to the lines that it has once these line ends count in it. The
-/// edits are what that does to its lines. The document itself is still as it was, and is to follow.
+/// Adapts the flags of the views that watch the document to the lines that it has once these line ends count. `edits` are
+/// the changes of its lines. The caller changes the document afterwards.
 pub fn regroup(
     document: &Document,
     views: &mut IdTable<View>,
@@ -37,8 +37,8 @@ pub fn regroup(
     edits_of_settings();
     rows_match_lines();
     rows_that_meet();
-    let _ = document.len(); // it says that no position runs out of numbers
-    // no place moves
+    let _ = document.len(); // states that no position exceeds the range of positions
+    // Moves no place.
     let nowhere = Movement::Inserted { place: 0, count: 0 };
     follow(document.views(), views, nowhere, edits);
 }

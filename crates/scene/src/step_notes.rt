@@ -20,10 +20,10 @@ use id_table::IdTable;
 use notify::{NoteList, blank};
 use selection::Movement;
 
-/// The code of the notes that something changes or changed, `SCN_MODIFIED`.
+/// The code of the notes before and after a change: `SCN_MODIFIED` of Scintilla.
 pub const MODIFIED: u32 = 2008;
 
-// Bits of its kind, SC_MOD_ and SC_ left out.
+// Bits of the kind of SCN_MODIFIED, with Scintilla's names without SC_MOD_ and SC_.
 pub(crate) const INSERT_TEXT: u32 = 0x1;
 
 pub(crate) const DELETE_TEXT: u32 = 0x2;
@@ -36,7 +36,7 @@ pub(crate) const PERFORMED_USER: u32 = 0x10;
 
 pub(crate) const START_ACTION: u32 = 0x2000;
 
-// Where the step is made.
+// Returns the place of the step, in bytes from 0.
 fn place_of(step: TextStep) -> usize
     ensures { result ≡ place_in step.entry }
 {
@@ -46,7 +46,7 @@ fn place_of(step: TextStep) -> usize
     }
 }
 
-/// How many bytes come or go.
+/// Returns how many bytes the step inserts or deletes.
 pub(crate) fn count_of(step: TextStep) -> usize
     ensures { result ≡ count_in step.entry }
 {
@@ -56,7 +56,7 @@ pub(crate) fn count_of(step: TextStep) -> usize
     }
 }
 
-/// What the step does to positions.
+/// Returns how the step moves positions.
 pub(crate) fn movement_of(step: TextStep) -> Movement
     ensures { (text : List ℕ) → IsStepOn step.entry (length text) → result ≡ movement (step_in step.entry text) }
 {
@@ -69,7 +69,7 @@ pub(crate) fn movement_of(step: TextStep) -> Movement
     }
 }
 
-/// The kind of its notes before it.
+/// Returns the kind of the notes before the step.
 pub(crate) fn kind_before(bits: u32, step: TextStep) -> u32
     ensures { (text : List ℕ) → result ≡ before_kind bits (step_in step.entry text) }
 {
@@ -79,7 +79,7 @@ pub(crate) fn kind_before(bits: u32, step: TextStep) -> u32
     }
 }
 
-/// The kind of its notes after it.
+/// Returns the kind of the notes after the step.
 pub(crate) fn kind_after(bits: u32, step: TextStep) -> u32
     ensures { (text : List ℕ) → result ≡ after_kind bits (step_in step.entry text) }
 {
@@ -89,7 +89,7 @@ pub(crate) fn kind_after(bits: u32, step: TextStep) -> u32
     }
 }
 
-// A note of a change of some bytes.
+// Returns a note of a change of `count` bytes.
 fn range_note(kind: u32, place: usize, count: usize) -> Note
     requires { (place < 2 ^ 63) × (count < 2 ^ 63) }
     ensures { (text : List ℕ) → let n = note_of_range kind place count in with_text result text ≡ record n { text = text } }
@@ -101,7 +101,7 @@ fn range_note(kind: u32, place: usize, count: usize) -> Note
     note
 }
 
-// The note before it.
+// Returns the note before the step.
 fn before_note(bits: u32, step: TextStep) -> Note
     requires { IsSmallStep step }
     ensures { (text : List ℕ) → IsStepOn step.entry (length text) → with_text result (text_before (step_in step.entry text)) ≡ note_before bits (step_in step.entry text) }
@@ -109,7 +109,7 @@ fn before_note(bits: u32, step: TextStep) -> Note
     range_note(kind_before(bits, step), place_of(step), count_of(step))
 }
 
-// Which text that note has: a deletion's has none.
+// Returns which text that note has: none for a deletion.
 fn text_of_before(step: TextStep) -> NoteText
     ensures { result ≡ note_text_before step.entry }
 {
@@ -119,7 +119,7 @@ fn text_of_before(step: TextStep) -> NoteText
     }
 }
 
-// The note after it, where the text had so many lines and has so many now.
+// Returns the note after the step. `old_lines` and `lines` are the numbers of lines before and after it.
 fn after_note(bits: u32, old_lines: usize, lines: usize, step: TextStep) -> Note
     requires small { IsSmallStep step }
     requires lines { (old_lines < 2 ^ 63) × (lines < 2 ^ 63) }
@@ -130,7 +130,7 @@ fn after_note(bits: u32, old_lines: usize, lines: usize, step: TextStep) -> Note
     note
 }
 
-/// Shares the bytes that come or go among the notes to come. There must be room for them.
+/// Shares the bytes that the step inserts or deletes among the next notes. There must be room for them.
 pub(crate) fn share_bytes(document: &mut Document, notes: &mut NoteList, step: TextStep)
     requires fits { IsStepOn step (length document.old.document.cells) }
     requires room { length (step_bytes (step_in step (text_of document.old.document))) ≤ notes.old.text_room }
@@ -143,7 +143,7 @@ pub(crate) fn share_bytes(document: &mut Document, notes: &mut NoteList, step: T
     }
 }
 
-// Tells of a step before it is made. Its bytes are shared. It stands apart, so that a note is set up only where a view hears it.
+// Notifies the views before a step is made. Its bytes are shared. Out of line, so that the hot path does not prepare a note.
 #[inline(never)]
 fn put_coming(
     document: &Document,
@@ -164,7 +164,7 @@ fn put_coming(
     tell(document, views, notes, &note, Audience::Hearers, text);
 }
 
-/// Tells of a step before it is made, if some view that watches `hears` of it. Its bytes are shared.
+/// Notifies the views that watch before a step is made, if `hears` says that one hears it. Its bytes are shared.
 pub(crate) fn tell_coming(
     document: &Document,
     views: &IdTable<View>,
@@ -186,8 +186,8 @@ pub(crate) fn tell_coming(
     }
 }
 
-// Tells of a step after it was made, where the text had so many lines and has so many now. Its bytes are shared. It stands apart,
-// so that a note is set up only where a view hears it.
+// Notifies the views after a step was made. `old_lines` and `lines` are the numbers of lines before and after it. Its bytes are
+// shared. Out of line, so that the hot path does not prepare a note.
 #[inline(never)]
 fn put_made(
     document: &Document,
@@ -215,8 +215,8 @@ fn put_made(
     );
 }
 
-/// Tells of a step after it was made, if some view that watches `hears` of it, where the text had so many lines and has so
-/// many now. Its bytes are shared.
+/// Notifies the views that watch after a step was made, if `hears` says that one hears it. `old_lines` and `lines` are the
+/// numbers of lines before and after it. Its bytes are shared.
 pub(crate) fn tell_made(
     document: &Document,
     views: &IdTable<View>,

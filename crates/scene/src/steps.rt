@@ -1,4 +1,4 @@
-//! Steps: a step of a document's text, told of and followed.
+//! Makes a step of a document's text, with its notes and the views that follow.
 
 ghost use Rattle.std.specs.Prelude.{◌≡◌, ◌≤◌, ◌<◌, ◌+◌, ◌++◌, ◌-◌, ◌^◌, ◌&&◌, true, false, map, length, None};
 ghost use Rattle.ed_model.specs.Steps.{step_bytes};
@@ -27,20 +27,20 @@ use id_table::IdTable;
 use line_index::edits_of_steps;
 use notify::{NoteList, blank};
 
-/// The code of the note that the save point is left, `SCN_SAVEPOINTLEFT`.
+/// The code of the note that the save point is left: `SCN_SAVEPOINTLEFT` of Scintilla.
 pub const SAVE_POINT_LEFT: u32 = 2003;
 
-/// The bits of a step's notes that say who makes it, and as which of several.
+/// The bits of a step's notes that say who makes the step, and as which of several.
 #[derive(Clone, Copy, Debug, PartialEq, Eq)]
 pub struct StepBits {
-    /// Those of the notes before it.
+    /// The bits of the notes before it.
     pub before: u32,
-    /// Those of the notes after it.
+    /// The bits of the notes after it.
     pub after: u32,
 }
 
-// Shares the step's bytes, if a view that watches hears of it, and answers whether one does. Where there is room for no note,
-// none does, and nobody is asked.
+// Shares the step's bytes if a view that watches hears it, and returns whether one does. If there is no room for a note, no view
+// listens, and none is asked.
 fn share_if_heard(
     document: &mut Document,
     views: &IdTable<View>,
@@ -70,7 +70,7 @@ fn share_if_heard(
     hears
 }
 
-// Tells each view that watches that the save point is left. It stands apart, so that its note is set up only where it is.
+// Tells each view that watches that the save point is left. Out of line, so that the hot path does not prepare the note.
 #[inline(never)]
 fn put_left(document: &Document, views: &IdTable<View>, notes: &mut NoteList)
     requires named { AreNamed views.now.entries }
@@ -88,7 +88,7 @@ fn put_left(document: &Document, views: &IdTable<View>, notes: &mut NoteList)
     );
 }
 
-// The same, if it `is_left`.
+// Tells each view that watches that the save point is left, if `is_left`.
 fn tell_left(document: &Document, views: &IdTable<View>, notes: &mut NoteList, is_left: bool)
     requires named { AreNamed views.now.entries }
     requires room { length (left_note is_left (watchers document.now.document views.now)) ≤ notes.old.note_room }
@@ -99,8 +99,8 @@ fn tell_left(document: &Document, views: &IdTable<View>, notes: &mut NoteList, i
     }
 }
 
-// Tells of a step before it is made, and of the save point. Answers whether a view that watches hears of the step; its bytes
-// are then shared for the note after it.
+// Notifies the views before a step is made, and if the save point is left. Returns whether a view that watches hears the step, whose
+// bytes are then shared for the note after it.
 fn tell_before(
     document: &mut Document,
     views: &IdTable<View>,
@@ -128,9 +128,10 @@ fn tell_before(
     hears
 }
 
-/// Makes a step of the document's text: those views that watch and hear it are told before and after it, with these bits,
-/// and in between, if the save point `is_left`, each view is told that; and all that watch follow it. The history stays as
-/// it is.
+/// Makes a step of the document's text, and does not change the history.
+///
+/// The views that watch and hear the step are notified before and after it, with these bits. In between, if the save point
+/// `is_left`, each view is told so. All views that watch follow the step.
 pub fn step_heard(
     document: &mut Document,
     views: &mut IdTable<View>,
@@ -161,7 +162,7 @@ pub fn step_heard(
     edits_of_steps();
     moves_are_those_of_steps();
     steps_keep_views_standing();
-    let _ = document.len(); // it says that no position runs out of numbers
+    let _ = document.len(); // states that no position exceeds the range of positions
     let hears = tell_before(document, views, notes, bits, is_left, step);
     let old_lines = document.line_count();
     let change = document.step(step);
@@ -172,7 +173,7 @@ pub fn step_heard(
     follow_change(document.views(), views, movement_of(step), change);
 }
 
-// The bits of a step of a message.
+// Returns the bits of a step of a message.
 fn user_bits(begins: bool) -> StepBits
     ensures before { result.before ≡ performed_user }
     ensures after { result.after ≡ bits_of_user begins }
@@ -187,8 +188,8 @@ fn user_bits(begins: bool) -> StepBits
     }
 }
 
-/// Whether the next step that is appended to the history leaves the save point: the history collects steps, and the document is at
-/// its save point.
+/// Returns whether appending the next step to the history leaves the save point: the history collects steps, and the document
+/// is at its save point.
 pub fn leaves_save_point(document: &Document) -> bool
     ensures { result ≡ (document.now.document.history.collecting && at_save_point document.now.document.history) }
 {
@@ -196,9 +197,10 @@ pub fn leaves_save_point(document: &Document) -> bool
     history.is_collecting() && history.is_at_save_point()
 }
 
-/// Makes a step of a message, and appends it to the history; `later` says that it is a later step of its message. Those
-/// views that watch and hear it are told before and after it, in between each is told if the save point is left, and all
-/// that watch follow it.
+/// Makes a step of a message, and appends it to the history. `later` says that it is a later step of its message.
+///
+/// The views that watch and hear the step are notified before and after it. In between each view is told if the save point
+/// is left. All views that watch follow the step.
 pub fn make_step(
     document: &mut Document,
     views: &mut IdTable<View>,

@@ -1,4 +1,4 @@
-//! Telling: a note for each view that is to hear it.
+//! Notifies views: appends a note for each view in the audience.
 
 ghost use Rattle.std.specs.Prelude.{◌≡◌, ◌≤◌, ◌<◌, ◌-◌, ◌^◌, ◌++◌, [], ◌∷◌, List, ℕ, length};
 ghost use Rattle.ed_types.specs.Heard.{with_text};
@@ -12,28 +12,28 @@ use ed_view::View;
 use id_table::IdTable;
 use notify::{NoteList, blank};
 
-/// Who is told, of the views that watch a document.
+/// The audience of a note, among the views that watch a document.
 #[derive(Clone, Copy, Debug, PartialEq, Eq)]
 pub enum Audience {
-    /// Each of them, whatever it asks for.
+    /// All of them, whatever their masks are.
     Everyone,
-    /// Those whose mask has a bit in common with the kind of the note.
+    /// The views whose mask has a bit in common with the kind of the note.
     Hearers,
 }
 
-/// Which text a note has.
+/// The text of a note.
 #[derive(Clone, Copy, Debug, PartialEq, Eq)]
 pub enum NoteText {
-    /// None.
+    /// No text.
     Empty,
-    /// The one that is shared in the list of notes.
+    /// The text shared in the list of notes.
     Shared,
 }
 
 /// SCN_MODIFYATTEMPTRO
 const MODIFY_ATTEMPT: u32 = 2004;
 
-// The same note for a view. Its text is not looked at.
+// Returns the note for this view. Its range of the text is ignored.
 fn note_for(note: &Note, view: u32) -> Note
     ensures { (text : List ℕ) → with_text result text ≡ record (with_text note.entry.now text) { view = view } }
 {
@@ -44,7 +44,7 @@ fn note_for(note: &Note, view: u32) -> Note
     }
 }
 
-// Whether a view is told.
+// Returns whether a view is in the audience.
 fn is_told(view: &View, audience: Audience, kind: u32) -> bool
     ensures { result ≡ belongs audience kind view.now.view }
 {
@@ -54,7 +54,7 @@ fn is_told(view: &View, audience: Audience, kind: u32) -> bool
     }
 }
 
-// Puts a note in, with its text.
+// Appends a note with its text.
 fn put(notes: &mut NoteList, note: Note, text: NoteText)
     requires { 0 < notes.old.note_room }
     ensures { notes.new ≡ record notes.old { notes = notes.old.notes ++ with_note_text text note notes.old.shared ∷ []; note_room = notes.old.note_room - 1 } }
@@ -65,8 +65,8 @@ fn put(notes: &mut NoteList, note: Note, text: NoteText)
     }
 }
 
-/// Puts a note for each view that watches the document and belongs to the audience, in the order in which the views were
-/// attached. There must be room for as many notes: where there is none, nobody belongs to it, and no view is asked.
+/// Appends a note for each view that watches the document and is in the audience, in the order in which the views were
+/// attached. There must be room for as many notes. If there is no room at all, no view is in the audience, and none is asked.
 pub fn tell(
     document: &Document,
     views: &IdTable<View>,
@@ -91,8 +91,8 @@ pub fn tell(
     }
 }
 
-/// Tells each view that watches the document that a message was to change its text, which is read-only. There must be room
-/// for as many notes.
+/// Tells each view that watches the document that a message tried to change its text, which is read-only
+/// (`SCN_MODIFYATTEMPTRO`). There must be room for as many notes.
 pub fn attempt(document: &Document, views: &IdTable<View>, notes: &mut NoteList)
     requires named { AreNamed views.now.entries }
     requires room { length (watchers document.now.document views.now) ≤ notes.old.note_room }
@@ -109,16 +109,16 @@ pub fn attempt(document: &Document, views: &IdTable<View>, notes: &mut NoteList)
     );
 }
 
-/// The views that watch a document, taken together.
+/// The views that watch a document, in sum.
 #[derive(Clone, Copy, Debug, PartialEq, Eq)]
 pub(crate) struct Watched {
-    /// How many they are.
+    /// The number of views.
     pub count: usize,
-    /// Each kind of note that one of them hears, as the bits of all their masks.
+    /// The bits of all their masks: each kind of note that one of them hears.
     pub masks: u32,
 }
 
-/// Counts the views that watch the document and joins their masks, in one walk over them.
+/// Counts the views that watch the document and joins their masks, in one pass.
 pub(crate) fn survey(document: &Document, views: &IdTable<View>) -> Watched
     requires named { AreNamed views.now.entries }
     ensures count { result.count ≡ length (watchers document.now.document views.now) }
@@ -135,7 +135,7 @@ pub(crate) fn survey(document: &Document, views: &IdTable<View>) -> Watched
     Watched { count, masks }
 }
 
-// How many of the views that watch the document belong to the audience of notes of this kind.
+// Returns how many of the views that watch the document are in the audience of notes of this kind.
 fn count(document: &Document, views: &IdTable<View>, audience: Audience, kind: u32) -> usize
     requires named { AreNamed views.now.entries }
     ensures count { result ≡ length (audience_of audience kind (watchers document.now.document views.now)) }

@@ -1,4 +1,4 @@
-//! Undo and redo: a transaction performed, and what that needs.
+//! Undo and redo: performs a transaction, and computes what that needs.
 
 ghost use Rattle.std.specs.Prelude.{◌≡◌, ◌≤◌, ◌<◌, ◌+◌, ◌-◌, ◌++◌, ◌==◌, ◌&&◌, ◌||◌, true, bit_and, nat_lt, length, map, not, reverse};
 ghost use Rattle.ed_model.specs.History.{Change, latest_text_step};
@@ -27,10 +27,10 @@ use ed_view::View;
 use id_table::IdTable;
 use notify::{NoteList, blank};
 
-/// The code of the note that the save point is reached, `SCN_SAVEPOINTREACHED`.
+/// The code of the note that the save point is reached: `SCN_SAVEPOINTREACHED` of Scintilla.
 pub const SAVE_POINT_REACHED: u32 = 2002;
 
-// The turn of the change at `index`, of `count`.
+// Returns the turn of the change at `index`, of `count` changes.
 fn turn_at(direction: Direction, index: usize, count: usize) -> Turn
     requires { index < count }
     ensures { result ≡ turn_of direction index count }
@@ -43,8 +43,9 @@ fn turn_at(direction: Direction, index: usize, count: usize) -> Turn
     }
 }
 
-// Whether it is known that no view that watches hears of any change, so that none has to be asked at each: there is no room for
-// a note, or the changes are several, and no mask has a bit of what they are told under. Of one change the masks are not asked.
+// Returns whether no view that watches is known to hear any of the changes, so that none has to be asked at each change. It is so if
+// there is no room for a note, or if there are several changes and no mask has a bit of their kinds. For one change the masks
+// are not read.
 fn is_quiet(
     document: &Document,
     views: &IdTable<View>,
@@ -58,13 +59,13 @@ fn is_quiet(
     notes.is_full() || (count > 1 && survey(document, views).masks & kinds_of_all(direction) == 0)
 }
 
-// Where the caret goes by a change of this outline, for which there is room: behind what it puts in, or where it deletes. By a
-// container's step it stays where it goes by the changes before.
+// Returns where the caret goes by a change of this outline, for which there is room: behind an insertion, or where a deletion
+// was made. A container's step leaves it where the earlier changes put it.
 fn caret_by(document: &Document, outline: ChangeOutline, before: Option<usize>) -> Option<usize>
     requires can { (change : Change) × (outline ≡ outline_of change) × ChangeFits change (text_of document.now.document) × HasTextRoom document.now (room_of_change document.now.document.line_end_types change) }
     ensures { result ≡ place_by outline before }
 {
-    let _ = document.len(); // it says that no place runs out of numbers
+    let _ = document.len(); // states that no place exceeds the range of places
     match outline {
         ChangeOutline::Insert { place, count } => Some(place + count),
         ChangeOutline::Delete { place, .. } => Some(place),
@@ -72,8 +73,8 @@ fn caret_by(document: &Document, outline: ChangeOutline, before: Option<usize>) 
     }
 }
 
-// Performs the changes one after the other, and returns where that leaves the caret, if one is a step of the text. The history
-// stays.
+// Performs the changes one after the other, and returns where the caret goes, if one of them is a step of the text. Does not change
+// the history.
 fn perform_changes(
     document: &mut Document,
     views: &mut IdTable<View>,
@@ -98,8 +99,8 @@ fn perform_changes(
     caret
 }
 
-// Tells each view that watches that the save point is reached, if the document `is_there`, or else that it is left. It stands
-// apart, so that a note is set up only where one of the two is so.
+// Tells each view that watches that the save point is reached, if the document `is_there`, or that it is left. Out of line, so that
+// the hot path does not prepare a note.
 #[inline(never)]
 fn put_save_point(document: &Document, views: &IdTable<View>, notes: &mut NoteList, is_there: bool)
     requires named { AreNamed views.now.entries }
@@ -124,7 +125,7 @@ fn put_save_point(document: &Document, views: &IdTable<View>, notes: &mut NoteLi
     );
 }
 
-// Tells each view that watches that the save point is reached or left, if so.
+// Tells each view that watches if the save point is reached or left.
 fn tell_save_point(
     document: &Document,
     views: &IdTable<View>,
@@ -144,10 +145,14 @@ fn tell_save_point(
     put_save_point(document, views, notes, is_there);
 }
 
-/// Performs undo or redo, `SCI_UNDO` and `SCI_REDO`: the changes of the transaction one after the other, each told of to the views
-/// that watch and hear it, and followed by all that watch; then all that watch are told if the save point is reached or left by
-/// it. The caret of no view is set. Returns where the caret of the view that asked for it goes: behind what its latest step of the
-/// text puts in, or where that deletes; `None` if no change is a step of the text. There must be room for all of it.
+/// Performs undo or redo (`SCI_UNDO`, `SCI_REDO`).
+///
+/// The changes of the transaction are performed one after the other. The views that watch and hear a change are notified of
+/// it, and all that watch follow it. Then all that watch are told if the save point is reached or left. There must be room
+/// for all of it.
+///
+/// Returns where the caret of the sending view goes, and does not move it: behind what the latest step of the text inserts,
+/// or where that step deletes; `None` if no change is a step of the text.
 pub fn perform_history(
     document: &mut Document,
     views: &mut IdTable<View>,
@@ -181,7 +186,7 @@ pub fn perform_history(
     caret
 }
 
-// What a change needs of the notes, by its outline, where some view that watches hears one of its kinds.
+// Returns the notes that a change of this outline needs, if some view that watches hears one of its kinds.
 #[inline(never)]
 fn heard_change_need(
     document: &Document,
@@ -203,8 +208,8 @@ fn heard_change_need(
     }
 }
 
-// What a change needs of the notes, by its outline; `masks` are those of the views that watch, joined, so that mostly none of them
-// is asked.
+// Returns the notes that a change of this outline needs. `masks` has the joined masks of the views that watch, so that usually none
+// of them is asked.
 fn change_note_need(
     document: &Document,
     views: &IdTable<View>,
@@ -222,7 +227,7 @@ fn change_note_need(
     heard_change_need(document, views, direction, outline)
 }
 
-// How many bytes of room are free behind a change, of so many before it: what comes takes of them, and what goes leaves its own.
+// Returns how many bytes of room are free after a change, with `free` before it: insertions use them, and deletions add theirs.
 fn free_behind(free: usize, change: ChangeOutline) -> usize
     ensures { (c : Change) → change ≡ outline_of c → result ≡ free_behind free c }
 {
@@ -233,7 +238,7 @@ fn free_behind(free: usize, change: ChangeOutline) -> usize
     }
 }
 
-// What is needed where so many bytes of room are free.
+// Returns what is needed if `free` bytes of room are free.
 fn beside(free: usize, need: DocumentRoom) -> DocumentRoom
     ensures { result ≡ record need { text = need.text - free } }
 {
@@ -243,7 +248,7 @@ fn beside(free: usize, need: DocumentRoom) -> DocumentRoom
     }
 }
 
-// How many notes tell that the save point is reached or left, where so many views watch: none where it is neither.
+// Returns how many notes say that the save point is reached or left, for `count` views: none if it is neither.
 fn save_point_need(document: &Document, direction: Direction, count: usize) -> usize
     ensures { result ≡ save_point_notes (save_point_told direction document.now.document.history) count }
 {
@@ -254,7 +259,7 @@ fn save_point_need(document: &Document, direction: Direction, count: usize) -> u
     }
 }
 
-// What undo or redo of one change needs: that of the change, and no loop that adds up.
+// Returns what undo or redo of a single change needs, without a loop.
 fn need_of_one(document: &Document, views: &IdTable<View>, direction: Direction) -> SceneNeed
     requires named { AreNamed views.now.entries }
     requires one { length (changes_of direction document.now.document.history) ≡ 1 }
@@ -274,7 +279,7 @@ fn need_of_one(document: &Document, views: &IdTable<View>, direction: Direction)
     }
 }
 
-/// Returns what undo or redo needs at most. What goes out of the text makes room for what comes later.
+/// Returns what undo or redo needs at most. Deleted bytes become room for later insertions.
 #[inline(always)]
 pub fn history_need(document: &Document, views: &IdTable<View>, direction: Direction) -> SceneNeed
     requires named { AreNamed views.now.entries }

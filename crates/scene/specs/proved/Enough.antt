@@ -1,4 +1,4 @@
--- Room for notes and their bytes that is enough for steps is enough for the first of them, and what it leaves for the others.
+-- Room for the notes of steps and their bytes is enough for the first step, and what is left then is enough for the others.
 use Rattle.std.proofs.Common.{◌≡◌, ℕ, ◌+◌, ◌≤◌, Bool, List, ◌∷◌, length, arith}
 use Rattle.ed_model.specs.Steps.{Step, step_bytes}
 use Rattle.ed_model.specs.Session.{watching}

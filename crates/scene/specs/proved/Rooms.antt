@@ -1,4 +1,4 @@
--- Room in the document for steps in turn: enough for the first of them, and what that one leaves is enough for the others.
+-- Room in the document for steps in turn is enough for the first of them, and what that one leaves is enough for the others.
 use Rattle.std.proofs.Common.{◌≡◌, ℕ, ◌+◌, ◌-◌, ◌≤◌, ◌^◌, min, Bool, true, false, List, [], ◌∷◌, length, refl, ap, sym, ◌∙◌, arith, slice_range}
 use Rattle.std.proofs.lemmas.List.{length-map, length-take, length-drop}
 use Rattle.ed_model.specs.declared.plan.LineEndTypes.{LineEndTypes}
@@ -32,7 +32,7 @@ appended_collects later c h = go h.collecting refl
     go true e = rw e refl
     go false e = rw e refl
 
--- More room beside steps is so much less that they need of the text.
+-- Each further free byte lowers the need of the text by at most one.
 beside_text : (types : LineEndTypes) (steps : List Step) (free more : ℕ) → free ≤ more
     → (room_of_steps_beside types free steps).text ≤ (room_of_steps_beside types more steps).text + (more - free)
 beside_text types [] free more h = omega arith
@@ -55,7 +55,7 @@ beside_text types (Delete p bytes ∷ steps) free more h = gone (length bytes) (
     gone : (n m free more : ℕ) → free ≤ more → (x y : ℕ) → x ≤ y + (min (more + n) m - min (free + n) m) → 0 - free + x ≤ 0 - more + y + (more - free)
     gone n m free more h x y e = omega arith
 
--- Of all else they need as much.
+-- All other needs stay the same.
 beside_else : (types : LineEndTypes) (steps : List Step) (free more : ℕ)
     → record (room_of_steps_beside types free steps) { text = 0 } ≡ record (room_of_steps_beside types more steps) { text = 0 }
 beside_else types [] free more = refl
@@ -63,7 +63,7 @@ beside_else types (s ∷ steps) free more =
     let need = room_of_step types s in
     ap (λ (r : DocumentRoom). record (both_rooms need r) { text = 0 }) (beside_else types steps (free_behind free (TextStep s)) (free_behind more (TextStep s)))
 
--- The first step leaves no more than it takes out.
+-- The first step leaves at most the room of the bytes that it deletes.
 left_by_first : (step : Step) → free_behind 0 (TextStep step) ≤ bytes_out step
 left_by_first (Insert p bytes) = omega arith
 left_by_first (Delete p bytes) = below (length bytes) (2 ^ 64 - 1)

@@ -12,7 +12,7 @@ use Rattle.scene.proofs.KindLemmas.{unheard_before}
 use Rattle.scene.proofs.ChangeSteps.{some_has, step_same, outline_kinds_are}
 use Rattle.scene.proofs.performing.tell_before_change.Goals as goal
 
--- nobody hears of it
+-- no view hears the step
 untold : (who : ℕ) (s : Step) (W : List View) (notes : Gathered) → hearers (performed_kinds who s) W ≡ 0 → IsToldBefore who W false notes notes s
 untold who s W notes none =
     let quiet = unheard_before W s who (all_bits who) none in

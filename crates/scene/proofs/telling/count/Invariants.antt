@@ -1,4 +1,4 @@
--- what was counted and what is still to be counted is the whole
+-- the views counted and the views still to be counted are all views
 use Rattle.std.proofs.Common.{◌≡◌, ◌≤◌, ◌+◌, length, drop}
 use Rattle.scene.proofs.Pending.{pending}
 use Rattle.scene.proofs.telling.count.Given as goal

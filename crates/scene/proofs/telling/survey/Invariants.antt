@@ -1,4 +1,4 @@
--- what was counted and joined, and what is still to be, is the whole
+-- the views counted and joined, and the views still to be, are all views
 use Rattle.std.proofs.Common.{◌≡◌, ◌≤◌, ◌+◌, length, drop}
 use Rattle.scene.specs.declared.telling.Audience.TheVariants.{Everyone}
 use Rattle.scene.specs.Hearing.{masks_from, masks_of}

@@ -1,4 +1,4 @@
--- what was told and what is still to be told is the whole
+-- the views notified and the views still to be notified are all views
 use Rattle.std.proofs.Common.{drop}
 use Rattle.scene.specs.Hearing.{with_note_text}
 use Rattle.scene.proofs.Pending.{pending}

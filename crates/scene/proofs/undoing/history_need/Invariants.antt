@@ -5,7 +5,7 @@ use Rattle.scene.specs.Undoing.{bits_of, save_point_notes}
 use Rattle.scene.proofs.NeededSoFar.{IsNeededSoFar}
 use Rattle.scene.proofs.undoing.history_need.Given as goal
 
--- what is needed so far and what those need that are left is what all need
+-- the need so far and the need of the remaining changes are the need of all
 abbrev pub invariant-loop-index : goal.invariant-loop-index
 invariant-loop-index l =
     IsNeededSoFar (watchers l.fn.document.document l.fn.views) (bits_of l.fn.direction) l.fn.document.document.line_end_types

@@ -4,7 +4,7 @@ use Rattle.scene.proofs.LatestStep.{behind_first}
 use Rattle.scene.proofs.PerformedSoFar.{IsPerformedSoFar}
 use Rattle.scene.proofs.undoing.perform_changes.Given as goal
 
--- what is left of the changes takes the scene to where all of them take it, and the caret goes where those before take it
+-- the remaining changes lead from the scene to that after all of them, and the caret goes where the changes so far put it
 abbrev pub invariant-loop-index : goal.invariant-loop-index
 invariant-loop-index l =
     let all = changes_of l.fn.direction l.fn.document.document.history in
