@@ -1,4 +1,4 @@
--- How many markers there are.
+-- Counts of markers.
 use Rattle.std.proofs.Common.{◌≡◌, ℕ, zero, suc, ◌+◌, ◌<◌, Bool, true, false, cond, List, [], ◌∷◌, ◌++◌, length, get_or, set, refl, ap, sym, arith, length-append}
 use Rattle.std.specs.Prelude.{◌==◌, not, filter, Some, None, slice_index_or}
 use Rattle.std.proofs.lemmas.List.Sums.{sum_by-cons}
@@ -23,7 +23,7 @@ pub not_false : (b : Bool) → not b ≡ false → b ≡ true
 not_false true h = refl
 not_false false h = absurd (cc)
 
--- A note is told where there are more or fewer.
+-- Notes are sent if markers were added or deleted.
 
 pub marker_told : (line : ℕ) (old new : Document) (views : List View) → (marker_count old.rows == marker_count new.rows) ≡ false → heard views (marker_notice old line) ≡ marker_note line old new views
 marker_told line old new views h = sym (choose_false (marker_count old.rows == marker_count new.rows) [] (heard views (marker_notice old line)) h)
@@ -71,7 +71,7 @@ none_added line numbers d h none =
     let a = added_count line numbers d h in
     eq-eqb (marker_count d.rows) (marker_count (with_new_markers line numbers d).rows) (omega arith)
 
--- A marker that goes by its handle.
+-- A marker deleted by its handle.
 
 kept_all : (handle : ℕ) (ms : List Marker) → length (filter (λ (m : Marker). m.handle == handle) ms) ≡ 0
     → length (filter (λ (m : Marker). not (m.handle == handle)) ms) ≡ length ms
@@ -84,7 +84,7 @@ kept_all handle (m ∷ ms) h = go (m.handle == handle) h (λ h. kept_all handle 
     go true h rest = absurd (omega arith)
     go false h rest = ap suc (rest h)
 
--- it goes from one of the lines
+-- it is deleted from one of the lines
 pub left_within : (handle line : ℕ) (rows : List Row) → (marker_count rows == marker_count (without_markers (λ m. m.handle == handle) rows)) ≡ false
     → line_with_handle handle line rows < line + length rows
 left_within handle line [] h = absurd (cc)

@@ -1,4 +1,4 @@
--- Ranges of changed places lie in what changed.
+-- A range of changed bytes lies within what the change affects.
 use Rattle.std.proofs.Common.{◌≡◌, ℕ, suc, zero, take, ◌+◌, ◌<◌, ◌≤◌, ◌^◌, Bool, true, false, cond, List, [], ◌∷◌, length, refl, ap, arith}
 use Rattle.std.specs.Prelude.{◌==◌, not, filter, slice_index, slice_index_or, unwrap_or, Option, Some, None, IfSome}
 use Rattle.std.specs.List.{AllByRecursion, range_with_len, last_or}
@@ -33,7 +33,7 @@ extent_below n (k ∷ ks) all = let l = last_below n k ks all.0 all.1 in (all.0,
 pub range_within : (old new : List ℕ) → IfSome (changed_range old new) (λ (range : ℕ × ℕ). (range.0 < length old) × (range.1 ≤ length old))
 range_within old new = extent_below (length old) (changed_places old new) (filter_below (length old) (λ k. not (slice_index old k == slice_index new k)) (range_with_len 0 (length old)) (range_below (length old) 0 (length old) (omega arith)))
 
--- so they are small
+-- so the numbers of the range are small
 pub range_small : (changed : Option (ℕ × ℕ)) (old new : List ℕ) → changed ≡ changed_range old new → length old < 2 ^ 61
     → IfSome changed (λ (range : ℕ × ℕ). (range.0 < 2 ^ 63) × (range.1 < 2 ^ 63))
 range_small changed old new e small = rw e (weaker (changed_range old new) (range_within old new))
@@ -42,7 +42,7 @@ range_small changed old new e small = rw e (weaker (changed_range old new) (rang
     weaker None h = tt
     weaker (Some range) h = let a = h.0 in let b = h.1 in (omega arith, omega arith)
 
--- the values of one of the indicators are as many as the text has bytes
+-- each indicator has one value for each byte of the text
 pub values_length : (values : List (List ℕ)) (k n : ℕ) → AllByRecursion (λ (vs : List ℕ). length vs ≡ n) values → length (slice_index_or values k []) ≤ n
 values_length [] k n all = omega arith
 values_length (v ∷ vs) zero n all = let a = all.0 in omega arith

@@ -1,4 +1,4 @@
--- The room that changes leave.
+-- The room that is left after changes.
 use Rattle.std.proofs.Common.{◌≡◌, ℕ, true, refl, ap, ◌∙◌, arith}
 use Rattle.ed_model.specs.declared.plan.DocumentChange.{DocumentChange}
 use Rattle.ed_model.specs.declared.plan.DocumentChange.TheVariants as change
@@ -14,7 +14,7 @@ takes_none old new need e =
 makes_none : (old new : DocumentRoom) → new ≡ old → IsAtMost new old no_room
 makes_none old new e = rw e (record { text = omega arith; lines = omega arith; insertions = omega arith; steps = omega arith; bytes = omega arith })
 
--- the room for steps stays
+-- the room for steps does not change
 pub leaves : (what : DocumentChange) (old new : Kept) → new.room ≡ old.room → new.spare ≡ spare_left what new.spare.markers old.spare → LeavesMarkers what old new → LeavesRoom what old new
 leaves what old new room spare markers = record {
   taken = takes_none old.room new.room (room_for old.document what) room;
@@ -23,7 +23,7 @@ leaves what old new room spare markers = record {
   markers = markers;
 }
 
--- all room stays where a change is quiet
+-- a quiet change uses no room
 
 quiet_spare : (what : DocumentChange) (markers : ℕ) (s : ChangeRoom) → is_quiet what ≡ true → s ≡ spare_left what markers s
 quiet_spare (change.SetLineEndTypes to) markers s h = absurd (cc)

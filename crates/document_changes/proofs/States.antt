@@ -1,4 +1,4 @@
--- States of lines are the same or not.
+-- The states of lines are the same or not.
 use Rattle.std.proofs.Common.{◌≡◌, Bool, true, false, refl, ap, arith}
 use Rattle.std.specs.Prelude.{ℤ, pos, negsuc, int_le, nat_le, ◌&&◌}
 use Rattle.std.proofs.Math.Nat.{le_antisymm}

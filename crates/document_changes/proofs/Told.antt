@@ -1,4 +1,4 @@
--- What is told.
+-- The notes of changes.
 use Rattle.std.proofs.Common.{◌≡◌, ℕ, ◌-◌, ◌<◌, ◌≤◌, true, false, List, [], ◌∷◌, ◌++◌, length, refl, ap, sym, subst, arith}
 use Rattle.std.specs.Prelude.{◌==◌, filter, bit_or, Option, Some, None}
 use Rattle.std.proofs.lemmas.List.{append-nil, length-map}
@@ -22,7 +22,7 @@ use Rattle.document_changes.specs.Lines.{level_notice, marker_notice}
 use Rattle.document_changes.specs.Needs.{is_quiet, is_of_types, is_frequent, notes_of_change}
 use Rattle.document_changes.proofs.Unmoved.{is_changed}
 
--- nothing is told
+-- a change without notes
 pub told_nothing : (notes : Gathered) → AreTold [] notes notes
 told_nothing notes = record { notes = sym (append-nil notes.notes); note_room = omega arith; text_room = refl }
 
@@ -30,14 +30,14 @@ none_of : (views : List View) → length views ≡ 0 → views ≡ []
 none_of [] h = refl
 none_of (v ∷ views) h = absurd (omega arith)
 
--- nobody hears, where there is room for no note
+-- no view hears a note if there is no room for one
 pub told_nobody : (views : List View) (n : Notice) (notes : Gathered) → hearers n.kind views ≤ notes.note_room → (notes.note_room == 0) ≡ true → AreTold (heard views n) notes notes
 told_nobody views n notes room full =
     let none : notes.note_room ≡ 0 = eqb-true notes.note_room 0 full in
     let nobody : filter (λ (v : View). meets v.mask n.kind) views ≡ [] = none_of (filter (λ (v : View). meets v.mask n.kind) views) (omega (arith, room, none)) in
     subst (λ (vs : List View). AreTold (told vs n) notes notes) (sym nobody) (told_nothing notes)
 
--- nor of a range
+-- the same for a note of a range
 pub told_no_range : (bits : ℕ) (changed : Option (ℕ × ℕ)) (views : List View) (notes : Gathered) → hearers (bit_or bits performed_user) views ≤ notes.note_room → (notes.note_room == 0) ≡ true
     → AreTold (range_notes bits changed views) notes notes
 told_no_range bits None views notes room full = told_nothing notes
@@ -50,7 +50,7 @@ told_each views n old new e le =
     let l : length (told views n) ≡ length views = length-map views (λ (v : View). record n { view = v.id }) in
     rw e (record { notes = refl; note_room = omega arith; text_room = refl })
 
--- the same, told by what the note is
+-- the same, for an equal note
 pub told_as : (views : List View) (n m : Notice) (old new : Gathered)
     → new ≡ record old { notes = old.notes ++ told views n; note_room = old.note_room - length views } → length views ≤ old.note_room → n ≡ m → AreTold (told views m) old new
 told_as views n m old new e le same = subst (λ (x : Notice). AreTold (told views x) old new) same (told_each views n old new e le)
@@ -60,7 +60,7 @@ pub told_one : (x n : Notice) (old new : Gathered) → new ≡ record old { note
     → AreTold (n ∷ []) old new
 told_one x n old new e le same = rw e (record { notes = ap (λ (y : Notice). old.notes ++ y ∷ []) same; note_room = omega arith; text_room = refl })
 
--- a quiet change tells nothing
+-- a quiet change has no notes
 pub quiet_told : (v : View) (views : List View) (old new : Document) (what : DocumentChange) → is_quiet what ≡ true → change_told v views old new what ≡ []
 quiet_told v views old new (change.SetReadOnly on) h = refl
 quiet_told v views old new (change.SetLineEnd to) h = refl
@@ -81,7 +81,7 @@ changed_quietly text what sender old new views notes h w made =
     is_changed text what sender old new views notes notes (quiet_lines what h) w made
     (λ v _. rw (quiet_told v (watchers old views) old new what h) (told_nothing notes))
 
--- Frequent changes of which nobody hears.
+-- Frequent changes that no view hears.
 
 unheard : (views : List View) (n : Notice) → hearers n.kind views ≡ 0 → heard views n ≡ []
 unheard views n none = ap (λ vs. told vs n) (none_of (filter (λ (v : View). meets v.mask n.kind) views) none)

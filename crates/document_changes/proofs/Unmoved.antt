@@ -1,4 +1,4 @@
--- Changes that leave the text, and the views where they are.
+-- Changes that leave the text unchanged, and the positions of views.
 use Rattle.std.proofs.Common.{◌≡◌, ℕ, false, List, [], ◌∷◌, ◌++◌, map, length, take, drop, replicate, refl, ap, sym, ◌∙◌}
 use Rattle.std.specs.List.{AllByRecursion}
 use Rattle.std.proofs.lemmas.List.{map-append, length-map, take-append-drop}
@@ -17,7 +17,7 @@ use Rattle.scene.specs.Scenes.{views_of, watchers, StandsIfOn, IsWatched}
 use Rattle.document_changes.specs.Changed.{AreTold, IsChanged}
 use Rattle.document_changes.specs.Needs.{is_of_types}
 
--- what views stand on stays
+-- the document keeps all that positions of views depend on
 pub record KeepsPlaces (old new : Document) : Type 0 where
   pub id : new.id ≡ old.id
   pub views : new.views ≡ old.views
@@ -50,7 +50,7 @@ watched_still old new table same w = record {
   stand = all_stand_again old new (views_of table.entries) same w.stand;
 }
 
--- Styles leave the text.
+-- Styles do not change the text.
 
 restyled_bytes : (styles : List ℕ) (cells : List Cell) → bytes_of (restyled styles cells) ≡ bytes_of cells
 restyled_bytes [] cells = refl
@@ -83,7 +83,7 @@ keeps_places text (change.StyleRun count style) d h = styled_places (replicate c
 keeps_places text (change.StyleBytes count) d h = styled_places (take count text) d
 keeps_places text _ d h = record { id = refl; views = refl; size = refl; lines = refl }
 
--- Views stay.
+-- Views do not change.
 
 view_stays : (what : DocumentChange) (d : Document) (v : View) → is_of_types what ≡ false → changed_lines what d v ≡ v
 view_stays (change.SetLineEndTypes to) d v h = absurd (cc)
@@ -96,7 +96,7 @@ views_stay what d (v ∷ vs) h =
     let b = views_stay what d vs h in
     cc
 
--- the change was made, and is told as it is to be
+-- the change was made, with the notes that the model says
 pub is_changed : (text : List ℕ) (what : DocumentChange) (sender : ℕ) (old new : Document) (views : Entries KeptView) (notes notes' : Gathered) → is_of_types what ≡ false
     → IsWatched old views → new ≡ changed_document text what old
     → ((v : View) → v.id ≡ sender → AreTold (change_told v (watchers old views) old new what) notes notes')

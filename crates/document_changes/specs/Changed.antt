@@ -1,4 +1,4 @@
--- What a change did to a document, the views and the notes.
+-- The effect of a change on a document, its views and the notes.
 use Rattle.std.specs.Prelude.{◌≡◌, ◌+◌, ◌++◌, ℕ, List, length, map}
 use Rattle.ed_types.specs.Notices.{Notice}
 use Rattle.ed_model.specs.declared.plan.DocumentChange.{DocumentChange}
@@ -9,13 +9,13 @@ use Rattle.notify.specs.Gathered.{Gathered}
 use Rattle.ed_view.specs.Kept.{KeptView}
 use Rattle.scene.specs.Scenes.{views_of, watchers, fold_room_in_all, IsWatched}
 
--- these notes were put, and no text was shared for them
+-- these notes were appended, and no text was shared for them
 pub record AreTold (told : List Notice) (old new : Gathered) : Type 0 where
   pub notes : new.notes ≡ old.notes ++ told
   pub note_room : new.note_room + length told ≡ old.note_room
   pub text_room : new.text_room ≡ old.text_room
 
--- the change was made, and told to the views; `sender` is the id of the sending one
+-- the change was made, with its notes; `sender` is the id of the sending view
 pub record IsChanged (text : List ℕ) (what : DocumentChange) (sender : ℕ) (old new : Document) (views views' : Entries KeptView) (notes notes' : Gathered) : Type 0 where
   pub document : new ≡ changed_document text what old
   pub lines : views_of views'.entries ≡ map (changed_lines what old) (views_of views.entries)

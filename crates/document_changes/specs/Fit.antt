@@ -5,8 +5,8 @@ use Rattle.ed_model.specs.declared.plan.DocumentChange.TheVariants as change
 use Rattle.ed_model.specs.LinePlans.{numbers_in}
 use Rattle.ed_model.specs.Session.{Document, lines_in}
 
--- The numbers of a change are in range for the document, as those of a fit plan are: handles stay below 2 ^ 32, and a state is a
--- number of 32 bits, with a sign.
+-- The numbers of a change are in range for the document, as for a fit plan. Handles stay below 2 ^ 32, and a state is a signed number
+-- of 32 bits.
 abbrev pub IsFitChange : Document → DocumentChange → Type 0
 IsFitChange d change.BeginGroup = d.history.depth + 1 < 2 ^ 64
 IsFitChange d (change.AddMarker line number) = (line < lines_in d) × (number < 32) × (d.next_handle + 1 < 2 ^ 32)
@@ -21,7 +21,7 @@ IsFitChange d (change.NeedStyle start past) = past ≤ length d.cells
 IsFitChange d (change.FillIndicator indicator start count value) = (indicator < 32) × (start + count ≤ length d.cells)
 IsFitChange d other = Unit {0}
 
--- how many bytes of the message's text it reads
+-- how many bytes of the message's text the change reads
 abbrev pub bytes_read : DocumentChange → ℕ
 bytes_read (change.StyleBytes count) = count
 bytes_read other = 0

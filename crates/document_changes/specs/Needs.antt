@@ -1,4 +1,4 @@
--- What a change needs: notes, and room in its document.
+-- What a change needs: room for notes, and room in its document.
 use Rattle.std.specs.Prelude.{◌≡◌, ◌≤◌, ◌<◌, ◌+◌, max, ℕ, Bool, true, false, List, length, bit_or, Some}
 use Rattle.ed_model.specs.declared.plan.DocumentChange.{DocumentChange}
 use Rattle.ed_model.specs.declared.plan.DocumentChange.TheVariants as change
@@ -15,7 +15,7 @@ use Rattle.document.specs.Kept.{Kept, ChangeRoom, HasHistoryRoom, document_room,
 use Rattle.scene.specs.Hearing.{hearers}
 use Rattle.scene.specs.Needs.{leaving_count}
 
--- how many notes it tells at most, where these views watch
+-- how many notes the change has at most, if these views watch the document
 abbrev pub notes_of_change : DocumentChange → History → List View → ℕ
 notes_of_change change.SetSavePoint h views = length views
 notes_of_change (change.AppendContainer token coalesce) h views = leaving_count views h
@@ -32,7 +32,7 @@ notes_of_change (change.NeedStyle start past) h views = 1
 notes_of_change (change.FillIndicator indicator start count value) h views = hearers (bit_or notes.change_indicator notes.performed_user) views
 notes_of_change other h views = 0
 
--- The document has room for the change, so that it needs no memory; for other line ends with these edits, which are what becomes of
+-- The document has room for the change, so that the change allocates nothing. When other line ends are set, `edits` are the changes of
 -- the lines.
 abbrev pub IsReady : Kept → DocumentChange → List LineEdit → Type 0
 IsReady k (change.SetLineEndTypes to) edits =
@@ -47,7 +47,8 @@ IsReady k (change.StyleBytes count) edits = CanStyle k
 IsReady k (change.FillIndicator indicator start count value) edits = k.spare.fill ≡ Some indicator
 IsReady k other edits = Unit {0}
 
--- How much room for steps it needs; and what else there is room for once there is enough for it, where styles are stored or not.
+-- How much room for steps the change needs, and the other room after enough is reserved for it. `styles` says whether the document stores
+-- styles.
 
 abbrev pub room_for : Document → DocumentChange → DocumentRoom
 room_for d (change.SetLineEndTypes to) = document_room 0 (fresh_lines (edits_of_setting d.line_end_types to (text_of d))) 0 0 0
@@ -64,7 +65,7 @@ spare_for (change.StyleBytes count) styles s = record s { styles = styles }
 spare_for (change.FillIndicator indicator start count value) styles s = record s { fill = Some indicator }
 spare_for other styles s = s
 
--- whether it needs room in its document
+-- whether the change needs room in its document
 abbrev pub needs_room : DocumentChange → Bool
 needs_room (change.SetLineEndTypes to) = true
 needs_room (change.AppendContainer token coalesce) = true
@@ -77,7 +78,7 @@ needs_room (change.StyleBytes count) = true
 needs_room (change.FillIndicator indicator start count value) = true
 needs_room other = false
 
--- whether no view is told of it, no line changes by it, and it needs no room
+-- whether no view is notified of the change, no line changes, and it needs no room
 abbrev pub is_quiet : DocumentChange → Bool
 is_quiet (change.SetReadOnly on) = true
 is_quiet (change.SetLineEnd to) = true
@@ -88,12 +89,12 @@ is_quiet (change.CollectUndo on) = true
 is_quiet (change.SetEndStyled place) = true
 is_quiet other = false
 
--- whether it is one of which line ends count
+-- whether the change sets which line ends count
 abbrev pub is_of_types : DocumentChange → Bool
 is_of_types (change.SetLineEndTypes to) = true
 is_of_types other = false
 
--- whether it is one of those that are made most: a marker that comes alone, a fold level, the style of a run
+-- whether the change is one of the frequent ones: a single marker, a fold level, the style of a run
 abbrev pub is_frequent : DocumentChange → Bool
 is_frequent (change.AddMarker line number) = true
 is_frequent (change.SetLevel line level) = true

@@ -1,4 +1,4 @@
--- The room that a document has left once a change is made.
+-- The room that a document has left after a change.
 use Rattle.std.specs.Prelude.{◌≡◌, ◌≤◌, ◌+◌, ◌-◌, ℕ, length, None}
 use Rattle.ed_model.specs.declared.plan.DocumentChange.{DocumentChange}
 use Rattle.ed_model.specs.declared.plan.DocumentChange.TheVariants as change
@@ -7,7 +7,8 @@ use Rattle.ed_model.specs.LinePlans.{numbers_in}
 use Rattle.document.specs.Kept.{Kept, ChangeRoom, TakesRoom, IsAtMost, no_room}
 use Rattle.document_changes.specs.Needs.{room_for}
 
--- What else there is room for: a marker takes its room, a fill what was made for it. Where markers may go, there is room for so many.
+-- The other room after a change: a marker uses its room, and a fill the room reserved for it. After deleted markers there is room for
+-- `markers` of them.
 abbrev pub spare_left : DocumentChange → ℕ → ChangeRoom → ChangeRoom
 spare_left (change.SetLineEndTypes to) markers s = record s { markers = markers }
 spare_left (change.AddMarker line number) markers s = record s { markers = s.markers - 1 }
@@ -18,11 +19,11 @@ spare_left (change.DeleteHandle handle) markers s = record s { markers = markers
 spare_left (change.FillIndicator indicator start count value) markers s = record s { fill = None }
 spare_left other markers s = s
 
--- there is room for as many markers more as went
+-- each deleted marker became room for a marker
 abbrev pub GivesBack : Kept → Kept → Type 0
 GivesBack old new = new.spare.markers + marker_count new.document.rows ≡ old.spare.markers + marker_count old.document.rows
 
--- Markers that are taken out leave their room, and no more; so do those that go with lines where other line ends count.
+-- Deleted markers become room, and nothing else does. So do the markers that are deleted with lines when other line ends count.
 abbrev pub LeavesMarkers : DocumentChange → Kept → Kept → Type 0
 LeavesMarkers (change.SetLineEndTypes to) old new = (old.spare.markers ≤ new.spare.markers) × GivesBack old new
 LeavesMarkers (change.DeleteMarker line number) old new = GivesBack old new
@@ -30,7 +31,7 @@ LeavesMarkers (change.DeleteMarkers number) old new = GivesBack old new
 LeavesMarkers (change.DeleteHandle handle) old new = GivesBack old new
 LeavesMarkers other old new = Unit {0}
 
--- no more room was taken than the change needs, and none was made
+-- the change used at most the room that it needs, and added none
 pub record LeavesRoom (what : DocumentChange) (old new : Kept) : Type 0 where
   pub taken : TakesRoom old.room new.room (room_for old.document what)
   pub none_made : IsAtMost new.room old.room no_room

@@ -1,4 +1,4 @@
-//! A change, by its kind.
+//! Makes a change, by its kind.
 
 ghost use Rattle.std.specs.Prelude.{◌≡◌, ◌≤◌, ◌+◌, ◌++◌, map, length};
 ghost use Rattle.ed_model.specs.Session.{View as ModelView};
@@ -25,8 +25,8 @@ use id_table::IdTable;
 use line_index::LineEdit;
 use notify::NoteList;
 
-// Makes a change, for which there is room with these edits. What is rare, or sets up a note, stands in functions apart, so that the
-// frame of the others stays small.
+// Makes a change, for which there is room, with these edits. Rare changes, and those that prepare a note, are out of line, so that the
+// stack frame of the others stays small.
 fn perform(
     document: &mut Document,
     views: &mut IdTable<View>,
@@ -86,10 +86,12 @@ fn perform(
     }
 }
 
-/// Makes a change of the document, and tells of it: the views that watch and hear it, or for a style that is needed the one
-/// whose id is `sender`. Their flags go with the lines where other line ends count. There must be room for the change and
-/// for its notes; it takes that room, and makes none but what markers leave that go. For hidden and contracted lines each view
-/// has in all the room that it had.
+/// Makes a change of the document, and notifies the views that watch and hear it. A request for styles notifies only the
+/// view whose id is `sender`.
+///
+/// If other line ends count, the flags of the views follow the lines. There must be room for the change and for its notes.
+/// The change uses that room, and adds none but that of deleted markers. The total room of each view for hidden and
+/// contracted lines does not change.
 pub fn change_document(
     document: &mut Document,
     views: &mut IdTable<View>,

@@ -1,4 +1,4 @@
-//! The document's settings and its history change.
+//! Changes of the document's settings and of its history.
 
 ghost use Rattle.std.specs.Prelude.{◌≡◌, ◌≤◌, true, List, ℕ, length};
 ghost use Rattle.ed_model.specs.declared.plan.DocumentChange.TheVariants as change;
@@ -23,7 +23,7 @@ use id_table::IdTable;
 use notify::NoteList;
 use scene::{SAVE_POINT_LEFT, SAVE_POINT_REACHED, leaves_save_point};
 
-// Sets what no view is told of, and what needs no room.
+// Sets a value of which no view is notified, and which needs no room.
 fn set(document: &mut Document, change: DocumentChange)
     requires fits { IsFitChange document.old.document change }
     requires quiet { is_quiet change ≡ true }
@@ -42,7 +42,7 @@ fn set(document: &mut Document, change: DocumentChange)
     }
 }
 
-/// Makes a change that no view is told of, and that needs no room.
+/// Makes a change of which no view is notified, and which needs no room.
 pub(crate) fn change_quietly(document: &mut Document, change: DocumentChange)
     requires fits { IsFitChange document.old.document change }
     requires quiet { is_quiet change ≡ true }
@@ -52,7 +52,7 @@ pub(crate) fn change_quietly(document: &mut Document, change: DocumentChange)
     set(document, change);
 }
 
-/// Makes this the save point, and tells each view so. There must be room for as many notes.
+/// Makes the current state the save point, and tells each view so. There must be room for as many notes.
 #[inline(never)]
 pub(crate) fn set_save_point(document: &mut Document, views: &IdTable<View>, notes: &mut NoteList)
     requires watched { IsWatched document.old.document views.now }
@@ -64,8 +64,8 @@ pub(crate) fn set_save_point(document: &mut Document, views: &IdTable<View>, not
     tell_all(document, views, notes, SAVE_POINT_REACHED);
 }
 
-/// Appends a container's step to the history. If the document was at its save point, each view is told that it left it. There
-/// must be room in the history, and for the notes.
+/// Appends a container's step to the history. If the document was at its save point, each view is told that it is left.
+/// There must be room in the history, and for the notes.
 #[inline(never)]
 pub(crate) fn append_container(
     document: &mut Document,

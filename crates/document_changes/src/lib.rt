@@ -1,8 +1,8 @@
-//! Changes of a document that are no steps of its text, over the document, the views that watch it, and what they hear.
+//! Changes of a document that are no steps of its text, with the views that watch it and their notes.
 //!
-//! A message that makes one asks `change_note_need` how many notes it tells at most, and makes room for them; then
-//! `reserve_change` makes room in the document; and `change_document` cannot fail. Those that are made most, and of which nobody hears,
-//! have a shorter way, `change_unheard`, which sets up nothing for notes.
+//! A message asks `change_note_need` how many notes its change has at most, and reserves room for them. Then
+//! `reserve_change` reserves room in the document, after which `change_document` cannot fail. `change_unheard` is a shorter
+//! way for frequent changes that no view hears. It prepares nothing for notes.
 #![tactic(auto)]
 
 mod change;

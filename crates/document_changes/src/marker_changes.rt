@@ -1,4 +1,4 @@
-//! Markers come and go.
+//! Adding and deleting markers.
 
 ghost use Rattle.std.specs.Prelude.{◌≡◌, ◌≤◌, ◌<◌, ◌+◌, ◌-◌, ◌^◌, [], List, ℕ, length};
 ghost use Rattle.ed_model.specs.declared.plan.DocumentChange.TheVariants as change;
@@ -19,8 +19,8 @@ use ed_view::View;
 use id_table::IdTable;
 use notify::NoteList;
 
-// Tells that the markers of a line changed. It stands apart, so that where nobody hears no note is set up, and the line's start
-// is not looked up.
+// Notifies views that the markers of a line changed. Out of line, so that the hot path neither prepares a note nor looks up the
+// start of the line.
 #[inline(never)]
 fn tell_start(document: &Document, views: &IdTable<View>, notes: &mut NoteList, line: usize)
     requires line { line < lines_in document.now.document }
@@ -28,13 +28,13 @@ fn tell_start(document: &Document, views: &IdTable<View>, notes: &mut NoteList, 
     requires room { hearers change_marker (watchers document.now.document views.now) ≤ notes.old.note_room }
     ensures { AreTold (heard (watchers document.now.document views.now) (marker_notice document.now.document line)) notes.old notes.new }
 {
-    let _ = document.line_count(); // it says that lines are few
+    let _ = document.line_count(); // states that the number of lines is small
     let mut note = line_note(CHANGE_MARKER, line);
     note.position = document.line_start(line) as i64;
     tell_heard(document, views, notes, &note);
 }
 
-// Tells that the markers of a line changed.
+// Notifies the views that hear it that the markers of a line changed.
 #[inline]
 fn tell_markers(document: &Document, views: &IdTable<View>, notes: &mut NoteList, line: usize)
     requires line { line < lines_in document.now.document }
@@ -48,7 +48,7 @@ fn tell_markers(document: &Document, views: &IdTable<View>, notes: &mut NoteList
     tell_start(document, views, notes, line);
 }
 
-/// Puts a marker with a number behind those of a line, and tells of it.
+/// Adds the marker `number` behind those of a line, and notifies views of it.
 #[inline]
 pub(crate) fn add_marker(
     document: &mut Document,
@@ -66,13 +66,13 @@ pub(crate) fn add_marker(
     ensures changed { (text : List ℕ) (sender : ℕ) → IsChanged text (change.AddMarker line number) sender document.old.document document.new.document views.now views.now notes.old notes.new }
     ensures room { LeavesRoom (change.AddMarker line number) document.old document.new }
 {
-    let _ = document.rows(); // it says that each line has one
+    let _ = document.rows(); // states that each line has a row
     document.add_marker_reserved(line, number);
     tell_markers(document, views, notes, line);
 }
 
-/// Puts a marker for each bit of a mask behind those of a line, and tells of all by one note for each view, or of none by
-/// none.
+/// Adds a marker for each bit of a mask behind those of a line, and notifies each view of all of them by one note. An empty
+/// mask has no note.
 #[inline(never)]
 pub(crate) fn add_markers(
     document: &mut Document,
@@ -89,15 +89,15 @@ pub(crate) fn add_markers(
     ensures changed { (text : List ℕ) (sender : ℕ) → IsChanged text (change.AddMarkers line mask) sender document.old.document document.new.document views.now views.now notes.old notes.new }
     ensures room { LeavesRoom (change.AddMarkers line mask) document.old document.new }
 {
-    let _ = document.rows(); // it says that each line has one
+    let _ = document.rows(); // states that each line has a row
     document.add_markers_reserved(line, mask);
     if count_numbers(mask) > 0 {
         tell_markers(document, views, notes, line);
     }
 }
 
-/// Takes a line's first marker with a number away, or all of its markers where none is named, and tells of it if there was
-/// one.
+/// Deletes the first marker of a line with this number, or all markers of the line if `number` is `None`, and notifies
+/// views if there was one.
 #[inline(never)]
 pub(crate) fn delete_marker(
     document: &mut Document,
@@ -117,7 +117,8 @@ pub(crate) fn delete_marker(
     }
 }
 
-/// Takes all markers with a number away, or all where none is named, and tells of it, by a note of no line, if there was one.
+/// Deletes all markers with this number, or all markers if `number` is `None`, and notifies views if there was one, by a
+/// note that names no line.
 #[inline(never)]
 pub(crate) fn delete_markers(
     document: &mut Document,
@@ -137,7 +138,7 @@ pub(crate) fn delete_markers(
     }
 }
 
-/// Takes the marker with a handle away, and tells of it if there was one.
+/// Deletes the marker with this handle, and notifies views if there was one.
 #[inline(never)]
 pub(crate) fn delete_handle(
     document: &mut Document,
@@ -151,7 +152,7 @@ pub(crate) fn delete_handle(
     ensures changed { (text : List ℕ) (sender : ℕ) → IsChanged text (change.DeleteHandle handle) sender document.old.document document.new.document views.now views.now notes.old notes.new }
     ensures room { LeavesRoom (change.DeleteHandle handle) document.old document.new }
 {
-    let _ = document.rows().next_handle(); // it says that the handle is small
+    let _ = document.rows().next_handle(); // states that the handle is small
     if let Some(line) = document.delete_handle(handle as u32) {
         tell_markers(document, views, notes, line);
     }

@@ -1,4 +1,4 @@
-//! How many notes a change tells at most.
+//! The number of notes that a change needs.
 
 ghost use Rattle.std.specs.Prelude.{◌≡◌};
 ghost use Rattle.scene.specs.Scenes.{watchers, AreNamed};
@@ -13,7 +13,7 @@ use ed_view::View;
 use id_table::IdTable;
 use scene::{count_hearers, count_watchers, leaving_need};
 
-/// Returns how many notes a change of the document tells at most. They share no text.
+/// Returns how many notes a change of the document has at most. They have no text.
 pub fn change_note_need(document: &Document, views: &IdTable<View>, change: DocumentChange) -> usize
     requires named { AreNamed views.now.entries }
     ensures { result ≡ notes_of_change change document.now.document.history (watchers document.now.document views.now) }

@@ -1,4 +1,4 @@
-//! Room for a change in its document.
+//! Reserving room for a change in its document.
 
 ghost use Rattle.std.specs.Prelude.{◌≡◌, ◌≤◌, ◌<◌, [], false, length, max, Some, IfOk, IsOk, OnOk, OnErr};
 ghost use Rattle.ed_model.specs.declared.plan.DocumentChange.TheVariants as change;
@@ -14,7 +14,7 @@ use line_index::{LineEdit, fresh_lines};
 use std::alloc::{AllocError, Global};
 use std::marker::Model;
 
-/// That there is room for a change; for other line ends, with what becomes of the lines.
+/// Evidence that there is room for a change. For other line ends it has the edits of the lines.
 #[derive(Drop)]
 pub struct ChangeReady {
     pub(crate) edits: Vec<LineEdit>,
@@ -29,8 +29,8 @@ impl Model for ChangeReady {
     ghost view = { λ r. r.edits.items };
 }
 
-// Makes room for the lines that come where these line ends count, and returns what becomes of all lines. It stands apart, since
-// it is rare.
+// Makes room for the lines that are added when these line ends count, and returns the edits of all lines. Out of line, since it is
+// rare.
 #[inline(never)]
 fn reserve_types(
     alloc: Global,
@@ -45,14 +45,14 @@ fn reserve_types(
     ensures spare { OnOk result (document.new.spare ≡ spare_for (change.SetLineEndTypes types) document.new.spare.styles document.old.spare) }
     ensures err { OnErr result (document.new.spare ≡ document.old.spare) }
 {
-    let _ = document.len(); // it says that lines are few
+    let _ = document.len(); // states that the number of lines is small
     let edits = document.line_type_edits(alloc, types)?;
     document.reserve_lines(fresh_lines(edits.as_slice()))?;
     Ok(ChangeReady { edits })
 }
 
-// Makes room for a marker for each bit of a mask. It stands apart, as what follows does, so that room for one marker, a level or a
-// state is made without a frame.
+// Makes room for a marker for each bit of a mask. Out of line, as the functions below, so that reserving one marker, a level or a
+// state needs no stack frame.
 #[inline(never)]
 fn reserve_numbers(document: &mut Document, mask: u32) -> Result<(), AllocError>
     ensures ok { OnOk result (document.new ≡ record document.old { spare = record document.old.spare { markers = max document.old.spare.markers (length (numbers_in mask)) } }) }
@@ -62,7 +62,7 @@ fn reserve_numbers(document: &mut Document, mask: u32) -> Result<(), AllocError>
     document.reserve_markers(count_numbers(mask))
 }
 
-// Makes the document ready to be styled.
+// Reserves what styling the document needs.
 #[inline(never)]
 fn reserve_styling(document: &mut Document) -> Result<(), AllocError>
     ensures ok { OnOk result (CanStyle document.new) }
@@ -98,8 +98,8 @@ fn reserve_other(document: &mut Document, change: DocumentChange) -> Result<(), 
     ensures spare { OnOk result (document.new.spare ≡ spare_for change document.new.spare.styles document.old.spare) }
     ensures err { OnErr result (document.new.spare ≡ document.old.spare) }
 {
-    let _ = document.len(); // it says that no text grows too long
-    let _ = document.line_count(); // and that lines are few
+    let _ = document.len(); // states that the text stays within its bound
+    let _ = document.line_count(); // states that the number of lines is small
     match change {
         DocumentChange::AppendContainer { .. } => {
             document.reserve(DocumentRoom::of_container_step())
@@ -118,11 +118,11 @@ fn reserve_other(document: &mut Document, change: DocumentChange) -> Result<(), 
     }
 }
 
-/// Makes room in the document for a change. One that needs no room cannot fail, nor one for which there is room.
+/// Makes room in the document for a change. Cannot fail for a change that needs no room, or for which there is room.
 ///
 /// # Errors
 ///
-/// `AllocError` where memory is refused; the document is then as it was.
+/// `AllocError` if an allocation fails. The document is then unchanged.
 #[inline]
 pub fn reserve_change(
     alloc: Global,

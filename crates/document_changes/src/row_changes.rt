@@ -1,4 +1,4 @@
-//! Fold levels and states of lines change.
+//! Setting the fold levels and the states of lines.
 
 ghost use Rattle.std.specs.Prelude.{◌≡◌, ◌≤◌, ◌<◌, ◌-◌, ◌^◌, true, pos, negsuc, int_le, List, ℕ};
 ghost use Rattle.ed_model.specs.declared.plan.DocumentChange.TheVariants as change;
@@ -17,7 +17,7 @@ use ed_view::View;
 use id_table::IdTable;
 use notify::NoteList;
 
-// Tells of a line's fold level, and of the one before. It stands apart, so that where nobody hears no note is set up.
+// Notifies views of the fold level of a line, and of the one before. Out of line, so that the hot path does not prepare a note.
 #[inline(never)]
 fn tell_level(
     document: &Document,
@@ -38,7 +38,7 @@ fn tell_level(
     tell_heard(document, views, notes, &note);
 }
 
-/// Sets the fold level of a line, and tells of it if it was another.
+/// Sets the fold level of a line, and notifies views if it differs from the one before.
 #[inline]
 pub(crate) fn set_level(
     document: &mut Document,
@@ -54,7 +54,7 @@ pub(crate) fn set_level(
     ensures changed { (text : List ℕ) (sender : ℕ) → IsChanged text (change.SetLevel line level) sender document.old.document document.new.document views.now views.now notes.old notes.new }
     ensures room { LeavesRoom (change.SetLevel line level) document.old document.new }
 {
-    let _ = document.line_count(); // it says that lines are few
+    let _ = document.line_count(); // states that the number of lines is small
     let before = document.set_level(line, level);
     if before == level {
         return;
@@ -65,7 +65,7 @@ pub(crate) fn set_level(
     tell_level(document, views, notes, line, level, before);
 }
 
-// A line's state as the number of 32 bits that it is.
+// Returns the state of a line, which fits 32 bits, as an `i32`.
 fn narrowed(state: i64) -> i32
     requires { (int_le (negsuc (2 ^ 31 - 1)) state ≡ true) × (int_le state (pos (2 ^ 31 - 1)) ≡ true) }
     ensures { result ≡ state }
@@ -73,7 +73,7 @@ fn narrowed(state: i64) -> i32
     state as i32
 }
 
-// Tells of a line's state, apart as `tell_level` is.
+// Notifies views of the state of a line. Out of line, as `tell_level` is.
 #[inline(never)]
 fn tell_state(document: &Document, views: &IdTable<View>, notes: &mut NoteList, line: usize)
     requires line { line < 2 ^ 63 }
@@ -85,7 +85,7 @@ fn tell_state(document: &Document, views: &IdTable<View>, notes: &mut NoteList, 
     tell_heard(document, views, notes, &note);
 }
 
-/// Sets the state of a line, and tells of it if it was another.
+/// Sets the state of a line, and notifies views if it differs from the one before.
 #[inline]
 pub(crate) fn set_state(
     document: &mut Document,
@@ -102,7 +102,7 @@ pub(crate) fn set_state(
     ensures changed { (text : List ℕ) (sender : ℕ) → IsChanged text (change.SetState line state) sender document.old.document document.new.document views.now views.now notes.old notes.new }
     ensures room { LeavesRoom (change.SetState line state) document.old document.new }
 {
-    let _ = document.line_count(); // it says that lines are few
+    let _ = document.line_count(); // states that the number of lines is small
     let state = narrowed(state);
     let before = document.set_state(line, state);
     if before == state {

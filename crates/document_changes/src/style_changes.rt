@@ -1,4 +1,4 @@
-//! Styles and indicators change, and styles are asked for.
+//! Setting styles and indicators, and requests for styles.
 
 ghost use Rattle.std.specs.Prelude.{◌≡◌, ◌≤◌, ◌<◌, ◌+◌, ◌^◌, List, ℕ, length, bit_or, IfSome, Option, Some, option_copied};
 ghost use Rattle.ed_model.specs.declared.plan.DocumentChange.TheVariants as change;
@@ -16,7 +16,7 @@ use ed_view::View;
 use id_table::IdTable;
 use notify::NoteList;
 
-// Tells that a range of bytes changed, if there is one. It stands apart, so that where nobody hears no note is set up.
+// Notifies views that a range of bytes changed, if there is one. Out of line, so that the hot path does not prepare a note.
 #[inline(never)]
 fn tell_changed(
     document: &Document,
@@ -36,7 +36,7 @@ fn tell_changed(
     }
 }
 
-// Tells that a range of bytes changed, if there is one.
+// Notifies the views that hear it that a range of bytes changed, if there is one.
 #[inline]
 fn tell_range(
     document: &Document,
@@ -56,8 +56,8 @@ fn tell_range(
     tell_changed(document, views, notes, kind, changed);
 }
 
-/// Puts one style on the bytes from where the document is styled up to, moves that behind them, and tells of the range with
-/// all changed styles.
+/// Sets one style on the `count` bytes from the end of the styled text on, moves that end behind them, and notifies views of
+/// the smallest range that has all changed styles.
 #[inline]
 pub(crate) fn style_run(
     document: &mut Document,
@@ -74,12 +74,12 @@ pub(crate) fn style_run(
     ensures changed { (text : List ℕ) (sender : ℕ) → IsChanged text (change.StyleRun count style) sender document.old.document document.new.document views.now views.now notes.old notes.new }
     ensures room { LeavesRoom (change.StyleRun count style) document.old document.new }
 {
-    let _ = document.len(); // it says that ranges are small
+    let _ = document.len(); // states that ranges are small
     let changed = document.style_run(count, style as u8);
     tell_range(document, views, notes, CHANGE_STYLE, changed);
 }
 
-/// The same with the first `count` bytes of a text as styles.
+/// Like `style_run`, with the first `count` bytes of a text as styles.
 pub(crate) fn style_bytes(
     document: &mut Document,
     views: &IdTable<View>,
@@ -95,12 +95,12 @@ pub(crate) fn style_bytes(
     ensures changed { (sender : ℕ) → IsChanged text.now (change.StyleBytes count) sender document.old.document document.new.document views.now views.now notes.old notes.new }
     ensures room { LeavesRoom (change.StyleBytes count) document.old document.new }
 {
-    let _ = document.len(); // it says that ranges are small
+    let _ = document.len(); // states that ranges are small
     let changed = document.style_bytes(&text[..count]);
     tell_range(document, views, notes, CHANGE_STYLE, changed);
 }
 
-/// The document counts as styled up to `start` at most, and the sending view is asked to style it up to `end`.
+/// Lowers the end of the styled text to `start` at most, and asks the sending view to style the text up to `end`.
 #[inline(never)]
 pub(crate) fn need_style(
     document: &mut Document,
@@ -116,13 +116,13 @@ pub(crate) fn need_style(
     ensures changed { (text : List ℕ) → IsChanged text (change.NeedStyle start end) sender document.old.document document.new.document views.now views.now notes.old notes.new }
     ensures room { LeavesRoom (change.NeedStyle start end) document.old document.new }
 {
-    let _ = document.len(); // it says that places are small
+    let _ = document.len(); // states that places are small
     let styled = document.end_styled();
     document.set_end_styled(styled.min(start));
     tell_style_needed(notes, sender, end);
 }
 
-/// Sets an indicator to a value at some bytes, and tells of the range with all changed values.
+/// Sets an indicator to a value on some bytes, and notifies views of the smallest range that has all changed values.
 pub(crate) fn fill_indicator(
     document: &mut Document,
     views: &IdTable<View>,
@@ -140,8 +140,8 @@ pub(crate) fn fill_indicator(
     ensures changed { (text : List ℕ) (sender : ℕ) → IsChanged text (change.FillIndicator indicator start count value) sender document.old.document document.new.document views.now views.now notes.old notes.new }
     ensures room { LeavesRoom (change.FillIndicator indicator start count value) document.old document.new }
 {
-    let _ = document.len(); // it says that ranges are small
-    let _ = document.indicators().length(); // and that each byte has a value
+    let _ = document.len(); // states that ranges are small
+    let _ = document.indicators().length(); // states that each byte has a value
     let changed = document.fill(indicator as usize, start, count, value);
     tell_range(document, views, notes, CHANGE_INDICATOR, changed);
 }

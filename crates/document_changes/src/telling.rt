@@ -1,4 +1,4 @@
-//! Notes of changes.
+//! The notes of changes.
 
 ghost use Rattle.std.specs.Prelude.{◌≡◌, ◌≤◌, ◌<◌, ◌+◌, ◌-◌, ◌^◌, ◌++◌, ◌∷◌, [], List, ℕ, length, pos};
 ghost use Rattle.ed_types.specs.Heard.{with_text};
@@ -19,7 +19,7 @@ use scene::{Audience, MODIFIED, NoteText, tell};
 // SCN_STYLENEEDED
 const STYLE_NEEDED: u32 = 2000;
 
-// Bits of the kind of SCN_MODIFIED, SC_MOD_ and SC_ left out.
+// Bits of the kind of SCN_MODIFIED, with Scintilla's names without SC_MOD_ and SC_.
 pub(crate) const CHANGE_FOLD: u32 = 0x8;
 
 pub(crate) const CHANGE_MARKER: u32 = 0x200;
@@ -32,7 +32,7 @@ pub(crate) const CHANGE_STYLE: u32 = 0x4 | 0x10;
 /// CHANGEINDICATOR, with PERFORMED_USER
 pub(crate) const CHANGE_INDICATOR: u32 = 0x4000 | 0x10;
 
-/// A note of a change of this kind.
+/// Returns a note of a change of this kind.
 pub(crate) fn change_note(kind: u32) -> Note
     ensures kind { result.kind ≡ kind }
     ensures note { (text : List ℕ) → let n = note_of_change kind in with_text result text ≡ record n { text = text } }
@@ -42,7 +42,7 @@ pub(crate) fn change_note(kind: u32) -> Note
     note
 }
 
-/// A note of a change of a line.
+/// Returns a note of a change of a line.
 pub(crate) fn line_note(kind: u32, line: usize) -> Note
     requires { line < 2 ^ 63 }
     ensures kind { result.kind ≡ kind }
@@ -53,7 +53,7 @@ pub(crate) fn line_note(kind: u32, line: usize) -> Note
     note
 }
 
-/// A note of a change of some bytes.
+/// Returns a note of a change of `count` bytes from `start` on.
 pub(crate) fn range_note(kind: u32, start: usize, count: usize) -> Note
     requires { (start < 2 ^ 63) × (count < 2 ^ 63) }
     ensures kind { result.kind ≡ kind }
@@ -65,7 +65,7 @@ pub(crate) fn range_note(kind: u32, start: usize, count: usize) -> Note
     note
 }
 
-/// Tells the views that watch the document and hear notes of this kind. There must be room for as many.
+/// Notifies the views that watch the document and hear notes of this kind. There must be room for as many.
 pub(crate) fn tell_heard(
     document: &Document,
     views: &IdTable<View>,
@@ -86,7 +86,7 @@ pub(crate) fn tell_heard(
     );
 }
 
-/// Tells each view that watches the document that something is so, by a note of this code. There must be room for as many.
+/// Notifies each view that watches the document by a note of this code. There must be room for as many.
 pub(crate) fn tell_all(document: &Document, views: &IdTable<View>, notes: &mut NoteList, code: u32)
     requires named { AreNamed views.now.entries }
     requires room { length (watchers document.now.document views.now) ≤ notes.old.note_room }
@@ -103,7 +103,8 @@ pub(crate) fn tell_all(document: &Document, views: &IdTable<View>, notes: &mut N
     );
 }
 
-/// Tells the sending view alone that it is to style up to a place. There must be room for the note.
+/// Asks the sending view alone to style the text up to `end`, in bytes from 0 (`SCN_STYLENEEDED`). There must be room for
+/// the note.
 pub(crate) fn tell_style_needed(notes: &mut NoteList, sender: u32, end: usize)
     requires end { end < 2 ^ 63 }
     requires room { 0 < notes.old.note_room }

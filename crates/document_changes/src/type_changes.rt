@@ -1,4 +1,4 @@
-//! Other line ends count.
+//! Setting which line ends count.
 
 ghost use Rattle.std.specs.Prelude.{◌≡◌, ◌≤◌, List, ℕ};
 ghost use Rattle.ed_model.specs.declared.plan.DocumentChange.TheVariants as change;
@@ -17,8 +17,8 @@ use id_table::IdTable;
 use line_index::LineEdit;
 use scene::regroup;
 
-/// Lets these line ends count from now on: the rows of the document and the flags of the views that watch it go with the
-/// lines, by the edits, which are what becomes of them. No view is told.
+/// Sets which line ends count. The rows of the document and the flags of the views that watch it follow the lines by
+/// `edits`, the changes of the lines. No view is notified.
 #[inline(never)]
 pub(crate) fn set_line_end_types(
     document: &mut Document,

@@ -1,4 +1,4 @@
-//! Frequent changes of which nobody hears, made without anything that notes need.
+//! Frequent changes that no view hears, made without preparing notes.
 
 ghost use Rattle.std.specs.Prelude.{◌≡◌, ◌<◌, ◌+◌, ◌-◌, ◌≤◌, ◌^◌, [], List, ℕ, true, false, length, max};
 ghost use Rattle.ed_model.specs.declared.plan.DocumentChange.TheVariants as change;
@@ -18,7 +18,7 @@ use ed_model::DocumentChange;
 use ed_view::View;
 use id_table::IdTable;
 
-// Puts a marker on a line, unless memory for it is refused.
+// Adds a marker to a line, and returns whether the allocation for it succeeded.
 #[inline(always)]
 fn add_marker(document: &mut Document, line: usize, number: u32) -> bool
     requires line { line < lines_in document.old.document }
@@ -37,7 +37,7 @@ fn add_marker(document: &mut Document, line: usize, number: u32) -> bool
     true
 }
 
-// Sets the fold level of a line, unless memory for it is refused.
+// Sets the fold level of a line, and returns whether the allocation for it succeeded.
 #[inline(always)]
 fn set_level(document: &mut Document, line: usize, level: u32) -> bool
     requires line { line < lines_in document.old.document }
@@ -47,7 +47,7 @@ fn set_level(document: &mut Document, line: usize, level: u32) -> bool
     ensures spare { result ≡ true → document.new.spare ≡ record document.old.spare { levels = max document.old.spare.levels (line + 1) } }
     ensures same { result ≡ false → document.new ≡ document.old }
 {
-    let _ = document.line_count(); // it says that lines are few
+    let _ = document.line_count(); // states that the number of lines is small
     let Ok(()) = document.reserve_levels(line + 1) else {
         return false;
     };
@@ -55,7 +55,8 @@ fn set_level(document: &mut Document, line: usize, level: u32) -> bool
     true
 }
 
-// Puts one style on the bytes from where the document is styled up to, and moves that behind them, unless memory for styles is refused.
+// Sets one style on the bytes from the end of the styled text on, moves that end behind them, and returns whether the allocation for
+// styles succeeded.
 #[inline(always)]
 fn style_run(document: &mut Document, count: usize, style: u32) -> bool
     requires within { document.old.document.end_styled + count ≤ length document.old.document.cells }
@@ -73,9 +74,8 @@ fn style_run(document: &mut Document, count: usize, style: u32) -> bool
     true
 }
 
-/// Makes a change that is one of the frequent ones, where no view is told of it, and returns whether it did. Where there is no room for
-/// it, memory is taken, as `reserve_change` takes it; where that is refused, and of all other changes, none is made, and the document is as
-/// it was.
+/// Makes a frequent change if no view hears it, and returns whether it did. If there is no room for the change, it reserves
+/// room as `reserve_change` does. If that allocation fails, and for all other changes, nothing changes.
 #[inline(always)]
 pub fn change_unheard(
     document: &mut Document,
