@@ -1,15 +1,15 @@
--- Texts of the last reply that were read.
+-- The text of the last reply, if it was read without a plan.
 use Rattle.std.proofs.Common.{◌≡◌, ℕ, ℤ, List, [], ◌∷◌, length, refl, arith}
 use Rattle.ed_types.specs.Notices.{Notice}
 use Rattle.ed_model.specs.Performing.{response}
 use Rattle.hongpilas_c.specs.Replies.{text_or}
 
--- where nothing was read, the reply's own text is the text
+-- if nothing was read, the reply's own text is the text
 pub text_alone : (text : List ℕ) → text_or text [] ≡ text
 text_alone [] = refl
 text_alone (byte ∷ bytes) = refl
 
--- where it has no text and no notes of its own, what was read is the text
+-- if the reply has no text and no notes of its own, the text read is the text
 pub read_alone : (text read : List ℕ) (notes : List Notice) (value : ℤ) → text ≡ [] → length notes ≡ 0 → response value (text_or text read) notes ≡ response value read []
 read_alone [] read [] value t n = refl
 read_alone [] read (note ∷ notes) value t n = absurd (omega (arith, n))

@@ -1,4 +1,4 @@
--- What calls on a handle did, by what stands behind it before and after. Nothing is said of a handle that is not open.
+-- The effect of calls on a handle: the session and reply behind it, before and after. Nothing is stated for a handle that is not open.
 use Rattle.std.specs.Prelude.{◌≡◌, ℕ, ℤ, pos, true, List, [], Option, Some, None, Ok}
 use Rattle.ed_types.specs.declared.message.Message.{Message}
 use Rattle.ed_types.specs.Notices.{Response}
@@ -9,7 +9,7 @@ use Rattle.hongpilas_c.specs.declared.held.Held.{Held}
 use Rattle.hongpilas_c.specs.Answers.{answered, refused_with}
 use Rattle.hongpilas_c.specs.Replies.{reply_in}
 
--- the message was done: session and reply are those of the table, and the value is the reply's
+-- the message was done: the session and the reply are those of the table, and the value is the reply's
 abbrev pub IsSent : ℕ → Message → ℤ → Option Held → Option Held → Type 0
 IsSent view m value (Some old) (Some new) = (table old.session view m ≡ Ok (new.session, reply_in new)) × (value ≡ new.value)
 IsSent view m value _ _ = ⊥
@@ -19,12 +19,12 @@ abbrev pub IsRefused : ℕ → Message → ℕ → Option Held → Type 0
 IsRefused view m number (Some old) = number ≡ refused_with (table old.session view m)
 IsRefused view m number None = ⊥
 
--- the message needs no memory
+-- the message allocates nothing
 abbrev pub IsFree : ℕ → Message → Option Held → Type 0
 IsFree view m (Some old) = is_free old.session view m ≡ true
 IsFree view m None = ⊥
 
--- this view was opened, and the reply stayed
+-- this view was opened, and the reply did not change
 abbrev pub IsViewOpened : ℕ → Option Held → Option Held → Type 0
 IsViewOpened view (Some old) (Some new) = (opened old.session ≡ Ok (new.session, view)) × (reply_in new ≡ reply_in old)
 IsViewOpened view _ _ = ⊥
@@ -33,7 +33,7 @@ abbrev pub IsViewRefused : ℕ → Option Held → Type 0
 IsViewRefused number (Some old) = number ≡ refused_with (opened old.session)
 IsViewRefused number None = ⊥
 
--- this view was closed, and the reply stayed
+-- this view was closed, and the reply did not change
 abbrev pub IsViewClosed : ℕ → Option Held → Option Held → Type 0
 IsViewClosed view (Some old) (Some new) = (closed old.session view ≡ Ok new.session) × (reply_in new ≡ reply_in old)
 IsViewClosed view _ _ = ⊥
@@ -46,12 +46,12 @@ abbrev pub IsLendAnswer : ℕ → ℕ → ℕ → ℕ → Option Held → Type 0
 IsLendAnswer view start count number (Some old) = number ≡ answered (lent_range old.session view start count)
 IsLendAnswer view start count number None = ⊥
 
--- these are the bytes of the document
+-- these are the bytes of the document's range
 abbrev pub IsLent : ℕ → ℕ → ℕ → List ℕ → Option Held → Type 0
 IsLent view start count bytes (Some old) = lent_range old.session view start count ≡ Ok bytes
 IsLent view start count bytes None = ⊥
 
--- the last reply; of a handle that is not open it says nothing
+-- the last reply; meaningless for a handle that is not open
 abbrev pub reply_of : Option Held → Response
 reply_of (Some held) = reply_in held
 reply_of None = record { value = pos 0; text = []; notes = [] }

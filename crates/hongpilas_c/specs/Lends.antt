@@ -1,4 +1,4 @@
--- What a handle ends as, once what it lent has come back.
+-- The handle after what it lent has come back.
 use Rattle.std.specs.Prelude.{Some}
 use Rattle.std.specs.Borrow.{Fml, MutBor, follows}
 use Rattle.hongpilas_c.specs.declared.held.Held.{Held}
@@ -6,7 +6,7 @@ use Rattle.hongpilas_c.specs.declared.handle.Handle.{Handle}
 use Rattle.hongpilas_c.specs.contracts.held.Held.{the_row as held-row}
 use Rattle.hongpilas_c.specs.contracts.handle.Handle.{the_row as handle-row}
 
--- this handle, leading to this
+-- the handle with this value behind it
 abbrev pub with_held : Handle → Held → Handle
 with_held h held = record h { held = Some held }
 

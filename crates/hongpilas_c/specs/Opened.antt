@@ -6,15 +6,15 @@ use Rattle.ed_model.specs.Session.{Session}
 use Rattle.hongpilas_c.specs.declared.held.Held.{Held}
 use Rattle.hongpilas_c.specs.declared.opening.LimitsInC.{LimitsInC}
 
--- the session, and a reply that says nothing
+-- the session with an empty reply
 abbrev pub fresh : Session → Held
 fresh session = record { session = session; value = pos 0; read = []; reply = record { value = pos 0; text = []; notes = [] } }
 
--- what is held is this session, just opened
+-- the value behind the handle is this session, just opened
 abbrev pub IsFresh : Result Session Refusal → Option Held → Type 0
 IsFresh (Ok session) held = held ≡ Some (fresh session)
 IsFresh (Err refusal) held = ⊥
 
--- the limits that C gave
+-- the limits that C passed
 abbrev pub limits_of : LimitsInC → Limits
 limits_of l = record { doc_bytes = l.doc_bytes; large_bytes = l.large_bytes; handles = l.handles; ids = l.ids; refs = l.refs; views = l.views; depth = l.depth }

@@ -1,4 +1,4 @@
--- What a handle owns: nothing before it is opened, then the box that it leads to.
+-- What a handle owns: nothing before it is opened, and then the box that it points to.
 use base.Fml.{Fml, ftrue}
 use base.Stored.{Coded}
 use denote.RawPtr.{Ptr}

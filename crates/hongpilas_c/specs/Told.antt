@@ -1,4 +1,4 @@
--- Notes as C reads them.
+-- Notes as C sees them.
 use Rattle.std.specs.Prelude.{◌≡◌, ℕ, List, [], length, Option, Some, None}
 use Rattle.ed_types.specs.Notices.{Notice}
 use Rattle.hongpilas_c.specs.declared.notes.NoteInC.{NoteInC}
@@ -7,11 +7,11 @@ use Rattle.hongpilas_c.specs.declared.notes.NoteInC.{NoteInC}
 abbrev pub notice_of : NoteInC → List ℕ → Notice
 notice_of c text = record { view = c.view; code = c.code; kind = c.kind; position = c.position; length = c.length; lines = c.lines; line = c.line; now = c.now; prev = c.prev; token = c.token; message = c.message; w = c.w; l = c.l; text = text }
 
--- C reads this note, and how long its text is
+-- C sees this note, and the length of its text
 abbrev pub IsTold : NoteInC → Notice → Type 0
 IsTold c note = (notice_of c note.text ≡ note) × (c.text_length ≡ length note.text)
 
--- the text of the note, if there is one
+-- the text of the note, or nothing if there is none
 abbrev pub text_told : Option Notice → List ℕ
 text_told (Some note) = note.text
 text_told None = []

@@ -1,4 +1,4 @@
-//! A session as C holds it: one word.
+//! A session as C holds it: one pointer.
 
 ghost use Rattle.std.specs.Prelude.{◌≡◌, Some, None, Option, true, is_some, IfOk};
 ghost use Rattle.hongpilas_c.specs.declared.held.Held.{Held};
@@ -9,8 +9,8 @@ use crate::parts::Parts;
 use std::alloc::{AllocError, Global};
 use std::marker::Model;
 
-/// What C holds: where the session stands, or, before it is opened, anything. Dropping it gives nothing back, so that a
-/// call may write over one that C has not set; `into_box` gives back.
+/// The handle that C holds: a pointer to the session, and anything before it is opened. Dropping a handle frees nothing, so
+/// that a call may overwrite one that C has not set. `into_box` takes the session back, to be freed.
 #[repr(C)]
 #[derive(Drop)]
 pub struct Handle {
@@ -24,11 +24,11 @@ impl Model for Handle {
 }
 
 impl Handle {
-    /// A handle that is open.
+    /// Returns an open handle.
     ///
     /// # Errors
     ///
-    /// `AllocError` where there is no memory for it.
+    /// `AllocError` if the allocation fails.
     pub(crate) fn new(alloc: Global, held: Held) -> Result<Handle, AllocError>
         ensures { IfOk result (λ handle. handle.held ≡ Some held) }
     {
@@ -56,7 +56,7 @@ impl Handle {
         }
     }
 
-    /// What an open handle leads to, to be given back.
+    /// Returns the box behind an open handle, so that it can be freed.
     pub(crate) fn into_box(self) -> Box<Held>
         requires { is_some self.held ≡ true }
         ensures { self.held ≡ Some result.value }

@@ -1,4 +1,4 @@
-//! What a handle leads to.
+//! What a handle points to.
 
 ghost use Rattle.std.specs.Prelude.{◌≡◌, ◌≢◌, [], pos, true, length, Ok};
 ghost use Rattle.ed_types.specs.declared.refusal.Refusal.TheVariants.{OutOfMemory};
@@ -17,21 +17,21 @@ use crate::starts::start_of;
 use ed_types::Reply;
 use editor_session::Session;
 
-/// A session, and its reply to the last message, so that C need not give back replies.
+/// A session with the reply to its last message, so that C does not have to free replies.
 #[derive(Drop)]
 pub struct Held {
     /// The session.
     pub session: Session,
-    /// The value of the last reply. It stands beside the rest, so that a plain question writes nothing else.
+    /// The value of the last reply. It is a field of its own, so that a plain question writes nothing else.
     pub value: i64,
-    /// The last reply's text where it was read without a plan; else nothing.
+    /// The last reply's text if it was read without a plan, and otherwise empty.
     pub read: ReadText,
-    /// The last reply's notes, and its text where it was not read.
+    /// The last reply's notes, and its text if it was not read.
     pub reply: Reply,
 }
 
 impl Held {
-    /// The last reply's text.
+    /// Returns the last reply's text.
     pub(crate) fn text(&self) -> &[u8]
         ensures { result.now ≡ (reply_in self.now).text }
     {
@@ -43,7 +43,7 @@ impl Held {
         }
     }
 
-    /// Gives back the reply's own text and its notes.
+    /// Frees the reply's own text and its notes.
     #[inline(never)]
     fn give_reply_back(&mut self)
         ensures reply { self.new.reply ≡ quiet (pos 0) }
@@ -54,7 +54,7 @@ impl Held {
         self.reply = self.read.no_reply();
     }
 
-    /// Makes the last reply one of this value, without notes, and with what was read as its text.
+    /// Replaces the last reply by one with this value, without notes, whose text is what was read.
     #[inline(always)]
     fn answer(&mut self, answer: i64)
         ensures reply { reply_in self.new ≡ response answer self.old.read [] }
@@ -68,7 +68,7 @@ impl Held {
         self.give_reply_back();
     }
 
-    /// Sends a message, and keeps its reply. A plain question is asked, and a text question is read.
+    /// Sends a message, and stores its reply. A plain question is asked, and a text question is read.
     pub(crate) fn send(
         &mut self,
         view: u32,
@@ -110,7 +110,7 @@ impl Held {
         }
     }
 
-    /// Opens a view.
+    /// Opens a view, and writes its id to `view`. Returns 0 or the number of the refusal.
     pub(crate) fn open_view(&mut self, view: &mut u32) -> u32
         ensures done { result ≡ 0 → opened self.old.session ≡ Ok (self.new.session, view.new) }
         ensures refused { result ≢ 0 → result ≡ refused_with (opened self.old.session) }
@@ -129,7 +129,7 @@ impl Held {
         }
     }
 
-    /// Closes a view.
+    /// Closes a view. Returns 0 or the number of the refusal.
     pub(crate) fn close_view(&mut self, view: u32) -> u32
         ensures answer { result ≡ answered (closed self.old.session view) }
         ensures done { result ≡ 0 → closed self.old.session view ≡ Ok self.new.session }
@@ -144,7 +144,7 @@ impl Held {
         }
     }
 
-    /// Lends bytes of a view's document: C is told where they begin.
+    /// Lends bytes of a view's document, and tells C the address at which they begin. Returns 0 or the number of the refusal.
     pub(crate) fn lend(
         &mut self,
         view: u32,
@@ -165,7 +165,7 @@ impl Held {
         }
     }
 
-    /// Copies bytes of a view's document, as many as `into` has.
+    /// Copies as many bytes of a view's document as `into` has. Returns 0 or the number of the refusal.
     pub(crate) fn copy(&mut self, view: u32, start: usize, into: &mut [u8]) -> u32
         ensures answer { result ≡ answered (lent_range self.old.session view start (length into.old)) }
         ensures done { result ≡ 0 → lent_range self.old.session view start (length into.old) ≡ Ok into.new }

@@ -1,4 +1,4 @@
-//! What a handle lends.
+//! Lending what a handle points to.
 
 ghost use Rattle.std.specs.Prelude.{◌≡◌, Some, true, is_some};
 ghost use Rattle.std.specs.Borrow.{sem};
@@ -8,7 +8,7 @@ use crate::handle::Handle;
 use crate::held::Held;
 
 impl Handle {
-    /// What an open handle leads to, lent.
+    /// Lends the session and reply behind an open handle.
     pub(crate) fn held(&mut self) -> &mut Held
         requires { is_some self.old.held ≡ true }
         ensures* back { sem 𝓛 (held_follows self.entry result) }

@@ -1,4 +1,4 @@
-//! Names of refusals, and the version.
+//! The names of refusals, and the version.
 
 ghost use Rattle.std.specs.Prelude.{◌≡◌, length};
 ghost use Rattle.hongpilas_c.specs.Names.{refusal_name};
@@ -7,10 +7,10 @@ ghost use Rattle.hongpilas_c.specs.Copies.{count_copied, copied};
 use crate::copies::copy_from;
 use crate::starts::tell_start;
 
-/// The version of this interface: its major number times 1000, and its minor number.
+/// The version of this interface: its major number times 1000, plus its minor number.
 const VERSION: u32 = 1001;
 
-/// The name of a refusal by its number.
+/// Returns the name of the refusal with this number.
 fn name_of(number: u32) -> &'static [u8]
     ensures { result.now ≡ refusal_name number }
 {
@@ -35,7 +35,8 @@ fn name_of(number: u32) -> &'static [u8]
     }
 }
 
-/// Lends the name of a refusal: `name` is set to where it begins, and its length is answered. It stands for good.
+/// Lends the name of a refusal: sets `name` to the address of its first byte, and returns its length in bytes. The name is
+/// never freed.
 #[unsafe(no_mangle)]
 pub extern "C" fn hongpilas_refusal_name(number: u32, name: &mut *const u8) -> usize
     ensures length { result ≡ length (refusal_name number) }
@@ -43,7 +44,7 @@ pub extern "C" fn hongpilas_refusal_name(number: u32, name: &mut *const u8) -> u
     tell_start(name_of(number), name)
 }
 
-/// Copies the name of a refusal, as much as has room, and answers how much that is.
+/// Copies the name of a refusal, as many bytes as fit, and returns how many that is.
 #[unsafe(no_mangle)]
 pub extern "C" fn hongpilas_copy_refusal_name(number: u32, into: &mut [u8]) -> usize
     ensures count { result ≡ count_copied (refusal_name number) 0 into.old }
@@ -52,7 +53,7 @@ pub extern "C" fn hongpilas_copy_refusal_name(number: u32, into: &mut [u8]) -> u
     copy_from(name_of(number), 0, into)
 }
 
-/// The version of this interface.
+/// Returns the version of this interface.
 #[unsafe(no_mangle)]
 pub extern "C" fn hongpilas_version() -> u32
     ensures { result ≡ 1001 }

@@ -1,4 +1,4 @@
-//! Notes of the last reply.
+//! The notes of the last reply.
 
 ghost use Rattle.std.specs.Prelude.{◌≡◌, true, false, nat_lt, length, is_some, slice_get, IfSome};
 ghost use Rattle.ed_types.specs.Heard.{with_text};
@@ -13,15 +13,15 @@ use crate::held::Held;
 use crate::starts::start_of;
 use ed_types::Note;
 
-/// A note, as C reads it. Fields that its code does not name are 0.
+/// A note, as C reads it. Fields that its code does not use are 0.
 #[repr(C)]
 #[derive(Drop)]
 pub struct NoteInC {
-    /// The id of the view that is told.
+    /// The id of the view that is notified.
     pub view: u32,
-    /// Which note it is: Scintilla's number, as 2008 for SCN_MODIFIED.
+    /// The code of the note: Scintilla's number, such as 2008 for SCN_MODIFIED.
     pub code: u32,
-    /// Scintilla's `modificationType`: bits that say what was changed, and by what.
+    /// Scintilla's `modificationType`: bits for what changed, and by what.
     pub kind: u32,
     /// The number of a recorded message.
     pub message: u32,
@@ -29,13 +29,13 @@ pub struct NoteInC {
     pub position: i64,
     /// A length, in bytes.
     pub length: i64,
-    /// Scintilla's `linesAdded`: by how many the number of lines grew, negative where it fell.
+    /// Scintilla's `linesAdded`: the change of the number of lines, negative if lines were removed.
     pub lines: i64,
-    /// A line, from 0; -1 where all lines are meant.
+    /// A line, from 0; -1 for all lines.
     pub line: i64,
-    /// A fold level after a change: `foldLevelNow`.
+    /// A fold level after a change: Scintilla's `foldLevelNow`.
     pub now: i64,
-    /// The fold level before it: `foldLevelPrev`.
+    /// The fold level before it: Scintilla's `foldLevelPrev`.
     pub prev: i64,
     /// The token of a container's own undo step.
     pub token: i64,
@@ -43,13 +43,13 @@ pub struct NoteInC {
     pub w: i64,
     /// The second argument of a recorded message, as it was sent.
     pub l: i64,
-    /// Where the note's text begins. It is lent until the next message that is done; where its length is 0, the address means nothing.
+    /// The address of the note's text. It is valid until the next message that is done. If the length is 0, it means nothing.
     pub text: *const u8,
     /// The length of the text, in bytes.
     pub text_length: usize,
 }
 
-/// A note with its text, as C reads it.
+/// Returns a note with its text, as C reads it.
 fn in_c(note: &Note, text: &[u8]) -> NoteInC
     ensures told { IsTold result (with_text note.entry.now text.now) }
     ensures text { result.text ≡ start text.entry }
@@ -74,7 +74,7 @@ fn in_c(note: &Note, text: &[u8]) -> NoteInC
 }
 
 impl Held {
-    /// Writes a note of the reply to `out`, if there is such a note.
+    /// Writes a note of the reply to `out`, if there is one with this index, and returns whether there is.
     fn tell(&self, index: usize, out: &mut NoteInC) -> bool
         ensures found { result ≡ nat_lt index (length self.now.reply.notes) }
         ensures told { result ≡ true → IfSome (slice_get self.now.reply.notes index) (IsTold out.new) }
@@ -89,7 +89,7 @@ impl Held {
         }
     }
 
-    /// Copies the text of a note of the reply, which is none where there is no such note.
+    /// Copies the text of a note of the reply, and returns how many bytes that is: 0 if there is no such note.
     fn copy_note_text(&self, index: usize, start: usize, into: &mut [u8]) -> usize
         ensures count { result ≡ count_copied (text_told (slice_get self.now.reply.notes index)) start into.old }
         ensures copied { into.new ≡ copied (text_told (slice_get self.now.reply.notes index)) start into.old }
@@ -103,7 +103,7 @@ impl Held {
     }
 }
 
-/// A note of the last reply, counted from 0, written to `note`; answers whether there is such a note.
+/// Writes the note of the last reply with this index, from 0, to `note`, and returns whether there is one.
 #[unsafe(no_mangle)]
 pub extern "C" fn hongpilas_note(handle: &mut Handle, index: usize, note: &mut NoteInC) -> bool
     requires { is_some handle.old.held ≡ true }
@@ -116,8 +116,8 @@ pub extern "C" fn hongpilas_note(handle: &mut Handle, index: usize, note: &mut N
     held.tell(index, note)
 }
 
-/// Copies the text of a note of the last reply from `start` on, as much as there is and has room, and answers how much that
-/// is: 0 where there is no such note.
+/// Copies the text of a note of the last reply from `start` on, as many bytes as there are and as fit, and returns how many
+/// that is: 0 if there is no such note.
 #[unsafe(no_mangle)]
 pub extern "C" fn hongpilas_copy_note_text(
     handle: &mut Handle,

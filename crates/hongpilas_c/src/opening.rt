@@ -1,4 +1,4 @@
-//! Opening a session, and giving it back.
+//! Opening and freeing a session.
 
 ghost use Rattle.std.specs.Prelude.{◌≡◌, ◌≢◌, true, is_some, Some};
 ghost use Rattle.ed_types.specs.declared.refusal.Refusal.TheVariants.{OutOfMemory};
@@ -16,27 +16,27 @@ use ed_types::{Bytes, Limits, Refusal, Reply};
 use editor_session::Session;
 use std::alloc::Global;
 
-/// Limits of a session, as C gives them. Each is from 1 to the greatest, which its comment names.
+/// The limits of a session, as C passes them. Each is at least 1, and at most the number that its comment states.
 #[repr(C)]
 #[derive(Drop)]
 pub struct LimitsInC {
-    /// The most bytes of a document: at most 0x7FFFFFFF.
+    /// The greatest length of a document in bytes: at most 0x7FFFFFFF.
     pub doc_bytes: u64,
-    /// The most bytes of a document that was made for large texts: at most 0x10000000000.
+    /// The greatest length in bytes of a document for large texts: at most 0x10000000000.
     pub large_bytes: u64,
-    /// The most marker handles of one document, ever: at most 0x7FFFFFFF.
+    /// The number of marker handles that one document ever gives out: at most 0x7FFFFFFF.
     pub handles: u64,
-    /// The most document ids, ever, and the most view ids, ever: at most 0x7FFFFFFF.
+    /// The number of document ids ever given out, and that of view ids: at most 0x7FFFFFFF.
     pub ids: u64,
-    /// The most references to one document: at most 0x7FFFFFFF.
+    /// The number of references to one document: at most 0x7FFFFFFF.
     pub refs: u64,
-    /// The most open views: at most 1024.
+    /// The number of open views: at most 1024.
     pub views: u64,
-    /// The greatest depth of undo groups: at most 255.
+    /// The depth of undo groups: at most 255.
     pub depth: u64,
 }
 
-/// Puts the session behind the handle, with a reply that says nothing.
+/// Stores the session, with an empty reply, behind the handle. Returns 0 or the number of the refusal.
 fn hold(alloc: Global, session: Session, handle: &mut Handle) -> u32
     ensures done { result ≡ 0 → handle.new.held ≡ Some (fresh session) }
     ensures refused { result ≢ 0 → result ≡ refusal_number OutOfMemory }
@@ -58,7 +58,7 @@ fn hold(alloc: Global, session: Session, handle: &mut Handle) -> u32
     }
 }
 
-/// Opens a session with the greatest limits.
+/// Opens a session with the greatest limits. Returns 0, or `OutOfMemory` as a number if an allocation fails.
 #[unsafe(no_mangle)]
 pub extern "C" fn hongpilas_new(alloc: Global, handle: &mut Handle) -> u32
     ensures done { result ≡ 0 → handle.new.held ≡ Some (fresh (new_session greatest_limits)) }
@@ -68,7 +68,8 @@ pub extern "C" fn hongpilas_new(alloc: Global, handle: &mut Handle) -> u32
     hold(alloc, Session::new(alloc), handle)
 }
 
-/// Opens a session with lower limits.
+/// Opens a session with lower limits. Returns 0, or the number of `BadArgument` if a limit is out of its range, or of
+/// `OutOfMemory` if an allocation fails.
 #[unsafe(no_mangle)]
 pub extern "C" fn hongpilas_new_with_limits(
     alloc: Global,
@@ -94,7 +95,7 @@ pub extern "C" fn hongpilas_new_with_limits(
     }
 }
 
-/// Gives a session back, with all that it has.
+/// Frees a session with all that it owns.
 #[unsafe(no_mangle)]
 pub extern "C" fn hongpilas_free(handle: Handle)
     requires { is_some handle.held ≡ true }

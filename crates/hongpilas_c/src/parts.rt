@@ -1,4 +1,4 @@
-//! A `Box` whose fields are in sight of the module beside it.
+//! A `Box` whose fields the module beside it can read.
 
 ghost use Rattle.std.specs.Prelude.{◌≡◌};
 ghost use Rattle.std.specs.Box.Ownership.{box_owns};
@@ -6,8 +6,8 @@ ghost use Rattle.std.specs.Box.Ownership.{box_owns};
 use std::alloc::Allocator;
 use std::marker::Model;
 
-/// A `Box` taken apart: where its value stands, and the allocator that its block came from. It owns what the box owned; `into_box` makes it a
-/// box again, which gives that back. Contracts see the value.
+/// A `Box` taken apart: the pointer to its value, and the allocator of its block. It owns what the box owned. `into_box` makes it a
+/// box again, to be dropped. A contract sees the value.
 pub struct Parts<T, A: Allocator> {
     pub(crate) ptr: *mut T,
     pub(crate) alloc: A,
@@ -19,7 +19,7 @@ impl<T, A: Allocator> Model for Parts<T, A> {
 }
 
 impl<T, A: Allocator> Parts<T, A> {
-    /// Takes a box apart. Its value stays where it is. Takes no memory, and cannot fail.
+    /// Takes a box apart. Its value does not move. Allocates nothing, and cannot fail.
     pub fn of(b: Box<T, A>) -> Parts<T, A>
     where
         T: Drop,
@@ -29,7 +29,7 @@ impl<T, A: Allocator> Parts<T, A> {
         Parts { ptr, alloc }
     }
 
-    /// The box that was taken apart, with the value that it has now. Takes no memory, and cannot fail.
+    /// Returns the box that was taken apart, with its present value. Allocates nothing, and cannot fail.
     pub fn into_box(self) -> Box<T, A>
         ensures { result.value ≡ self.value }
     {

@@ -10,11 +10,11 @@ use editor_session::Session;
 use std::alloc::Global;
 use std::marker::Model;
 
-/// How many bytes of room may wait for the next text question, whatever comes before it. Most lines are shorter, so that reading them takes
-/// no memory; and what a session keeps back through other messages is one page at most.
+/// The greatest capacity, in bytes, that is kept for the next text question whatever comes before it. Most lines are shorter, so that
+/// reading them allocates nothing, and a session keeps at most one page beyond other messages.
 const MOST_KEPT: usize = 4096;
 
-/// Bytes that a text question read. Their memory is used again. Contracts see a list.
+/// The bytes that a text question read, in a buffer that is used again. A contract sees a list.
 #[derive(Drop)]
 pub struct ReadText {
     alloc: Global,
@@ -30,7 +30,7 @@ impl Model for ReadText {
 }
 
 impl ReadText {
-    /// No bytes. Takes no memory.
+    /// Returns no bytes. Allocates nothing.
     pub(crate) fn new(alloc: Global) -> Self
         ensures { result ≡ [] }
     {
@@ -40,27 +40,27 @@ impl ReadText {
         }
     }
 
-    /// The bytes, lent.
+    /// Returns the bytes as a slice.
     pub(crate) fn as_slice(&self) -> &[u8]
         ensures { result.now ≡ self.now }
     {
         self.bytes.as_slice()
     }
 
-    /// A reply that says nothing. Takes no memory.
+    /// Returns an empty reply with the value 0. Allocates nothing.
     pub(crate) fn no_reply(&self) -> Reply
         ensures { result ≡ quiet (pos 0) }
     {
         Reply::quiet(self.alloc, 0, Bytes::empty(self.alloc))
     }
 
-    /// Whether it has more room than may wait for the next text.
+    /// Returns whether the capacity is greater than what is kept for the next text.
     #[inline(always)]
     fn is_large(&self) -> bool {
         MOST_KEPT < self.bytes.capacity()
     }
 
-    /// Gives all memory back.
+    /// Frees the buffer.
     #[inline(never)]
     fn give_back(&mut self)
         ensures { self.new ≡ [] }
@@ -68,7 +68,7 @@ impl ReadText {
         self.bytes = Vec::new(self.alloc);
     }
 
-    /// Lets go of the bytes; of their memory where it is too much to wait.
+    /// Empties the buffer, and frees it if it is large.
     #[inline(always)]
     pub(crate) fn clear(&mut self)
         ensures { self.new ≡ [] }
@@ -80,8 +80,8 @@ impl ReadText {
         self.bytes.clear();
     }
 
-    /// As `read`, where the last text was a large one. The next one is often as large, and takes its room; one that fills less than a
-    /// quarter of it gives the rest back.
+    /// Like `read`, after a large text. The next one is often as large, and uses the same buffer. If it fills less than a quarter of the
+    /// buffer, the rest of the buffer is freed.
     #[inline(never)]
     fn read_large(
         &mut self,
@@ -101,8 +101,8 @@ impl ReadText {
         Some(value)
     }
 
-    /// Asks a text question: its bytes take the place of these, and its value is answered. `None` for what `Session::read` does not
-    /// answer; all is then as it was.
+    /// Asks a text question: its bytes replace the present ones, and its value is returned. Returns `None` for a message that
+    /// `Session::read` does not answer. Nothing has changed then.
     #[inline(always)]
     pub(crate) fn read(
         &mut self,

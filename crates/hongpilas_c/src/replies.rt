@@ -8,7 +8,7 @@ use crate::copies::copy_from;
 use crate::handle::Handle;
 use crate::starts::tell_start;
 
-/// The value of the last reply.
+/// Returns the value of the last reply.
 #[unsafe(no_mangle)]
 pub extern "C" fn hongpilas_value(handle: &mut Handle) -> i64
     requires { is_some handle.old.held ≡ true }
@@ -19,7 +19,7 @@ pub extern "C" fn hongpilas_value(handle: &mut Handle) -> i64
     held.value
 }
 
-/// Lends the text of the last reply: `text` is set to where it begins, and its length is answered.
+/// Lends the text of the last reply: sets `text` to the address of its first byte, and returns its length in bytes.
 #[unsafe(no_mangle)]
 pub extern "C" fn hongpilas_text(handle: &mut Handle, text: &mut *const u8) -> usize
     requires { is_some handle.old.held ≡ true }
@@ -30,7 +30,7 @@ pub extern "C" fn hongpilas_text(handle: &mut Handle, text: &mut *const u8) -> u
     tell_start(held.text(), text)
 }
 
-/// Copies the text of the last reply from `start` on, as much as there is and has room, and answers how much that is.
+/// Copies the text of the last reply from `start` on, as many bytes as there are and as fit, and returns how many that is.
 #[unsafe(no_mangle)]
 pub extern "C" fn hongpilas_copy_text(handle: &mut Handle, start: usize, into: &mut [u8]) -> usize
     requires { is_some handle.old.held ≡ true }
@@ -42,7 +42,7 @@ pub extern "C" fn hongpilas_copy_text(handle: &mut Handle, start: usize, into: &
     copy_from(held.text(), start, into)
 }
 
-/// How many notes the last reply has.
+/// Returns how many notes the last reply has.
 #[unsafe(no_mangle)]
 pub extern "C" fn hongpilas_note_count(handle: &mut Handle) -> usize
     requires { is_some handle.old.held ≡ true }

@@ -8,7 +8,7 @@ ghost use Rattle.hongpilas_c.specs.Calls.{IsSent, IsRefused, IsFree};
 
 use crate::handle::Handle;
 
-/// Sends a message whose text is lent.
+/// Sends a message with its text, and writes the value of its reply to `value`. Returns 0 or the number of the refusal.
 #[unsafe(no_mangle)]
 pub extern "C" fn hongpilas_send(
     handle: &mut Handle,

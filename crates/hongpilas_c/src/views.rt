@@ -5,7 +5,7 @@ ghost use Rattle.hongpilas_c.specs.Calls.{IsViewOpened, IsViewRefused, IsViewClo
 
 use crate::handle::Handle;
 
-/// Opens a view on a new document.
+/// Opens a view on a new document, and writes its id to `view`. Returns 0 or the number of the refusal.
 #[unsafe(no_mangle)]
 pub extern "C" fn hongpilas_new_view(handle: &mut Handle, view: &mut u32) -> u32
     requires { is_some handle.old.held ≡ true }
@@ -18,7 +18,7 @@ pub extern "C" fn hongpilas_new_view(handle: &mut Handle, view: &mut u32) -> u32
     held.open_view(view)
 }
 
-/// Closes a view.
+/// Closes a view. Returns 0 or the number of the refusal.
 #[unsafe(no_mangle)]
 pub extern "C" fn hongpilas_close_view(handle: &mut Handle, view: u32) -> u32
     requires { is_some handle.old.held ≡ true }

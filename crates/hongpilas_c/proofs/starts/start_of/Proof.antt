@@ -1,4 +1,4 @@
--- `start_of` reads the address of the bytes, and keeps nothing of them.
+-- `start_of` reads the address of the bytes, and does not borrow them any longer.
 use mathlib.Core.Path.{refl}
 use Prim.Native.Nat.{ℕ}
 use mathlib.Core.List.{List, [], ◌∷◌}

@@ -1,4 +1,4 @@
--- `held` lends what the handle leads to, and the handle follows it.
+-- `held` lends the value behind the handle, and the handle follows its changes.
 use mathlib.Core.Path.{refl}
 use mathlib.Core.Bool.{false≢true}
 use Prim.Native.Nat.{ℕ}
@@ -70,7 +70,7 @@ module _ {M : Type 1} {𝓤 : Ura M} (𝓛 : Logic 𝓤) (at_mem : Memory → SP
   Post = (walk_of 𝓛 F.ended stayed (F.clauses 𝓛 at_mem run)).post bound
 
   module _ (b o : ℕ) (hv : Val) where
-    -- all of the handle but what it leads to
+    -- all of the handle but the value behind it
     abbrev Rest : Fml
     Rest = fsep (fsep (token E.al h.alloc (bare (τ E)) (block_ptr b o)) (handle E h.alloc hv)) (cell_at full_share H.mir (word E hv b o ∷ []) rb ro)
 

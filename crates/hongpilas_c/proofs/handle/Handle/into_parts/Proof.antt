@@ -1,4 +1,4 @@
--- `into_parts` moves two fields, and what they own goes with them.
+-- `into_parts` moves two fields with what they own.
 use mathlib.Core.Path.{refl, sym, subst}
 use Rattle.std.specs.Prelude.{◌≡◌, Option, Some, None, is_some, true}
 use mathlib.Core.Bool.{false≢true}
