@@ -1,47 +1,47 @@
 /* Hongpilas: an editing component with the messages of Scintilla 5.
  *
- * A session has documents and views on them. It is reached by calls that are
- * proved: what each answers and changes is what docs/MESSAGES.md states, which is
- * installed in share/doc/hongpilas.
+ * A session has documents and views on them. Its calls are proved: docs/MESSAGES.md,
+ * which is installed in share/doc/hongpilas, states what each returns and changes.
  *
- * Answers. A call of type hongpilas_answer answers HONGPILAS_DONE, or the number
- * of a refusal. A refused call has changed nothing: neither the session, nor the
- * last reply, nor what a pointer that it was given leads to.
+ * Answers. A call of type hongpilas_answer returns HONGPILAS_DONE, or the number of a
+ * refusal. A refused call changes nothing: neither the session, nor the last reply, nor
+ * what any of its pointers points to.
  *
- * Two forms. Each call that takes a pointer stands here twice: as hongpilas_send, which
- * is proved and tests no pointer, and as hongpilas_checked_send, which refuses what is
- * null or too long by its name, and else makes that call. The checked forms are the ones
- * to begin with, and for whoever loads the shared object; they are written in C
- * (embedding/checked.c), and tested, not proved. The others save about two nanoseconds.
+ * Two forms. Each call that takes a pointer has two forms here. hongpilas_send, for
+ * example, is proved and tests no pointer. hongpilas_checked_send refuses null pointers
+ * and lengths that are too great, by name, and otherwise makes that call. Begin with the
+ * checked forms, also in a program that loads the shared object. They are written in C
+ * (embedding/checked.c), and are tested, not proved. The others save about two
+ * nanoseconds.
  *
  * Threads. A session is used by one call at a time, on the thread that made it; sessions
- * in different threads are independent of each other. Go wants runtime.LockOSThread for
- * that, and what wraps a session in Rust is !Send.
+ * in different threads are independent of each other. In Go this takes
+ * runtime.LockOSThread, and a Rust type that wraps a session is !Send.
  *
- * What the caller owes, which nothing checks:
- *  - a session is set by hongpilas_new, hongpilas_new_with_limits and their checked forms
- *    alone, is not copied, and is used by no call after hongpilas_free;
+ * Duties of the caller, which nothing checks:
+ *  - a session is set only by hongpilas_new, hongpilas_new_with_limits and their checked
+ *    forms, is not copied, and is used by no call after hongpilas_free;
  *  - no call is made from a signal handler, nor in the forked child of a process that
  *    has several threads;
- *  - but for the checked forms and hongpilas_call, no pointer is null, also where the
- *    length beside it is 0, no session is null, and no length is above 2^63 - 1;
- *  - what is not null leads to what the call's type says, as long as the length says;
- *  - bytes that were lent are only read, and only as long as they stand, below; where
- *    their length is 0, the address means nothing;
+ *  - except for the checked forms and hongpilas_call, no pointer is null, even if its
+ *    length is 0, no session is null, and no length is above 2^63 - 1;
+ *  - a pointer that is not null points to what the call's type says, of that length;
+ *  - bytes that were lent are only read, and only as long as they are valid, as stated
+ *    below; if their length is 0, the address means nothing;
  *  - a text that is sent, and a buffer that is filled, has none of the bytes that the
- *    session lent: they are copied first.
+ *    session lent: copy them first.
  *
- * How long lent bytes stand. The last reply, with its text and its notes, is kept until
- * the next message that is done, or hongpilas_free: a refused message and all other
- * calls leave it where it is. Bytes of a document, of hongpilas_lend_range, stand until
- * the next call on the session, but for those that look at the last reply; lending or
- * copying a range may move the bytes of one that was lent before. The name of an answer
- * stands for good.
+ * Lent bytes. The last reply, with its text and its notes, is valid until the next
+ * message that is done, or hongpilas_free: a refused message and all other calls leave
+ * it unchanged. Bytes of a document, from hongpilas_lend_range, are valid until the next
+ * call on the session, except calls that only read the last reply. Lending or copying a
+ * range may move the bytes of a range that was lent before. The name of an answer is
+ * never freed.
  *
  * Texts are bytes with a length. There is no closing NUL, and a NUL is an ordinary
  * byte. Positions and lengths are in bytes and count from 0.
  *
- * The library has no global state. It takes memory by malloc, realloc and free. */
+ * The library has no global state. It allocates by malloc, realloc and free. */
 #ifndef HONGPILAS_H
 #define HONGPILAS_H
 
@@ -53,39 +53,39 @@
 extern "C" {
 #endif
 
-/* The version of this interface: the major number times 1000, and the minor one.
- * hongpilas_version answers that of the library that is linked. */
+/* The version of this interface: the major number times 1000, plus the minor one.
+ * hongpilas_version returns that of the library that is linked. */
 #define HONGPILAS_VERSION 1001
 uint32_t hongpilas_version(void);
 
-/* A session. One word, which means nothing to the caller. */
+/* A session: one pointer, opaque to the caller. */
 typedef struct hongpilas {
   void *at;
 } hongpilas;
 
-/* What a call answers. */
+/* The result of a call. */
 typedef uint32_t hongpilas_answer;
 enum {
   HONGPILAS_DONE = 0,
-  HONGPILAS_OUT_OF_MEMORY = 1,    /* a growth was refused */
-  HONGPILAS_NO_SUCH_VIEW = 2,     /* no view has that id now */
+  HONGPILAS_OUT_OF_MEMORY = 1,    /* an allocation failed */
+  HONGPILAS_NO_SUCH_VIEW = 2,     /* no view has this id */
   HONGPILAS_UNKNOWN_MESSAGE = 3,  /* the profile has no such message */
-  HONGPILAS_NO_SUCH_DOCUMENT = 4, /* no document has that id now, or the caller holds no reference to it */
-  HONGPILAS_TOO_LONG = 5,         /* the text would pass its limit after some step */
+  HONGPILAS_NO_SUCH_DOCUMENT = 4, /* no document has this id, or the caller holds no reference to it */
+  HONGPILAS_TOO_LONG = 5,         /* the text would exceed its limit after some step */
   HONGPILAS_BAD_ARGUMENT = 6,     /* an argument is outside the range that the message states */
   HONGPILAS_TOO_MANY = 7          /* handles, ids, references, the depth of groups or open views are used up */
 };
 
-/* The name of an answer, as "no such view". *name is set to where it begins, and its
- * length is answered. It stands for good. The second form copies it, as far as
- * there is room, and answers how many bytes that is. */
+/* The name of an answer, such as "no such view". Sets *name to its first byte, and
+ * returns its length. The name is never freed. The second form copies as many bytes as
+ * fit, and returns how many that is. */
 size_t hongpilas_refusal_name(hongpilas_answer answer, const uint8_t **name);
 size_t hongpilas_copy_refusal_name(hongpilas_answer answer, uint8_t *into, size_t room);
 
-/* Limits of a session. Each is from 1 to the greatest, which stands behind it. */
+/* The limits of a session. Each is at least 1, and at most the number in its comment. */
 typedef struct hongpilas_limits {
   uint64_t doc_bytes;   /* bytes of a document: 0x7FFFFFFF */
-  uint64_t large_bytes; /* bytes of a document that was made for large texts: 0x10000000000 */
+  uint64_t large_bytes; /* bytes of a document for large texts: 0x10000000000 */
   uint64_t handles;     /* marker handles of one document, ever: 0x7FFFFFFF */
   uint64_t ids;         /* document ids, ever; and view ids, ever: 0x7FFFFFFF */
   uint64_t refs;        /* references to one document: 0x7FFFFFFF */
@@ -93,37 +93,36 @@ typedef struct hongpilas_limits {
   uint64_t depth;       /* depth of undo groups: 255 */
 } hongpilas_limits;
 
-/* All limits at their greatest, to begin with where only some are to be lower:
+/* All limits at their greatest, as a start for a program that lowers only some:
  * hongpilas_limits limits = HONGPILAS_GREATEST_LIMITS; */
 #define HONGPILAS_GREATEST_LIMITS {0x7FFFFFFF, 0x10000000000, 0x7FFFFFFF, 0x7FFFFFFF, 0x7FFFFFFF, 1024, 255}
 
-/* Opens a session without documents and views: with the greatest limits, or with
- * lower ones. *session may be anything before. What a session had that was open is
- * not given back by this.
- * Refused: OUT_OF_MEMORY; BAD_ARGUMENT where a limit is 0 or above the greatest. */
+/* Opens a session without documents and views, with the greatest limits or with lower
+ * ones. *session may be anything before. If it was an open session, that is not freed.
+ * Refused: OUT_OF_MEMORY; BAD_ARGUMENT if a limit is 0 or above the greatest. */
 hongpilas_answer hongpilas_new(hongpilas *session);
 hongpilas_answer hongpilas_new_with_limits(hongpilas *session, const hongpilas_limits *limits);
 
-/* Gives an open session back, with all that it has. */
+/* Frees an open session with all that it owns. */
 void hongpilas_free(hongpilas session);
 
-/* Opens a view on a new document. *view is set to its id: 1, 2, 3 and so on, and none
- * is given twice. Refused: TOO_MANY, OUT_OF_MEMORY. */
+/* Opens a view on a new document, and sets *view to its id: 1, 2, 3 and so on. No id is
+ * given twice. Refused: TOO_MANY, OUT_OF_MEMORY. */
 hongpilas_answer hongpilas_new_view(hongpilas *session, uint32_t *view);
 
-/* Closes a view. A document that no view is attached to and no caller holds goes with
- * it. Takes no memory. Refused: NO_SUCH_VIEW. */
+/* Closes a view. A document to which no other view is attached, and which no caller
+ * holds, is freed with it. Allocates nothing. Refused: NO_SUCH_VIEW. */
 hongpilas_answer hongpilas_close_view(hongpilas *session, uint32_t view);
 
-/* Sends a message to a view. docs/MESSAGES.md says what w, l and the text stand for,
- * what is done, and when it is refused. The text is read where it lies, and not kept.
- * *value is set to the value that is answered. The reply, with its text and its notes,
- * takes the place of the last one. */
+/* Sends a message to a view. docs/MESSAGES.md says what w, l and the text mean, what the
+ * message does, and when it is refused. The text is read in place, and not stored. Sets
+ * *value to the value of the reply. The reply, with its text and its notes, replaces the
+ * last one. */
 hongpilas_answer hongpilas_send(hongpilas *session, uint32_t view, uint32_t number, int64_t w, int64_t l,
                                 const uint8_t *text, size_t length, int64_t *value);
 
-/* The same, with the tests of hongpilas_checked_send, below, but that the value may be
- * null where it is not asked for. It is inline, and calls hongpilas_send. */
+/* Like hongpilas_send, with the tests of hongpilas_checked_send, below, except that the
+ * value may be null. Inline: it calls hongpilas_send. */
 static inline hongpilas_answer hongpilas_call(hongpilas *session, uint32_t view, uint32_t number, int64_t w, int64_t l,
                                               const void *text, size_t length, int64_t *value) {
   static const uint8_t none = 0;
@@ -134,73 +133,74 @@ static inline hongpilas_answer hongpilas_call(hongpilas *session, uint32_t view,
                         value == NULL ? &unasked : value);
 }
 
-/* The last reply: its value; 0 before the first message that was done. */
+/* The value of the last reply: 0 before the first message that was done. */
 int64_t hongpilas_value(hongpilas *session);
 
-/* The last reply's text, lent as long as the reply is kept: *text is set to where it
- * begins, and its length is answered. The second form copies the bytes from `start` on,
- * as many as there are and as have room, and answers how many that is. */
+/* Lends the last reply's text, as long as the reply is valid: sets *text to its first
+ * byte, and returns its length. The second form copies the bytes from `start` on, as
+ * many as there are and as fit, and returns how many that is. */
 size_t hongpilas_text(hongpilas *session, const uint8_t **text);
 size_t hongpilas_copy_text(hongpilas *session, size_t start, uint8_t *into, size_t room);
 
-/* A note: what a view is told. Fields that its code does not name are 0. */
+/* A note: a notification of a view. Fields that its code does not use are 0. */
 typedef struct hongpilas_note_data {
-  uint32_t view;       /* the view that is told */
-  uint32_t code;       /* which note, as SCN_MODIFIED */
+  uint32_t view;       /* the view that is notified */
+  uint32_t code;       /* which note, such as SCN_MODIFIED */
   uint32_t kind;       /* Scintilla's modificationType */
   uint32_t message;    /* the number of a recorded message */
   int64_t position;    /* a position, in bytes */
   int64_t length;      /* a length, in bytes */
   int64_t lines;       /* Scintilla's linesAdded */
-  int64_t line;        /* a line, from 0; -1 where all lines are meant */
+  int64_t line;        /* a line, from 0; -1 for all lines */
   int64_t now;         /* a fold level after a change: foldLevelNow */
   int64_t prev;        /* a fold level before it: foldLevelPrev */
   int64_t token;       /* the token of a container's own undo step */
   int64_t w;           /* the arguments of a recorded message */
   int64_t l;
-  const uint8_t *text; /* the note's text, lent as long as the reply is kept */
+  const uint8_t *text; /* the note's text, valid as long as the reply is */
   size_t text_length;  /* its length, in bytes */
 } hongpilas_note_data;
 
-/* How many notes the last reply has; and the one with this index, from 0, in the order
- * in which they were told: true where there is one, else *note is as it was. */
+/* The first call returns how many notes the last reply has. The second sets *note to the
+ * one with this index, from 0, in the order of notification, and returns true. If there
+ * is no such note, it returns false, and *note does not change. */
 size_t hongpilas_note_count(hongpilas *session);
 bool hongpilas_note(hongpilas *session, size_t index, hongpilas_note_data *note);
 
-/* Copies a note's text from `start` on, as many bytes as there are and as have room,
- * and answers how many that is; 0 where there is no such note. */
+/* Copies a note's text from `start` on, as many bytes as there are and as fit, and
+ * returns how many that is: 0 if there is no such note. */
 size_t hongpilas_copy_note_text(hongpilas *session, size_t index, size_t start, uint8_t *into, size_t room);
 
-/* Lends the `count` bytes of the view's document from `start` on, with no copy: *bytes
- * is set to where they begin. They stand until the next call that does not just look at
- * the last reply. The second form copies as many bytes as it is given room for. Neither
- * changes the session or the last reply, and neither takes memory.
- * Refused: NO_SUCH_VIEW; BAD_ARGUMENT where the range ends past the end of the text. */
+/* Lends the `count` bytes of the view's document from `start` on, without a copy: sets
+ * *bytes to the first. They are valid until the next call that does more than read the
+ * last reply. The second form copies as many bytes as the buffer has. Neither changes
+ * the session or the last reply, and neither allocates.
+ * Refused: NO_SUCH_VIEW; BAD_ARGUMENT if the range ends past the end of the text. */
 hongpilas_answer hongpilas_lend_range(hongpilas *session, uint32_t view, size_t start, size_t count,
                                       const uint8_t **bytes);
 hongpilas_answer hongpilas_copy_range(hongpilas *session, uint32_t view, size_t start, uint8_t *into, size_t count);
 
-/* The checked forms. Each tests what it is given, and then makes the call of the same name
- * without `checked`. What does not pass is refused, and nothing is touched: neither the
- * session, nor the last reply, nor what any pointer leads to. The first that holds is
- * answered:
+/* The checked forms. Each tests its arguments, and then makes the call of the same name
+ * without `checked`. If a test fails, the call is refused and changes nothing: neither
+ * the session, nor the last reply, nor what any pointer points to. It returns the first
+ * of these that applies:
  *
- *   NO_SUCH_VIEW where the session is null: the pointer to it is, or its word is, as in
- *     hongpilas session = {NULL}; and behind hongpilas_checked_free;
- *   BAD_ARGUMENT where a place for an answer is null, or limits are; where a text or a
- *     buffer is null and its length is not 0; and where its length is above 2^63 - 1.
+ *   NO_SUCH_VIEW if the session is null: the pointer to it, or the pointer in it, as in
+ *     hongpilas session = {NULL}, and after hongpilas_checked_free;
+ *   BAD_ARGUMENT if a pointer to a result or to limits is null; if a text or a buffer is
+ *     null and its length is not 0; and if its length is above 2^63 - 1.
  *
- * A text or a buffer of length 0 may be null. A start, a count, an index and an id are no
- * lengths of what a pointer leads to: the call itself says what it does with each. What a
- * call without `checked` answers at once is set in a place here, *length, *count or
- * *value, and is as it was where the call is refused. */
+ * A text or a buffer of length 0 may be null. A start, a count, an index and an id are
+ * not lengths of memory: the call itself says what it does with each. What a call
+ * without `checked` returns, its checked form writes to *length, *count or *value, which
+ * do not change if the call is refused. */
 
-/* As hongpilas_new; a null place for the session is BAD_ARGUMENT. */
+/* Like hongpilas_new. A null pointer to the session is BAD_ARGUMENT. */
 hongpilas_answer hongpilas_checked_new(hongpilas *session);
 hongpilas_answer hongpilas_checked_new_with_limits(hongpilas *session, const hongpilas_limits *limits);
 
-/* Gives a session back, and sets its word to null, so that each later call by the checked
- * forms is refused. Does nothing where the session is null. */
+/* Frees a session, and sets its pointer to null, so that each later call of a checked
+ * form is refused. Does nothing if the session is null. */
 void hongpilas_checked_free(hongpilas *session);
 
 hongpilas_answer hongpilas_checked_new_view(hongpilas *session, uint32_t *view);
@@ -208,14 +208,14 @@ hongpilas_answer hongpilas_checked_close_view(hongpilas *session, uint32_t view)
 hongpilas_answer hongpilas_checked_send(hongpilas *session, uint32_t view, uint32_t number, int64_t w, int64_t l,
                                         const uint8_t *text, size_t length, int64_t *value);
 
-/* The last reply: value, text and count of its notes. */
+/* The last reply: its value, its text and the number of its notes. */
 hongpilas_answer hongpilas_checked_value(hongpilas *session, int64_t *value);
 hongpilas_answer hongpilas_checked_text(hongpilas *session, const uint8_t **text, size_t *length);
 hongpilas_answer hongpilas_checked_copy_text(hongpilas *session, size_t start, uint8_t *into, size_t room,
                                              size_t *count);
 hongpilas_answer hongpilas_checked_note_count(hongpilas *session, size_t *count);
 
-/* A note of the last reply, and its text. Where there is no note with this index they are
+/* A note of the last reply, and its text. If there is no note with this index, the call is
  * refused as BAD_ARGUMENT. */
 hongpilas_answer hongpilas_checked_note(hongpilas *session, size_t index, hongpilas_note_data *note);
 hongpilas_answer hongpilas_checked_copy_note_text(hongpilas *session, size_t index, size_t start, uint8_t *into,
@@ -226,12 +226,12 @@ hongpilas_answer hongpilas_checked_lend_range(hongpilas *session, uint32_t view,
 hongpilas_answer hongpilas_checked_copy_range(hongpilas *session, uint32_t view, size_t start, uint8_t *into,
                                               size_t count);
 
-/* The name of an answer. These two are refused as BAD_ARGUMENT alone. */
+/* The name of an answer. These two are refused only as BAD_ARGUMENT. */
 hongpilas_answer hongpilas_checked_refusal_name(hongpilas_answer answer, const uint8_t **name, size_t *length);
 hongpilas_answer hongpilas_checked_copy_refusal_name(hongpilas_answer answer, uint8_t *into, size_t room,
                                                      size_t *count);
 
-/* Scintilla's names and numbers, as far as the profile has them; none where Scintilla.h was included before. */
+/* Scintilla's names and numbers, as far as the profile has them. Left out if Scintilla.h was included before. */
 #ifndef SCINTILLA_H
 /* Written by tools/header.py: begin */
 /* Messages. */

@@ -1,7 +1,7 @@
-/* Hongpilas in Scintilla's own manner: a program that speaks to Scintilla by SciFnDirect speaks to a view of Hongpilas
- * by hongpilas_direct, with the same messages, texts, structs and notifications. Include this in the place of
- * Scintilla.h; or behind it, and Scintilla's own types and names are taken. Once this one is included, Scintilla.h
- * declares nothing any more.
+/* Hongpilas with Scintilla's own interface: a program that calls Scintilla by SciFnDirect calls a view of Hongpilas by
+ * hongpilas_direct, with the same messages, texts, structs and notifications. Include this header instead of
+ * Scintilla.h. If Scintilla.h is included before, its own types and names are used. If it is included afterwards, it
+ * declares nothing.
  *
  *     SciFnDirect send = hongpilas_direct;
  *     hongpilas_door *door = hongpilas_door_new();
@@ -9,9 +9,9 @@
  *     hongpilas_set_notify(view, hear, NULL);
  *     send(view, SCI_ADDTEXT, 5, (sptr_t)"hello");
  *
- * docs/MESSAGES.md has the messages; its column "Beside Scintilla", and docs/PROFILE.md, say what is otherwise here.
- * What hongpilas.h says that the caller owes is owed here too: one call at a time, on one thread, and none from a
- * signal handler. A text and a buffer are the caller's own: a note's text is copied before it is sent. */
+ * docs/MESSAGES.md has the messages. Its column "Beside Scintilla", and docs/PROFILE.md, state the differences.
+ * The duties of the caller in hongpilas.h hold here, too: one call at a time, on one thread, and none from a signal
+ * handler. A text and a buffer belong to the caller: copy the text of a note before you send it. */
 #ifndef HONGPILAS_SCINTILLA_H
 #define HONGPILAS_SCINTILLA_H
 
@@ -20,7 +20,7 @@
 #include <stddef.h>
 #include <stdint.h>
 
-/* ---- Scintilla's types, and those of its names that hongpilas.h does not have ---- */
+/* ---- Scintilla's types, and its names that hongpilas.h does not have ---- */
 
 #ifndef SCINTILLA_H
 #define SCINTILLA_H
@@ -64,24 +64,24 @@ typedef struct SCNotification SCNotification;
 #endif
 
 struct Sci_NotifyHeader {
-  void *hwndFrom; /* the view, a sptr_t that was cast */
+  void *hwndFrom; /* the view: an sptr_t, cast */
   uptr_t idFrom;  /* 0 */
   unsigned int code;
 };
 
-/* A notification. What its code does not name is 0, as is what the profile does not have. */
+/* A notification. Fields that its code does not use are 0, and so are fields that the profile does not have. */
 struct SCNotification {
   Sci_NotifyHeader nmhdr;
   Sci_Position position; /* SCN_MODIFIED, SCN_STYLENEEDED */
   int ch;
   int modifiers;
-  int modificationType;    /* SCN_MODIFIED, as what stands below but for SCN_MACRORECORD's */
-  const char *text;        /* of `length` bytes, with no closing NUL */
+  int modificationType;    /* SCN_MODIFIED, as all fields below but those of SCN_MACRORECORD */
+  const char *text;        /* `length` bytes, without a closing NUL */
   Sci_Position length;     /* in bytes */
   Sci_Position linesAdded;
-  int message;             /* SCN_MACRORECORD, as both below */
+  int message;             /* SCN_MACRORECORD, as the two fields below */
   uptr_t wParam;
-  sptr_t lParam;           /* what the recorded call was given: a text is the caller's own */
+  sptr_t lParam;           /* as in the recorded call: a text belongs to its caller */
   Sci_Position line;
   int foldLevelNow;
   int foldLevelPrev;
@@ -105,46 +105,46 @@ extern "C" {
 /* A door: a session, and the views that were opened through it. */
 typedef struct hongpilas_door hongpilas_door;
 
-/* Opens a session without views: with the greatest limits, or with lower ones. NULL where memory is refused, or a
- * limit is out of its range. The third call gives it back, with all its views; while notes are told, below, it does
- * nothing. */
+/* Opens a session without views, with the greatest limits or with lower ones. Returns NULL if an allocation fails, or
+ * if a limit is out of its range. The third call frees the session with all its views. It does nothing while a notify
+ * function, below, runs. */
 hongpilas_door *hongpilas_door_new(void);
 hongpilas_door *hongpilas_door_new_with_limits(const hongpilas_limits *limits);
 void hongpilas_door_free(hongpilas_door *door);
 
-/* Opens a view on a new document, and answers what stands for it in all calls below; 0 where memory is refused or no
- * more views may be open. The second call closes a view. While notes are told, neither does anything. */
+/* Opens a view on a new document, and returns its handle for all calls below, or 0 if an allocation fails or no more
+ * views may be open. The second call closes a view. Neither does anything while a notify function runs. */
 sptr_t hongpilas_door_open(hongpilas_door *door);
 void hongpilas_door_close(sptr_t view);
 
-/* Sends a message to a view: a SciFnDirect. w, l and the answer are Scintilla's:
- *  - a text is a pointer, to w bytes or up to a NUL, as the message has it;
- *  - a text that is asked for is written into the caller's buffer, with the closing NULs that Scintilla writes there,
- *    or where the pointer is null only its length is answered;
- *  - a document is the number that GETDOCPOINTER and CREATEDOCUMENT answer, and 0 is a new one;
- *  - what Scintilla has as an int is cut down to one, and a byte that is answered is a char.
+/* Sends a message to a view: a SciFnDirect. w, l and the result are Scintilla's:
+ *  - a text is a pointer, to w bytes or to bytes that end with a NUL, as the message says;
+ *  - a text that the message returns is written to the caller's buffer, with the closing NULs that Scintilla writes
+ *    there; if the pointer is null, only its length is returned;
+ *  - a document is the number that GETDOCPOINTER and CREATEDOCUMENT return, and 0 is a new one;
+ *  - what Scintilla has as an int is truncated to one, and a byte that is returned is a char.
  *
- * Beside the messages of the profile a view takes three: SCI_GETSTATUS and SCI_SETSTATUS, below, and SCI_GETRANGEPOINTER,
- * which lends bytes of the document, of as many as l says from w on, with no copy and no closing NUL. They stand until
- * the view or another of its door is sent a message.
+ * Beside the messages of the profile a view has three more: SCI_GETSTATUS and SCI_SETSTATUS, below, and
+ * SCI_GETRANGEPOINTER, which lends the l bytes of the document from w on, without a copy and without a closing NUL.
+ * They are valid until the next message to a view of the same door.
  *
- * A refused call changes nothing and writes nothing. The view's status becomes SC_STATUS_BADALLOC where memory was
- * refused, else SC_STATUS_FAILURE, and the answer is Scintilla's where it does nothing: 0, or -1 of MARKERADD and
- * SEARCHINTARGET. As in Scintilla the status stays until SCI_SETSTATUS; SCI_GETSTATUS answers it, and so does the
- * second form, a SciFnDirectStatus. A message that the profile does not have answers 0, with no status. */
+ * A refused call changes nothing and writes nothing. The view's status becomes SC_STATUS_BADALLOC if an allocation
+ * failed, and SC_STATUS_FAILURE otherwise. The result is that of Scintilla for a message that does nothing: 0, or -1
+ * for MARKERADD and SEARCHINTARGET. As in Scintilla the status stays until SCI_SETSTATUS. SCI_GETSTATUS returns it, and
+ * so does the second form, a SciFnDirectStatus. A message that the profile does not have returns 0, with no status. */
 sptr_t hongpilas_direct(sptr_t view, unsigned int message, uptr_t w, sptr_t l);
 sptr_t hongpilas_direct_status(sptr_t view, unsigned int message, uptr_t w, sptr_t l, int *status);
 
-/* Why the view last refused a call, as "bad argument"; "" where none was refused since it was opened. It stands until
- * the next call. */
+/* Returns why the view last refused a call, such as "bad argument", or "" if it has refused none since it was opened.
+ * The string is valid until the next call. */
 const char *hongpilas_refusal(sptr_t view);
 
-/* Sets what is called with each notification of a view; NULL for nothing. The notes of a message are told once it is
- * done, one by one, in their order and to each view that hears of them, before hongpilas_direct answers. What a
- * notification points to stands until the callback returns.
+/* Sets the notify function of a view, which is called with each of its notifications; NULL for none. The functions are
+ * called after a message is done and before hongpilas_direct returns: note by note, in their order, for each view that
+ * hears the note. What a notification points to is valid until the function returns.
  *
- * While notes are told no message is taken, of any view of the door: it is refused as "sent while notes are told",
- * SCI_GETSTATUS and SCI_SETSTATUS excepted, and the notes that are still to come are told as ever. */
+ * While a notify function runs, no view of the door takes a message except SCI_GETSTATUS and SCI_SETSTATUS. It is
+ * refused as "sent while notes are told". The remaining notes are sent as usual. */
 typedef void (*hongpilas_notify)(SCNotification *notification, void *data);
 void hongpilas_set_notify(sptr_t view, hongpilas_notify notify, void *data);
 

@@ -6,15 +6,15 @@ use crate::{hongpilas, hongpilas_answer};
 pub const HONGPILAS_VERSION: u32 = 1001;
 
 pub const HONGPILAS_DONE: hongpilas_answer = 0;
-/// A growth was refused.
+/// An allocation failed.
 pub const HONGPILAS_OUT_OF_MEMORY: hongpilas_answer = 1;
-/// No view has that id now.
+/// No view has this id.
 pub const HONGPILAS_NO_SUCH_VIEW: hongpilas_answer = 2;
 /// The profile has no such message.
 pub const HONGPILAS_UNKNOWN_MESSAGE: hongpilas_answer = 3;
-/// No document has that id now, or the caller holds no reference to it.
+/// No document has this id, or the caller holds no reference to it.
 pub const HONGPILAS_NO_SUCH_DOCUMENT: hongpilas_answer = 4;
-/// The text would pass its limit after some step.
+/// The text would exceed its limit after some step.
 pub const HONGPILAS_TOO_LONG: hongpilas_answer = 5;
 /// An argument is outside the range that the message states.
 pub const HONGPILAS_BAD_ARGUMENT: hongpilas_answer = 6;
@@ -26,7 +26,7 @@ pub const HONGPILAS_TOO_MANY: hongpilas_answer = 7;
 pub struct hongpilas_limits {
     /// Bytes of a document: 0x7FFFFFFF.
     pub doc_bytes: u64,
-    /// Bytes of a document that was made for large texts: 0x10000000000.
+    /// Bytes of a document for large texts: 0x10000000000.
     pub large_bytes: u64,
     /// Marker handles of one document, ever: 0x7FFFFFFF.
     pub handles: u64,
@@ -43,9 +43,9 @@ pub struct hongpilas_limits {
 #[repr(C)]
 #[derive(Clone, Copy, Debug)]
 pub struct hongpilas_note_data {
-    /// The view that is told.
+    /// The view that is notified.
     pub view: u32,
-    /// Which note, as SCN_MODIFIED.
+    /// Which note, such as SCN_MODIFIED.
     pub code: u32,
     /// Scintilla's modificationType.
     pub kind: u32,
@@ -57,7 +57,7 @@ pub struct hongpilas_note_data {
     pub length: i64,
     /// Scintilla's linesAdded.
     pub lines: i64,
-    /// A line, from 0; -1 where all lines are meant.
+    /// A line, from 0; -1 for all lines.
     pub line: i64,
     /// A fold level after a change: foldLevelNow.
     pub now: i64,
@@ -68,7 +68,7 @@ pub struct hongpilas_note_data {
     /// The arguments of a recorded message.
     pub w: i64,
     pub l: i64,
-    /// The note's text, lent as long as the reply is kept.
+    /// The note's text, valid as long as the reply is.
     pub text: *const u8,
     /// Its length, in bytes.
     pub text_length: usize,
