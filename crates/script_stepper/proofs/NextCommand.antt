@@ -1,4 +1,4 @@
--- The run of one command more.
+-- The run of one more command.
 use Rattle.std.proofs.Common.{◌≡◌, ◌≤◌, ◌<◌, ◌+◌, ℕ, zero, suc, List, [], ◌∷◌, ◌++◌, length, take, drop, slice_get, Some, None, refl, ap, sym, ◌∙◌, arith}
 use Rattle.std.proofs.lemmas.Option.{slice_get_within, slice_get_past}
 use Rattle.ed_types.specs.declared.script.Command.{Command}
@@ -7,27 +7,27 @@ use Rattle.ed_model.specs.Run.{Running, starting, outcomes, run_to, after_comman
 use Rattle.ed_model.specs.Session.{new_session, greatest_limits}
 use Rattle.script_stepper.specs.Stepping.{Stepping, StandsAt, next_outcome}
 
--- the command at a place is the first of those that are left
+-- the command at index `i` is the first of those from `i` on
 pub left_at : {X : Type 0} (i : ℕ) (xs : List X) (x : X) → slice_get xs i ≡ Some x → drop i xs ≡ x ∷ drop (suc i) xs
 left_at i [] x e = absurd (cc)
 left_at zero (y ∷ ys) x e = let same : y ≡ x = cc in ap (λ z. z ∷ ys) same
 left_at (suc i) (y ∷ ys) x e = left_at i ys x e
 
--- what is left to be done, behind that command
+-- the commands that remain after that command
 pub one_less : (files : List (List ℕ)) (commands : List Command) (i : ℕ) (c : Command) (now new end : Running) → slice_get commands i ≡ Some c →
     new ≡ (after_command files c now).0 → run_to files (drop i commands) now ≡ end → run_to files (drop (i + 1) commands) new ≡ end
 one_less files commands i c now new end e state h =
     let after : i + 1 ≡ suc i = omega arith in
     rw (after, state) (sym (ap (λ cs. run_to files cs now) (left_at i commands c e)) ∙ h)
 
--- the run of one command more
+-- the run of the first `i + 1` commands
 pub one_more : (files : List (List ℕ)) (commands : List Command) (start : Running) (i : ℕ) (c : Command) → slice_get commands i ≡ Some c →
     run_to files (take (suc i) commands) start ≡ (after_command files c (run_to files (take i commands) start)).0
 one_more files [] start i c e = absurd (cc)
 one_more files (d ∷ ds) start zero c e = let same : d ≡ c = cc in ap (λ x. (after_command files x start).0) same
 one_more files (d ∷ ds) start (suc i) c e = one_more files ds (after_command files d start).0 i c e
 
--- what comes of it
+-- the outcome of that command
 pub outcome_there : (files : List (List ℕ)) (commands : List Command) (start : Running) (i : ℕ) (c : Command) → slice_get commands i ≡ Some c →
     slice_get (outcomes files commands start) i ≡ Some (after_command files c (run_to files (take i commands) start)).1
 outcome_there files [] start i c e = absurd (cc)
@@ -39,7 +39,7 @@ no_outcome files [] start i e = refl
 no_outcome files (d ∷ ds) start zero e = absurd (cc)
 no_outcome files (d ∷ ds) start (suc i) e = no_outcome files ds (after_command files d start).0 i e
 
--- The same of what a stepper keeps.
+-- The same for the states of a stepper.
 
 pub stands_on : (state : ℕ) (commands : List Command) (files : List (List ℕ)) (run new : Running) (c : Command) → StandsAt state commands files run → slice_get commands state ≡ Some c →
     new ≡ (after_command files c run).0 → StandsAt (state + 1) commands files new

@@ -1,4 +1,4 @@
--- A script that is done a command at a time.
+-- A script that is performed one command at a time.
 use Rattle.std.specs.Prelude.{◌≡◌, ℕ, ◌≤◌, ◌+◌, List, length, take, slice_get, Option, Some, None}
 use Rattle.ed_types.specs.declared.script.Command.{Command}
 use Rattle.ed_types.specs.declared.script.Outcome.{Outcome}
@@ -15,20 +15,20 @@ pub record Stepping : Type 0 where
 abbrev pub run_of_first : ℕ → List Command → List (List ℕ) → Running
 run_of_first count commands files = run_to files (take count commands) (starting (new_session greatest_limits))
 
--- the session behind the commands that are done
+-- the session after the commands that are done
 abbrev pub session_of : Stepping → Session
 session_of s = (run_of_first s.state s.commands s.files).session
 
--- what comes of the next command in the run of all of them; none behind the last
+-- the outcome of the next command in the run of all of them; `None` after the last
 abbrev pub next_outcome : Stepping → Option Outcome
 next_outcome s = slice_get (outcomes s.files s.commands (starting (new_session greatest_limits))) s.state
 
--- one command more is done where there was one
+-- one more command is done, if there was one
 abbrev pub moved_on : Option Outcome → Stepping → Stepping
 moved_on None s = s
 moved_on (Some outcome) s = record s { state = s.state + 1 }
 
--- What every stepper keeps: its run is that of its first commands.
+-- The invariant of every stepper: its run is that of its first commands.
 pub record StandsAt (state : ℕ) (commands : List Command) (files : List (List ℕ)) (run : Running) : Type 0 where
   pub within : state ≤ length commands
   pub stands : run ≡ run_of_first state commands files

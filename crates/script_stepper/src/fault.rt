@@ -1,4 +1,4 @@
-//! Why a stepper stays where it is.
+//! The faults of a stepper.
 
 ghost use Rattle.std.specs.Prelude.{◌≡◌};
 ghost use Rattle.script_stepper.specs.declared.fault.StepFault.TheVariants.{OutOfMemory};
@@ -6,13 +6,13 @@ ghost use Rattle.script_stepper.specs.declared.fault.StepFault.TheVariants.{OutO
 use std::alloc::AllocError;
 use thiserror::Error;
 
-/// Why a stepper did not move. It then stands where it stood.
+/// Why a stepper did not move. The stepper is then unchanged.
 #[derive(Clone, Copy, Debug, PartialEq, Eq, Error)]
 pub enum StepFault {
     /// The script has fewer commands.
     #[error("out of range")]
     OutOfRange,
-    /// A growth was refused.
+    /// An allocation failed.
     #[error("out of memory")]
     OutOfMemory,
 }

@@ -1,4 +1,4 @@
-//! Steppers: a script that is done a command at a time, forwards and back.
+//! Steppers: a script that is performed one command at a time, forwards and backwards.
 #![tactic(auto)]
 
 mod fault;

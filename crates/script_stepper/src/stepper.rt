@@ -15,8 +15,8 @@ use macro_script::Script;
 use std::alloc::{AllocError, Global};
 use std::marker::Model;
 
-/// A script in a session of its own, done a command at a time. Contracts see its commands, the files that they load, and how many of
-/// the commands are done; these alone tell in which session it stands.
+/// A script in a session of its own, performed one command at a time. A contract sees its commands, the files that they
+/// load, and how many of the commands are done; these three determine the session.
 #[derive(Drop)]
 pub struct Stepper {
     alloc: Global,
@@ -36,11 +36,11 @@ impl Model for Stepper {
     ghost invariant = { λ s. StandsAt s.state s.script s.files.items s.run };
 }
 
-/// Does commands in order.
+/// Performs commands in order.
 ///
 /// # Errors
 ///
-/// `AllocError` where memory is refused; the run then stands behind the commands that were done.
+/// `AllocError` if an allocation fails. The run is then that of the commands that were done.
 fn do_all(run: &mut Run, files: &[Bytes], commands: &[Command]) -> Result<(), AllocError>
     ensures { OnOk result (run.new ≡ run_to files.now commands.now run.old) }
 {
@@ -51,8 +51,8 @@ fn do_all(run: &mut Run, files: &[Bytes], commands: &[Command]) -> Result<(), Al
 }
 
 impl Stepper {
-    /// A stepper before the first command of a script, in a new session. `load` takes its file from `files`, where the first is 1.
-    /// Takes no memory.
+    /// Returns a stepper before the first command of a script, in a new session. `load` reads from `files`, of which the first
+    /// has number 1. Allocates nothing.
     pub fn new(alloc: Global, script: Script, files: Vec<Bytes>) -> Self
         ensures { result ≡ record { commands = script; files = files.items; state = 0 } }
     {
@@ -65,14 +65,14 @@ impl Stepper {
         }
     }
 
-    /// The commands of the script, lent. Takes no memory.
+    /// Returns the commands of the script. Allocates nothing.
     pub fn commands(&self) -> &[Command]
         ensures { result.now ≡ self.now.commands }
     {
         self.script.commands()
     }
 
-    /// How many commands are done. Takes no memory.
+    /// Returns how many commands are done. Allocates nothing.
     pub fn state(&self) -> usize
         ensures state { result ≡ self.now.state }
         ensures within { self.now.state ≤ length self.now.commands }
@@ -80,19 +80,19 @@ impl Stepper {
         self.state
     }
 
-    /// The session behind the first `state()` commands, lent. Takes no memory.
+    /// Lends the session after the first `state()` commands. Allocates nothing.
     pub fn session(&self) -> &Session
         ensures { result.now ≡ session_of self.now }
     {
         self.run.session()
     }
 
-    /// Does the next command, and answers what came of it: nothing where all are done.
+    /// Performs the next command, and returns its outcome, or `None` if all are done.
     ///
     /// # Errors
     ///
-    /// `OutOfMemory` where the command was refused for want of memory, which never comes of one that takes none, nor of one that the
-    /// definitions refuse, whose refusal is its outcome. The stepper is then as it was.
+    /// `OutOfMemory` if an allocation fails. The stepper is then unchanged. A command that allocates nothing never has this
+    /// error, nor does one that the model refuses: its refusal is its outcome.
     pub fn step(&mut self) -> Result<Option<Outcome>, StepFault>
         ensures outcome { IfOk result (λ outcome. outcome ≡ next_outcome self.old) }
         ensures end { (result ≡ Ok None) ↔ (self.old.state ≡ length self.old.commands) }
@@ -110,11 +110,11 @@ impl Stepper {
         Ok(Some(outcome))
     }
 
-    /// Goes back by one command, and answers whether there was one. Does the commands before it again, from a new session.
+    /// Goes back by one command, and returns whether there was one. Performs the commands before it again, in a new session.
     ///
     /// # Errors
     ///
-    /// `OutOfMemory` where memory is refused. The stepper is then as it was.
+    /// `OutOfMemory` if an allocation fails. The stepper is then unchanged.
     pub fn back(&mut self) -> Result<bool, StepFault>
         ensures start { (result ≡ Ok false) ↔ (self.old.state ≡ 0) }
         ensures moved { OnOk result (self.new ≡ record self.old { state = self.old.state - 1 }) }
@@ -129,12 +129,12 @@ impl Stepper {
         Ok(true)
     }
 
-    /// Goes to where the first `n` commands are done. Does them again, from a new session.
+    /// Goes to where the first `n` commands are done. Performs them again, in a new session.
     ///
     /// # Errors
     ///
-    /// `OutOfRange` exactly where the script has fewer than `n` commands; `OutOfMemory` where memory is refused. The stepper is then
-    /// as it was.
+    /// `OutOfRange` exactly if the script has fewer than `n` commands, and `OutOfMemory` if an allocation fails. The stepper is
+    /// then unchanged.
     pub fn run_to(&mut self, n: usize) -> Result<(), StepFault>
         ensures range { (result ≡ Err OutOfRange) ↔ (length self.old.commands < n) }
         ensures moved { OnOk result (self.new ≡ record self.old { state = n }) }
@@ -147,7 +147,7 @@ impl Stepper {
         Ok(())
     }
 
-    /// Does the first `n` commands in a new session, which takes the place of the old one.
+    /// Performs the first `n` commands in a new session, which replaces the old one.
     fn start_again(&mut self, n: usize) -> Result<(), AllocError>
         requires { n ≤ length self.old.commands }
         ensures moved { OnOk result (self.new ≡ record self.old { state = n }) }

@@ -12,7 +12,7 @@ returns-in_default-clause-outcome c =
     let past : length s.script ≤ s.state = search rules in
     none_next s.state s.script s.files.items past ∙ ap next_outcome c.self.view_is
 
--- the command that is done is the next one
+-- the command that was performed is the next one
 there : (c : goal.After-self-1) → slice_get c.self.inside.script c.self.inside.state ≡ Some c.in-Some.command.now
 there c =
     let s = c.self.inside in
@@ -30,7 +30,7 @@ returns-clause-outcome c =
     let s = c.self.inside in
     came_next s.state s.script s.files.items s.run c.in-Some.command.now c.in_ok-outcome.outcome c.self.invariant (there c) (search rules) ∙ ap next_outcome c.self.view_is
 
--- a command that the definitions refuse does not end the run
+-- a command that the model refuses does not end the run
 pub returns-in_err-outcome-clause-goes_on : goal.returns-in_err-outcome-clause-goes_on
 returns-in_err-outcome-clause-goes_on c refusal refused =
     let s = c.self.inside in
