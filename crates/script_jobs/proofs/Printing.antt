@@ -1,4 +1,4 @@
--- Text that goes through a buffer to a writer.
+-- Text that is written through a buffer.
 use Rattle.std.proofs.Common.{◌≡◌, ℕ, ◌+◌, ◌<◌, ◌≤◌, Bool, true, false, cond, List, [], ◌∷◌, ◌++◌, length, drop, map, refl, sym, ◌∙◌, ap, subst, arith, append_assoc, append-nil, add-zero, Option, Result, Ok, Err, get_or}
 use Rattle.std.proofs.lemmas.List.{drop_more}
 use Rattle.std.proofs.lemmas.List.Sums.{sum_by-cons}
@@ -20,7 +20,7 @@ use Rattle.script_jobs.specs.declared.notes.Notes.{Notes}
 use Rattle.script_jobs.specs.declared.notes.Notes.TheVariants.{Shown, LeftOut}
 use Rattle.script_jobs.specs.Runs.{Writes, without_notes, shown_outcome, shown_outcomes}
 
--- How far a text has gone in: a part of it is written or in the buffer, and the rest is left.
+-- The progress of a text: a part of it is written or in the buffer, and the rest remains.
 pub record Progress (old now : Option (List ℕ)) (before after all rest : List ℕ) : Type 0 where
   pub done : List ℕ
   pub moved : Moves old now before after done
@@ -34,7 +34,7 @@ moves_more old mid new before between after first more a b = record {
       ∙ ap (λ bs. a.written ++ bs) b.split ∙ sym (append_assoc a.written b.written after);
 }
 
--- one piece more
+-- one more piece
 pub go_on : (old mid new : Option (List ℕ)) (before between after all piece rest : List ℕ) → Progress old mid before between all (piece ++ rest) → Moves mid new between after piece → Progress old new before after all rest
 go_on old mid new before between after all piece rest so_far more = record {
   done = so_far.done ++ piece;
@@ -42,11 +42,11 @@ go_on old mid new before between after all piece rest so_far more = record {
   split = so_far.split ∙ sym (append_assoc so_far.done piece rest);
 }
 
--- it ends here
+-- the text ends here
 pub stopped : (old now : Option (List ℕ)) (before after all rest : List ℕ) → Progress old now before after all rest → MovesPart old now before after all
 stopped old now before after all rest so_far = record { part = so_far.done; left = rest; split = so_far.split; moved = so_far.moved }
 
--- it ends within a piece
+-- the text ends within a piece
 pub stopped_within : (old mid new : Option (List ℕ)) (before between after all piece rest : List ℕ) → Progress old mid before between all (piece ++ rest) → MovesPart mid new between after piece → MovesPart old new before after all
 stopped_within old mid new before between after all piece rest so_far more = record {
   part = so_far.done ++ more.part;
@@ -70,19 +70,19 @@ cut_within old mid new before between all piece rest so_far more =
       appended = appends_more old mid new w more.front so_far.moved.appended more.appended;
     }
 
--- the piece of one command, as `put` leaves it
+-- the piece of one command, after `put`
 pub put_failed : {T : Type 0} (r : Result T RunFault) (old mid new : Option (List ℕ)) (before between after all piece rest : List ℕ) (fault : RunFault) → r ≡ Err fault → Progress old mid before between all (piece ++ rest) → Puts {T = Unit {0}} piece (Err fault) mid new between after → Puts all r old new before after
 put_failed r old mid new before between after all piece rest (Script fault) is so_far put = subst (λ (q : Result _ RunFault). Puts all q old new before after) (sym is) (put.0, stopped_within old mid new before between after all piece rest so_far put.1)
 put_failed r old mid new before between after all piece rest Read is so_far put = absurd put
 put_failed r old mid new before between after all piece rest Write is so_far put = subst (λ (q : Result _ RunFault). Puts all q old new before after) (sym is) (cut_within old mid new before between all piece rest so_far put)
 
--- a command that was refused for want of memory
+-- a command that was refused because an allocation failed
 pub step_failed : {T : Type 0} (r : Result T RunFault) (old now : Option (List ℕ)) (before after all rest : List ℕ) (fault : RunFault) → r ≡ Err fault → fault ≡ Script OutOfMemory → Progress old now before after all rest → Puts all r old now before after
 step_failed r old now before after all rest fault is which so_far = subst (λ (q : Result _ RunFault). Puts all q old now before after) (sym (is ∙ ap Err which)) (refl, stopped old now before after all rest so_far)
 
 -- Commands, one after another.
 
--- what comes of the commands from place i on
+-- the outcomes of the commands from index `i` on
 abbrev pub left : List (List ℕ) → List Command → ℕ → Running → List Outcome
 left files commands i s = outcomes files (drop i commands) s
 
@@ -97,7 +97,7 @@ unrolled files commands i d s new outcome h is state came =
     ∙ ap (λ o. o ∷ left files commands (i + 1) (after_command files d s).0) (sym came)
     ∙ ap (λ t. outcome ∷ left files commands (i + 1) t) (sym state)
 
--- the progress before a command, with its outcome in front
+-- the progress before a command, with its outcome added to the rest
 pub before_outcome : (notes : Notes) (old now : Option (List ℕ)) (before after all : List ℕ) (rest more : List Outcome) (outcome : Outcome) → rest ≡ outcome ∷ more → Progress old now before after all (printed (shown_outcomes notes rest)) → Progress old now before after all (printed_outcome (shown_outcome notes outcome) ++ printed (shown_outcomes notes more))
 before_outcome Shown old now before after all rest more outcome is so_far = subst (λ (os : List Outcome). Progress old now before after all (printed os)) is so_far
 before_outcome LeftOut old now before after all rest more outcome is so_far = subst (λ (os : List Outcome). Progress old now before after all (printed (map without_notes os))) is so_far
@@ -119,7 +119,7 @@ few_counted u v i false grown h = omega (arith, grown)
 
 -- The end of a run.
 
--- what is in the buffer is written, as far as it goes
+-- the buffer is written, up to the first failure
 pub flush_failed : (old mid new : Option (List ℕ)) (before buffer text : List ℕ) → before ≡ [] → Moves old mid before buffer text → AppendsFront mid new buffer → AppendsFront old new text
 flush_failed old mid new before buffer text none moved more = record {
   front = moved.written ++ more.front;
@@ -143,7 +143,7 @@ flush_part old mid new before buffer text (Ok done) none some more =
 flush_part old mid new before buffer text (Err failed) none some more =
     front_of_part old new text some.part some.left some.split (flush_failed old mid new before buffer some.part none some.moved more)
 
--- the answer where a write failed
+-- the result after a write failed
 pub writes_failed : (r : Result ℕ RunFault) (fault : RunFault) (text : List ℕ) (old new : Option (List ℕ)) → r ≡ Err fault → fault ≡ Write → AppendsFront old new text → Writes text r old new
 writes_failed r fault text old new is which some = subst (λ (q : Result ℕ RunFault). Writes text q old new) (sym (is ∙ ap Err which)) some
 

@@ -1,4 +1,4 @@
--- What a run and a job answer and write.
+-- What a run and a job return and write.
 use Rattle.std.specs.Prelude.{◌≡◌, ⊤, ℕ, Bool, true, false, List, [], map, count_by, Option, Result, Ok, Err}
 use Rattle.std.specs.Io.KnownBytes.{Appends}
 use Rattle.ed_types.specs.declared.script.Command.{Command}
@@ -18,27 +18,27 @@ use Rattle.script_ends.specs.Answers.{checked, none}
 use Rattle.script_jobs.specs.declared.notes.Notes.{Notes}
 use Rattle.script_jobs.specs.declared.notes.Notes.TheVariants.{Shown, LeftOut}
 
--- what comes of a script's commands with these files, from a new session
+-- the outcomes of a script's commands with these files, in a new session
 abbrev pub answers : List (List ℕ) → List Command → List Outcome
 answers files commands = outcomes files commands (starting (new_session greatest_limits))
 
--- the text that is printed of them, and how many expects were not met
+-- the text printed for them, and how many `expect` commands were not met
 abbrev pub printed_run : List (List ℕ) → List Command → List ℕ
 printed_run files commands = printed (answers files commands)
 
 abbrev pub unmet : List (List ℕ) → List Command → ℕ
 unmet files commands = count_by is_unmet (answers files commands)
 
--- an outcome without its notes: a reply has none, and any other outcome is as it was
+-- an outcome without its notes: a reply loses them, and any other outcome stays the same
 abbrev pub without_notes : Outcome → Outcome
 without_notes (Replied reply) = Replied (record reply { notes = [] })
 without_notes outcome = outcome
 
--- the text that is printed of them without notes
+-- the text printed for them without notes
 abbrev pub printed_quietly : List (List ℕ) → List Command → List ℕ
 printed_quietly files commands = printed (map without_notes (answers files commands))
 
--- what a job writes of a script's commands, with these files, and what it answers
+-- the text that a job writes for a script's commands with these files, and the number that it returns
 abbrev pub text_of_job : Job → List (List ℕ) → List Command → List ℕ
 text_of_job (Run script paths) files = printed_run files
 text_of_job (ListJob script) files = listing 2
@@ -51,7 +51,7 @@ value_of_job (Check script) files = none
 
 -- The parts of a run.
 
--- outcomes, with their notes or without them
+-- outcomes with their notes or without them
 abbrev pub shown_outcome : Notes → Outcome → Outcome
 shown_outcome Shown outcome = outcome
 shown_outcome LeftOut outcome = without_notes outcome
@@ -60,14 +60,14 @@ abbrev pub shown_outcomes : Notes → List Outcome → List Outcome
 shown_outcomes Shown outcomes = outcomes
 shown_outcomes LeftOut outcomes = map without_notes outcomes
 
--- a text was put into a buffer and written, so that nothing is left there; or a part of it, from its front
+-- a text was put into a buffer and written, so that the buffer is empty; or, after an error, a prefix of it
 abbrev pub Writes : List ℕ → Result ℕ RunFault → Option (List ℕ) → Option (List ℕ) → Type 0
 Writes text (Ok value) old new = Appends old new text
 Writes text (Err (Script fault)) old new = (fault ≡ OutOfMemory) × AppendsFront old new text
 Writes text (Err Read) old new = ⊥
 Writes text (Err Write) old new = AppendsFront old new text
 
--- a write fault comes only where a write failed; what is in the buffer may still be tried after a want of memory
+-- a write fault comes only from a write that failed; after a failed allocation the buffer may still be written
 abbrev pub WriteCause : {T : Type 0} → Result T RunFault → Bool → Type 0
 WriteCause (Ok value) writer = writer ≡ false
 WriteCause (Err (Script fault)) writer = ⊤

@@ -1,5 +1,5 @@
-//! What is done with scripts, from any source of bytes to any sink: they are run, and jobs are done as words ask for them. What is left
-//! to a program is to open files and to end with a status.
+//! Jobs on scripts, from any source of bytes to any sink: scripts are run, and the jobs of a command line are performed.
+//! The program itself only opens files and returns an exit status.
 #![tactic(auto)]
 
 mod notes;

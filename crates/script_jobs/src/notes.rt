@@ -1,4 +1,4 @@
-//! What is printed of outcomes, with their notes or without them.
+//! Printing outcomes with their notes or without them.
 
 ghost use Rattle.std.specs.Prelude.{◌≡◌, false};
 ghost use Rattle.ed_model.specs.Printed.{printed_outcome};
@@ -11,14 +11,14 @@ use macro_script::printing::{append_answer, append_outcome};
 use script_ends::{RunFault, Sink, pour, put};
 use std::alloc::AllocError;
 
-/// Whether the lines of notes are printed.
+/// Whether to print the lines of notes.
 #[derive(Clone, Copy)]
 pub enum Notes {
     Shown,
     LeftOut,
 }
 
-/// Appends what an outcome prints, but for its notes.
+/// Appends the printed form of an outcome without its notes.
 fn append_without_notes(out: &mut Vec<u8>, outcome: &Outcome) -> Result<(), AllocError>
     ensures { Appends (printed_outcome (without_notes outcome.now)) out.old.items out.new.items result }
 {
@@ -30,7 +30,7 @@ fn append_without_notes(out: &mut Vec<u8>, outcome: &Outcome) -> Result<(), Allo
     }
 }
 
-/// Puts what an outcome prints without its notes into the buffer, and writes the buffer where it is full then.
+/// Puts the printed form of an outcome without its notes into the buffer, and writes the buffer if it is full.
 fn put_without_notes<W: Sink>(
     sink: &mut W,
     buffer: &mut Vec<u8>,
@@ -45,7 +45,8 @@ fn put_without_notes<W: Sink>(
     Ok(())
 }
 
-/// Puts what an outcome prints, with its notes or without them, into the buffer, and writes the buffer where it is full then.
+/// Puts the printed form of an outcome, with its notes or without them, into the buffer, and writes the buffer if it is
+/// full.
 pub fn put_shown<W: Sink>(
     sink: &mut W,
     notes: Notes,

@@ -1,4 +1,4 @@
-//! Scripts, run from a source to a sink, and jobs done.
+//! Runs scripts from a source to a sink, and performs jobs.
 
 ghost use Rattle.std.specs.Prelude.{◌≡◌, IfSome, IfOk, count_by, false};
 ghost use Rattle.ed_model.specs.Printed.{printed};
@@ -15,10 +15,10 @@ use job_words::Job;
 use script_ends::{RunFault, Sink, Source, check_script, list_script, read_script, write_all};
 use std::alloc::Global;
 
-/// The room that a buffer starts with, in bytes.
+/// The capacity that a buffer starts with, in bytes.
 const ROOM: usize = 65_536;
 
-/// Whether an expect was not met.
+/// Returns whether the outcome is that of an `expect` that was not met.
 fn is_unmet(outcome: &Outcome) -> bool
     ensures { result ≡ is_unmet_outcome outcome.now }
 {
@@ -28,8 +28,8 @@ fn is_unmet(outcome: &Outcome) -> bool
     }
 }
 
-/// Does the commands, puts what they print, with their notes or without, into the buffer, and counts the expects that are not met. A want
-/// of memory ends the run.
+/// Performs the commands, puts the text printed for them, with their notes or without, into the buffer, and counts the `expect`
+/// commands that are not met. A failed allocation ends the run.
 fn run_commands<W: Sink>(
     sink: &mut W,
     notes: Notes,
@@ -54,7 +54,7 @@ fn run_commands<W: Sink>(
     Ok(unmet)
 }
 
-/// Does the commands, and writes what they print. What was printed before a want of memory is still written.
+/// Performs the commands, and writes the text printed for them. What was printed before an allocation failed is still written.
 fn print_outcomes<W: Sink>(
     alloc: Global,
     sink: &mut W,
@@ -82,8 +82,9 @@ fn print_outcomes<W: Sink>(
     }
 }
 
-/// Runs commands from a new session, and writes what they print. What was printed before a want of memory is still written. The run
-/// is lent from here, since each way out of the function that owns it is proved through all that is dropped.
+/// Performs commands in a new session, and writes the text printed for them. What was printed before an allocation failed
+/// is still written. `print_outcomes` borrows the run from here, so that the proofs of its error paths do not go through
+/// the drop of the run.
 fn print_run<W: Sink>(
     alloc: Global,
     sink: &mut W,
@@ -100,14 +101,14 @@ fn print_run<W: Sink>(
     print_outcomes(alloc, sink, notes, &mut run, files, commands)
 }
 
-/// Reads a script, assembles it, runs it with these files in a new session, and writes what it prints. Answers how many expects
-/// were not met.
+/// Reads a script, assembles it, runs it with these files in a new session, and writes the text that it prints. Returns
+/// how many `expect` commands were not met.
 ///
 /// # Errors
 ///
-/// `Script` with the fault of bytes that are no script, or for want of memory, which ends a run; `Read` where a read failed, and
-/// `Write` where a write failed or took no byte. Nothing is written before the script is assembled, and what was written before an
-/// error is a part of the printed text, from its front.
+/// `Script` with the fault of bytes that are no script, or `OutOfMemory` if an allocation fails, which ends a run. `Read` if
+/// a read failed, and `Write` if a write failed or took no byte. Nothing is written before the script is assembled, and the
+/// bytes written before an error are a prefix of the printed text.
 pub fn run_script<R: Source, W: Sink>(
     alloc: Global,
     reader: &mut R,
@@ -126,12 +127,12 @@ pub fn run_script<R: Source, W: Sink>(
     print_run(alloc, writer, Notes::Shown, &files, script.commands())
 }
 
-/// Reads a script, runs it as `run_script` does, and writes what that prints without the lines of notes. Answers how many expects were
-/// not met.
+/// Reads a script, runs it as `run_script` does, and writes the text that it prints without the lines of notes. Returns
+/// how many `expect` commands were not met.
 ///
 /// # Errors
 ///
-/// As of `run_script`.
+/// Those of `run_script`.
 pub fn run_quietly<R: Source, W: Sink>(
     alloc: Global,
     reader: &mut R,
@@ -150,11 +151,12 @@ pub fn run_quietly<R: Source, W: Sink>(
     print_run(alloc, writer, Notes::LeftOut, files, script.commands())
 }
 
-/// Does a job: runs, lists or checks the script that comes from the reader. Answers how many expects were not met, for a listing and a check 0.
+/// Performs a job: runs, lists or checks the script that the source has. Returns how many `expect` commands were not met,
+/// and 0 for a listing and a check.
 ///
 /// # Errors
 ///
-/// As of `run_script`.
+/// Those of `run_script`.
 pub fn do_job<R: Source, W: Sink>(
     alloc: Global,
     job: &Job,
