@@ -1,4 +1,4 @@
-//! Stepping through a script, from any source of orders to any sink: what each command does is told, and what the views then show.
+//! Stepping through a script, from any source of orders to any sink: describes what each command does, and shows the views.
 #![tactic(auto)]
 
 mod look;

@@ -1,4 +1,4 @@
-//! What is seen of each view: its text, its lines, and its history.
+//! Shows each view: its text, its lines, and its history.
 
 use crate::orders::Look;
 use crate::say::say_changes;
@@ -7,17 +7,17 @@ use ed_types::Kind;
 use script_ends::shown::{append_byte, append_bytes, shown_width};
 use std::alloc::AllocError;
 
-/// What stands before a line's text: its number, in six columns, and ` | `.
+/// Blanks as wide as the prefix of a line: its number in six columns, and ` | `.
 const MARGIN: &str = "         ";
 
-/// The bits of a fold level: its number, white space alone, a header.
+/// The bits of a fold level: its number, the white-space flag, the header flag.
 const LEVEL_NUMBER: i64 = 0xFFF;
 
 const LEVEL_WHITE: i64 = 0x1000;
 
 const LEVEL_HEADER: i64 = 0x2000;
 
-/// Where a view's caret and selection stand, and which line is the last.
+/// The caret and the selection of a view, and its last line.
 #[derive(Clone, Copy)]
 struct Marks {
     caret: i64,
@@ -27,13 +27,13 @@ struct Marks {
 }
 
 impl Marks {
-    /// Whether something is to be marked from `start` to before `end`.
+    /// Returns whether the caret or a part of the selection lies from `start` to before `end`.
     fn touch(&self, start: i64, end: i64) -> bool {
         let is_selected = self.from < self.to && self.from < end && start < self.to;
         is_selected || start <= self.caret && self.caret < end
     }
 
-    /// The first position behind a line: the last line has the text's end too.
+    /// Returns the first position behind a line. The last line includes the end of the text.
     fn behind(&self, line: i64, end: i64) -> i64 {
         if line == self.last_line {
             end.saturating_add(1)
@@ -42,7 +42,7 @@ impl Marks {
         }
     }
 
-    /// What stands below the rest of a byte.
+    /// Returns the mark below all characters of a byte but the first.
     fn below(&self, position: i64) -> &'static str {
         if self.from <= position && position < self.to {
             "~"
@@ -51,7 +51,7 @@ impl Marks {
         }
     }
 
-    /// What stands below a byte.
+    /// Returns the mark below the first character of a byte.
     fn at(&self, position: i64) -> &'static str {
         if position == self.caret {
             "^"
@@ -61,7 +61,7 @@ impl Marks {
     }
 }
 
-/// Appends what stands below a byte that is shown by so many characters.
+/// Appends the marks below a byte that is shown by this many characters.
 fn say_marks_of(
     out: &mut String,
     marks: &Marks,
@@ -75,7 +75,7 @@ fn say_marks_of(
     Ok(())
 }
 
-/// Appends the row of marks below the bytes from `start` on, as far as there are any.
+/// Appends the row of marks below the bytes from `start` on, up to the last mark.
 fn say_marks(out: &mut String, marks: &Marks, start: i64, text: &[u8]) -> Result<(), AllocError> {
     out.push_str(MARGIN)?;
     let mut position = start;
@@ -89,7 +89,7 @@ fn say_marks(out: &mut String, marks: &Marks, start: i64, text: &[u8]) -> Result
     Ok(())
 }
 
-/// Appends a line of a view's text, and below it its marks, if it has any.
+/// Appends a line of a view's text, and its marks below it, if there are any.
 fn say_line(
     out: &mut String,
     walk: &mut Walk<'_>,
@@ -115,7 +115,7 @@ fn say_line(
     out.push_str("\n")
 }
 
-/// Appends a view's text, a line each.
+/// Appends a view's text, line by line.
 fn say_text(out: &mut String, walk: &mut Walk<'_>, view: u32) -> Result<(), AllocError> {
     let len = walk.value(view, Kind::GetLength, 0)?;
     let lines = walk.value(view, Kind::GetLineCount, 0)?;
@@ -174,7 +174,7 @@ fn say_flags(
     out.push_str("\n")
 }
 
-/// Appends what is kept of each line of a view.
+/// Appends the levels, markers and flags of all lines of a view.
 fn say_lines(out: &mut String, walk: &mut Walk<'_>, view: u32) -> Result<(), AllocError> {
     let lines = walk.value(view, Kind::GetLineCount, 0)?;
     write!(out, "view {view}: {lines} lines\n")?;
@@ -184,7 +184,7 @@ fn say_lines(out: &mut String, walk: &mut Walk<'_>, view: u32) -> Result<(), All
     Ok(())
 }
 
-/// Does undo or redo as long as it can be done, tells what each does, and goes back to where the walk stood.
+/// Performs undo or redo as often as possible, appends what each does, and restores the place of the walk.
 fn say_turns(
     out: &mut String,
     walk: &mut Walk<'_>,
@@ -216,7 +216,7 @@ fn say_history(out: &mut String, walk: &mut Walk<'_>, view: u32) -> Result<(), A
     say_turns(out, walk, view, Kind::CanRedo, Kind::Redo)
 }
 
-/// Appends what is seen of a view, if it is open.
+/// Appends the look of a view, if the view is open.
 fn say_view(
     out: &mut String,
     walk: &mut Walk<'_>,
@@ -233,7 +233,7 @@ fn say_view(
     }
 }
 
-/// Appends what is seen of each open view.
+/// Appends the look of each open view.
 pub fn say_views(out: &mut String, walk: &mut Walk<'_>, look: Look) -> Result<(), AllocError> {
     let last = walk.last_view();
     for view in 1..=last {

@@ -1,11 +1,11 @@
-//! The orders of someone who steps through a script, a line each.
+//! The orders of a user who steps through a script, one per line.
 
 use script_ends::{RunFault, Source};
 
-/// How many bytes of a line are kept. No order is as long.
+/// How many bytes of a line are kept. Every order is shorter.
 const LONGEST: usize = 64;
 
-/// What is to be shown of each view.
+/// What to show of each view.
 #[derive(Clone, Copy)]
 pub enum Look {
     /// The text, with caret and selection.
@@ -19,21 +19,21 @@ pub enum Look {
 /// What to do next.
 #[derive(Clone, Copy)]
 pub enum Order {
-    /// Does the next command.
+    /// Perform the next command.
     Next,
-    /// Goes back by one.
+    /// Go back by one command.
     Back,
-    /// Goes to where so many commands are done.
+    /// Go to where this many commands are done.
     GoTo(usize),
-    /// Shows something.
+    /// Show the views.
     Show(Look),
-    /// Ends.
+    /// End.
     Quit,
     /// The line is no order.
     Unknown,
 }
 
-/// Reads a line without its LF, of which the first 64 bytes are kept. Answers whether there was one.
+/// Reads a line without its LF, and keeps its first 64 bytes. Returns whether there was one.
 pub fn read_line<S: Source>(source: &mut S, line: &mut Vec<u8>) -> Result<bool, RunFault> {
     line.clear();
     let mut byte = [0u8];
@@ -53,7 +53,7 @@ pub fn read_line<S: Source>(source: &mut S, line: &mut Vec<u8>) -> Result<bool, 
     Ok(is_line)
 }
 
-/// The number of decimal digits, if they are one and not too great.
+/// Returns the value of decimal digits, or `None` if they are no number or one that is too great.
 fn number_of(digits: &[u8]) -> Option<usize> {
     if digits.is_empty() {
         return None;
@@ -69,7 +69,7 @@ fn number_of(digits: &[u8]) -> Option<usize> {
     Some(number)
 }
 
-/// The order of a line.
+/// Returns the order on a line.
 pub fn order_of(line: &[u8]) -> Order {
     match line {
         [b'n'] => Order::Next,

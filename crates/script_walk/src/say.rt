@@ -1,13 +1,13 @@
-//! Commands, answers and notes in words.
+//! Describes commands, replies and notes in words.
 
 use ed_types::{Command, Kind, Message, Note, Outcome, Reply};
 use script_ends::shown::append_quoted;
 use std::alloc::AllocError;
 
-/// The code of a note on a change.
+/// The code of a note of a change: SCN_MODIFIED.
 const MODIFIED: u32 = 2008;
 
-/// The bits of a change's kind.
+/// The bits of a change's kind, each with its name.
 static BITS: [(u32, &str); 17] = [
     (0x1, "InsertText"),
     (0x2, "DeleteText"),
@@ -36,7 +36,7 @@ fn say_message(out: &mut String, number: u32) -> Result<(), AllocError> {
     }
 }
 
-/// Appends a message that is sent.
+/// Appends a message that a command sends.
 fn say_send(out: &mut String, view: u32, message: &Message) -> Result<(), AllocError> {
     let w = message.w;
     let l = message.l;
@@ -57,7 +57,7 @@ pub fn say_command(out: &mut String, command: &Command) -> Result<(), AllocError
     }
 }
 
-/// The name of a note.
+/// Returns the name of a note.
 fn note_name(code: u32) -> &'static str {
     match code {
         2000 => "StyleNeeded",
@@ -70,7 +70,7 @@ fn note_name(code: u32) -> &'static str {
     }
 }
 
-/// Appends the names of the bits of a change's kind, each behind a space.
+/// Appends the names of the bits of a change's kind, each after a space.
 fn say_bits(out: &mut String, kind: u32) -> Result<(), AllocError> {
     for (bit, name) in &BITS {
         if kind & *bit != 0 {
@@ -143,7 +143,7 @@ fn say_reply(out: &mut String, reply: &Reply) -> Result<(), AllocError> {
     Ok(())
 }
 
-/// Appends what came of a command, a line for it and one for each note.
+/// Appends the outcome of a command: one line for it, and one for each note.
 pub fn say_outcome(out: &mut String, outcome: &Outcome) -> Result<(), AllocError> {
     match outcome {
         Outcome::Opened(view) => write!(out, "  answer {view}, the id of the view\n"),
@@ -158,7 +158,7 @@ pub fn say_outcome(out: &mut String, outcome: &Outcome) -> Result<(), AllocError
     }
 }
 
-/// Appends the changes of the text that a reply's notes tell of, behind a space each.
+/// Appends the changes of the text that the notes of a reply describe, each after a space.
 pub fn say_changes(out: &mut String, reply: &Reply) -> Result<(), AllocError> {
     let count = reply.note_count();
     for index in 0..count {

@@ -1,4 +1,4 @@
-//! Steps through a script, by orders that are read a line at a time.
+//! Steps through a script by orders, which are read line by line.
 
 ghost use Rattle.std.specs.Prelude.{◌≡◌, false};
 
@@ -10,18 +10,18 @@ use ed_types::{Bytes, Command};
 use script_ends::{RunFault, Sink, Source, write_all};
 use std::alloc::{AllocError, Global};
 
-/// What is told of a line that is no order.
+/// The text printed for a line that is no order.
 const ORDERS: &str =
     "n next, b back, g N go to N, t text, l lines, h history, q quit: each on a line of its own\n";
 
-/// Appends where the walk stands.
+/// Appends how many commands are done.
 fn say_place(out: &mut String, walk: &Walk<'_>) -> Result<(), AllocError> {
     let done = walk.done();
     let count = walk.count();
     write!(out, "{done} of {count} commands are done\n")
 }
 
-/// Does the next command, and tells it and what came of it.
+/// Performs the next command, and appends a description of it and of its outcome.
 fn say_next(out: &mut String, walk: &mut Walk<'_>) -> Result<(), AllocError> {
     let Some((command, outcome)) = walk.go_on()? else {
         return say_place(out, walk);
@@ -33,7 +33,7 @@ fn say_next(out: &mut String, walk: &mut Walk<'_>) -> Result<(), AllocError> {
     say_outcome(out, &outcome)
 }
 
-/// Goes to a place, if the script has it, and tells where the walk stands.
+/// Goes to where `to` commands are done, if the script has as many, and appends how many are done.
 fn say_moved(out: &mut String, walk: &mut Walk<'_>, to: Option<usize>) -> Result<(), AllocError> {
     match to {
         Some(to) if to <= walk.count() => walk.go_to(to)?,
@@ -42,7 +42,7 @@ fn say_moved(out: &mut String, walk: &mut Walk<'_>, to: Option<usize>) -> Result
     say_place(out, walk)
 }
 
-/// Carries out an order, and tells what is to be told. Answers whether to go on.
+/// Performs an order, and appends its output. Returns whether to continue.
 fn carry_out(out: &mut String, walk: &mut Walk<'_>, order: Order) -> Result<bool, AllocError> {
     match order {
         Order::Next => say_next(out, walk)?,
@@ -58,7 +58,7 @@ fn carry_out(out: &mut String, walk: &mut Walk<'_>, order: Order) -> Result<bool
     Ok(true)
 }
 
-/// Reads orders and carries them out, until one ends or they end.
+/// Reads orders and performs them, until one of them ends the walk or there are no more.
 fn follow<C: Source, W: Sink>(
     alloc: Global,
     walk: &mut Walk<'_>,
@@ -82,7 +82,7 @@ fn follow<C: Source, W: Sink>(
     Ok(())
 }
 
-/// Follows orders from before the first command, in a new session.
+/// Performs orders from before the first command on, in a new session.
 fn follow_from_start<C: Source, W: Sink>(
     alloc: Global,
     commands: &[Command],
@@ -96,11 +96,11 @@ fn follow_from_start<C: Source, W: Sink>(
     follow(alloc, &mut walk, orders, sink)
 }
 
-/// Steps through commands with these files, by the orders that a source gives, and writes what they show. Answers 0.
+/// Steps through commands with these files by the orders from a source, and writes the output. Returns 0.
 ///
 /// # Errors
 ///
-/// `Script` for want of memory, `Read` where the orders cannot be read, and `Write` where a write failed or took no byte.
+/// `Script` if an allocation fails, `Read` if the orders cannot be read, and `Write` if a write failed or took no byte.
 pub fn step_commands<C: Source, W: Sink>(
     alloc: Global,
     commands: &[Command],

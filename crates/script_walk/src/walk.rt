@@ -1,10 +1,10 @@
-//! A script, done a command at a time, whose session can be asked between the commands.
+//! A script that is performed one command at a time, whose session can be asked between the commands.
 
 use ed_types::{Bytes, Command, Kind, Message, Outcome, Reply};
 use editor_session::{Run, Session};
 use std::alloc::{AllocError, Global};
 
-/// Where someone stands in a script.
+/// A place in a script, with the session there.
 #[derive(Drop)]
 pub struct Walk<'a> {
     alloc: Global,
@@ -17,7 +17,7 @@ pub struct Walk<'a> {
 }
 
 impl<'a> Walk<'a> {
-    /// Before the first command, in a new session.
+    /// Returns the walk before the first command, in a new session.
     pub fn new(alloc: Global, commands: &'a [Command], files: &'a [Bytes]) -> Self {
         Walk {
             alloc,
@@ -30,22 +30,22 @@ impl<'a> Walk<'a> {
         }
     }
 
-    /// How many commands are done.
+    /// Returns how many commands are done.
     pub fn done(&self) -> usize {
         self.done
     }
 
-    /// How many commands there are.
+    /// Returns how many commands there are.
     pub fn count(&self) -> usize {
         self.commands.len()
     }
 
-    /// The greatest id of a view that was opened; 0 where there was none.
+    /// Returns the greatest id of a view that was opened, or 0 if there was none.
     pub fn last_view(&self) -> u32 {
         self.last_view
     }
 
-    /// Does a command.
+    /// Performs a command.
     fn do_command(&mut self, command: &Command) -> Result<Outcome, AllocError> {
         let outcome = self.run.step(self.files, command)?;
         if let Outcome::Opened(view) = &outcome {
@@ -54,13 +54,13 @@ impl<'a> Walk<'a> {
         Ok(outcome)
     }
 
-    /// Does the next command, and answers it with what came of it; nothing where all are done.
+    /// Performs the next command, and returns it with its outcome, or `None` if all are done.
     pub fn go_on(&mut self) -> Result<Option<(&'a Command, Outcome)>, AllocError> {
         let done = self.done;
         let Some(command) = self.commands.get(done) else {
             return Ok(None);
         };
-        // What was asked in between has taken the place of the value that is expected.
+        // A question in between has replaced the value that is expected.
         if self.was_asked && matches!(command, Command::Expect { .. }) {
             self.go_to(done)?;
         }
@@ -70,7 +70,7 @@ impl<'a> Walk<'a> {
         Ok(Some((command, outcome)))
     }
 
-    /// Goes to where the first `count` commands are done, or all. Does them again, from a new session.
+    /// Goes to where the first `count` commands are done, or all if there are fewer. Performs them again, in a new session.
     pub fn go_to(&mut self, count: usize) -> Result<(), AllocError> {
         self.run = Run::new(Session::new(self.alloc));
         self.last_view = 0;
@@ -83,7 +83,7 @@ impl<'a> Walk<'a> {
         Ok(())
     }
 
-    /// Sends a message to a view, and answers its reply; nothing where it is refused. What it changes stays until the next `go_to`.
+    /// Sends a message to a view, and returns its reply, or `None` if it is refused. Its changes stay until the next `go_to`.
     pub fn ask(&mut self, view: u32, kind: Kind, w: i64) -> Result<Option<Reply>, AllocError> {
         self.was_asked = true;
         let message = Message {
@@ -99,7 +99,7 @@ impl<'a> Walk<'a> {
         }
     }
 
-    /// The value of the reply; 0 where the message is refused.
+    /// Returns the value of the reply, or 0 if the message is refused.
     pub fn value(&mut self, view: u32, kind: Kind, w: i64) -> Result<i64, AllocError> {
         match self.ask(view, kind, w)? {
             Some(reply) => Ok(reply.value()),
