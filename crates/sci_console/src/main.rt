@@ -24,10 +24,10 @@ use std::fs::File;
 use std::process::ExitCode;
 use std::{env, io};
 
-/// The exit status for words that are no job, and for a request for help.
+/// The exit status for words that are no task, and for a request for help.
 const USAGE: u8 = 2;
 
-/// The words behind the program's name.
+/// Returns the words after the program's name.
 fn words_of(rt: &HostRuntime) -> io::Result<Vec<String>> {
     let mut words = Vec::new(rt.alloc());
     for word in env::args(rt)?.skip(1) {
@@ -36,7 +36,7 @@ fn words_of(rt: &HostRuntime) -> io::Result<Vec<String>> {
     Ok(words)
 }
 
-/// Opens a file to be read. One that cannot be opened is a read fault.
+/// Opens a file for reading. A file that cannot be opened is a read fault.
 fn open(rt: &HostRuntime, path: &Word) -> Result<ReaderSource<File>, RunFault>
     ensures { IfOk result (λ source. source.failed ≡ false) }
 {
@@ -46,7 +46,7 @@ fn open(rt: &HostRuntime, path: &Word) -> Result<ReaderSource<File>, RunFault>
     }
 }
 
-/// Reads files whole, in order: none is passed over.
+/// Reads the whole of each file, in order.
 fn read_files(rt: &HostRuntime, paths: &Words) -> Result<Vec<Bytes>, RunFault>
     ensures { IfOk result (λ files. length files.items ≡ length paths.now) }
 {
@@ -70,7 +70,7 @@ fn read_script_at(rt: &HostRuntime, script: &Word) -> Result<Vec<u8>, RunFault> 
     read_text(rt.alloc(), &mut source)
 }
 
-/// Steps through the script of these bytes, by the lines of standard input, and shows what is to be seen on standard output.
+/// Steps through the script of these bytes by the lines of standard input, and writes the views to standard output.
 fn step(rt: &HostRuntime, files: &[Bytes], text: &[u8]) -> Result<u64, RunFault> {
     let script = read_script(rt.alloc(), &mut TextSource::new(text))?;
     let mut orders = ReaderSource::new(rt.stdin());
@@ -78,7 +78,7 @@ fn step(rt: &HostRuntime, files: &[Bytes], text: &[u8]) -> Result<u64, RunFault>
     step_commands(rt.alloc(), script.commands(), files, &mut orders, &mut sink)
 }
 
-/// Does a task with the script of these bytes, and prints to standard output.
+/// Performs a task on the script of these bytes, and prints to standard output.
 fn do_task(rt: &HostRuntime, task: &Task, files: Vec<Bytes>, text: &[u8]) -> Result<u64, RunFault> {
     let mut source = TextSource::new(text);
     let mut sink = WriterSink::new(rt.stdout());
@@ -90,17 +90,18 @@ fn do_task(rt: &HostRuntime, task: &Task, files: Vec<Bytes>, text: &[u8]) -> Res
     }
 }
 
-/// Sets `shown` to the line at fault of these bytes, if the task asks for that and they are at fault in a line.
+/// Sets `shown` to the faulty line of these bytes, if the task asks for that and a line is at fault.
 fn show_fault(task: &Task, answer: &Result<u64, RunFault>, text: &[u8], shown: &mut String) {
     if let (Task::CheckAndShow { .. }, Err(RunFault::Script(ScriptFault::BadLine { line, .. }))) = (
         task, answer,
     ) {
-        // Where memory runs out, less of the line is shown.
+        // If an allocation fails, less of the line is shown.
         let _ = show_line(shown, text, *line);
     }
 }
 
-/// Does a task: reads its files, and then its script, whose file is closed before more is done. Sets `shown` as `show_fault` does.
+/// Performs a task: reads its files, and then its script, whose file is closed before the script is performed. Sets `shown`
+/// as `show_fault` does.
 fn run_task(rt: &HostRuntime, task: &Task, shown: &mut String) -> Result<u64, RunFault> {
     let (script, files) = match task {
         Task::Whole(Job::Run { script, files })
@@ -115,7 +116,8 @@ fn run_task(rt: &HostRuntime, task: &Task, shown: &mut String) -> Result<u64, Ru
     answer
 }
 
-/// Prints the line of a fault on standard error, if there is one, and below it what is shown, if that is not empty. Answers the exit status.
+/// Prints the line of a fault on standard error, if there is a fault, and `shown` below it, if that is not empty. Returns
+/// the exit status.
 fn finish(rt: &HostRuntime, answer: &Result<u64, RunFault>, shown: &str) -> u8
     ensures { result ≡ status answer.now }
 {
@@ -128,7 +130,7 @@ fn finish(rt: &HostRuntime, answer: &Result<u64, RunFault>, shown: &str) -> u8
     status_of(answer)
 }
 
-/// Prints a usage text on standard error, and answers the exit status.
+/// Prints a usage text on standard error, and returns the exit status.
 fn tell_usage(rt: &HostRuntime, error: &clap::Error) -> u8
     ensures { result ≡ 2 }
 {
@@ -136,13 +138,13 @@ fn tell_usage(rt: &HostRuntime, error: &clap::Error) -> u8
     USAGE
 }
 
-/// Says on standard error that a word is no UTF-8 text.
+/// Prints on standard error that a word is not UTF-8.
 fn tell_no_text(rt: &HostRuntime) -> ExitCode {
     let _ = eprintln!(rt; "error: a word is not UTF-8 text");
     ExitCode::from(USAGE)
 }
 
-/// Does a task, and answers the exit status.
+/// Performs a task, and returns the exit status.
 fn do_and_finish(rt: &HostRuntime, task: &Task) -> u8 {
     let mut shown = String::new(rt.alloc());
     let answer = run_task(rt, task, &mut shown);
