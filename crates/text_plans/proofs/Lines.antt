@@ -1,4 +1,4 @@
--- A negative line is that of the selection.
+-- A negative line means the selection's line.
 use Rattle.std.proofs.Common.{◌≡◌, ℕ, true, ap, arith, ℤ, pos, negsuc}
 use Rattle.std.proofs.lemmas.Bool.Decides.{nat_tests}
 use Rattle.std.specs.Prelude.{int_lt}

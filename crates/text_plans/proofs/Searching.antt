@@ -1,4 +1,4 @@
--- The flags of a search, and where a match lies.
+-- The flags of a search, and the range of a match.
 use Rattle.std.proofs.Common.{◌≡◌, ℕ, ◌+◌, ◌-◌, ◌<◌, ◌^◌, min, Bool, true, false, cond, List, [], ◌∷◌, length, reverse, refl, sym, arith}
 use Rattle.std.specs.Prelude.{ℤ, pos, negsuc, ◌==◌, nat_le, bit_and, Option, Some, None, find, IfSome}
 use Rattle.std.proofs.lemmas.Nat.{and_le_r}
@@ -8,7 +8,7 @@ use Rattle.ed_model.specs.Matches.{match_in, is_match, starts_within}
 use Rattle.ed_model.specs.TargetPlans.{search_flags}
 use Rattle.message_requests.specs.proved.Ranges.{outside, found_in_range, found_back_in_range}
 
--- a number above all flags has a bit that none has
+-- a number above all flags together has a bit that no flag has
 too_great : (n : ℕ) → 0x100006 < n → (bit_and n 0x100006 == n) ≡ false
 too_great n h = let least = and_le_r n 0x100006 in grind (arith, nat_tests)
 
@@ -16,7 +16,7 @@ pub flags_among : (w : ℤ) → within 0 0x100006 w ≡ None → search_flags w 
 flags_among (negsuc n) e = refl
 flags_among (pos n) e = rw (too_great n (outside 0x100006 n e)) refl
 
--- a match lies in the range
+-- a match is within the range
 pub match_bounded : (flags : ℕ) (text pattern : List ℕ) (from to : ℕ) (r : Option ℕ) → r ≡ match_in flags text pattern from to → from < 2 ^ 62 → to < 2 ^ 62
     → IfSome r (λ place. place + length pattern < 2 ^ 62)
 match_bounded flags text pattern from to None e f t = tt

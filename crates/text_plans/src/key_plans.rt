@@ -10,7 +10,7 @@ use ed_model::{LineEnd, Planned, Source};
 use message_requests::Request;
 use message_requests::edits::{Replacement, replace_and_go, replace_plan};
 
-/// The cut before the caret.
+/// Returns the cut before the caret.
 pub fn place_left(r: &Request) -> usize
     requires { IsSoundRequest r.now }
     ensures place { result ≡ place_left r.now }
@@ -19,7 +19,7 @@ pub fn place_left(r: &Request) -> usize
     r.cut_before(r.caret())
 }
 
-/// The cut behind the caret.
+/// Returns the cut behind the caret.
 pub fn place_right(r: &Request) -> usize
     requires { IsSoundRequest r.now }
     ensures { result ≡ place_right r.now }
@@ -27,7 +27,7 @@ pub fn place_right(r: &Request) -> usize
     r.cut_after(r.caret())
 }
 
-/// The start of the caret's line.
+/// Returns the start of the caret's line.
 pub fn place_home(r: &Request) -> usize
     requires { IsSoundRequest r.now }
     ensures { result ≡ place_home r.now }
@@ -35,7 +35,7 @@ pub fn place_home(r: &Request) -> usize
     r.line_start(r.line_at(r.caret()))
 }
 
-/// Where the end of the caret's line begins.
+/// Returns where the line end of the caret's line begins.
 pub fn place_line_end(r: &Request) -> usize
     requires { IsSoundRequest r.now }
     ensures { result ≡ place_line_end r.now }
@@ -43,14 +43,14 @@ pub fn place_line_end(r: &Request) -> usize
     r.line_end(r.line_at(r.caret()))
 }
 
-/// The caret goes there, and the anchor stays.
+/// Moves the caret to `place`, and leaves the anchor.
 pub fn extend_to(r: &Request, place: usize) -> Planned
     ensures { result ≡ extend_to r.now place }
 {
     select(r.view.selection().anchor, place)
 }
 
-/// CHARLEFT: goes one character to the left, or to the start of what is selected.
+/// CHARLEFT: moves the caret one character to the left, or to the start of a selection that is not empty.
 pub fn char_left(r: &Request) -> Planned
     requires { IsSoundRequest r.now }
     ensures { result ≡ char_left r.now }
@@ -62,7 +62,7 @@ pub fn char_left(r: &Request) -> Planned
     }
 }
 
-/// CHARRIGHT: goes one character to the right, or to the end of what is selected.
+/// CHARRIGHT: moves the caret one character to the right, or to the end of a selection that is not empty.
 pub fn char_right(r: &Request) -> Planned
     requires { IsSoundRequest r.now }
     ensures { result ≡ char_right r.now }
@@ -74,7 +74,7 @@ pub fn char_right(r: &Request) -> Planned
     }
 }
 
-/// DELETEBACK: deletes the selection, or else the character before the caret.
+/// DELETEBACK: deletes the selection, or if it is empty the character before the caret.
 pub fn delete_back(r: &Request) -> Planned
     requires { IsSoundRequest r.now }
     ensures { result ≡ delete_back r.now }
@@ -88,7 +88,7 @@ pub fn delete_back(r: &Request) -> Planned
     replace_plan(r, Replacement::deletion(r.selection_start(), count))
 }
 
-/// NEWLINE: the document's line end in the place of the selection.
+/// NEWLINE: replaces the selection by the document's line end.
 pub fn new_line(r: &Request) -> Planned
     requires { IsSoundRequest r.now }
     ensures { result ≡ new_line r.now }

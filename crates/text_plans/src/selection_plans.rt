@@ -18,21 +18,21 @@ use message_requests::arguments::{clamped, is_on, within};
 use message_requests::edits::{Replacement, edit_plan, replace_and_go, replace_plan};
 use message_requests::{Request, past_argument};
 
-/// Puts anchor and caret there.
+/// Sets the anchor and the caret.
 pub fn select(anchor: usize, caret: usize) -> Planned
     ensures { result ≡ select anchor caret }
 {
     change_view(ViewChange::Select { anchor, caret })
 }
 
-/// Puts both ends of the selection there.
+/// Sets both ends of the selection to `place`.
 pub fn go_to(place: usize) -> Planned
     ensures { result ≡ go_to place }
 {
     select(place, place)
 }
 
-/// GETCURRENTPOS: the caret's place.
+/// GETCURRENTPOS: returns the caret, in bytes from 0.
 pub fn get_current_pos(r: &Request) -> i64
     requires { IsSoundRequest r.now }
     ensures { answer result ≡ get_current_pos r.now }
@@ -40,7 +40,7 @@ pub fn get_current_pos(r: &Request) -> i64
     r.caret() as i64
 }
 
-/// GETANCHOR: the anchor's place.
+/// GETANCHOR: returns the anchor, in bytes from 0.
 pub fn get_anchor(r: &Request) -> i64
     requires { IsSoundRequest r.now }
     ensures { answer result ≡ get_anchor r.now }
@@ -48,7 +48,7 @@ pub fn get_anchor(r: &Request) -> i64
     r.anchor() as i64
 }
 
-/// GETSELECTIONSTART: the lesser end of the selection.
+/// GETSELECTIONSTART: returns the lesser end of the selection.
 pub fn get_selection_start(r: &Request) -> i64
     requires { IsSoundRequest r.now }
     ensures { answer result ≡ get_selection_start r.now }
@@ -56,7 +56,7 @@ pub fn get_selection_start(r: &Request) -> i64
     r.selection_start() as i64
 }
 
-/// GETSELECTIONEND: the greater end of the selection.
+/// GETSELECTIONEND: returns the greater end of the selection.
 pub fn get_selection_end(r: &Request) -> i64
     requires { IsSoundRequest r.now }
     ensures { answer result ≡ get_selection_end r.now }
@@ -64,7 +64,7 @@ pub fn get_selection_end(r: &Request) -> i64
     r.selection_end() as i64
 }
 
-/// GETSELECTIONEMPTY: whether nothing is selected.
+/// GETSELECTIONEMPTY: returns whether the selection is empty.
 pub fn get_selection_empty(r: &Request) -> i64
     ensures { answer result ≡ get_selection_empty r.now }
 {
@@ -78,35 +78,35 @@ pub fn select_all(r: &Request) -> Planned
     select(0, r.size())
 }
 
-/// GOTOLINE: goes to the start of line `w`, brought into the lines that there are.
+/// GOTOLINE: goes to the start of line `w`, clamped to the lines of the document.
 pub fn go_to_line(r: &Request) -> Planned
     ensures { result ≡ go_to_line r.now }
 {
     go_to(r.line_start(clamped(r.line_total() - 1, r.message.w)))
 }
 
-/// GOTOPOS and SETEMPTYSELECTION: goes to `w`, brought into the text.
+/// GOTOPOS and SETEMPTYSELECTION: goes to `w`, clamped to the text.
 pub fn go_to_pos(r: &Request) -> Planned
     ensures { result ≡ go_to_pos r.now }
 {
     go_to(clamped(r.size(), r.message.w))
 }
 
-/// SETANCHOR: moves the anchor alone.
+/// SETANCHOR: moves only the anchor.
 pub fn set_anchor(r: &Request) -> Planned
     ensures { result ≡ set_anchor r.now }
 {
     select(clamped(r.size(), r.message.w), r.view.selection().caret)
 }
 
-/// SETCURRENTPOS: moves the caret alone.
+/// SETCURRENTPOS: moves only the caret.
 pub fn set_current_pos(r: &Request) -> Planned
     ensures { result ≡ set_current_pos r.now }
 {
     select(r.view.selection().anchor, clamped(r.size(), r.message.w))
 }
 
-/// SETSELECTIONSTART: the anchor goes to `w`, and the caret not before it.
+/// SETSELECTIONSTART: moves the anchor to `w`, and the caret too if it is before `w`.
 pub fn set_selection_start(r: &Request) -> Planned
     ensures { result ≡ set_selection_start r.now }
 {
@@ -114,7 +114,7 @@ pub fn set_selection_start(r: &Request) -> Planned
     select(place, place.max(r.view.selection().caret))
 }
 
-/// SETSELECTIONEND: the caret goes to `w`, and the anchor not behind it.
+/// SETSELECTIONEND: moves the caret to `w`, and the anchor too if it is behind `w`.
 pub fn set_selection_end(r: &Request) -> Planned
     ensures { result ≡ set_selection_end r.now }
 {
@@ -122,7 +122,8 @@ pub fn set_selection_end(r: &Request) -> Planned
     select(place.min(r.view.selection().anchor), place)
 }
 
-/// SETSEL: the caret goes to `l`, or to the end for a negative one; the anchor to `w`, or to the caret for a negative one.
+/// SETSEL: moves the caret to `l`, or to the end of the text if `l` is negative, and the anchor to `w`, or to the caret if
+/// `w` is negative.
 pub fn set_sel(r: &Request) -> Planned
     ensures { result ≡ set_sel r.now }
 {
@@ -139,7 +140,7 @@ pub fn set_sel(r: &Request) -> Planned
     }
 }
 
-/// GETSELTEXT: the selected bytes.
+/// GETSELTEXT: returns the selected bytes.
 pub fn get_sel_text(r: &Request) -> HandedOut
     requires { IsSoundRequest r.now }
     ensures { handed_out result ≡ get_sel_text r.now }
@@ -147,7 +148,7 @@ pub fn get_sel_text(r: &Request) -> HandedOut
     bytes_between(r.selection_start(), r.selection_end())
 }
 
-/// How many bytes are selected.
+/// Returns how many bytes are selected.
 pub fn selected(r: &Request) -> usize
     requires { IsSoundRequest r.now }
     ensures selected { result ≡ selected r.now }
@@ -156,7 +157,7 @@ pub fn selected(r: &Request) -> usize
     r.selection_end() - r.selection_start()
 }
 
-/// REPLACESEL: the message's text in the place of the selection.
+/// REPLACESEL: replaces the selection by the message's text.
 pub fn replace_sel(r: &Request) -> Planned
     requires { IsSoundRequest r.now }
     ensures { result ≡ replace_sel r.now }
@@ -173,14 +174,14 @@ pub fn replace_sel(r: &Request) -> Planned
     )
 }
 
-/// CANPASTE: whether the document can be edited.
+/// CANPASTE: returns whether the document can be edited.
 pub fn can_paste(r: &Request) -> Planned
     ensures { result ≡ can_paste r.now }
 {
     answer_flag(!r.document.is_read_only())
 }
 
-/// CUT: a selection that is not empty is taken to the clipboard and deleted.
+/// CUT: copies a selection that is not empty to the clipboard, and deletes it.
 pub fn cut(r: &Request) -> Planned
     requires { IsSoundRequest r.now }
     ensures { result ≡ cut r.now }
@@ -198,7 +199,7 @@ pub fn cut(r: &Request) -> Planned
     )
 }
 
-/// COPY: a selection that is not empty is taken to the clipboard.
+/// COPY: copies a selection that is not empty to the clipboard.
 pub fn copy(r: &Request) -> Planned
     requires { IsSoundRequest r.now }
     ensures { result ≡ copy r.now }
@@ -211,7 +212,7 @@ pub fn copy(r: &Request) -> Planned
     change_session(SessionChange::Copy { start, count })
 }
 
-/// How many bytes the clipboard pastes, where line ends are turned into those of the document or are not.
+/// Returns how many bytes PASTE inserts, with line ends converted to those of the document if `convert`.
 fn pasted_length(r: &Request, convert: bool) -> usize
     ensures { result ≡ length (source_bytes r.now (Clipboard convert)) }
 {
@@ -223,7 +224,7 @@ fn pasted_length(r: &Request, convert: bool) -> usize
     }
 }
 
-/// PASTE: what the clipboard has in the place of the selection, with the document's line ends where the view turns them.
+/// PASTE: replaces the selection by the text of the clipboard, with the document's line ends if the view converts them.
 pub fn paste(r: &Request) -> Planned
     requires { IsSoundRequest r.now }
     ensures { result ≡ paste r.now }
@@ -241,7 +242,7 @@ pub fn paste(r: &Request) -> Planned
     replace_and_go(r, replacement)
 }
 
-/// CLEAR: deletes the selection, or else from the caret up to the next cut between characters.
+/// CLEAR: deletes the selection, or if it is empty the bytes from the caret to the next cut between characters.
 pub fn clear(r: &Request) -> Planned
     requires { IsSoundRequest r.now }
     ensures { result ≡ clear r.now }
@@ -255,7 +256,7 @@ pub fn clear(r: &Request) -> Planned
     replace_plan(r, Replacement::deletion(r.selection_start(), count))
 }
 
-/// COPYRANGE: the bytes from `w` up to `l` are taken to the clipboard, where -1 is the end of the text.
+/// COPYRANGE: copies the bytes from `w` up to `l` to the clipboard. `l` = -1 is the end of the text.
 pub fn copy_range(r: &Request) -> Planned
     ensures { result ≡ copy_range r.now }
 {
@@ -271,7 +272,7 @@ pub fn copy_range(r: &Request) -> Planned
     }
 }
 
-/// COPYTEXT: the first `w` bytes of the message's text are taken to the clipboard.
+/// COPYTEXT: copies the first `w` bytes of the message's text to the clipboard.
 pub fn copy_text(r: &Request) -> Planned
     ensures { result ≡ copy_text r.now }
 {
@@ -281,7 +282,7 @@ pub fn copy_text(r: &Request) -> Planned
     }
 }
 
-/// SETPASTECONVERTENDINGS: whether what is pasted takes the document's line ends.
+/// SETPASTECONVERTENDINGS: sets whether pasted text gets the document's line ends.
 pub fn set_paste_convert_endings(r: &Request) -> Planned
     ensures { result ≡ set_paste_convert_endings r.now }
 {
@@ -290,7 +291,7 @@ pub fn set_paste_convert_endings(r: &Request) -> Planned
     })
 }
 
-/// GETPASTECONVERTENDINGS: whether what is pasted takes the document's line ends.
+/// GETPASTECONVERTENDINGS: returns whether pasted text gets the document's line ends.
 pub fn get_paste_convert_endings(r: &Request) -> Planned
     ensures { result ≡ get_paste_convert_endings r.now }
 {

@@ -20,28 +20,28 @@ const SEARCH_FLAGS: u32 = SearchFlags::WHOLE_WORD
     | SearchFlags::MATCH_CASE
     | SearchFlags::WORD_START;
 
-/// The target goes from there to there.
+/// Sets the target to these ends.
 fn set_target(start: usize, end: usize) -> Planned
     ensures { result ≡ set_target start end }
 {
     change_view(ViewChange::SetTarget { start, end })
 }
 
-/// SETTARGETSTART: the target starts at `w`, brought into the text.
+/// SETTARGETSTART: sets the start of the target to `w`, clamped to the text.
 pub fn set_target_start(r: &Request) -> Planned
     ensures { result ≡ set_target_start r.now }
 {
     set_target(clamped(r.size(), r.message.w), r.view.target().end)
 }
 
-/// SETTARGETEND: the target ends at `w`, brought into the text.
+/// SETTARGETEND: sets the end of the target to `w`, clamped to the text.
 pub fn set_target_end(r: &Request) -> Planned
     ensures { result ≡ set_target_end r.now }
 {
     set_target(r.view.target().start, clamped(r.size(), r.message.w))
 }
 
-/// SETTARGETRANGE: the target goes from `w` to `l`, both brought into the text.
+/// SETTARGETRANGE: sets the target to the range from `w` to `l`, both clamped to the text.
 pub fn set_target_range(r: &Request) -> Planned
     ensures { result ≡ set_target_range r.now }
 {
@@ -49,7 +49,7 @@ pub fn set_target_range(r: &Request) -> Planned
     set_target(clamped(size, r.message.w), clamped(size, r.message.l))
 }
 
-/// GETTARGETSTART: where the target starts.
+/// GETTARGETSTART: returns the start of the target, in bytes from 0.
 pub fn get_target_start(r: &Request) -> i64
     requires { IsSoundRequest r.now }
     ensures { answer result ≡ get_target_start r.now }
@@ -57,7 +57,7 @@ pub fn get_target_start(r: &Request) -> i64
     r.target_start() as i64
 }
 
-/// GETTARGETEND: where the target ends.
+/// GETTARGETEND: returns the end of the target, in bytes from 0.
 pub fn get_target_end(r: &Request) -> i64
     requires { IsSoundRequest r.now }
     ensures { answer result ≡ get_target_end r.now }
@@ -65,7 +65,7 @@ pub fn get_target_end(r: &Request) -> i64
     r.target_end() as i64
 }
 
-/// TARGETFROMSELECTION: the target is the selection.
+/// TARGETFROMSELECTION: sets the target to the selection.
 pub fn target_from_selection(r: &Request) -> Planned
     requires { IsSoundRequest r.now }
     ensures { result ≡ target_from_selection r.now }
@@ -73,14 +73,14 @@ pub fn target_from_selection(r: &Request) -> Planned
     set_target(r.selection_start(), r.selection_end())
 }
 
-/// TARGETWHOLEDOCUMENT: the target is the whole text.
+/// TARGETWHOLEDOCUMENT: sets the target to the whole text.
 pub fn target_whole_document(r: &Request) -> Planned
     ensures { result ≡ target_whole_document r.now }
 {
     set_target(0, r.size())
 }
 
-/// GETTARGETTEXT: the bytes of the target.
+/// GETTARGETTEXT: returns the bytes of the target.
 pub fn get_target_text(r: &Request) -> HandedOut
     requires { IsSoundRequest r.now }
     ensures { handed_out result ≡ get_target_text r.now }
@@ -88,7 +88,7 @@ pub fn get_target_text(r: &Request) -> HandedOut
     bytes_between(r.target_least(), r.target_greatest())
 }
 
-/// The argument as flags of a search, if it is made of whole word, match case and word start.
+/// Returns the argument as flags of a search, or `None` if it has others than whole word, match case and word start.
 #[tactic(auto, using(crate::proofs::Searching::flags_among))]
 fn search_flags(argument: i64) -> Option<u32>
     ensures { result ≡ search_flags argument }
@@ -101,7 +101,7 @@ fn search_flags(argument: i64) -> Option<u32>
     }
 }
 
-/// SETSEARCHFLAGS: how the target is searched from now on.
+/// SETSEARCHFLAGS: sets how the target is searched.
 pub fn set_search_flags(r: &Request) -> Planned
     ensures { result ≡ set_search_flags r.now }
 {
@@ -111,7 +111,7 @@ pub fn set_search_flags(r: &Request) -> Planned
     }
 }
 
-/// Where a pattern stands in the target, as the view searches.
+/// Returns the place of a pattern in the target, by the flags of the view.
 #[tactic(auto, using(message_requests::specs::proved::Standing::length_text))]
 fn find_in_target(r: &Request, pattern: &[u8]) -> Option<usize>
     requires { IsSoundRequest r.now }
@@ -124,7 +124,7 @@ fn find_in_target(r: &Request, pattern: &[u8]) -> Option<usize>
     target_search::find(flags, first, second, pattern, start, end)
 }
 
-/// The target becomes a match of `count` bytes, where one is found. Answers where it starts, or -1.
+/// Sets the target to a match of `count` bytes, if there is one. The value is its start, or -1.
 fn found_target(count: usize, found: Option<usize>) -> Planned
     requires { IfSome found (λ place. place + count < 2 ^ 63) }
     ensures { result ≡ found_target count found }
@@ -141,8 +141,8 @@ fn found_target(count: usize, found: Option<usize>) -> Planned
     }
 }
 
-/// SEARCHINTARGET: the target becomes the match of the first `w` bytes of the message's text in it. Answers where it starts, or -1
-/// where there is none.
+/// SEARCHINTARGET: searches for the first `w` bytes of the message's text in the target, and sets the target to the match.
+/// The value is its start, or -1 if there is none.
 pub fn search_in_target(r: &Request) -> Planned
     requires { IsSoundRequest r.now }
     ensures { result ≡ search_in_target r.now }
@@ -153,14 +153,14 @@ pub fn search_in_target(r: &Request) -> Planned
     }
 }
 
-/// GETSEARCHFLAGS: how the target is searched.
+/// GETSEARCHFLAGS: returns how the target is searched.
 pub fn get_search_flags(r: &Request) -> Planned
     ensures { result ≡ get_search_flags r.now }
 {
     answer(i64::from(r.view.search_flags()))
 }
 
-/// How many bytes of a text of `size` replace the target: all of them for -1.
+/// Returns how many bytes of a text of `size` bytes replace the target: all of them for -1.
 fn replacement_length(size: usize, argument: i64) -> Option<usize>
     ensures length { result ≡ replacement_length size argument }
     ensures within { IfSome result (λ count. count ≤ size) }
@@ -172,7 +172,7 @@ fn replacement_length(size: usize, argument: i64) -> Option<usize>
     }
 }
 
-/// REPLACETARGET: the first `w` bytes of the message's text in the place of the target, which goes from there behind them.
+/// REPLACETARGET: replaces the target by the first `w` bytes of the message's text, which become the target.
 pub fn replace_target(r: &Request) -> Planned
     requires { IsSoundRequest r.now }
     ensures { result ≡ replace_target r.now }

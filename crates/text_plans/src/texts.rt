@@ -14,7 +14,7 @@ use message_requests::arguments::{clamped, is_minus_one, line_among, within};
 use message_requests::edits::{Replacement, replace_and_go, replace_plan};
 use message_requests::{Request, past_argument};
 
-/// Where INSERTTEXT inserts: -1 is the caret.
+/// Returns where INSERTTEXT inserts: -1 is the caret.
 fn insertion_place(r: &Request, argument: i64) -> Option<usize>
     requires { IsSoundRequest r.now }
     ensures place { result ≡ insertion_place r.now argument }
@@ -27,7 +27,7 @@ fn insertion_place(r: &Request, argument: i64) -> Option<usize>
     }
 }
 
-/// INSERTTEXT: puts the message's text in at `w`.
+/// INSERTTEXT: inserts the message's text at `w`.
 pub fn insert_text(r: &Request) -> Planned
     requires { IsSoundRequest r.now }
     ensures { result ≡ insert_text r.now }
@@ -39,7 +39,7 @@ pub fn insert_text(r: &Request) -> Planned
     replace_plan(r, Replacement::insertion(start, count))
 }
 
-/// ADDTEXT: puts the first `w` bytes of the message's text in at the caret, and goes behind them.
+/// ADDTEXT: inserts the first `w` bytes of the message's text at the caret, and moves the caret behind them.
 pub fn add_text(r: &Request) -> Planned
     requires { IsSoundRequest r.now }
     ensures { result ≡ add_text r.now }
@@ -50,7 +50,7 @@ pub fn add_text(r: &Request) -> Planned
     }
 }
 
-/// APPENDTEXT: puts the first `w` bytes of the message's text in at the end.
+/// APPENDTEXT: inserts the first `w` bytes of the message's text at the end.
 pub fn append_text(r: &Request) -> Planned
     ensures { result ≡ append_text r.now }
 {
@@ -60,7 +60,7 @@ pub fn append_text(r: &Request) -> Planned
     }
 }
 
-/// SETTEXT: the message's text in the place of the whole text.
+/// SETTEXT: replaces the whole text by the message's text.
 pub fn set_text(r: &Request) -> Planned
     ensures { result ≡ set_text r.now }
 {
@@ -97,7 +97,7 @@ pub fn delete_range(r: &Request) -> Planned
     replace_plan(r, Replacement::deletion(start, count))
 }
 
-/// GETLENGTH and GETTEXTLENGTH: the length of the text.
+/// GETLENGTH and GETTEXTLENGTH: returns the length of the text in bytes.
 #[inline(always)]
 pub fn get_length(r: &Request) -> i64
     ensures { answer result ≡ get_length r.now }
@@ -105,7 +105,7 @@ pub fn get_length(r: &Request) -> i64
     r.size() as i64
 }
 
-/// The byte at a place that may be outside the text; 0 there.
+/// Returns the byte at a place, or 0 if the place is outside the text.
 #[inline(always)]
 fn byte_at(r: &Request, argument: i64) -> u8
     ensures { result ≡ at_place (text r.now) argument }
@@ -117,7 +117,7 @@ fn byte_at(r: &Request, argument: i64) -> u8
     if place < r.size() { r.byte(place) } else { 0 }
 }
 
-/// GETCHARAT: the byte at `w`.
+/// GETCHARAT: returns the byte at `w`.
 #[inline(always)]
 pub fn get_char_at(r: &Request) -> i64
     ensures { answer result ≡ get_char_at r.now }
@@ -125,14 +125,15 @@ pub fn get_char_at(r: &Request) -> i64
     i64::from(byte_at(r, r.message.w))
 }
 
-/// GETTEXT: the whole text.
+/// GETTEXT: returns the whole text.
 pub fn get_text(r: &Request) -> HandedOut
     ensures { handed_out result ≡ get_text r.now }
 {
     bytes_between(0, r.size())
 }
 
-/// GETTEXTRANGE: the bytes from `w` up to `l`, where -1 is the end of the text; none where there is no such range, which is refused.
+/// GETTEXTRANGE: returns the bytes from `w` up to `l`, and `None` if there is no such range, which is refused. `l` = -1 is
+/// the end of the text.
 #[inline(always)]
 pub fn get_text_range(r: &Request) -> Option<HandedOut>
     ensures { with_argument result handed_out ≡ get_text_range r.now }
@@ -146,7 +147,7 @@ pub fn get_text_range(r: &Request) -> Option<HandedOut>
     }
 }
 
-/// GETLINECOUNT: how many lines there are.
+/// GETLINECOUNT: returns the number of lines.
 #[inline(always)]
 pub fn get_line_count(r: &Request) -> i64
     ensures { answer result ≡ get_line_count r.now }
@@ -154,7 +155,7 @@ pub fn get_line_count(r: &Request) -> i64
     r.line_total() as i64
 }
 
-/// GETLINE: the bytes of line `w`, its end with them; none where there is no such line, for which 0 is answered.
+/// GETLINE: returns the bytes of line `w` with its line end, and `None` if there is no such line; the value is 0 then.
 pub fn get_line(r: &Request) -> Option<HandedOut>
     ensures { handed_or_zero result ≡ get_line r.now }
 {
@@ -164,7 +165,7 @@ pub fn get_line(r: &Request) -> Option<HandedOut>
     }
 }
 
-/// GETCURLINE: the caret's line, and where in it the caret stands.
+/// GETCURLINE: returns the caret's line, and the place of the caret in it.
 pub fn get_cur_line(r: &Request) -> HandedOut
     requires { IsSoundRequest r.now }
     ensures { handed_out result ≡ get_cur_line r.now }
@@ -179,7 +180,7 @@ pub fn get_cur_line(r: &Request) -> HandedOut
     }
 }
 
-/// LINELENGTH: how many bytes line `w` has, its end with them.
+/// LINELENGTH: returns how many bytes line `w` has, with its line end.
 #[inline(always)]
 pub fn line_length(r: &Request) -> i64
     ensures { answer result ≡ line_length r.now }
@@ -190,7 +191,8 @@ pub fn line_length(r: &Request) -> i64
     }
 }
 
-/// GETLINEENDPOSITION: where the end of line `w` begins; the end of the text for the last line and all behind it.
+/// GETLINEENDPOSITION: returns where the line end of line `w` begins, and the end of the text for the last line and all
+/// behind it.
 #[inline(always)]
 pub fn get_line_end_position(r: &Request) -> i64
     ensures { answer result ≡ get_line_end_position r.now }
@@ -201,7 +203,7 @@ pub fn get_line_end_position(r: &Request) -> i64
     r.line_end(r.message.w as usize) as i64
 }
 
-/// LINEFROMPOSITION: the line that holds `w`, brought into the text.
+/// LINEFROMPOSITION: returns the line that holds `w`, clamped to the text.
 #[inline(always)]
 pub fn line_from_position(r: &Request) -> i64
     ensures { answer result ≡ line_from_position r.now }
@@ -209,8 +211,8 @@ pub fn line_from_position(r: &Request) -> i64
     r.line_at(clamped(r.size(), r.message.w)) as i64
 }
 
-/// POSITIONFROMLINE: the start of line `w`; of the selection's line for a negative one; the end of the text just behind the last
-/// line; -1 for what is further behind.
+/// POSITIONFROMLINE: returns the start of line `w`. A negative `w` means the selection's line. The line just behind the
+/// last starts at the end of the text, and for lines further behind the value is -1.
 #[inline(always)]
 pub fn position_from_line(r: &Request) -> i64
     requires { IsSoundRequest r.now }
@@ -231,7 +233,7 @@ pub fn position_from_line(r: &Request) -> i64
     }
 }
 
-/// POSITIONBEFORE: the cut between characters before `w`, brought into the text.
+/// POSITIONBEFORE: returns the cut between characters before `w`, clamped to the text.
 #[inline(always)]
 pub fn position_before(r: &Request) -> i64
     ensures { answer result ≡ position_before r.now }
@@ -239,7 +241,7 @@ pub fn position_before(r: &Request) -> i64
     r.cut_before(clamped(r.size(), r.message.w)) as i64
 }
 
-/// POSITIONAFTER: the cut between characters behind `w`, brought into the text.
+/// POSITIONAFTER: returns the cut between characters behind `w`, clamped to the text.
 #[inline(always)]
 pub fn position_after(r: &Request) -> i64
     ensures { answer result ≡ position_after r.now }
