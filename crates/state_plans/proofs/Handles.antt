@@ -1,4 +1,4 @@
--- A marker's handle is below the next one.
+-- The handle of a marker is below the next handle.
 use Rattle.std.proofs.Common.{◌≡◌, ℕ, zero, suc, ◌+◌, Bool, true, false, cond, List, [], ◌∷◌, ◌++◌, length, map, refl, arith, length-append}
 use Rattle.std.specs.Prelude.{ℤ, pos, negsuc, ◌==◌, ◌||◌, None, find, filter, slice_index_or}
 use Rattle.std.specs.List.{range_with_len, list_any}

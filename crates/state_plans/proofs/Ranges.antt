@@ -1,4 +1,4 @@
--- What is found among lines is one of them.
+-- Lines that a search returns are lines of the document.
 use Rattle.std.proofs.Common.{◌≡◌, ℕ, zero, suc, ◌+◌, ◌-◌, ◌<◌, ◌≤◌, ◌^◌, min, Bool, true, false, cond, List, [], ◌∷◌, length, sym, arith, length-take}
 use Rattle.std.specs.Prelude.{ℤ, pos, negsuc, ◌==◌, Option, Some, None, filter, take, slice_get, unwrap_or, IfSome}
 use Rattle.std.specs.List.{range_with_len, AllByRecursion}
@@ -21,7 +21,7 @@ previous_bounded test rows from None e h = tt
 previous_bounded test rows from (Some k) e h =
     let within : k < length rows = found_back_in_range test 0 (min (from + 1) (length rows)) (length rows) k (λ some. omega arith) (sym e) in omega arith
 
--- a header is the line or stands before it
+-- the header is the line itself or a line before it
 header_before : (levels : List ℕ) (line top : ℕ) (b : Bool) (r : Option ℕ) → line < top → r ≡ cond b (Some line) (fold_parent levels line) → IfSome r (λ k. k < top)
 header_before levels line top b None h e = tt
 header_before levels line top true (Some k) h e = let same : k ≡ line = cc in omega arith

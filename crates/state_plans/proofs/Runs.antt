@@ -1,4 +1,4 @@
--- Runs of indicators lie in the text.
+-- Runs of indicators are within the text.
 use Rattle.std.proofs.Common.{◌≡◌, ℕ, zero, suc, ◌+◌, ◌<◌, ◌≤◌, ◌^◌, Bool, true, false, cond, List, [], ◌∷◌, length, map, drop, refl, ap, sym, ◌∙◌, arith, length-drop}
 use Rattle.std.specs.Prelude.{ℤ, pos, negsuc, ◌==◌, not, filter, sum, slice_index, slice_index_or}
 use Rattle.std.specs.List.{range_with_len, AllByRecursion}
@@ -36,7 +36,7 @@ run_about_bounded lists i place n p e each among within small =
     let end : p.1 ≡ run_past values place = ap (λ (q : ℕ × ℕ). q.1) e in
     (omega (arith, start), omega (arith, end, past, long))
 
--- the mask of a place, as INDICATORALLONFOR answers it
+-- the reply of INDICATORALLONFOR with the mask of a place
 answer_on : ℤ → List (List ℕ) → List ℕ → Planned
 answer_on w lists ks = answer_number (sum (map (λ k. 2 ^ k) (filter (λ k. not (at_place (slice_index_or lists k []) w == 0)) ks)))
 

@@ -1,4 +1,4 @@
--- UNDO and REDO of a sound request are never too long, so that their plans read no text.
+-- UNDO and REDO of a sound request never exceed the limit, so that their plans read no text.
 use Rattle.std.proofs.Common.{◌≡◌, ℕ, Bool, true, false, cond, [], refl, ap, ◌∙◌, pos}
 use Rattle.std.specs.Prelude.{not, Ok, Err, List}
 use Rattle.ed_types.specs.declared.kind.Kind.TheVariants.{Undo, Redo}
@@ -16,7 +16,7 @@ use Rattle.ed_model.specs.PlansFit.{IsSoundRequest}
 use Rattle.ed_model.specs.Table.{table_from_view, table_from_document, answered, request}
 use Rattle.state_plans.specs.Acting.{act_if}
 
--- a message of the number, without arguments
+-- a message with this number, without arguments
 abbrev message : (number : ℕ) → Message
 message number = record { number = number; w = pos 0; l = pos 0; text = [] }
 

@@ -1,4 +1,4 @@
--- What UNDO and REDO come to. No public clause cites it.
+-- The plans of UNDO and REDO. No public clause cites this definition.
 use Rattle.std.specs.Prelude.{not, if◌then◌else◌, Bool, pos, Ok}
 use Rattle.ed_model.specs.declared.plan.Plan.{Plan}
 use Rattle.ed_model.specs.declared.plan.Plan.TheVariants as plan

@@ -14,18 +14,18 @@ use message_requests::answers::{
 };
 use message_requests::arguments::{clamped, is_on, line_among, some_or_all, within};
 
-// The level of a line that was given none, `SC_FOLDLEVELBASE`.
+// The level of a line for which none was set: `SC_FOLDLEVELBASE`.
 const BASE_LEVEL: i64 = 0x400;
 
-// The bits of a level that are its number, `SC_FOLDLEVELNUMBERMASK`.
+// The bits of a level that are its number: `SC_FOLDLEVELNUMBERMASK`.
 const LEVEL_NUMBER: u32 = 0xFFF;
 
-// What FOLDLINE does to a header: `SC_FOLDACTION_CONTRACT`, and `SC_FOLDACTION_TOGGLE`. Any other action expands it.
+// The actions of FOLDLINE on a header: `SC_FOLDACTION_CONTRACT`, and `SC_FOLDACTION_TOGGLE`. Any other action expands the header.
 const CONTRACT: usize = 0;
 
 const TOGGLE: usize = 2;
 
-/// SETFOLDLEVEL: line `w` has level `l`.
+/// SETFOLDLEVEL: sets the level of line `w` to `l`.
 #[inline(always)]
 pub fn set_fold_level(r: &Request) -> Planned
     ensures { result ≡ set_fold_level r.now }
@@ -42,8 +42,8 @@ pub fn set_fold_level(r: &Request) -> Planned
     }
 }
 
-/// GETLASTCHILD: the line before the next one, behind line `w`, whose number is at most that of level `l`, or of the line's own
-/// level for -1; or else the last line.
+/// GETLASTCHILD: returns the last line of the block below line `w`. The block ends before the next line whose level number
+/// is at most that of `l`, or of the line's own level if `l` is -1; without such a line it ends with the text.
 pub fn get_last_child(r: &Request) -> Planned
     ensures { result ≡ get_last_child r.now }
 {
@@ -57,7 +57,7 @@ pub fn get_last_child(r: &Request) -> Planned
     answer_number(last_child_at(&r.levels(), line, level & LEVEL_NUMBER))
 }
 
-/// GETFOLDPARENT: the nearest header before line `w` whose number is smaller.
+/// GETFOLDPARENT: returns the nearest header before line `w` with a smaller level number.
 pub fn get_fold_parent(r: &Request) -> i64
     ensures { answer result ≡ get_fold_parent r.now }
 {
@@ -96,7 +96,7 @@ fn fold_at(r: &Request, action: usize) -> Planned
     }
 }
 
-/// FOLDLINE: contracts (`l` is 0), expands (1) or toggles (2) the header of line `w`.
+/// FOLDLINE: contracts (`l` = 0), expands (1) or toggles (2) the header of line `w`.
 pub fn fold_line(r: &Request) -> Planned
     requires { IsSoundRequest r.now }
     ensures { result ≡ fold_line r.now }
@@ -115,7 +115,7 @@ pub fn toggle_fold(r: &Request) -> Planned
     fold_at(r, TOGGLE)
 }
 
-/// VISIBLEFROMDOCLINE: the display line of line `w`, and for a hidden one that of the visible line before it.
+/// VISIBLEFROMDOCLINE: returns the display line of line `w`, and for a hidden line that of the visible line before it.
 #[inline(always)]
 #[tactic(auto, using(message_requests::specs::proved::Standing::flags_of_lines, crate::proofs::Ranges::display_bounded))]
 pub fn visible_from_doc_line(r: &Request) -> i64
@@ -128,7 +128,7 @@ pub fn visible_from_doc_line(r: &Request) -> i64
     }
 }
 
-/// The line that is shown at a display line, of which those below 0 are the first.
+/// Returns the line at a display line. Display lines below 0 are the first.
 #[inline(always)]
 fn line_shown_at(r: &Request, argument: i64) -> usize
     ensures { result ≡ line_shown_at r.now argument }
@@ -140,7 +140,7 @@ fn line_shown_at(r: &Request, argument: i64) -> usize
     }
 }
 
-/// DOCLINEFROMVISIBLE: the line that is shown at display line `w`, or how many lines there are for one past the last.
+/// DOCLINEFROMVISIBLE: returns the line at display line `w`, and the number of lines if `w` is past the last.
 #[inline(always)]
 #[tactic(auto, using(message_requests::specs::proved::Standing::flags_of_lines, crate::proofs::Ranges::shown_bounded))]
 pub fn doc_line_from_visible(r: &Request) -> i64
@@ -151,7 +151,7 @@ pub fn doc_line_from_visible(r: &Request) -> i64
     line_shown_at(r, r.message.w) as i64
 }
 
-/// Past which of so many lines a range ends whose last line is the argument.
+/// Returns the line at which a range ends, exclusive, whose last line is `argument`, in a document with this many lines.
 fn past_line(lines: usize, argument: i64) -> usize
     requires { lines < 2 ^ 63 }
     ensures { result ≡ past_line lines argument }
@@ -163,7 +163,7 @@ fn past_line(lines: usize, argument: i64) -> usize
     }
 }
 
-/// SHOWLINES: the lines from `w` to `l` are visible.
+/// SHOWLINES: makes the lines from `w` to `l` visible.
 pub fn show_lines(r: &Request) -> Planned
     ensures { result ≡ show_lines r.now }
 {
@@ -174,7 +174,7 @@ pub fn show_lines(r: &Request) -> Planned
     })
 }
 
-/// HIDELINES: the lines from `w` to `l` are hidden, but line 0.
+/// HIDELINES: hides the lines from `w` to `l` except line 0.
 pub fn hide_lines(r: &Request) -> Planned
     ensures { result ≡ hide_lines r.now }
 {
@@ -185,7 +185,7 @@ pub fn hide_lines(r: &Request) -> Planned
     })
 }
 
-/// SETFOLDEXPANDED: whether line `w` counts as expanded.
+/// SETFOLDEXPANDED: sets whether line `w` counts as expanded.
 pub fn set_fold_expanded(r: &Request) -> Planned
     ensures { result ≡ set_fold_expanded r.now }
 {
@@ -198,7 +198,7 @@ pub fn set_fold_expanded(r: &Request) -> Planned
     }
 }
 
-/// ENSUREVISIBLE: line `w` is made visible, and the headers above it expanded.
+/// ENSUREVISIBLE: makes line `w` visible, and expands the headers above it.
 pub fn ensure_visible(r: &Request) -> Planned
     ensures { result ≡ ensure_visible r.now }
 {
@@ -208,7 +208,7 @@ pub fn ensure_visible(r: &Request) -> Planned
     }
 }
 
-/// GETFOLDLEVEL: the level of line `w`.
+/// GETFOLDLEVEL: returns the level of line `w`.
 #[inline(always)]
 pub fn get_fold_level(r: &Request) -> i64
     ensures { answer result ≡ get_fold_level r.now }
@@ -219,7 +219,7 @@ pub fn get_fold_level(r: &Request) -> i64
     }
 }
 
-/// GETLINEVISIBLE: whether line `w` is visible.
+/// GETLINEVISIBLE: returns whether line `w` is visible.
 #[inline(always)]
 #[tactic(auto, using(message_requests::specs::proved::Standing::flags_of_lines))]
 pub fn get_line_visible(r: &Request) -> i64
@@ -232,14 +232,14 @@ pub fn get_line_visible(r: &Request) -> i64
     }
 }
 
-/// GETALLLINESVISIBLE: whether no line is hidden.
+/// GETALLLINESVISIBLE: returns whether no line is hidden.
 pub fn get_all_lines_visible(r: &Request) -> Planned
     ensures { result ≡ get_all_lines_visible r.now }
 {
     answer_flag(r.view.lines().is_all_visible())
 }
 
-/// GETFOLDEXPANDED: whether line `w` counts as expanded.
+/// GETFOLDEXPANDED: returns whether line `w` counts as expanded.
 #[inline(always)]
 #[tactic(auto, using(message_requests::specs::proved::Standing::flags_of_lines))]
 pub fn get_fold_expanded(r: &Request) -> i64

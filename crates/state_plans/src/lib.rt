@@ -1,6 +1,6 @@
-//! Plans of the messages on what is kept beside the text: undo, lines and markers, styles, folding, documents and masks.
+//! Plans of the messages on state beside the text: undo, lines and markers, styles, folding, documents and masks.
 //!
-//! One function a message, in modules named as the sections of `docs/MESSAGES.md`; none of them takes memory.
+//! There is one function for each message, in modules named like the sections of `docs/MESSAGES.md`. None of them allocates.
 #![tactic(auto)]
 
 pub mod folding_plans;

@@ -13,7 +13,7 @@ use message_requests::answers::{answer, answer_number, change_document, line_or_
 use message_requests::arguments::{at_least_zero, line_among, low_bits, some_or_all, within};
 use message_requests::edits::conversion_plan;
 
-/// The number of a kind of line end.
+/// Returns the number of a kind of line end.
 fn line_end_number(kind: LineEnd) -> usize
     ensures { result ≡ line_end_number kind }
 {
@@ -24,7 +24,7 @@ fn line_end_number(kind: LineEnd) -> usize
     }
 }
 
-/// The kind of line end of a number.
+/// Returns the kind of line end with this number.
 fn line_end_kind(mode: usize) -> LineEnd
     ensures { result ≡ line_end_kind mode }
 {
@@ -37,14 +37,14 @@ fn line_end_kind(mode: usize) -> LineEnd
     }
 }
 
-/// GETEOLMODE: the line end that typing makes.
+/// GETEOLMODE: returns the line end that typing inserts.
 pub fn get_eol_mode(r: &Request) -> Planned
     ensures { result ≡ get_eol_mode r.now }
 {
     answer_number(line_end_number(r.document.typed_line_end()))
 }
 
-/// SETEOLMODE: the line end that typing makes from now on.
+/// SETEOLMODE: sets the line end that typing inserts.
 pub fn set_eol_mode(r: &Request) -> Planned
     ensures { result ≡ set_eol_mode r.now }
 {
@@ -56,7 +56,7 @@ pub fn set_eol_mode(r: &Request) -> Planned
     }
 }
 
-/// CONVERTEOLS: all line ends of the text are turned into the kind that `w` names.
+/// CONVERTEOLS: converts all line ends of the text to the kind `w`.
 pub fn convert_eols(r: &Request) -> Planned
     ensures { result ≡ convert_eols r.now }
 {
@@ -66,7 +66,7 @@ pub fn convert_eols(r: &Request) -> Planned
     }
 }
 
-/// Whether so many handles of markers are left.
+/// Returns whether this many marker handles are left.
 fn has_handles(r: &Request, count: u32) -> bool
     ensures { result ≡ has_handles r.now count }
 {
@@ -74,7 +74,7 @@ fn has_handles(r: &Request, count: u32) -> bool
     next.saturating_sub(1) <= r.session.limits.handles
 }
 
-/// MARKERADD: a marker with number `l` on line `w`. Answers its handle.
+/// MARKERADD: adds a marker with number `l` to line `w`. The value is its handle.
 #[inline(always)]
 pub fn marker_add(r: &Request) -> Planned
     ensures { result ≡ marker_add r.now }
@@ -97,14 +97,14 @@ pub fn marker_add(r: &Request) -> Planned
     })
 }
 
-/// Whether a handle is left for each number of a mask.
+/// Returns whether a handle is left for each number of a mask.
 fn has_handles_for(r: &Request, mask: u32) -> bool
     ensures { result ≡ has_handles r.now (length (numbers_in mask)) }
 {
     has_handles(r, count_numbers(mask) as u32)
 }
 
-/// MARKERADDSET: a marker on line `w` for each bit of `l`.
+/// MARKERADDSET: adds a marker to line `w` for each bit of `l`.
 pub fn marker_add_set(r: &Request) -> Planned
     ensures { result ≡ marker_add_set r.now }
 {
@@ -122,7 +122,7 @@ pub fn marker_add_set(r: &Request) -> Planned
     }
 }
 
-/// MARKERDELETE: the first marker with number `l` on line `w` goes, or all of the line for -1.
+/// MARKERDELETE: deletes the first marker with number `l` on line `w`, or all markers of the line if `l` is -1.
 pub fn marker_delete(r: &Request) -> Planned
     ensures { result ≡ marker_delete r.now }
 {
@@ -135,7 +135,7 @@ pub fn marker_delete(r: &Request) -> Planned
     }
 }
 
-/// MARKERDELETEALL: all markers with number `w` go, or all markers for -1.
+/// MARKERDELETEALL: deletes all markers with number `w`, or all markers if `w` is -1.
 pub fn marker_delete_all(r: &Request) -> Planned
     ensures { result ≡ marker_delete_all r.now }
 {
@@ -145,7 +145,7 @@ pub fn marker_delete_all(r: &Request) -> Planned
     }
 }
 
-/// MARKERGET: the mask of line `w`, with a bit for each number that a marker there has.
+/// MARKERGET: returns the mask of line `w`, with a bit for the number of each of its markers.
 #[inline(always)]
 pub fn marker_get(r: &Request) -> i64
     ensures { answer result ≡ marker_get r.now }
@@ -156,7 +156,7 @@ pub fn marker_get(r: &Request) -> i64
     }
 }
 
-/// MARKERNEXT: the first line, from `w` on, whose mask has a bit in common with the low 32 bits of `l`.
+/// MARKERNEXT: returns the first line from `w` on whose mask has a bit in common with the low 32 bits of `l`.
 #[inline(always)]
 #[tactic(auto, using(crate::proofs::Ranges::next_bounded))]
 pub fn marker_next(r: &Request) -> i64
@@ -166,7 +166,7 @@ pub fn marker_next(r: &Request) -> i64
     line_or_none(r.rows().next(from, low_bits(r.message.l)))
 }
 
-/// MARKERPREVIOUS: the last such line, up to and with `w`.
+/// MARKERPREVIOUS: returns the last such line up to `w`, inclusive.
 #[inline(always)]
 #[tactic(auto, using(crate::proofs::Ranges::previous_bounded))]
 pub fn marker_previous(r: &Request) -> i64
@@ -179,7 +179,7 @@ pub fn marker_previous(r: &Request) -> i64
     line_or_none(r.rows().previous(from, low_bits(r.message.l)))
 }
 
-/// The line of the marker with the handle in `w`.
+/// Returns the line of the marker with the handle `w`.
 #[tactic(auto, using(crate::proofs::Handles::no_handle, crate::proofs::Ranges::next_bounded))]
 fn line_of_handle(r: &Request) -> Option<usize>
     requires { IsSoundRequest r.now }
@@ -187,12 +187,12 @@ fn line_of_handle(r: &Request) -> Option<usize>
     ensures bounded { IfSome result (λ line. line < 2 ^ 63) }
 {
     let rows = r.rows();
-    // A marker's handle is below the next one.
+    // Every handle is below the next one.
     let handle = within(0, rows.next_handle() as usize, r.message.w)?;
     rows.line_of_handle(handle as u32)
 }
 
-/// MARKERLINEFROMHANDLE: the line of the marker with handle `w`.
+/// MARKERLINEFROMHANDLE: returns the line of the marker with handle `w`.
 pub fn marker_line_from_handle(r: &Request) -> Planned
     requires { IsSoundRequest r.now }
     ensures { result ≡ marker_line_from_handle r.now }
@@ -200,7 +200,7 @@ pub fn marker_line_from_handle(r: &Request) -> Planned
     answer(line_or_none(line_of_handle(r)))
 }
 
-/// MARKERDELETEHANDLE: the marker with handle `w` goes.
+/// MARKERDELETEHANDLE: deletes the marker with handle `w`.
 pub fn marker_delete_handle(r: &Request) -> Planned
     requires { IsSoundRequest r.now }
     ensures { result ≡ marker_delete_handle r.now }
@@ -212,7 +212,7 @@ pub fn marker_delete_handle(r: &Request) -> Planned
     }
 }
 
-/// SETLINESTATE: line `w` has state `l`, a number of 32 bits.
+/// SETLINESTATE: sets the state of line `w` to `l`, a number of 32 bits.
 pub fn set_line_state(r: &Request) -> Planned
     ensures { result ≡ set_line_state r.now }
 {
@@ -226,7 +226,7 @@ pub fn set_line_state(r: &Request) -> Planned
     }
 }
 
-/// GETLINESTATE: the state of line `w`.
+/// GETLINESTATE: returns the state of line `w`.
 #[inline(always)]
 pub fn get_line_state(r: &Request) -> i64
     ensures { answer result ≡ get_line_state r.now }

@@ -15,28 +15,28 @@ use message_requests::answers::{
 };
 use message_requests::arguments::within;
 
-// All kinds of change that a mask can name.
+// All bits of a mask, each for a kind of change: `SC_MODEVENTMASKALL`.
 const WHOLE_MASK: usize = 0x7F_FFFF;
 
-/// GETDOCPOINTER: the id of the view's document.
+/// GETDOCPOINTER: returns the id of the view's document.
 pub fn get_doc_pointer(r: &Request) -> Planned
     ensures { result ≡ get_doc_pointer r.now }
 {
     answer(i64::from(r.view.document()))
 }
 
-/// Whether one more document can be made.
+/// Returns whether one more document can be made.
 fn has_document_ids(r: &Request) -> bool
     ensures { result ≡ has_document_ids r.now.session }
 {
     u64::from(r.session.documents.next()) <= r.session.limits.ids
 }
 
-/// The id of the document that `l` names, to which one more reference is made.
+/// Returns the id of the document that `l` names, which is about to get one more reference.
 ///
 /// # Errors
 ///
-/// `NoSuchDocument` where there is none, `TooMany` where it has as many references as it may.
+/// `NoSuchDocument` if there is none, and `TooMany` if it has the greatest number of references.
 fn to_be_referred_to(r: &Request) -> Result<u32, Refusal>
     requires { IsSoundRequest r.now }
     ensures id { IfOk result (λ id. (change : ℕ → SessionChange) → with_reference r.now (document_named r.now.session r.now.message.l) change ≡ change_session (change id)) }
@@ -53,7 +53,7 @@ fn to_be_referred_to(r: &Request) -> Result<u32, Refusal>
     }
 }
 
-/// SETDOCPOINTER: the view attaches to the document with id `l`, or to a new one for 0.
+/// SETDOCPOINTER: attaches the view to the document with id `l`, or to a new one if `l` is 0.
 pub fn set_doc_pointer(r: &Request) -> Planned
     requires { IsSoundRequest r.now }
     ensures { result ≡ set_doc_pointer r.now }
@@ -69,7 +69,8 @@ pub fn set_doc_pointer(r: &Request) -> Planned
     }
 }
 
-/// The argument as options of a document: that it keeps no styles (0x1), and that it is for large texts (0x100).
+/// Returns the argument as options of a document: to store no styles (0x1), and to be for large texts (0x100). Returns
+/// `None` if it has other bits.
 fn document_options(argument: i64) -> Option<u32>
     ensures { result ≡ document_options argument }
 {
@@ -81,7 +82,8 @@ fn document_options(argument: i64) -> Option<u32>
     }
 }
 
-/// CREATEDOCUMENT: a new document with options `l`, which the caller holds. `w` is not read, but not negative. Answers its id.
+/// CREATEDOCUMENT: makes a document with options `l`, to which the caller holds a reference. `w` is ignored, but must not
+/// be negative. The value is the id of the document.
 pub fn create_document(r: &Request) -> Planned
     ensures { result ≡ create_document r.now }
 {
@@ -100,7 +102,7 @@ pub fn create_document(r: &Request) -> Planned
     })
 }
 
-/// ADDREFDOCUMENT: the caller holds one more reference to the document with id `l`.
+/// ADDREFDOCUMENT: gives the caller one more reference to the document with id `l`.
 pub fn add_ref_document(r: &Request) -> Planned
     requires { IsSoundRequest r.now }
     ensures { result ≡ add_ref_document r.now }
@@ -109,7 +111,7 @@ pub fn add_ref_document(r: &Request) -> Planned
     change_session(SessionChange::AddReference { document })
 }
 
-/// RELEASEDOCUMENT: the caller gives back a reference of its own to the document with id `l`.
+/// RELEASEDOCUMENT: takes a reference of the caller to the document with id `l` back.
 pub fn release_document(r: &Request) -> Planned
     requires { IsSoundRequest r.now }
     ensures { result ≡ release_document r.now }
@@ -126,14 +128,14 @@ pub fn release_document(r: &Request) -> Planned
     }
 }
 
-/// GETDOCUMENTOPTIONS: the options that the document was made with.
+/// GETDOCUMENTOPTIONS: returns the options with which the document was made.
 pub fn get_document_options(r: &Request) -> Planned
     ensures { result ≡ get_document_options r.now }
 {
     answer(i64::from(r.document.options()))
 }
 
-/// The number of the line ends that a document knows.
+/// Returns the number for which line ends count.
 fn types_number(types: LineEndTypes) -> usize
     ensures { result ≡ types_number types }
 {
@@ -143,7 +145,7 @@ fn types_number(types: LineEndTypes) -> usize
     }
 }
 
-/// SETLINEENDTYPESALLOWED: which line ends the document knows from now on.
+/// SETLINEENDTYPESALLOWED: sets which line ends count in the document.
 pub fn set_line_end_types_allowed(r: &Request) -> Planned
     ensures { result ≡ set_line_end_types_allowed r.now }
 {
@@ -161,14 +163,14 @@ pub fn set_line_end_types_allowed(r: &Request) -> Planned
     change_document(DocumentChange::SetLineEndTypes { to })
 }
 
-/// GETLINEENDTYPESALLOWED and GETLINEENDTYPESACTIVE: which line ends the document knows.
+/// GETLINEENDTYPESALLOWED and GETLINEENDTYPESACTIVE: returns which line ends count in the document.
 pub fn get_line_end_types(r: &Request) -> Planned
     ensures { result ≡ get_line_end_types r.now }
 {
     answer_number(types_number(r.document.line_end_types()))
 }
 
-/// SETMODEVENTMASK: which kinds of change the view hears of.
+/// SETMODEVENTMASK: sets which kinds of change the view hears.
 pub fn set_mod_event_mask(r: &Request) -> Planned
     ensures { result ≡ set_mod_event_mask r.now }
 {
@@ -178,14 +180,14 @@ pub fn set_mod_event_mask(r: &Request) -> Planned
     }
 }
 
-/// GETMODEVENTMASK: which kinds of change the view hears of.
+/// GETMODEVENTMASK: returns which kinds of change the view hears.
 pub fn get_mod_event_mask(r: &Request) -> Planned
     ensures { result ≡ get_mod_event_mask r.now }
 {
     answer(i64::from(r.view.mask()))
 }
 
-/// STARTRECORD and STOPRECORD: whether the view records what it is sent.
+/// STARTRECORD and STOPRECORD: sets whether the view records the messages that it is sent.
 pub fn set_recording(on: bool) -> Planned
     ensures { result ≡ change_view (SetRecording on) }
 {

@@ -12,7 +12,7 @@ use message_requests::answers::{answer, change_document, change_view};
 use message_requests::arguments::within;
 use message_requests::{Request, past_argument};
 
-/// The style of the byte at a place that may be outside the text; 0 there.
+/// Returns the style of the byte at a place, or 0 if the place is outside the text.
 #[inline(always)]
 fn style_at(r: &Request, argument: i64) -> u8
     ensures { result ≡ at_place (styles r.now) argument }
@@ -28,7 +28,7 @@ fn style_at(r: &Request, argument: i64) -> u8
     }
 }
 
-/// GETSTYLEAT: the style of the byte at `w`.
+/// GETSTYLEAT: returns the style of the byte at `w`.
 #[inline(always)]
 pub fn get_style_at(r: &Request) -> i64
     ensures { answer result ≡ get_style_at r.now }
@@ -36,7 +36,7 @@ pub fn get_style_at(r: &Request) -> i64
     i64::from(style_at(r, r.message.w))
 }
 
-/// GETSTYLEDTEXT: the bytes from `w` up to `l`, each with its style behind it.
+/// GETSTYLEDTEXT: returns the bytes from `w` up to `l`, each followed by its style.
 pub fn get_styled_text(r: &Request) -> Planned
     ensures { result ≡ get_styled_text r.now }
 {
@@ -52,7 +52,7 @@ pub fn get_styled_text(r: &Request) -> Planned
     }
 }
 
-/// GETENDSTYLED: up to where the text is styled.
+/// GETENDSTYLED: returns the place up to which the text is styled.
 #[inline(always)]
 pub fn get_end_styled(r: &Request) -> i64
     requires { IsSoundRequest r.now }
@@ -61,7 +61,7 @@ pub fn get_end_styled(r: &Request) -> i64
     r.end_styled() as i64
 }
 
-/// STARTSTYLING: the text counts as styled up to `w`.
+/// STARTSTYLING: sets the end of the styled text to `w`.
 pub fn start_styling(r: &Request) -> Planned
     ensures { result ≡ start_styling r.now }
 {
@@ -71,7 +71,7 @@ pub fn start_styling(r: &Request) -> Planned
     }
 }
 
-/// How many bytes stand behind the end of what is styled.
+/// Returns how many bytes follow the end of the styled text.
 fn unstyled(r: &Request) -> usize
     requires { IsSoundRequest r.now }
     ensures { result ≡ unstyled r.now }
@@ -79,7 +79,7 @@ fn unstyled(r: &Request) -> usize
     r.size() - r.end_styled()
 }
 
-/// SETSTYLING: the next `w` bytes have style `l`.
+/// SETSTYLING: sets the style of the next `w` bytes to `l`.
 #[inline(always)]
 pub fn set_styling(r: &Request) -> Planned
     requires { IsSoundRequest r.now }
@@ -97,7 +97,7 @@ pub fn set_styling(r: &Request) -> Planned
     }
 }
 
-/// SETSTYLINGEX: the next `w` bytes have the styles that the message's text has.
+/// SETSTYLINGEX: sets the styles of the next `w` bytes to those in the message's text.
 pub fn set_styling_ex(r: &Request) -> Planned
     requires { IsSoundRequest r.now }
     ensures { result ≡ set_styling_ex r.now }
@@ -110,7 +110,7 @@ pub fn set_styling_ex(r: &Request) -> Planned
     }
 }
 
-/// COLOURISE: the text from `w` up to `l` is to be styled.
+/// COLOURISE: requests styles for the text from `w` up to `l`.
 pub fn colourise(r: &Request) -> Planned
     ensures { result ≡ colourise r.now }
 {
@@ -123,7 +123,7 @@ pub fn colourise(r: &Request) -> Planned
     }
 }
 
-/// SETINDICATORCURRENT: the view fills indicator `w` from now on.
+/// SETINDICATORCURRENT: sets the indicator that the view fills to `w`.
 pub fn set_indicator_current(r: &Request) -> Planned
     ensures { result ≡ set_indicator_current r.now }
 {
@@ -135,14 +135,14 @@ pub fn set_indicator_current(r: &Request) -> Planned
     }
 }
 
-/// GETINDICATORCURRENT: which indicator the view fills.
+/// GETINDICATORCURRENT: returns the indicator that the view fills.
 pub fn get_indicator_current(r: &Request) -> Planned
     ensures { result ≡ get_indicator_current r.now }
 {
     answer(i64::from(r.view.indicator()))
 }
 
-/// SETINDICATORVALUE: the view fills with `w` from now on, or with 1 for 0.
+/// SETINDICATORVALUE: sets the value with which the view fills to `w`, or to 1 if `w` is 0.
 pub fn set_indicator_value(r: &Request) -> Planned
     ensures { result ≡ set_indicator_value r.now }
 {
@@ -154,14 +154,14 @@ pub fn set_indicator_value(r: &Request) -> Planned
     }
 }
 
-/// GETINDICATORVALUE: what the view fills with.
+/// GETINDICATORVALUE: returns the value with which the view fills.
 pub fn get_indicator_value(r: &Request) -> Planned
     ensures { result ≡ get_indicator_value r.now }
 {
     answer(i64::from(r.view.indicator_value()))
 }
 
-/// The view's indicator has this value on `l` bytes from `w` on.
+/// Sets the view's indicator to this value on the `l` bytes from `w` on.
 fn fill_indicator(r: &Request, value: u32) -> Planned
     ensures { result ≡ fill_indicator r.now value }
 {
@@ -180,21 +180,21 @@ fn fill_indicator(r: &Request, value: u32) -> Planned
     }
 }
 
-/// INDICATORFILLRANGE: fills with the view's value.
+/// INDICATORFILLRANGE: fills a range with the view's value.
 pub fn indicator_fill_range(r: &Request) -> Planned
     ensures { result ≡ indicator_fill_range r.now }
 {
     fill_indicator(r, r.view.indicator_value())
 }
 
-/// INDICATORCLEARRANGE: fills with 0.
+/// INDICATORCLEARRANGE: fills a range with 0.
 pub fn indicator_clear_range(r: &Request) -> Planned
     ensures { result ≡ indicator_clear_range r.now }
 {
     fill_indicator(r, 0)
 }
 
-/// INDICATORALLONFOR: bit `k` for each indicator `k` that is not 0 at place `w`.
+/// INDICATORALLONFOR: returns a mask with bit `k` for each indicator `k` that is not 0 at place `w`.
 #[tactic(auto, using(crate::proofs::Runs::none_outside, crate::proofs::Runs::all_on))]
 pub fn indicator_all_on_for(r: &Request) -> Planned
     ensures { result ≡ indicator_all_on_for r.now }
@@ -206,7 +206,7 @@ pub fn indicator_all_on_for(r: &Request) -> Planned
     answer(i64::from(r.document.indicators().mask_at(place)))
 }
 
-/// The value of an indicator at a place that may be outside the text; 0 there.
+/// Returns the value of an indicator at a place, or 0 if the place is outside the text.
 #[inline(always)]
 fn value_at(r: &Request, indicator: usize, argument: i64) -> u32
     requires { indicator < 32 }
@@ -218,7 +218,8 @@ fn value_at(r: &Request, indicator: usize, argument: i64) -> u32
     r.document.indicators().value(indicator, argument as usize)
 }
 
-/// INDICATORVALUEAT: the value of indicator `w` at place `l`; none where there is no such indicator, which is refused.
+/// INDICATORVALUEAT: returns the value of indicator `w` at place `l`, and `None` if there is no such indicator, which is
+/// refused.
 #[inline(always)]
 pub fn indicator_value_at(r: &Request) -> Option<i64>
     ensures { with_argument result answer ≡ indicator_value_at r.now }
@@ -229,8 +230,8 @@ pub fn indicator_value_at(r: &Request) -> Option<i64>
     }
 }
 
-/// Where the longest range of one value of an indicator starts that holds a place, and where it is past; both 0 for a place
-/// outside the text.
+/// Returns the start and the exclusive end of the longest range around a place in which an indicator has one value; both
+/// are 0 if the place is outside the text.
 #[inline(always)]
 fn run_at(r: &Request, indicator: usize, argument: i64) -> (usize, usize)
     requires { indicator < 32 }
@@ -251,7 +252,7 @@ fn run_at(r: &Request, indicator: usize, argument: i64) -> (usize, usize)
     }
 }
 
-/// INDICATORSTART: where the range of one value of indicator `w` starts that holds place `l`.
+/// INDICATORSTART: returns the start of the range around place `l` in which indicator `w` has one value.
 #[inline(always)]
 pub fn indicator_start(r: &Request) -> Option<i64>
     ensures { with_argument result answer ≡ indicator_start r.now }
@@ -262,7 +263,7 @@ pub fn indicator_start(r: &Request) -> Option<i64>
     }
 }
 
-/// INDICATOREND: where that range is past.
+/// INDICATOREND: returns the exclusive end of that range.
 #[inline(always)]
 pub fn indicator_end(r: &Request) -> Option<i64>
     ensures { with_argument result answer ≡ indicator_end r.now }

@@ -12,7 +12,7 @@ use message_requests::Request;
 use message_requests::answers::{answer, answer_flag, change_document, flag};
 use message_requests::arguments::{is_on, within};
 
-/// SETUNDOCOLLECTION: whether steps are kept in the history from now on. To collect while already collecting changes nothing.
+/// SETUNDOCOLLECTION: sets whether the history collects steps. To turn collecting on while it is on changes nothing.
 pub fn set_undo_collection(r: &Request) -> Planned
     ensures { result ≡ set_undo_collection r.now }
 {
@@ -23,14 +23,14 @@ pub fn set_undo_collection(r: &Request) -> Planned
     change_document(DocumentChange::CollectUndo { on })
 }
 
-/// GETUNDOCOLLECTION: whether steps are kept in the history.
+/// GETUNDOCOLLECTION: returns whether the history collects steps.
 pub fn get_undo_collection(r: &Request) -> Planned
     ensures { result ≡ get_undo_collection r.now }
 {
     answer_flag(r.document.history().is_collecting())
 }
 
-/// Undo or redo, where there is something to act on; in a read-only document it is only attempted.
+/// Plans undo or redo, if there is something to perform. In a read-only document it is only an attempt.
 fn act_if(can: bool, read_only: bool, act: Plan) -> Planned
     ensures { result ≡ act_if can read_only act }
 {
@@ -40,7 +40,7 @@ fn act_if(can: bool, read_only: bool, act: Plan) -> Planned
     Ok(if read_only { Plan::Attempt } else { act })
 }
 
-/// UNDO: undoes the last transaction. No step of it passes the limit, since the text was there before.
+/// UNDO: undoes the last transaction. No step of it exceeds the limit, since the text was that long before.
 #[inline(always)]
 pub fn undo(r: &Request) -> Planned
     requires { IsSoundRequest r.now }
@@ -54,7 +54,7 @@ pub fn undo(r: &Request) -> Planned
     )
 }
 
-/// REDO: makes the next transaction again. No step of it passes the limit, since the text was there before.
+/// REDO: performs the next transaction again. No step of it exceeds the limit, since the text was that long before.
 #[inline(always)]
 pub fn redo(r: &Request) -> Planned
     requires { IsSoundRequest r.now }
@@ -68,28 +68,28 @@ pub fn redo(r: &Request) -> Planned
     )
 }
 
-/// CANUNDO: whether there is something to undo, in a document that can be edited.
+/// CANUNDO: returns whether there is something to undo in a document that can be edited.
 pub fn get_can_undo(r: &Request) -> i64
     ensures { answer result ≡ get_can_undo r.now }
 {
     flag(r.document.history().can_undo() && !r.document.is_read_only())
 }
 
-/// CANREDO: whether there is something to redo, in a document that can be edited.
+/// CANREDO: returns whether there is something to redo in a document that can be edited.
 pub fn get_can_redo(r: &Request) -> i64
     ensures { answer result ≡ get_can_redo r.now }
 {
     flag(r.document.history().can_redo() && !r.document.is_read_only())
 }
 
-/// GETREADONLY: whether the document is read-only.
+/// GETREADONLY: returns whether the document is read-only.
 pub fn get_read_only(r: &Request) -> i64
     ensures { answer result ≡ get_read_only r.now }
 {
     flag(r.document.is_read_only())
 }
 
-/// SETREADONLY: whether the document is read-only from now on.
+/// SETREADONLY: sets whether the document is read-only.
 pub fn set_read_only(r: &Request) -> Planned
     ensures { result ≡ set_read_only r.now }
 {
@@ -98,21 +98,21 @@ pub fn set_read_only(r: &Request) -> Planned
     })
 }
 
-/// GETMODIFY: whether the document is away from its save point.
+/// GETMODIFY: returns whether the document is not at its save point.
 pub fn get_modify(r: &Request) -> i64
     ensures { answer result ≡ get_modify r.now }
 {
     flag(!r.document.history().is_at_save_point())
 }
 
-/// SETSAVEPOINT: the document counts as unmodified where it is now.
+/// SETSAVEPOINT: makes the current state the save point.
 pub fn set_save_point(r: &Request) -> Planned
     ensures { result ≡ set_save_point r.now }
 {
     change_document(DocumentChange::SetSavePoint)
 }
 
-/// BEGINUNDOACTION: a group begins, if the groups are not too deep.
+/// BEGINUNDOACTION: begins a group, unless groups are nested too deeply.
 pub fn begin_undo_action(r: &Request) -> Planned
     ensures { result ≡ begin_undo_action r.now }
 {
@@ -123,21 +123,21 @@ pub fn begin_undo_action(r: &Request) -> Planned
     }
 }
 
-/// ENDUNDOACTION: a group ends.
+/// ENDUNDOACTION: ends a group.
 pub fn end_undo_action(r: &Request) -> Planned
     ensures { result ≡ end_undo_action r.now }
 {
     change_document(DocumentChange::EndGroup)
 }
 
-/// EMPTYUNDOBUFFER: the history is forgotten.
+/// EMPTYUNDOBUFFER: empties the history.
 pub fn empty_undo_buffer(r: &Request) -> Planned
     ensures { result ≡ empty_undo_buffer r.now }
 {
     change_document(DocumentChange::ForgetHistory)
 }
 
-/// ADDUNDOACTION: a step of the container's own, with the token in `w`, that coalesces where `l` is 1.
+/// ADDUNDOACTION: appends a container's step with token `w`, which coalesces if `l` is 1.
 pub fn add_undo_action(r: &Request) -> Planned
     ensures { result ≡ add_undo_action r.now }
 {
