@@ -1,11 +1,11 @@
-//! What the benchmarks share: the words of their command line, the clock, and what they are run on. It is safe; no more is said of it.
+//! What the benchmarks share: the words of their command line, the clock, and their texts. All of it is safe, and has no contracts.
 #![tactic(auto)]
 
 use std::alloc::{AllocError, Global};
 use std::time::Instant;
 use std::{env, io};
 
-/// The words of the command line, the program's own name first. Errors: those of reading them, and want of memory.
+/// Returns the words of the command line, the program's own name first. Errors: those of reading them, or a failed allocation.
 pub fn words(rt: &HostRuntime) -> io::Result<Vec<String>> {
     let mut words = Vec::new(rt.alloc());
     for word in env::args(rt)? {
@@ -14,7 +14,7 @@ pub fn words(rt: &HostRuntime) -> io::Result<Vec<String>> {
     Ok(words)
 }
 
-/// The word at `index`, or one without letters.
+/// Returns the word at `index`, or an empty one.
 pub fn word_at(words: &[String], index: usize) -> &str {
     match words.get(index) {
         Some(word) => word.as_str(),
@@ -22,12 +22,13 @@ pub fn word_at(words: &[String], index: usize) -> &str {
     }
 }
 
-/// The number in the word at `index`, or 0.
+/// Returns the number in the word at `index`, or 0.
 pub fn number_at(words: &[String], index: usize) -> usize {
     word_at(words, index).parse::<usize>().unwrap_or(0)
 }
 
-/// Tells on standard error how long `count` rounds took since `start`: in microseconds, and in nanoseconds each. Errors: those of the clock and of printing.
+/// Prints on standard error how long `count` rounds took since `start`: in microseconds, and in nanoseconds a round. Errors: those of the
+/// clock and of printing.
 pub fn tell(rt: &HostRuntime, what: &str, start: Instant, count: usize) -> io::Result<()> {
     let nanos = start.elapsed(rt)?.as_nanos();
     let each = nanos / count.max(1) as u128;
@@ -35,20 +36,20 @@ pub fn tell(rt: &HostRuntime, what: &str, start: Instant, count: usize) -> io::R
     eprintln!(rt; "{what}: {micros} us, {each} ns each")
 }
 
-/// Tells on standard error how long it took since `start`: in microseconds, and how many bytes that is in one. Errors: the same.
+/// Prints on standard error how long it took since `start`: in microseconds, and as bytes per microsecond. Errors: the same.
 pub fn tell_rate(rt: &HostRuntime, what: &str, start: Instant, bytes: usize) -> io::Result<()> {
     let micros = start.elapsed(rt)?.as_micros();
     let rate = bytes as u128 / micros.max(1);
     eprintln!(rt; "{what}: {micros} us, {rate} MB/s")
 }
 
-/// The number behind this one in an order that repeats after 2^64: its upper half picks places that lie far apart.
+/// Returns the next number of a sequence with the period 2^64. The upper half of the number picks places that are far apart.
 pub fn next_seed(seed: u64) -> u64 {
     seed.wrapping_mul(6364136223846793005)
         .wrapping_add(1442695040888963407)
 }
 
-/// A text of so many equal pieces, in room that is made at once. Errors: want of memory.
+/// Returns a text of `count` copies of `piece`, allocated at once. Errors: a failed allocation.
 pub fn repeated(alloc: Global, piece: &[u8], count: usize) -> Result<Vec<u8>, AllocError> {
     let mut text = Vec::with_capacity(alloc, piece.len().saturating_mul(count))?;
     for _ in 0..count {
