@@ -1,5 +1,5 @@
-//! Benchmarks of messages to a session, with a text of so many lines. The sizes are arguments; check sums go to standard output,
-//! times to standard error, so that a run prints the same whatever the machine. The parts are measured by `part_bench`.
+//! Benchmarks of messages to a session, on a text of LINES lines. The sizes are arguments. Checksums go to standard output,
+//! and times to standard error, so that standard output is the same on every machine. `part_bench` measures the parts.
 //!
 //!     ed_bench typing|look_ups|undo_steps|undo_group|markers|indicators|searches|hide_lines LINES COUNT
 //!     ed_bench hand_out|load|set_over|levels|styles|replacements|line_ends|fold_headers LINES
@@ -20,7 +20,7 @@ mod sessions;
 use bench_support::{number_at, word_at, words};
 use std::io;
 
-/// Tells the words of the command line.
+/// Prints the words of the command line.
 fn tell_words(rt: &HostRuntime) -> io::Result<()> {
     eprintln!(rt;
         "ed_bench typing|look_ups|hand_out|load|set_over|undo_steps|undo_group|markers|levels|styles LINES COUNT"
@@ -31,7 +31,7 @@ fn tell_words(rt: &HostRuntime) -> io::Result<()> {
     eprintln!(rt; "ed_bench all")
 }
 
-/// Measures what the first word names, with the sizes behind it, or tells the words.
+/// Measures the part that the first word names, with the sizes after it, or prints the words.
 fn run(rt: &HostRuntime, words: &[String]) -> io::Result<()> {
     let word = word_at(words, 1);
     if word == "all" {

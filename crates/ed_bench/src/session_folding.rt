@@ -1,4 +1,4 @@
-//! Sessions: headers contracted, and display lines where half the lines are hidden.
+//! Sessions: headers contracted, and display lines with half of the lines hidden.
 
 use crate::sessions::{
     SHORT_LINE, Series, argument, each, measure, measure_ranges, measure_typing, open_on, send,
@@ -16,7 +16,7 @@ fn nest(session: &mut Session, view: u32, lines: usize) {
     }
 }
 
-/// Contracts every header, the outer ones first.
+/// Contracts every header, outer ones first.
 pub fn fold_headers(rt: &HostRuntime, session: &mut Session, lines: usize) -> io::Result<()> {
     let view = open_on(rt, session, SHORT_LINE, lines)?;
     nest(session, view, lines);
@@ -39,7 +39,7 @@ pub fn fold_headers(rt: &HostRuntime, session: &mut Session, lines: usize) -> io
     println!(rt; "display lines {last}")
 }
 
-/// Typing where all lines are visible and where half of them are hidden, and display lines looked up both ways.
+/// Types while all lines are visible and while half of them are hidden, and looks up display lines both ways.
 pub fn hide_lines(
     rt: &HostRuntime,
     session: &mut Session,

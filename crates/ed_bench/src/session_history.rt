@@ -7,7 +7,7 @@ use ed_types::Kind;
 use editor_session::Session;
 use std::io;
 
-/// Puts single bytes in, each as a transaction, and undoes and redoes them all.
+/// Inserts single bytes, each as a transaction, and undoes and redoes them all.
 pub fn undo_steps(
     rt: &HostRuntime,
     session: &mut Session,
@@ -37,7 +37,7 @@ pub fn undo_steps(
     )
 }
 
-/// Puts single bytes in as one group, and undoes it.
+/// Inserts single bytes as one group, and undoes it.
 pub fn undo_group(
     rt: &HostRuntime,
     session: &mut Session,

@@ -1,4 +1,4 @@
-//! What is measured of sessions, by the words of the command line.
+//! The parts that are measured on sessions, by the words of the command line.
 
 use crate::session_folding::{fold_headers, hide_lines};
 use crate::session_history::{undo_group, undo_steps};
@@ -10,16 +10,16 @@ use crate::session_views::hearing;
 use editor_session::Session;
 use std::io;
 
-/// What is measured, each on a session of its own.
+/// A part to measure, on a session of its own.
 #[derive(Clone, Copy)]
 pub enum Part {
-    /// Bytes typed, heard by none and by one view.
+    /// Bytes typed, heard by no view and by one.
     Typing,
     /// Questions about places.
     LookUps,
     /// The whole text handed out.
     HandOut,
-    /// A text set, for a look at the memory that it takes.
+    /// A text set, to see how much memory it takes.
     Load,
     /// A text set over another.
     SetOver,
@@ -27,13 +27,13 @@ pub enum Part {
     UndoSteps,
     /// A group of insertions undone at once.
     UndoGroup,
-    /// Markers, and lines that come above them.
+    /// Markers, and lines inserted above them.
     Markers,
     /// Fold levels.
     Levels,
-    /// Styles by short runs.
+    /// Styles in short runs.
     Styles,
-    /// Bytes put in among ranges of an indicator.
+    /// Bytes inserted among ranges of an indicator.
     Indicators,
     /// Searches in the target.
     Searches,
@@ -45,11 +45,11 @@ pub enum Part {
     Hearing,
     /// Headers contracted.
     Folding,
-    /// Display lines where half the lines are hidden.
+    /// Display lines with half of the lines hidden.
     Hiding,
 }
 
-/// All parts, with their words of the command line.
+/// All parts, each with its word of the command line.
 const PARTS: [(&str, Part); 17] = [
     ("typing", Part::Typing),
     ("look_ups", Part::LookUps),
@@ -80,7 +80,7 @@ pub fn part_of(word: &str) -> Option<Part> {
     None
 }
 
-/// Measures a part with so many lines, and so many messages where these are not one for each line.
+/// Measures a part with this many lines, and this many messages unless there is one for each line.
 fn measure_part(
     rt: &HostRuntime,
     session: &mut Session,

@@ -1,11 +1,11 @@
-//! Sessions: markers, lines that come above them, and fold levels.
+//! Sessions: markers, lines inserted above them, and fold levels.
 
 use crate::sessions::{SHORT_LINE, Series, argument, each, measure, open_on, send};
 use ed_types::Kind;
 use editor_session::Session;
 use std::io;
 
-/// Newlines at the top, a marker on each hundredth line, and newlines above these.
+/// Inserts newlines at the top, adds a marker to each hundredth line, and inserts newlines above the markers.
 fn lines_at_the_top(
     rt: &HostRuntime,
     session: &mut Session,
@@ -28,7 +28,7 @@ fn lines_at_the_top(
     measure(rt, session, view, what, top, b"\n")
 }
 
-/// The same, and then the next marker where the only one is on the last line.
+/// Measures `lines_at_the_top`, and then the search for the next marker when the only one is on the last line.
 pub fn markers(
     rt: &HostRuntime,
     session: &mut Session,
@@ -44,7 +44,7 @@ pub fn markers(
     measure(rt, session, view, what, next, &[])
 }
 
-/// The same level for each line.
+/// Sets the same level on each line.
 pub fn levels(rt: &HostRuntime, session: &mut Session, lines: usize) -> io::Result<()> {
     let view = open_on(rt, session, SHORT_LINE, lines)?;
     measure(

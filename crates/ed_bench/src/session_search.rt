@@ -8,20 +8,20 @@ use std::io;
 use std::time::Instant;
 use target_search::{SearchFlags, find};
 
-/// What stands in each line.
+/// A word of each line.
 const COMMON: &[u8] = b"fox";
 
-/// What stands nowhere.
+/// A text that no line has.
 const RARE: &[u8] = b"dog in the manger";
 
-/// Searches from a place to the end of the text, and answers where the match is.
+/// Searches from a place to the end of the text, and returns where the match is.
 fn search(session: &mut Session, view: u32, from: i64, pattern: &[u8]) -> i64 {
     send(session, view, Kind::SetTargetRange, from, i64::MAX, &[]);
     let size = argument(pattern.len());
     send(session, view, Kind::SearchInTarget, size, 0, pattern)
 }
 
-/// Searches from match to match, `most` times at most, and answers how many there are.
+/// Searches from match to match, `most` times at most, and returns how many there are.
 fn search_common(session: &mut Session, view: u32, most: usize) -> usize {
     let mut from = 0i64;
     for found in 0..most {
@@ -59,7 +59,7 @@ fn find_common(flags: u32, text: &[u8], most: usize) -> usize {
     most
 }
 
-/// Searches for a pattern that is not there, and for one that is everywhere, and tells how long it took by these names.
+/// Searches for a pattern that is not in the text, and for one in each line, and prints how long it took under these names.
 fn search_both(
     rt: &HostRuntime,
     session: &mut Session,
@@ -77,7 +77,7 @@ fn search_both(
     println!(rt; "{common}: {place} {found}")
 }
 
-/// The same without a session.
+/// Does the same without a session.
 fn find_both(
     rt: &HostRuntime,
     rare: &str,
@@ -95,7 +95,7 @@ fn find_both(
     println!(rt; "{common}: {place:?} {found}")
 }
 
-/// Searches a text by messages, where case counts.
+/// Searches a text by messages, with case.
 fn search_with_case(
     rt: &HostRuntime,
     session: &mut Session,
@@ -108,7 +108,7 @@ fn search_with_case(
     search_both(rt, session, view, rare, "a match found with case", count)
 }
 
-/// The same in any case.
+/// Searches a text by messages, in any case.
 fn search_in_any_case(
     rt: &HostRuntime,
     session: &mut Session,
@@ -120,7 +120,7 @@ fn search_in_any_case(
     search_both(rt, session, view, rare, "a match found in any case", count)
 }
 
-/// Searches a text both ways without a session.
+/// Searches a text with case and in any case, without a session.
 fn find_both_ways(rt: &HostRuntime, text: &[u8], count: usize) -> io::Result<()> {
     let rare = "a rare pattern with case, without a session";
     let common = "a match found with case, without a session";
@@ -130,7 +130,7 @@ fn find_both_ways(rt: &HostRuntime, text: &[u8], count: usize) -> io::Result<()>
     find_both(rt, rare, common, 0, text, count)
 }
 
-/// Sets the target from line to line, as searches from match to match do before each.
+/// Sets the target from line to line, as searches from match to match do before each search.
 fn set_targets(rt: &HostRuntime, session: &mut Session, view: u32, count: usize) -> io::Result<()> {
     let series = Series {
         kind: Kind::SetTargetRange,
@@ -157,7 +157,7 @@ pub fn searches(
     find_both_ways(rt, text.as_slice(), count)
 }
 
-/// Searches from match to match and replaces each by a longer text, and answers how many there were.
+/// Searches from match to match and replaces each by a longer text, and returns how many there were.
 fn replace_common(session: &mut Session, view: u32, most: usize) -> usize {
     let mut from = 0i64;
     for found in 0..most {
@@ -179,7 +179,7 @@ pub fn replacements(rt: &HostRuntime, session: &mut Session, lines: usize) -> io
     println!(rt; "replaced {found}")
 }
 
-/// Makes each newline a CRLF.
+/// Converts each newline to a CRLF.
 pub fn line_ends(rt: &HostRuntime, session: &mut Session, lines: usize) -> io::Result<()> {
     let view = open_on(rt, session, LINE, lines)?;
     measure_once(

@@ -1,4 +1,4 @@
-//! Sessions: styles by short runs, and bytes put in among ranges of an indicator.
+//! Sessions: styles in short runs, and bytes inserted among ranges of an indicator.
 
 use crate::sessions::{LINE, Series, far_apart, measure, open_on, send};
 use bench_support::tell;
@@ -7,7 +7,7 @@ use editor_session::Session;
 use std::io;
 use std::time::Instant;
 
-/// Styles runs of eight bytes, each run otherwise than the one before, and answers the sum of the values.
+/// Styles runs of eight bytes, each with another style than the run before, and returns the sum of the values.
 fn style_runs(session: &mut Session, view: u32, runs: usize) -> i64 {
     let mut sum = 0i64;
     for run in 0..runs {
@@ -17,7 +17,7 @@ fn style_runs(session: &mut Session, view: u32, runs: usize) -> i64 {
     sum
 }
 
-/// Styles the whole text by runs of eight bytes.
+/// Styles the whole text in runs of eight bytes.
 pub fn styles(rt: &HostRuntime, session: &mut Session, lines: usize) -> io::Result<()> {
     let view = open_on(rt, session, LINE, lines)?;
     let runs = lines.saturating_mul(5);
@@ -30,7 +30,7 @@ pub fn styles(rt: &HostRuntime, session: &mut Session, lines: usize) -> io::Resu
     )
 }
 
-/// Bytes put in far apart, without ranges of an indicator and among them.
+/// Inserts bytes far apart, without ranges of an indicator and among them.
 pub fn indicators(
     rt: &HostRuntime,
     session: &mut Session,

@@ -11,10 +11,10 @@ use memchr::memchr_iter;
 use std::io;
 use std::time::Instant;
 
-/// Every kind of change is heard.
+/// The mask of a view that hears every kind of change.
 pub const WHOLE_MASK: i64 = 0x7F_FFFF;
 
-/// Types in the midst of a text, heard by none, and then by one view.
+/// Types in the middle of a text, heard by no view, and then by one.
 pub fn typing(
     rt: &HostRuntime,
     session: &mut Session,
@@ -27,7 +27,7 @@ pub fn typing(
     measure_typing(rt, session, view, "a byte typed, heard by one view", count)
 }
 
-/// Asks for the length, bytes and lines, at places below those of so many lines.
+/// Asks for the length, bytes and lines, at places in a text of this many lines.
 fn ask(
     rt: &HostRuntime,
     session: &mut Session,
@@ -43,7 +43,7 @@ fn ask(
     measure(rt, session, view, "a line asked for", places, &[])
 }
 
-/// Has ranges of 40 bytes from such places on handed out, and reads them.
+/// Reads ranges of 40 bytes from such places on.
 fn take_ranges(
     rt: &HostRuntime,
     session: &mut Session,
@@ -72,13 +72,13 @@ pub fn look_up(
     count: usize,
 ) -> io::Result<()> {
     let view = open_on(rt, session, LINE, lines)?;
-    // A range of 40 bytes from each of these places on lies in the text.
+    // A range of 40 bytes from each of these places on is in the text.
     let inner = lines.saturating_sub(1);
     ask(rt, session, view, inner, count)?;
     take_ranges(rt, session, view, inner, count)
 }
 
-/// Counts the line ends of a copy that took from `start` on.
+/// Prints how long a copy took since `start`, and counts its line ends.
 fn tell_copy(rt: &HostRuntime, copied: &[u8], start: Instant) -> io::Result<()> {
     tell(rt, "as many bytes copied", start, copied.len())?;
     let ends = memchr_iter(b'\n', copied).count();
@@ -94,10 +94,10 @@ fn copy(rt: &HostRuntime, text: &[u8], times: usize) -> io::Result<()> {
     tell_copy(rt, copied.as_slice(), start)
 }
 
-/// How often the whole text is handed out: what comes first takes new memory.
+/// How often the whole text is handed out: the first time allocates the buffer.
 const ROUNDS: usize = 3;
 
-/// Hands out the whole text, beside a copy of it, in turn.
+/// Hands out the whole text and copies it, in turn.
 fn hand_out_and_copy(
     rt: &HostRuntime,
     session: &mut Session,
@@ -112,14 +112,14 @@ fn hand_out_and_copy(
     Ok(())
 }
 
-/// Hands out the whole text, beside a copy of as many bytes, in turn.
+/// Hands out the whole text and copies as many bytes, in turn.
 pub fn hand_out(rt: &HostRuntime, session: &mut Session, lines: usize) -> io::Result<()> {
     let view = open_on(rt, session, LINE, lines)?;
     let text = repeated(rt.alloc(), LINE, lines)?;
     hand_out_and_copy(rt, session, view, text.as_slice())
 }
 
-/// Sets a text while no history is kept.
+/// Sets a text without a history.
 pub fn load(rt: &HostRuntime, session: &mut Session, lines: usize) -> io::Result<()> {
     let view = open(session);
     send(session, view, Kind::SetUndoCollection, 0, 0, &[]);

@@ -6,7 +6,7 @@ use ed_types::Kind;
 use editor_session::Session;
 use std::io;
 
-/// Opens views on a view's document until there are so many, and answers how many there are.
+/// Opens views on a view's document until there are `count`, and returns how many there are.
 fn open_views(session: &mut Session, view: u32, count: usize) -> usize {
     let document = send(session, view, Kind::GetDocPointer, 0, 0, &[]);
     for opened in 1..count {
@@ -18,7 +18,7 @@ fn open_views(session: &mut Session, view: u32, count: usize) -> usize {
     count
 }
 
-/// Types in the midst of a text, heard by so many views.
+/// Types in the middle of a text, heard by this many views.
 pub fn hearing(
     rt: &HostRuntime,
     session: &mut Session,

@@ -1,4 +1,4 @@
-//! Sessions: messages through the door that a program uses, to a view that hears nothing where nothing else is said.
+//! Sessions: messages through the calls that a program uses, to a view that hears nothing unless stated otherwise.
 
 use bench_support::{repeated, tell};
 use ed_types::Kind;
@@ -9,33 +9,33 @@ use std::time::Instant;
 /// A line of 40 bytes.
 pub const LINE: &[u8] = b"the quick brown fox jumps over the dog.\n";
 
-/// How many bytes that is.
+/// The length of that line in bytes.
 pub const LINE_SIZE: usize = 40;
 
 /// A line of 8 bytes, for texts of many lines.
 pub const SHORT_LINE: &[u8] = b"7 bytes\n";
 
-/// Messages of one kind: `w` goes from 0 on by a stride, kept below a size.
+/// Messages of one kind: `w` starts at 0, grows by a stride, and wraps at a size.
 #[derive(Clone, Copy)]
 pub struct Series {
-    /// Which message.
+    /// The message.
     pub kind: Kind,
-    /// How many there are.
+    /// The number of messages.
     pub count: usize,
-    /// By how much `w` goes on.
+    /// By how much `w` grows.
     pub stride: i64,
-    /// `w` stays below it.
+    /// The exclusive bound of `w`.
     pub size: i64,
-    /// The same `l` for all, or by how much it is greater than `w`.
+    /// The `l` of all messages, or the difference of `l` and `w`.
     pub l: i64,
 }
 
-/// A number as an argument of a message.
+/// Returns a number as an argument of a message.
 pub fn argument(number: usize) -> i64 {
     i64::try_from(number).unwrap_or(i64::MAX)
 }
 
-/// Messages with `w` one behind the other, as for each line.
+/// Returns messages with `w` = 0, 1, 2 and so on, as for each line.
 pub fn each(kind: Kind, count: usize, l: i64) -> Series {
     Series {
         kind,
@@ -46,12 +46,12 @@ pub fn each(kind: Kind, count: usize, l: i64) -> Series {
     }
 }
 
-/// How many bytes so many lines have.
+/// Returns how many bytes this many lines have.
 fn size_of_lines(lines: usize) -> i64 {
     argument(lines.saturating_mul(LINE_SIZE))
 }
 
-/// Messages at places that lie far apart in a text of so many lines: the stride is a prime, and no round number of lines.
+/// Returns messages at places far apart in a text of this many lines. The stride is a prime, and no round number of lines.
 pub fn far_apart(kind: Kind, count: usize, lines: usize) -> Series {
     Series {
         kind,
@@ -62,7 +62,7 @@ pub fn far_apart(kind: Kind, count: usize, lines: usize) -> Series {
     }
 }
 
-/// Messages on one line after the other, so that no two insertions there join.
+/// Returns messages on one line after the other, so that no two insertions there coalesce.
 pub fn line_by_line(kind: Kind, count: usize, lines: usize) -> Series {
     Series {
         kind,
@@ -73,7 +73,7 @@ pub fn line_by_line(kind: Kind, count: usize, lines: usize) -> Series {
     }
 }
 
-/// Sends one message, and answers its value: -1 where it is refused.
+/// Sends one message, and returns its value: -1 if it is refused.
 pub fn send(session: &mut Session, view: u32, kind: Kind, w: i64, l: i64, text: &[u8]) -> i64 {
     match session.send_lent(view, kind.number(), w, l, text) {
         Ok(reply) => reply.value(),
@@ -81,7 +81,7 @@ pub fn send(session: &mut Session, view: u32, kind: Kind, w: i64, l: i64, text: 
     }
 }
 
-/// The series with a stride below its size.
+/// Returns the series with a stride below its size.
 fn within_size(series: Series) -> Series {
     Series {
         stride: series.stride.wrapping_rem(series.size.max(1)),
@@ -89,7 +89,7 @@ fn within_size(series: Series) -> Series {
     }
 }
 
-/// The `w` after this one, in a series with a stride below its size. It is found without a division, which takes as long as some messages.
+/// Returns the `w` after this one, in a series with a stride below its size. It avoids a division, which takes as long as some messages.
 fn next_place(series: Series, w: i64) -> i64 {
     let next = w.wrapping_add(series.stride);
     if next < series.size {
@@ -99,7 +99,7 @@ fn next_place(series: Series, w: i64) -> i64 {
     }
 }
 
-/// Sends a series with the same `l` and text, and answers the sum of the values.
+/// Sends a series with the same `l` and text, and returns the sum of the values.
 pub fn send_each(session: &mut Session, view: u32, series: Series, text: &[u8]) -> i64 {
     let series = within_size(series);
     let mut sum = 0i64;
@@ -111,7 +111,7 @@ pub fn send_each(session: &mut Session, view: u32, series: Series, text: &[u8]) 
     sum
 }
 
-/// Sends a series whose `l` goes with `w`, and answers the sum of the values.
+/// Sends a series whose `l` grows with `w`, and returns the sum of the values.
 pub fn send_ranges(session: &mut Session, view: u32, series: Series) -> i64 {
     let series = within_size(series);
     let mut sum = 0i64;
@@ -124,7 +124,7 @@ pub fn send_ranges(session: &mut Session, view: u32, series: Series) -> i64 {
     sum
 }
 
-/// Reads a series whose `l` goes with `w` into a buffer, and answers the sum of the values: -1 for what is not read.
+/// Reads a series whose `l` grows with `w` into a buffer, and returns the sum of the values: -1 for a message that is not read.
 pub fn read_ranges(session: &Session, view: u32, series: Series, into: &mut Vec<u8>) -> i64 {
     let series = within_size(series);
     let mut sum = 0i64;
@@ -138,7 +138,7 @@ pub fn read_ranges(session: &Session, view: u32, series: Series, into: &mut Vec<
     sum
 }
 
-/// Types bytes at the caret, a newline each 40, one message each, and answers the sum of the values.
+/// Types bytes at the caret, every 40th a newline, one message each, and returns the sum of the values.
 pub fn type_bytes(session: &mut Session, view: u32, count: usize) -> i64 {
     let mut sum = 0i64;
     for typed in 0..count {
@@ -148,12 +148,12 @@ pub fn type_bytes(session: &mut Session, view: u32, count: usize) -> i64 {
     sum
 }
 
-/// How many bytes the text has.
+/// Returns how many bytes the text has.
 pub fn length(session: &mut Session, view: u32) -> i64 {
     send(session, view, Kind::GetLength, 0, 0, &[])
 }
 
-/// Sends a series with the same `l` and text, and tells how long a message took.
+/// Sends a series with the same `l` and text, and prints how long a message took.
 pub fn measure(
     rt: &HostRuntime,
     session: &mut Session,
@@ -168,7 +168,7 @@ pub fn measure(
     println!(rt; "{what}: {sum}")
 }
 
-/// Sends a series whose `l` goes with `w`, and tells how long a message took.
+/// Sends a series whose `l` grows with `w`, and prints how long a message took.
 pub fn measure_ranges(
     rt: &HostRuntime,
     session: &mut Session,
@@ -182,7 +182,7 @@ pub fn measure_ranges(
     println!(rt; "{what}: {sum}")
 }
 
-/// Reads a series whose `l` goes with `w` into a buffer, and tells how long a message took.
+/// Reads a series whose `l` grows with `w` into a buffer, and prints how long a message took.
 pub fn measure_reads(
     rt: &HostRuntime,
     session: &Session,
@@ -197,7 +197,7 @@ pub fn measure_reads(
     println!(rt; "{what}: {sum}")
 }
 
-/// Sends one message that does a work of `count` pieces, and tells how long one of these took.
+/// Sends one message that does `count` pieces of work, and prints how long a piece took.
 pub fn measure_once(
     rt: &HostRuntime,
     session: &mut Session,
@@ -213,7 +213,7 @@ pub fn measure_once(
     println!(rt; "{what}: {value} {}", length(session, view))
 }
 
-/// Types in the midst of the text, and tells how long a byte took.
+/// Types in the middle of the text, and prints how long a byte took.
 pub fn measure_typing(
     rt: &HostRuntime,
     session: &mut Session,
@@ -236,7 +236,7 @@ pub fn open(session: &mut Session) -> u32 {
     view
 }
 
-/// Opens a view that hears nothing on a text of so many equal lines, with nothing to undo.
+/// Opens a view that hears nothing on a text of this many equal lines, with an empty history.
 pub fn open_on(
     rt: &HostRuntime,
     session: &mut Session,
