@@ -1,4 +1,4 @@
-//! Characters: cuts of a text, one after the other in both directions, and the keys that move over it.
+//! Characters: the cuts of a text, one after the other in both directions, and selections moved by insertions.
 
 ghost use Rattle.std.specs.Prelude.{◌≤◌, ◌+◌, length};
 
@@ -49,7 +49,7 @@ fn move_on(count: usize) -> usize {
     selection.caret
 }
 
-/// Passes a text in two halves both ways, and moves as many selections as it has bytes.
+/// Steps over a text in two halves both ways, and moves as many selections as it has bytes.
 fn measure(rt: &HostRuntime, text: &[u8], bytes: usize) -> io::Result<()> {
     let (first, second) = text.split_at(text.len() / 2);
     let start = Instant::now(rt)?;
@@ -64,7 +64,7 @@ fn measure(rt: &HostRuntime, text: &[u8], bytes: usize) -> io::Result<()> {
     println!(rt; "characters {forwards} {backwards} {caret}")
 }
 
-/// A text of so many bytes with characters of one to four bytes and CRLF.
+/// Measures a text of this many bytes with characters of one to four bytes and CRLF.
 pub fn run(rt: &HostRuntime, bytes: usize) -> io::Result<()> {
     let text = repeated(rt.alloc(), "aé€😀b\r\n.".as_bytes(), bytes / 14)?;
     measure(rt, text.as_slice(), bytes)

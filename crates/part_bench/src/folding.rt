@@ -1,4 +1,4 @@
-//! Folding: each second line hidden, and display lines looked up; headers contracted and lines put in among them.
+//! Folding: every second line hidden, and display lines looked up; headers contracted, and lines inserted among them.
 
 use bench_support::{next_seed, tell};
 use contraction::{Contraction, Levels};
@@ -7,7 +7,7 @@ use std::alloc::{AllocError, Global};
 use std::io;
 use std::time::Instant;
 
-/// The levels of blocks of eight lines: a header, and seven lines below it.
+/// Returns the levels of blocks of eight lines: a header, and seven lines below it.
 fn block_level(line: usize) -> u32 {
     if line % 8 == 0 { 0x2400 } else { 0x401 }
 }
@@ -31,14 +31,14 @@ fn contract(view: &mut Contraction<u32>, levels: &[u32], line: usize) -> Result<
     Ok(())
 }
 
-/// Lets a line come.
+/// Inserts a line.
 fn come(view: &mut Contraction<u32>, line: usize) {
     if line <= view.count() && view.count() < u32::MAX as usize {
         view.carry(&[LineEdit::Come { line, count: 1 }]);
     }
 }
 
-/// Looks up the display line of `count` lines, and the lines that are shown there, and adds them up.
+/// Looks up the display lines of `count` lines, and the lines at these, and returns the sum.
 fn look_up(view: &Contraction<u32>, count: usize) -> usize {
     let mut sum = 0usize;
     let mut seed = 1u64;
@@ -53,7 +53,7 @@ fn look_up(view: &Contraction<u32>, count: usize) -> usize {
     sum
 }
 
-/// Hides each second line.
+/// Hides every second line.
 fn hide_half(view: &mut Contraction<u32>, lines: usize) -> Result<(), AllocError> {
     for line in 0..lines / 2 {
         hide(view, line * 2 + 1)?;
@@ -61,7 +61,7 @@ fn hide_half(view: &mut Contraction<u32>, lines: usize) -> Result<(), AllocError
     Ok(())
 }
 
-/// Hides lines, looks display lines up, and puts lines in: answers the sum of what was found.
+/// Hides lines, looks up display lines, and inserts lines. Returns the sum of what was found.
 fn measure_hidden(
     rt: &HostRuntime,
     view: &mut Contraction<u32>,
@@ -82,7 +82,7 @@ fn measure_hidden(
     Ok(sum)
 }
 
-/// The levels of so many lines.
+/// Returns the levels of this many lines.
 fn levels_of(alloc: Global, lines: usize) -> Result<Vec<u32>, AllocError> {
     let mut levels: Vec<u32> = Vec::with_capacity(alloc, lines)?;
     for line in 0..lines {
@@ -99,7 +99,7 @@ fn contract_all(view: &mut Contraction<u32>, levels: &[u32]) -> Result<(), Alloc
     Ok(())
 }
 
-/// Contracts all headers, and answers the line on the second display line.
+/// Contracts all headers, and returns the line on the second display line.
 fn measure_contracted(
     rt: &HostRuntime,
     view: &mut Contraction<u32>,
@@ -111,14 +111,14 @@ fn measure_contracted(
     Ok(view.doc_of(1))
 }
 
-/// A view of so many lines, each second of them hidden.
+/// Measures a view of this many lines, every second of them hidden.
 fn run_hidden(rt: &HostRuntime, lines: usize, count: usize) -> io::Result<usize> {
     let lines = lines.min(u32::MAX as usize);
     let mut view: Contraction<u32> = Contraction::new(rt.alloc(), lines)?;
     measure_hidden(rt, &mut view, lines, count)
 }
 
-/// A view of so many lines with all headers contracted.
+/// Measures a view of this many lines with all headers contracted.
 fn run_contracted(rt: &HostRuntime, lines: usize) -> io::Result<usize> {
     let lines = lines.min(u32::MAX as usize);
     let levels = levels_of(rt.alloc(), lines)?;
@@ -126,7 +126,7 @@ fn run_contracted(rt: &HostRuntime, lines: usize) -> io::Result<usize> {
     measure_contracted(rt, &mut view, levels.as_slice())
 }
 
-/// A view of so many lines, each second of them hidden; then one with all headers contracted.
+/// Measures a view of this many lines, every second of them hidden; then one with all headers contracted.
 pub fn run(rt: &HostRuntime, lines: usize, count: usize) -> io::Result<()> {
     let sum = run_hidden(rt, lines, count)?;
     let shown = run_contracted(rt, lines)?;

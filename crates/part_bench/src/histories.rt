@@ -1,4 +1,4 @@
-//! Undo history: steps appended, undone one transaction after the other, and redone; and notes put that share a text.
+//! Undo history: steps appended, undone one transaction after the other, and redone; and notes appended that share a text.
 
 use bench_support::tell;
 use notify::{NoteList, blank};
@@ -7,7 +7,7 @@ use std::io;
 use std::time::Instant;
 use undo_history::{StepKind, UndoHistory};
 
-/// Appends steps of 8 bytes that do not join.
+/// Appends steps of 8 bytes that do not coalesce.
 fn append(history: &mut UndoHistory, count: usize) -> Result<(), AllocError> {
     for step in 0..count {
         history.reserve(1, 8)?;
@@ -17,7 +17,7 @@ fn append(history: &mut UndoHistory, count: usize) -> Result<(), AllocError> {
     Ok(())
 }
 
-/// Reads what the next undo performs, adds up its bytes, and undoes.
+/// Reads what the next undo performs, adds up its bytes, and undoes it.
 fn undo(history: &mut UndoHistory) -> usize {
     let mut bytes = 0usize;
     for index in 0..history.undo_len() {
@@ -27,7 +27,7 @@ fn undo(history: &mut UndoHistory) -> usize {
     bytes
 }
 
-/// The same for redo.
+/// Does the same for redo.
 fn redo(history: &mut UndoHistory) -> usize {
     let mut bytes = 0usize;
     for index in 0..history.redo_len() {
@@ -37,7 +37,7 @@ fn redo(history: &mut UndoHistory) -> usize {
     bytes
 }
 
-/// Puts notes that share a text.
+/// Appends notes that share a text.
 fn tell_all(notes: &mut NoteList, count: usize) -> Result<(), AllocError> {
     for _ in 0..count {
         notes.reserve(1, 0)?;
@@ -46,7 +46,7 @@ fn tell_all(notes: &mut NoteList, count: usize) -> Result<(), AllocError> {
     Ok(())
 }
 
-/// Appends so many steps, undoes and redoes them, and answers how many bytes that were, each way.
+/// Appends this many steps, undoes and redoes them, and returns how many bytes these had, each way.
 fn measure_steps(
     rt: &HostRuntime,
     history: &mut UndoHistory,
@@ -70,7 +70,7 @@ fn measure_steps(
     Ok((undone, redone))
 }
 
-/// Puts so many notes that share a text.
+/// Appends this many notes that share a text.
 fn measure_notes(rt: &HostRuntime, notes: &mut NoteList, count: usize) -> io::Result<()> {
     notes.reserve(0, 8)?;
     notes.share(b"8 bytes.", &[]);
@@ -79,19 +79,19 @@ fn measure_notes(rt: &HostRuntime, notes: &mut NoteList, count: usize) -> io::Re
     tell(rt, "notes put", start, count)
 }
 
-/// So many steps, undone and redone.
+/// Measures this many steps, undone and redone.
 fn run_steps(rt: &HostRuntime, count: usize) -> io::Result<(usize, usize)> {
     let mut history = UndoHistory::new(rt.alloc());
     measure_steps(rt, &mut history, count)
 }
 
-/// So many notes.
+/// Measures this many notes.
 fn run_notes(rt: &HostRuntime, count: usize) -> io::Result<()> {
     let mut notes = NoteList::new(rt.alloc());
     measure_notes(rt, &mut notes, count)
 }
 
-/// So many steps, undone and redone, and as many notes.
+/// Measures this many steps, undone and redone, and as many notes.
 pub fn run(rt: &HostRuntime, count: usize) -> io::Result<()> {
     let (undone, redone) = run_steps(rt, count)?;
     run_notes(rt, count)?;

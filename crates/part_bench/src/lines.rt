@@ -1,4 +1,5 @@
-//! Lines: one large insertion into an empty document, beside counting its line ends alone, and typing in the midst of the text, history included.
+//! Lines: one large insertion into an empty document, beside counting its line ends alone, and typing in the middle of the text, with its
+//! history.
 
 ghost use Rattle.std.specs.Prelude.{◌≤◌, length};
 
@@ -9,15 +10,15 @@ use std::alloc::{AllocError, Global};
 use std::io;
 use std::time::Instant;
 
-/// Texts of documents that are not large are shorter, in bytes.
+/// The exclusive bound of the length of a document that is not large, in bytes.
 const WIDTH: usize = 1 << 32;
 
-/// The byte at a place of a text of 40-byte lines.
+/// Returns the byte at a place of a text of 40-byte lines.
 fn byte_at(place: usize) -> u8 {
     if place % 40 == 39 { b'\n' } else { b'x' }
 }
 
-/// Puts bytes into a document, as a step of its own. One whose text would be too long for its places gets none.
+/// Inserts bytes into a document as a step of its own, unless its text would be too long.
 fn put(document: &mut Document, place: usize, bytes: &[u8]) -> Result<(), AllocError>
     requires { place ≤ length document.old.document.cells }
 {
@@ -41,7 +42,7 @@ fn type_run(document: &mut Document, start: usize, count: usize) -> Result<(), A
     Ok(())
 }
 
-/// A text of so many bytes, in 40-byte lines.
+/// Returns a text of this many bytes, in 40-byte lines.
 fn text_of(alloc: Global, bytes: usize) -> Result<Vec<u8>, AllocError> {
     let mut text = Vec::with_capacity(alloc, bytes)?;
     for place in 0..bytes {
@@ -58,14 +59,14 @@ fn count_ends(rt: &HostRuntime, text: &[u8]) -> io::Result<usize> {
     Ok(ends)
 }
 
-/// Puts a text into a document at once.
+/// Inserts a text into a document at once.
 fn load(rt: &HostRuntime, document: &mut Document, text: &[u8]) -> io::Result<()> {
     let start = Instant::now(rt)?;
     put(document, 0, text)?;
     tell(rt, "bytes put in at once", start, text.len())
 }
 
-/// Types in the midst of the text.
+/// Types in the middle of the text.
 fn type_in_midst(rt: &HostRuntime, document: &mut Document, typed: usize) -> io::Result<()> {
     let middle = document.len() / 2;
     let start = Instant::now(rt)?;
@@ -73,7 +74,7 @@ fn type_in_midst(rt: &HostRuntime, document: &mut Document, typed: usize) -> io:
     tell(rt, "bytes typed", start, typed)
 }
 
-/// Puts a text into an empty document at once, and types `typed` bytes in its midst: prints how many lines there are.
+/// Inserts a text into an empty document at once, and types `typed` bytes in its middle. Prints how many lines there are.
 fn measure(rt: &HostRuntime, document: &mut Document, text: &[u8], typed: usize) -> io::Result<()> {
     let ends = count_ends(rt, text)?;
     load(rt, document, text)?;
@@ -82,7 +83,7 @@ fn measure(rt: &HostRuntime, document: &mut Document, text: &[u8], typed: usize)
     println!(rt; "typed {} {}", document.line_count(), document.len())
 }
 
-/// A text of `bytes` bytes, put in at once, and `typed` more typed in its midst.
+/// Measures a text of `bytes` bytes, inserted at once, and `typed` more typed in its middle.
 pub fn run(rt: &HostRuntime, bytes: usize, typed: usize) -> io::Result<()> {
     let text = text_of(rt.alloc(), bytes)?;
     let mut document = Document::new(rt.alloc(), 1, 0)?;

@@ -1,5 +1,5 @@
-//! Benchmarks of the containers, of a document and of scripts. The sizes are arguments; check sums go to standard output,
-//! times to standard error, so that a run prints the same whatever the machine. Messages to a session are measured by `ed_bench`.
+//! Benchmarks of the containers, of a document and of scripts. The sizes are arguments. Checksums go to standard output, and
+//! times to standard error, so that standard output is the same on every machine. `ed_bench` measures messages to a session.
 //!
 //!     part_bench split ITEMS FAR NEAR
 //!     part_bench partitions STARTS LOOK_UPS EDITS
@@ -28,7 +28,7 @@ mod styling;
 use bench_support::{number_at, word_at, words};
 use std::io;
 
-/// Each part with small sizes.
+/// Measures each part with small sizes.
 fn run_all(rt: &HostRuntime) -> io::Result<()> {
     split::run(rt, 1000, 10, 100)?;
     partitions::run(rt, 100, 100, 10)?;
@@ -42,7 +42,7 @@ fn run_all(rt: &HostRuntime) -> io::Result<()> {
     histories::run(rt, 10)
 }
 
-/// Measures the part that the first word names, with the sizes behind it, or tells the words.
+/// Measures the part that the first word names, with the sizes after it, or prints the words.
 fn run(rt: &HostRuntime, words: &[String]) -> io::Result<()> {
     let first = number_at(words, 2);
     let second = number_at(words, 3);

@@ -6,7 +6,7 @@ use std::alloc::AllocError;
 use std::io;
 use std::time::Instant;
 
-/// Puts a start in, if one may stand there.
+/// Inserts a start, if there may be one.
 fn put_in(table: &mut Partitioning<u32>, index: usize, start: usize) -> Result<(), AllocError> {
     table.reserve(1)?;
     let count = table.count();
@@ -21,7 +21,7 @@ fn put_in(table: &mut Partitioning<u32>, index: usize, start: usize) -> Result<(
     Ok(())
 }
 
-/// Puts text in, if the length allows it.
+/// Inserts text, if the length allows it.
 fn put_text(table: &mut Partitioning<u32>, index: usize, count: usize) {
     let bound = u32::MAX as usize;
     let length = table.length();
@@ -30,7 +30,7 @@ fn put_text(table: &mut Partitioning<u32>, index: usize, count: usize) {
     }
 }
 
-/// Looks up `count` places, far apart, and adds up what is found.
+/// Looks up `count` places, far apart, and returns the sum of what is found.
 fn look_up(table: &Partitioning<u32>, count: usize, probes: &mut Probes) -> u64 {
     let length = table.length() as u64;
     let mut place = 1u64;
@@ -47,7 +47,7 @@ fn look_up(table: &Partitioning<u32>, count: usize, probes: &mut Probes) -> u64 
     sum
 }
 
-/// Puts text and a start in, `count` times, near the middle.
+/// Inserts text and a start, `count` times, near the middle.
 fn edit_near(table: &mut Partitioning<u32>, count: usize) -> Result<(), AllocError> {
     let middle = table.count() / 2;
     for i in 0..count {
@@ -62,7 +62,7 @@ fn edit_near(table: &mut Partitioning<u32>, count: usize) -> Result<(), AllocErr
     Ok(())
 }
 
-/// Puts so many starts in.
+/// Inserts this many starts.
 fn put_all_in(table: &mut Partitioning<u32>, starts: usize) -> Result<(), AllocError> {
     put_text(table, 0, starts.saturating_mul(2));
     for index in 1..starts {
@@ -71,7 +71,7 @@ fn put_all_in(table: &mut Partitioning<u32>, starts: usize) -> Result<(), AllocE
     Ok(())
 }
 
-/// Measures a table: prints sums and counters.
+/// Measures a table, and prints sums and counters.
 fn measure(
     rt: &HostRuntime,
     table: &mut Partitioning<u32>,
@@ -98,7 +98,7 @@ fn measure(
     )
 }
 
-/// `starts` starts, `look_ups` look-ups and `edits` edits: prints sums and counters.
+/// Measures `starts` starts, `look_ups` look-ups and `edits` edits, and prints sums and counters.
 pub fn run(rt: &HostRuntime, starts: usize, look_ups: usize, edits: usize) -> io::Result<()> {
     let mut table = Partitioning::<u32>::new(rt.alloc())?;
     measure(rt, &mut table, starts, look_ups, edits)

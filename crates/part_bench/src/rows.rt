@@ -1,4 +1,4 @@
-//! Rows of lines: markers added and found, levels set, and lines that come at the top, with markers on each hundredth line.
+//! Rows of lines: markers added and found, levels set, and lines inserted at the top, with markers on every hundredth line.
 
 use bench_support::tell;
 use line_index::LineEdit;
@@ -7,7 +7,7 @@ use std::alloc::AllocError;
 use std::io;
 use std::time::Instant;
 
-/// Lets `count` fresh lines come before a line.
+/// Inserts `count` fresh lines before a line.
 fn come(rows: &mut LineRows, line: usize, count: usize) -> Result<(), AllocError> {
     rows.reserve(count)?;
     let lines = rows.count();
@@ -26,7 +26,7 @@ fn mark(rows: &mut LineRows, line: usize) -> Result<(), AllocError> {
     Ok(())
 }
 
-/// Adds a marker to each hundredth line.
+/// Adds a marker to every hundredth line.
 fn mark_some(rows: &mut LineRows) -> Result<(), AllocError> {
     for hundred in 0..rows.count() / 100 {
         mark(rows, hundred * 100)?;
@@ -61,7 +61,7 @@ fn count_marked(rows: &LineRows) -> usize {
     found
 }
 
-/// Puts so many lines in at the top, one by one.
+/// Inserts this many lines at the top, one by one.
 fn come_one_by_one(rows: &mut LineRows, count: usize) -> Result<(), AllocError> {
     for _ in 0..count {
         come(rows, 0, 1)?;
@@ -69,7 +69,7 @@ fn come_one_by_one(rows: &mut LineRows, count: usize) -> Result<(), AllocError> 
     Ok(())
 }
 
-/// Marks lines and finds them, and puts lines in above them: answers how many were found.
+/// Marks lines and finds them, and inserts lines above them. Returns how many were found.
 fn measure_markers(rt: &HostRuntime, rows: &mut LineRows, lines: usize) -> io::Result<usize> {
     let some = lines / 100;
     let start = Instant::now(rt)?;
@@ -84,7 +84,7 @@ fn measure_markers(rt: &HostRuntime, rows: &mut LineRows, lines: usize) -> io::R
     Ok(marked)
 }
 
-/// Sets levels, and puts lines in above them.
+/// Sets levels, and inserts lines above them.
 fn measure_levels(rt: &HostRuntime, rows: &mut LineRows, lines: usize) -> io::Result<()> {
     let some = lines / 100;
     let start = Instant::now(rt)?;
@@ -95,7 +95,7 @@ fn measure_levels(rt: &HostRuntime, rows: &mut LineRows, lines: usize) -> io::Re
     tell(rt, "lines put in at the top, with levels", start, some)
 }
 
-/// Measures so many lines: prints how many are marked.
+/// Measures this many lines, and prints how many are marked.
 fn measure(rt: &HostRuntime, rows: &mut LineRows, lines: usize) -> io::Result<()> {
     come(rows, 0, lines)?;
     let marked = measure_markers(rt, rows, lines)?;
@@ -103,7 +103,7 @@ fn measure(rt: &HostRuntime, rows: &mut LineRows, lines: usize) -> io::Result<()
     println!(rt; "rows {marked} {}", rows.count())
 }
 
-/// So many lines, with markers and levels: prints how many are marked.
+/// Measures this many lines, with markers and levels, and prints how many are marked.
 pub fn run(rt: &HostRuntime, lines: usize) -> io::Result<()> {
     let mut rows = LineRows::new(rt.alloc());
     measure(rt, &mut rows, lines)

@@ -6,7 +6,7 @@ use std::alloc::{AllocError, Global};
 use std::io;
 use std::time::Instant;
 
-/// A script of insertions, of at most `size` bytes or little more.
+/// Returns a script of insertions, of about `size` bytes.
 fn script_text(alloc: Global, size: usize) -> Result<Vec<u8>, AllocError> {
     let line = b"send 1 2003 0 0 \"the quick brown fox jumps over the lazy dog\\x0a\"\n";
     let mut text = Vec::new(alloc);
@@ -17,7 +17,7 @@ fn script_text(alloc: Global, size: usize) -> Result<Vec<u8>, AllocError> {
     Ok(text)
 }
 
-/// Assembles a script of about `size` bytes and lists it: prints how many commands and bytes that makes.
+/// Assembles a script of about `size` bytes and lists it. Prints how many commands and bytes that makes.
 pub fn run(rt: &HostRuntime, size: usize) -> io::Result<()> {
     let text = script_text(rt.alloc(), size)?;
     let start = Instant::now(rt)?;

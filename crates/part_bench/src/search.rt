@@ -1,5 +1,5 @@
-//! Searches: of a rare pattern, with case and without, beside `memchr`'s own search of one slice; and of patterns that
-//! nearly meet everywhere.
+//! Searches: for a rare pattern, with case and without, beside `memchr`'s own search of one slice; and for patterns that
+//! almost match everywhere.
 
 use bench_support::{next_seed, repeated, tell};
 use memchr::memmem;
@@ -8,13 +8,13 @@ use std::io;
 use std::time::Instant;
 use target_search::{SearchFlags, find};
 
-/// What is looked for, and stands at the end of the text alone.
+/// The rare pattern, which only the end of the text has.
 const RARE: &[u8] = b"Jackdaws love my big sphinx";
 
 /// The same in other case.
 const RARE_IN_OTHER_CASE: &[u8] = b"jackDAWS LOVE my BIG Sphinx";
 
-/// A text of English words, one behind the other in an order that repeats after many, with the rare words at its end.
+/// Returns a text of English words in an order with a long period, with the rare words at its end.
 fn words(alloc: Global, bytes: usize) -> Result<Vec<u8>, AllocError> {
     let some: [&[u8]; 8] = [
         b"the ", b"quick ", b"brown ", b"fox ", b"jumps ", b"over ", b"a lazy ", b"Dog.\n",
@@ -50,7 +50,7 @@ fn search(
     println!(rt; "{what} {found:?}")
 }
 
-/// Searches for rare words, beside `memchr`'s own search.
+/// Searches for rare words, and by `memchr`'s own search.
 fn search_words(rt: &HostRuntime, text: &[u8]) -> io::Result<()> {
     let start = Instant::now(rt)?;
     let found = memmem::find(text, RARE);
@@ -68,7 +68,7 @@ fn search_words(rt: &HostRuntime, text: &[u8]) -> io::Result<()> {
     search(rt, "any case backwards", 0, text, b"jackDAWS HATE", true)
 }
 
-/// Searches for patterns that nearly meet everywhere.
+/// Searches for patterns that almost match everywhere.
 fn search_pairs(rt: &HostRuntime, text: &[u8]) -> io::Result<()> {
     let exact = SearchFlags::MATCH_CASE;
     let word = SearchFlags::WHOLE_WORD;
@@ -79,19 +79,19 @@ fn search_pairs(rt: &HostRuntime, text: &[u8]) -> io::Result<()> {
     search(rt, "pairs in any case", 0, text, b"ABABABABABABABAC", false)
 }
 
-/// A text of words of so many bytes.
+/// Measures a text of words of this many bytes.
 fn run_words(rt: &HostRuntime, bytes: usize) -> io::Result<()> {
     let text = words(rt.alloc(), bytes)?;
     search_words(rt, text.as_slice())
 }
 
-/// A text of so many bytes: `ab` over and over.
+/// Measures a text of this many bytes: `ab` again and again.
 fn run_pairs(rt: &HostRuntime, bytes: usize) -> io::Result<()> {
     let text = repeated(rt.alloc(), b"ab", bytes / 2)?;
     search_pairs(rt, text.as_slice())
 }
 
-/// A text of about `bytes` bytes, searched in each way: prints where the patterns were found.
+/// Searches a text of about `bytes` bytes in each way, and prints where the patterns were found.
 pub fn run(rt: &HostRuntime, bytes: usize) -> io::Result<()> {
     run_words(rt, bytes)?;
     run_pairs(rt, bytes)

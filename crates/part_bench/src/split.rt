@@ -1,4 +1,4 @@
-//! The gap buffer: insertions at far apart places, beside std's own `copy_within` over as many items, and insertions
+//! The gap buffer: insertions at places far apart, beside std's own `copy_within` over as many items, and insertions
 //! at one place.
 
 use bench_support::tell;
@@ -7,10 +7,10 @@ use std::alloc::{AllocError, Global};
 use std::io;
 use std::time::Instant;
 
-/// How many more items a vector has room for at first: its gap stays small beside its text.
+/// The spare capacity of a new vector, in items: its gap stays small beside its text.
 const SPARE: usize = 4096;
 
-/// A vector of `count` items.
+/// Returns a vector of `count` items.
 fn filled<T: Copy>(alloc: Global, item: T, count: usize) -> Result<SplitVector<T>, AllocError> {
     let mut vector = SplitVector::new(alloc);
     vector.reserve(count.saturating_add(SPARE))?;
@@ -33,7 +33,7 @@ fn insert_far<T: Copy>(
     Ok(())
 }
 
-/// Inserts `count` items one behind the other from the middle on.
+/// Inserts `count` items one after the other from the middle on.
 fn insert_near<T: Copy>(
     vector: &mut SplitVector<T>,
     item: T,
@@ -71,13 +71,13 @@ fn measure_plain<T: Copy>(rt: &HostRuntime, plain: &mut Vec<T>, count: usize) ->
     tell(rt, "std copy_within", start, count)
 }
 
-/// The same items in std's own vector.
+/// Measures the same items in std's own vector.
 fn run_plain<T: Copy>(rt: &HostRuntime, item: T, items: usize, count: usize) -> io::Result<()> {
     let mut plain = Vec::from_elem(rt.alloc(), item, items)?;
     measure_plain(rt, &mut plain, count)
 }
 
-/// Inserts far apart: prints how many items were moved, and how many there are.
+/// Inserts far apart, and prints how many items were moved, and how many there are.
 fn measure_far<T: Copy>(
     rt: &HostRuntime,
     vector: &mut SplitVector<T>,
@@ -91,7 +91,7 @@ fn measure_far<T: Copy>(
     println!(rt; "{name} far {} {}", vector.len(), vector.moved())
 }
 
-/// Inserts at one place, for which room is made before: prints the same.
+/// Inserts at one place, for which room is reserved before, and prints the same.
 fn measure_near<T: Copy>(
     rt: &HostRuntime,
     vector: &mut SplitVector<T>,
@@ -106,7 +106,7 @@ fn measure_near<T: Copy>(
     println!(rt; "{name} near {} {}", vector.len(), vector.moved())
 }
 
-/// A vector of one width of item, and std's own between.
+/// Measures a vector of items of one width, and std's own in between.
 fn measure<T: Copy>(
     rt: &HostRuntime,
     vector: &mut SplitVector<T>,
@@ -121,7 +121,7 @@ fn measure<T: Copy>(
     measure_near(rt, vector, name, item, near)
 }
 
-/// One width of item: prints how many items were moved, and how many there are.
+/// Measures items of one width, and prints how many were moved, and how many there are.
 fn run_items<T: Copy>(
     rt: &HostRuntime,
     name: &str,
@@ -134,7 +134,7 @@ fn run_items<T: Copy>(
     measure(rt, &mut vector, name, item, far, near)
 }
 
-/// Bytes, then numbers of 32 bits.
+/// Measures bytes, and then numbers of 32 bits.
 pub fn run(rt: &HostRuntime, items: usize, far: usize, near: usize) -> io::Result<()> {
     run_items(rt, "bytes", 7u8, items, far, near)?;
     run_items(rt, "numbers", 7u32, items, far, near)

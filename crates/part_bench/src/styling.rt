@@ -1,4 +1,4 @@
-//! Styles by short runs, and ranges of an indicator with insertions among them.
+//! Styles in short runs, and ranges of an indicator with insertions among them.
 
 use bench_support::{next_seed, tell};
 use cell_buffer::Cells;
@@ -7,7 +7,7 @@ use std::alloc::AllocError;
 use std::io;
 use std::time::Instant;
 
-/// Styles a run of a text that keeps styles, and answers how many bytes changed.
+/// Styles a run of a text that stores styles, and returns how many bytes changed.
 fn style_run(cells: &mut Cells, place: usize, count: usize, style: u8) -> usize {
     if !cells.keeps_styles() || place > cells.len() || count > cells.len() - place {
         return 0;
@@ -18,7 +18,7 @@ fn style_run(cells: &mut Cells, place: usize, count: usize, style: u8) -> usize 
     }
 }
 
-/// Styles the text by runs of 8, one after the other, and answers how many bytes changed.
+/// Styles the text in runs of 8 bytes, one after the other, and returns how many bytes changed.
 fn style_all(cells: &mut Cells) -> usize {
     let mut changed = 0usize;
     for run in 0..cells.len() / 8 {
@@ -27,7 +27,7 @@ fn style_all(cells: &mut Cells) -> usize {
     changed
 }
 
-/// Puts bytes in among the indicators.
+/// Inserts bytes among the indicators.
 fn put(indicators: &mut Decorations<u32>, place: usize, count: usize) -> Result<(), AllocError> {
     indicators.reserve(1)?;
     let length = indicators.length();
@@ -48,7 +48,7 @@ fn fill(indicators: &mut Decorations<u32>, place: usize, count: usize) -> Result
     Ok(())
 }
 
-/// Puts single bytes in, at far apart places.
+/// Inserts single bytes at places far apart.
 fn put_far(indicators: &mut Decorations<u32>, count: usize) -> Result<(), AllocError> {
     let mut seed = 1u64;
     for _ in 0..count {
@@ -59,7 +59,7 @@ fn put_far(indicators: &mut Decorations<u32>, count: usize) -> Result<(), AllocE
     Ok(())
 }
 
-/// Puts a text in and styles it, and answers how many bytes changed.
+/// Inserts a text and styles it, and returns how many bytes changed.
 fn measure_styles(rt: &HostRuntime, cells: &mut Cells, text: &[u8]) -> io::Result<usize> {
     cells.reserve(text.len())?;
     cells.insert_reserved(0, text);
@@ -72,7 +72,7 @@ fn measure_styles(rt: &HostRuntime, cells: &mut Cells, text: &[u8]) -> io::Resul
     Ok(changed)
 }
 
-/// Fills so many ranges.
+/// Fills this many ranges.
 fn fill_ranges(indicators: &mut Decorations<u32>, ranges: usize) -> Result<(), AllocError> {
     for range in 0..ranges {
         fill(indicators, range.saturating_mul(16), 5)?;
@@ -80,7 +80,7 @@ fn fill_ranges(indicators: &mut Decorations<u32>, ranges: usize) -> Result<(), A
     Ok(())
 }
 
-/// Puts bytes in before and after so many ranges of an indicator are filled, and answers how many bytes there are then.
+/// Inserts bytes before and after this many ranges of an indicator are filled, and returns how many bytes there are then.
 fn measure_ranges(
     rt: &HostRuntime,
     indicators: &mut Decorations<u32>,
@@ -100,20 +100,20 @@ fn measure_ranges(
     Ok(indicators.length())
 }
 
-/// A text of so many bytes, styled.
+/// Measures a text of this many bytes, styled.
 fn run_styles(rt: &HostRuntime, bytes: usize) -> io::Result<usize> {
     let text: Vec<u8> = Vec::from_elem(rt.alloc(), b'x', bytes)?;
     let mut cells = Cells::new(rt.alloc());
     measure_styles(rt, &mut cells, text.as_slice())
 }
 
-/// `ranges` ranges of an indicator in a text of so many bytes: answers how many bytes there are then.
+/// Measures `ranges` ranges of an indicator in a text of this many bytes, and returns how many bytes there are then.
 fn run_ranges(rt: &HostRuntime, bytes: usize, ranges: usize) -> io::Result<usize> {
     let mut indicators: Decorations<u32> = Decorations::new(rt.alloc());
     measure_ranges(rt, &mut indicators, bytes, ranges)
 }
 
-/// A text of so many bytes, styled, and `ranges` ranges of an indicator in one as long.
+/// Measures a text of this many bytes, styled, and `ranges` ranges of an indicator in a text of the same length.
 pub fn run(rt: &HostRuntime, bytes: usize, ranges: usize) -> io::Result<()> {
     let changed = run_styles(rt, bytes)?;
     let length = run_ranges(rt, bytes, ranges)?;
