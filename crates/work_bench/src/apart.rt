@@ -7,7 +7,7 @@ use crate::source::{Ends, source_lines, word};
 use ed_types::Kind;
 use std::alloc::{AllocError, Global};
 
-/// Changes something at a place: words put in, a line of its own, or some bytes taken away.
+/// Makes an edit at a place: inserts words, inserts a line, or deletes some bytes.
 fn change_at(desk: &mut Desk, view: u32, dice: &mut Dice, place: usize) {
     let at = argument(place);
     match dice.below(4) {
@@ -29,7 +29,7 @@ fn change_at(desk: &mut Desk, view: u32, dice: &mut Dice, place: usize) {
     }
 }
 
-/// Changes something at so many places, one anywhere after the other.
+/// Makes an edit at each of `count` places, chosen at random.
 fn anywhere(desk: &mut Desk, view: u32, dice: &mut Dice, count: usize) {
     for _ in 0..count {
         let place = dice.below(desk.length(view));
@@ -37,7 +37,7 @@ fn anywhere(desk: &mut Desk, view: u32, dice: &mut Dice, count: usize) {
     }
 }
 
-/// Moves the fronts of lines from one place to another, as where a block is sorted.
+/// Moves the beginnings of lines from one place to another, as sorting a block does.
 fn move_lines(desk: &mut Desk, view: u32, dice: &mut Dice, count: usize) {
     for _ in 0..count {
         let from = argument(dice.below(desk.lines(view)));
@@ -56,7 +56,7 @@ fn move_lines(desk: &mut Desk, view: u32, dice: &mut Dice, count: usize) {
     }
 }
 
-/// Changes something at places from the front to the end, far from each other.
+/// Makes edits at places from the start to the end, far from each other.
 fn onwards(desk: &mut Desk, view: u32, dice: &mut Dice, count: usize) {
     let stride = (desk.length(view) / count.max(1)).max(1);
     for turn in 0..count {
@@ -66,7 +66,7 @@ fn onwards(desk: &mut Desk, view: u32, dice: &mut Dice, count: usize) {
     }
 }
 
-/// Changes the two ends of the text by turns.
+/// Makes edits at the two ends of the text in turn.
 fn by_turns(desk: &mut Desk, view: u32, dice: &mut Dice, count: usize) {
     for turn in 0..count {
         let length = desk.length(view);
@@ -80,7 +80,7 @@ fn by_turns(desk: &mut Desk, view: u32, dice: &mut Dice, count: usize) {
     }
 }
 
-/// Works all over a dressed document of so many lines.
+/// Makes edits all over a dressed document of this many lines.
 fn all_over(
     desk: &mut Desk,
     alloc: Global,
@@ -107,7 +107,7 @@ fn all_over(
     Ok(())
 }
 
-/// Works all over documents of three sizes, the smaller ones at more places.
+/// Makes edits all over documents of three sizes, and more of them in the smaller ones.
 pub fn apart(
     desk: &mut Desk,
     alloc: Global,

@@ -1,4 +1,4 @@
-//! Everything changed: a word replaced all over, all lines indented, line ends converted, and each of it undone and done again.
+//! Changes of everything: a word replaced everywhere, all lines indented, line ends converted, and each of these undone and redone.
 
 use crate::desk::{Desk, argument};
 use crate::dice::Dice;
@@ -7,16 +7,16 @@ use crate::source::{Ends, source_lines};
 use ed_types::Kind;
 use std::alloc::{AllocError, Global};
 
-/// Where case counts in searches.
+/// The flag of searches with case: `SCFIND_MATCHCASE`.
 const MATCH_CASE: i64 = 4;
 
-/// Searches for a text between two places, and answers where it starts.
+/// Searches for a text between two places, and returns where it starts.
 fn search(desk: &mut Desk, view: u32, from: i64, to: i64, text: &[u8]) -> i64 {
     desk.send(view, Kind::SetTargetRange, from, to, &[]);
     desk.send(view, Kind::SearchInTarget, argument(text.len()), 0, text)
 }
 
-/// Replaces each match from the front to the end.
+/// Replaces each match from the start to the end.
 fn replace_forwards(desk: &mut Desk, view: u32, text: &[u8], by: &[u8]) {
     let mut from = 0i64;
     for _ in 0..desk.length(view) {
@@ -29,7 +29,7 @@ fn replace_forwards(desk: &mut Desk, view: u32, text: &[u8], by: &[u8]) {
     }
 }
 
-/// Replaces each match from the end to the front.
+/// Replaces each match from the end to the start.
 fn replace_backwards(desk: &mut Desk, view: u32, text: &[u8], by: &[u8]) {
     let mut from = argument(desk.length(view));
     for _ in 0..desk.length(view) {
@@ -41,7 +41,7 @@ fn replace_backwards(desk: &mut Desk, view: u32, text: &[u8], by: &[u8]) {
     }
 }
 
-/// Puts a text in at the front of each line, the first or the last of them first.
+/// Inserts a text at the start of each line, from the last line to the first if `upwards`, and otherwise from the first on.
 fn indent(desk: &mut Desk, view: u32, text: &[u8], upwards: bool) {
     let lines = desk.lines(view);
     for turn in 0..lines {
@@ -55,7 +55,7 @@ fn indent(desk: &mut Desk, view: u32, text: &[u8], upwards: bool) {
     }
 }
 
-/// Takes four bytes away at the front of each line that begins with a space, from the first line on.
+/// Deletes four bytes at the start of each line that begins with a space, from the first line on.
 fn outdent(desk: &mut Desk, view: u32) {
     for line in 0..desk.lines(view) {
         let start = desk.ask(view, Kind::PositionFromLine, argument(line), 0);
@@ -67,7 +67,7 @@ fn outdent(desk: &mut Desk, view: u32) {
     }
 }
 
-/// Takes transactions back and does them again, so many of them.
+/// Undoes and redoes this many transactions.
 fn there_and_back(desk: &mut Desk, view: u32, count: usize) {
     for _ in 0..count {
         desk.send(view, Kind::Undo, 0, 0, &[]);
@@ -77,7 +77,7 @@ fn there_and_back(desk: &mut Desk, view: u32, count: usize) {
     }
 }
 
-/// One change of everything, in a transaction of its own.
+/// Makes one change of everything, as a transaction of its own.
 fn change_all(desk: &mut Desk, view: u32, which: usize) {
     desk.send(view, Kind::BeginUndoAction, 0, 0, &[]);
     match which {
@@ -91,7 +91,7 @@ fn change_all(desk: &mut Desk, view: u32, which: usize) {
     desk.send(view, Kind::EndUndoAction, 0, 0, &[]);
 }
 
-/// Changes a dressed document of so many lines in each way, and undoes it all.
+/// Makes each of these changes in a dressed document of this many lines, and undoes them all.
 fn change_document(
     desk: &mut Desk,
     alloc: Global,

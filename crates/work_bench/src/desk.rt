@@ -1,11 +1,11 @@
-//! A session at work, and the digest of all that it answers.
+//! A session at work, and the digest of all its replies.
 
 use crate::digest::Digest;
 use ed_types::{Kind, Outcome, Reply};
 use editor_session::Session;
 use std::alloc::Global;
 
-/// A session, what it has answered, and a buffer for texts that are asked for.
+/// A session, the digest of its replies so far, and a buffer for the texts of questions.
 #[derive(Drop)]
 pub struct Desk {
     session: Session,
@@ -13,17 +13,17 @@ pub struct Desk {
     buffer: Vec<u8>,
 }
 
-/// The number of a place, as messages have it.
+/// Returns a place as an argument of a message.
 pub fn argument(place: usize) -> i64 {
     i64::try_from(place).unwrap_or(i64::MAX)
 }
 
-/// A place of an answer: 0 for what is none.
+/// Returns the value of a reply as a place, or 0 if it is negative.
 pub fn place_of(value: i64) -> usize {
     usize::try_from(value).unwrap_or(0)
 }
 
-/// Takes in a reply: its value, its text, and each of its notes.
+/// Adds a reply to the digest: its value, its text, and each of its notes.
 fn take_in(digest: &mut Digest, reply: &Reply) {
     digest.integer(reply.value());
     if !reply.text().is_empty() {
@@ -36,7 +36,7 @@ fn take_in(digest: &mut Digest, reply: &Reply) {
 }
 
 impl Desk {
-    /// A session without a view.
+    /// Returns a session without a view.
     pub fn new(alloc: Global) -> Self {
         Desk {
             session: Session::new(alloc),
@@ -45,24 +45,24 @@ impl Desk {
         }
     }
 
-    /// The digest of all answers so far.
+    /// Returns the digest of all replies so far.
     pub fn digest(&self) -> u64 {
         self.digest.value()
     }
 
-    /// Takes a number in, as if it were answered.
+    /// Adds a number to the digest, as if it were a reply.
     pub fn note_down(&mut self, number: u64) {
         self.digest.natural(number);
     }
 
-    /// Opens a view on a new document, which hears of all; 0 where it is refused.
+    /// Opens a view on a new document, which hears everything. Returns 0 if it is refused.
     pub fn open(&mut self) -> u32 {
         let view = self.session.new_view().unwrap_or(0);
         self.digest.natural(u64::from(view));
         view
     }
 
-    /// Opens a view on the document of another.
+    /// Opens a view on the document of another view.
     pub fn open_beside(&mut self, other: u32) -> u32 {
         let document = self.send(other, Kind::GetDocPointer, 0, 0, &[]);
         let view = self.open();
@@ -76,7 +76,7 @@ impl Desk {
         self.digest.natural(u64::from(closed));
     }
 
-    /// Sends a message, reads its notes, and answers its value: -1 where it is refused.
+    /// Sends a message, reads its notes, and returns its value: -1 if it is refused.
     pub fn send(&mut self, view: u32, kind: Kind, w: i64, l: i64, text: &[u8]) -> i64 {
         match self.session.send_lent(view, kind.number(), w, l, text) {
             Ok(reply) => {
@@ -91,7 +91,7 @@ impl Desk {
         }
     }
 
-    /// Takes in what came of a command of a script.
+    /// Adds the outcome of a script's command to the digest.
     pub fn take_outcome(&mut self, outcome: &Outcome) {
         match outcome {
             Outcome::Opened(view) => self.digest.natural(u64::from(*view)),
@@ -105,19 +105,19 @@ impl Desk {
         }
     }
 
-    /// Takes bytes in, as if they were answered.
+    /// Adds bytes to the digest, as if they were a reply.
     pub fn note_bytes(&mut self, bytes: &[u8]) {
         self.digest.bytes(bytes);
     }
 
-    /// Asks a plain question, and answers its value: -1 where it is none.
+    /// Asks a plain question, and returns its value: -1 if it has none.
     pub fn ask(&mut self, view: u32, kind: Kind, w: i64, l: i64) -> i64 {
         let value = self.session.ask(view, kind.number(), w, l).unwrap_or(-1);
         self.digest.integer(value);
         value
     }
 
-    /// Asks for a text, and answers how long it is: -1 where it is none.
+    /// Asks a text question, and returns the length of the text: -1 if there is none.
     pub fn read(&mut self, view: u32, kind: Kind, w: i64, l: i64) -> i64 {
         let value = self
             .session
@@ -128,22 +128,22 @@ impl Desk {
         value
     }
 
-    /// The text that was asked for last.
+    /// Returns the text of the last text question.
     pub fn last_text(&self) -> &[u8] {
         self.buffer.as_slice()
     }
 
-    /// How many bytes the document has.
+    /// Returns how many bytes the document has.
     pub fn length(&mut self, view: u32) -> usize {
         place_of(self.ask(view, Kind::GetLength, 0, 0))
     }
 
-    /// How many lines the document has.
+    /// Returns how many lines the document has.
     pub fn lines(&mut self, view: u32) -> usize {
         place_of(self.ask(view, Kind::GetLineCount, 0, 0))
     }
 
-    /// Opens a view on a new document with this text, which is saved, with nothing to undo.
+    /// Opens a view on a new document with this text, which is at its save point, with an empty history.
     pub fn open_on(&mut self, text: &[u8]) -> u32 {
         let view = self.open();
         self.send(view, Kind::InsertText, 0, 0, text);

@@ -1,48 +1,48 @@
-//! A digest of all that a session answers: a number that is another one where any answer is.
+//! A digest of all replies of a session: a number that differs if any reply differs.
 
 use ed_types::Note;
 
-/// The number so far.
+/// The digest so far.
 #[derive(Drop)]
 pub struct Digest {
     state: u64,
 }
 
-/// An odd number without a pattern.
+/// An odd number without a pattern in its bits.
 const FACTOR: u64 = 0x9E37_79B9_7F4A_7C15;
 
-/// A number as it is stored, without its sign.
+/// Returns the bits of a number with a sign.
 fn stored(number: i64) -> u64 {
     u64::from_le_bytes(number.to_le_bytes())
 }
 
-/// A number behind others.
+/// Returns the digest of `others` and then a number.
 fn joined(others: u64, number: i64) -> u64 {
     others.wrapping_mul(31).wrapping_add(stored(number))
 }
 
 impl Digest {
-    /// The number of no answers.
+    /// Returns the digest of no replies.
     pub fn new() -> Self {
         Digest { state: FACTOR }
     }
 
-    /// The number of all answers so far.
+    /// Returns the digest of all replies so far.
     pub fn value(&self) -> u64 {
         self.state
     }
 
-    /// Takes in a number.
+    /// Adds a number.
     pub fn natural(&mut self, number: u64) {
         self.state = (self.state ^ number).wrapping_mul(FACTOR).rotate_left(29);
     }
 
-    /// Takes in a number with a sign.
+    /// Adds a number with a sign.
     pub fn integer(&mut self, number: i64) {
         self.natural(stored(number));
     }
 
-    // Takes in bytes by four words at a time, each into a number of its own, so that none waits for the one before.
+    // Adds bytes, four words at a time, each to a number of its own, so that none waits for the one before.
     fn four_words(&mut self, bytes: &[[u8; 32]]) {
         let mut lanes = [self.state, 1, 2, 3];
         for four in bytes {
@@ -58,7 +58,7 @@ impl Digest {
         }
     }
 
-    /// Takes in bytes and how many there are.
+    /// Adds bytes and their number.
     pub fn bytes(&mut self, bytes: &[u8]) {
         self.natural(bytes.len() as u64);
         let (fours, bytes) = bytes.as_chunks::<32>();
@@ -76,7 +76,7 @@ impl Digest {
         self.natural(last);
     }
 
-    /// Takes in a note and its text.
+    /// Adds a note and its text.
     pub fn note(&mut self, note: &Note, text: &[u8]) {
         let whom = (u64::from(note.view) << 32) | u64::from(note.code);
         let what = (u64::from(note.kind) << 32) | u64::from(note.message);

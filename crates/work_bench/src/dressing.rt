@@ -1,20 +1,20 @@
-//! A document dressed as editors have them: styled by words, with fold levels by indentation, markers and indicators.
+//! A document as editors have them: styled word by word, with fold levels by indentation, markers and indicators.
 
 use crate::desk::{Desk, argument, place_of};
 use crate::dice::Dice;
 use ed_types::Kind;
 use std::alloc::{AllocError, Global};
 
-/// What a fold level is counted from.
+/// The fold level of a line without indentation: `SC_FOLDLEVELBASE`.
 const LEVEL_BASE: i64 = 0x400;
 
-/// What marks a line that others are folded under.
+/// The flag of a line under which others are folded: `SC_FOLDLEVELHEADERFLAG`.
 const HEADER: i64 = 0x2000;
 
-/// The kinds of notes that a view hears of: all of them.
+/// The mask of a view that hears all kinds of changes.
 pub const ALL: i64 = 0x7F_FFFF;
 
-/// The style of a word's byte: letters, digits, the rest.
+/// Returns the style of a byte of a word: a letter, a digit, or another byte.
 fn style_of(byte: u8) -> u8 {
     match byte {
         b'a'..=b'z' | b'_' => 11,
@@ -41,7 +41,7 @@ pub fn style_at_once(
     Ok(())
 }
 
-/// Styles a text from where styling stands, a message for each run of one style.
+/// Styles a text from the end of the styled text on, by one message for each run of one style.
 pub fn style_by_runs(desk: &mut Desk, view: u32, text: &[u8]) {
     let mut run = 0i64;
     let mut style = 0u8;
@@ -57,7 +57,7 @@ pub fn style_by_runs(desk: &mut Desk, view: u32, text: &[u8]) {
     desk.send(view, Kind::SetStyling, run, i64::from(style), &[]);
 }
 
-/// Styles a line anew, as a lexer does where its text was changed.
+/// Styles a line again, as a lexer does after its text changed.
 pub fn restyle_line(
     desk: &mut Desk,
     alloc: Global,
@@ -73,7 +73,7 @@ pub fn restyle_line(
     Ok(())
 }
 
-/// How deep a line is indented, in spaces; what is empty is as deep as the line before.
+/// Returns the indentation of a line, in spaces. An empty line has that of the line before.
 fn indentation(line: &[u8], before: i64) -> i64 {
     let mut spaces = 0i64;
     for byte in line {
@@ -86,7 +86,7 @@ fn indentation(line: &[u8], before: i64) -> i64 {
     before
 }
 
-/// Sets the level of each line by how deep it is indented: the line before a deeper one is a header.
+/// Sets the level of each line by its indentation: the line before a deeper one is a header.
 pub fn set_levels(desk: &mut Desk, view: u32, text: &[u8]) {
     let mut before = 0i64;
     let mut number = 0i64;
@@ -104,7 +104,7 @@ pub fn set_levels(desk: &mut Desk, view: u32, text: &[u8]) {
     }
 }
 
-/// Adds so many markers, from the first line to the last.
+/// Adds this many markers, from the first line to the last.
 pub fn add_markers(desk: &mut Desk, view: u32, dice: &mut Dice, count: usize) {
     let lines = desk.lines(view);
     let stride = (lines / count.max(1)).max(1);
@@ -116,7 +116,7 @@ pub fn add_markers(desk: &mut Desk, view: u32, dice: &mut Dice, count: usize) {
     }
 }
 
-/// Fills so many ranges of an indicator, from the front to the end.
+/// Fills this many ranges of an indicator, from the start to the end.
 pub fn fill_ranges(desk: &mut Desk, view: u32, dice: &mut Dice, indicator: i64, count: usize) {
     let length = desk.length(view);
     let stride = (length / count.max(1)).max(1);
@@ -129,7 +129,7 @@ pub fn fill_ranges(desk: &mut Desk, view: u32, dice: &mut Dice, indicator: i64, 
     }
 }
 
-/// Hides each second run of lines below the first.
+/// Hides every second run of lines below the first.
 pub fn hide_half(desk: &mut Desk, view: u32, dice: &mut Dice) {
     let lines = desk.lines(view);
     let mut line = 1usize;
@@ -143,7 +143,7 @@ pub fn hide_half(desk: &mut Desk, view: u32, dice: &mut Dice) {
     }
 }
 
-/// How much of what a document can have is set.
+/// How many markers and ranges a document gets.
 #[derive(Clone, Copy)]
 pub struct Dress {
     /// Markers, along the lines.
@@ -152,7 +152,7 @@ pub struct Dress {
     pub ranges: usize,
 }
 
-/// Dresses a document, unheard: styles, levels, markers and two indicators. Then its view hears of all.
+/// Dresses a document while no view hears it: styles, levels, markers and two indicators. Then its view hears everything.
 pub fn dress_up(
     desk: &mut Desk,
     alloc: Global,
@@ -171,7 +171,7 @@ pub fn dress_up(
     Ok(())
 }
 
-/// Looks at so many lines from one on, as a window that is drawn does.
+/// Reads `count` lines from `first` on, as drawing a window does.
 pub fn draw(desk: &mut Desk, view: u32, first: usize, count: usize) {
     let top = desk.ask(view, Kind::VisibleFromDocLine, argument(first), 0);
     for row in 0..count {

@@ -1,5 +1,5 @@
-//! Typing and editing as people do it: runs of bytes with the caret moved between them, deletions, undo and redo, the clipboard, a line
-//! styled anew where it was changed, and now and then a window drawn.
+//! Typing and editing as people do it: runs of bytes with caret moves between them, deletions, undo and redo, the clipboard, a changed
+//! line styled again, and sometimes a window drawn.
 
 use crate::desk::{Desk, argument, place_of};
 use crate::dice::Dice;
@@ -8,14 +8,14 @@ use crate::source::{Ends, source_lines, word};
 use ed_types::Kind;
 use std::alloc::{AllocError, Global};
 
-/// Types a byte at a time at the caret.
+/// Types bytes one by one at the caret.
 fn type_bytes(desk: &mut Desk, view: u32, bytes: &[u8]) {
     for byte in bytes {
         desk.send(view, Kind::AddText, 1, 0, &[*byte]);
     }
 }
 
-/// Types some words, with a line end among them now and then.
+/// Types some words, sometimes with a line end among them.
 fn type_words(desk: &mut Desk, view: u32, dice: &mut Dice) {
     for _ in 0..dice.within(1, 6) {
         type_bytes(desk, view, word(dice));
@@ -34,7 +34,7 @@ fn delete_back(desk: &mut Desk, view: u32, dice: &mut Dice) {
     }
 }
 
-/// Moves the caret by characters and lines, with a selection or without.
+/// Moves the caret by characters and lines, with or without selecting.
 fn move_caret(desk: &mut Desk, view: u32, dice: &mut Dice) {
     for _ in 0..dice.within(1, 8) {
         let key = match dice.below(6) {
@@ -49,7 +49,7 @@ fn move_caret(desk: &mut Desk, view: u32, dice: &mut Dice) {
     }
 }
 
-/// Takes some transactions back and does them again, mostly all of them.
+/// Undoes some transactions, and redoes all of them or all but one.
 fn undo_and_redo(desk: &mut Desk, view: u32, dice: &mut Dice) {
     let count = dice.within(1, 5);
     for _ in 0..count {
@@ -60,7 +60,7 @@ fn undo_and_redo(desk: &mut Desk, view: u32, dice: &mut Dice) {
     }
 }
 
-/// Selects some bytes from the caret on, cuts or copies them, and puts them in elsewhere.
+/// Selects some bytes from the caret on, cuts or copies them, and pastes them elsewhere.
 fn cut_and_paste(desk: &mut Desk, view: u32, dice: &mut Dice) {
     let from = desk.ask(view, Kind::GetCurrentPos, 0, 0);
     let size = argument(dice.within(1, 400));
@@ -76,7 +76,7 @@ fn cut_and_paste(desk: &mut Desk, view: u32, dice: &mut Dice) {
     desk.send(view, Kind::Paste, 0, 0, &[]);
 }
 
-/// Where somebody works next: mostly nearby, at times some screens off, and seldom anywhere.
+/// Returns the place of the next edit: mostly nearby, sometimes some screens away, and seldom anywhere.
 fn next_place(desk: &mut Desk, view: u32, dice: &mut Dice) -> usize {
     let here = place_of(desk.ask(view, Kind::GetCurrentPos, 0, 0));
     let length = desk.length(view);
@@ -89,7 +89,7 @@ fn next_place(desk: &mut Desk, view: u32, dice: &mut Dice) -> usize {
         .min(length)
 }
 
-/// One thing that somebody does at a place.
+/// Performs one action of a user at a place.
 fn do_something(desk: &mut Desk, view: u32, dice: &mut Dice) {
     match dice.below(10) {
         0 => delete_back(desk, view, dice),
@@ -100,7 +100,7 @@ fn do_something(desk: &mut Desk, view: u32, dice: &mut Dice) {
     }
 }
 
-/// Does so many things in a view, each followed by what an editor does of it.
+/// Performs this many actions in a view, each followed by the messages that an editor sends after it.
 fn work(
     desk: &mut Desk,
     alloc: Global,
@@ -125,7 +125,7 @@ fn work(
     Ok(())
 }
 
-/// Opens a dressed document of so many lines.
+/// Opens a dressed document of this many lines.
 fn open_dressed(
     desk: &mut Desk,
     alloc: Global,
@@ -139,7 +139,7 @@ fn open_dressed(
     Ok(view)
 }
 
-/// Works in a document that two views show, with a marker now and then.
+/// Works in a document with two views, and sometimes adds a marker.
 fn with_two_views(
     desk: &mut Desk,
     alloc: Global,
@@ -160,7 +160,7 @@ fn with_two_views(
     Ok(())
 }
 
-/// Works in a large document with many markers, half of whose lines are hidden.
+/// Works in a large document with many markers, with half of its lines hidden.
 fn with_hidden_lines(
     desk: &mut Desk,
     alloc: Global,
@@ -179,7 +179,7 @@ fn with_hidden_lines(
     Ok(())
 }
 
-/// Works in a small document that many views show.
+/// Works in a small document with many views.
 fn with_many_views(
     desk: &mut Desk,
     alloc: Global,

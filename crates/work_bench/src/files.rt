@@ -1,4 +1,4 @@
-//! Files opened, searched, replaced and saved: source code, logs with CRLF, one long line, lines of one byte, and line ends of Unicode.
+//! Files opened, searched, replaced and saved: source code, logs with CRLF, one long line, lines of one byte, and Unicode line ends.
 
 use crate::desk::{Desk, argument};
 use crate::dice::Dice;
@@ -6,13 +6,13 @@ use crate::source::{Ends, one_line, source_lines, two_pieces, word};
 use ed_types::Kind;
 use std::alloc::{AllocError, Global};
 
-/// Searches in the target, and answers where the match starts.
+/// Searches in the target, and returns where the match starts.
 fn search(desk: &mut Desk, view: u32, from: i64, to: i64, text: &[u8]) -> i64 {
     desk.send(view, Kind::SetTargetRange, from, to, &[]);
     desk.send(view, Kind::SearchInTarget, argument(text.len()), 0, text)
 }
 
-/// Searches from match to match, at most so many, from the front or from the end.
+/// Searches from match to match, `most` times at most, from the start or from the end.
 fn search_all(desk: &mut Desk, view: u32, text: &[u8], backwards: bool, most: usize) {
     let length = argument(desk.length(view));
     let mut from = if backwards { length } else { 0 };
@@ -27,7 +27,7 @@ fn search_all(desk: &mut Desk, view: u32, text: &[u8], backwards: bool, most: us
     }
 }
 
-/// Searches for words that are frequent and for one that is not there, with these flags.
+/// Searches for frequent words and for one that the text does not have, with these flags.
 fn search_words(desk: &mut Desk, view: u32, dice: &mut Dice, flags: i64, most: usize) {
     desk.send(view, Kind::SetSearchFlags, flags, 0, &[]);
     search_all(desk, view, b"import config", false, most);
@@ -39,7 +39,7 @@ fn search_words(desk: &mut Desk, view: u32, dice: &mut Dice, flags: i64, most: u
     }
 }
 
-/// Searches with case and without, for whole words and for any.
+/// Searches with case and in any case, for whole words and for any match.
 fn search_each_way(desk: &mut Desk, view: u32, dice: &mut Dice, most: usize) {
     search_words(desk, view, dice, 4, most);
     search_words(desk, view, dice, 0, most);
@@ -47,7 +47,7 @@ fn search_each_way(desk: &mut Desk, view: u32, dice: &mut Dice, most: usize) {
     search_words(desk, view, dice, 2, most);
 }
 
-/// Opens a text, changes something in its midst, and searches in it.
+/// Opens a text, makes an edit in its middle, and searches in it.
 fn open_and_search(desk: &mut Desk, dice: &mut Dice, text: &[u8], most: usize) -> u32 {
     let view = desk.open_on(text);
     let middle = argument(desk.length(view) / 2);
@@ -56,7 +56,7 @@ fn open_and_search(desk: &mut Desk, dice: &mut Dice, text: &[u8], most: usize) -
     view
 }
 
-/// Replaces the text of a view by another one, saves that, takes it back, and closes the view.
+/// Replaces the text of a view by another one, saves it, undoes that, and closes the view.
 fn replace_and_save(desk: &mut Desk, view: u32, text: &[u8]) {
     desk.send(view, Kind::SetText, 0, 0, text);
     desk.read(view, Kind::GetText, 0, 0);
@@ -66,7 +66,7 @@ fn replace_and_save(desk: &mut Desk, view: u32, text: &[u8]) {
     desk.close(view);
 }
 
-/// Source code opened, searched, and replaced by what somebody else has made of it.
+/// Opens source code, searches it, and replaces it by another text.
 fn with_source(
     desk: &mut Desk,
     alloc: Global,
@@ -81,7 +81,7 @@ fn with_source(
     Ok(())
 }
 
-/// A text without a line end, as some data has it.
+/// Works on a text without a line end, as some data files are.
 fn with_one_line(
     desk: &mut Desk,
     alloc: Global,
@@ -94,7 +94,7 @@ fn with_one_line(
     Ok(())
 }
 
-/// A text of lines of one byte, whose lines end otherwise now and then.
+/// Works on a text with lines of one byte, some of which have another line end.
 fn with_short_lines(
     desk: &mut Desk,
     alloc: Global,
@@ -108,7 +108,7 @@ fn with_short_lines(
     Ok(())
 }
 
-/// A text in which line ends of Unicode count.
+/// Works on a text in which Unicode line ends count.
 fn with_unicode_ends(
     desk: &mut Desk,
     alloc: Global,
@@ -124,7 +124,7 @@ fn with_unicode_ends(
     Ok(())
 }
 
-/// A text that has the front of what is searched for everywhere.
+/// Works on a text that has the beginning of the pattern everywhere.
 fn with_near_matches(
     desk: &mut Desk,
     alloc: Global,

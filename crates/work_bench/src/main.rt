@@ -1,6 +1,6 @@
-//! The jobs that somebody waits for who works at an editor on this component, each made of many messages, in documents as editors have
-//! them: styled, with fold levels, markers and indicators, and with notes on, which are read. What is answered goes into a digest that
-//! is printed, and no time is, so that a run prints the same whatever the machine. `bench/run` times it.
+//! Jobs for which a user of an editor waits. Each has many messages, to documents as editors have them: styled, with fold levels,
+//! markers and indicators, and with notes, which are read. The program prints a digest of all replies and no time, so that its output is
+//! the same on every machine. `bench/run` times it.
 //!
 //!     work_bench edit|change|apart|paint|files|scripts SEED SIZE
 //!     work_bench all SEED SIZE                      (each of them)
@@ -27,9 +27,9 @@ use std::io;
 /// A job of many messages.
 #[derive(Clone, Copy)]
 enum Job {
-    /// Typing and editing as people do.
+    /// Typing and editing as people do it.
     Edit,
-    /// Everything changed, undone and done again.
+    /// Changes of everything, undone and redone.
     Change,
     /// Edits far apart.
     Apart,
@@ -41,7 +41,7 @@ enum Job {
     Scripts,
 }
 
-/// All jobs, with their words of the command line.
+/// All jobs, each with its word of the command line.
 const JOBS: [(&str, Job); 6] = [
     ("edit", Job::Edit),
     ("change", Job::Change),
@@ -51,7 +51,7 @@ const JOBS: [(&str, Job); 6] = [
     ("scripts", Job::Scripts),
 ];
 
-/// Does a job in a session of its own, and answers the digest of what was answered.
+/// Does a job in a session of its own, and returns the digest of the replies.
 fn work(alloc: Global, job: Job, dice: &mut Dice, size: usize) -> Result<u64, AllocError> {
     let mut desk = Desk::new(alloc);
     let desk_lent = &mut desk;

@@ -1,4 +1,4 @@
-//! Whole files styled, marked and folded, heard by a view, and then drawn.
+//! Whole files styled, marked and folded while a view hears it, and then drawn.
 
 use crate::desk::{Desk, argument};
 use crate::dice::Dice;
@@ -7,7 +7,7 @@ use crate::source::{Ends, source_lines};
 use ed_types::Kind;
 use std::alloc::{AllocError, Global};
 
-/// Marks lines anywhere, and takes a mark away now and then.
+/// Adds markers to lines chosen at random, and sometimes deletes one.
 fn mark_anywhere(desk: &mut Desk, view: u32, dice: &mut Dice, count: usize) {
     let lines = desk.lines(view);
     for _ in 0..count {
@@ -21,7 +21,7 @@ fn mark_anywhere(desk: &mut Desk, view: u32, dice: &mut Dice, count: usize) {
     }
 }
 
-/// Fills ranges of an indicator anywhere, and clears some.
+/// Fills ranges of an indicator at random places, and clears some.
 fn fill_anywhere(desk: &mut Desk, view: u32, dice: &mut Dice, count: usize) {
     let length = desk.length(view);
     desk.send(view, Kind::SetIndicatorCurrent, 12, 0, &[]);
@@ -36,7 +36,7 @@ fn fill_anywhere(desk: &mut Desk, view: u32, dice: &mut Dice, count: usize) {
     }
 }
 
-/// Folds each header so that the outer ones come last, and unfolds them from the first on.
+/// Contracts each header, the outer ones last, and expands them from the first on.
 fn fold_all(desk: &mut Desk, view: u32) {
     let lines = desk.lines(view);
     for turn in 0..lines {
@@ -52,7 +52,7 @@ fn fold_all(desk: &mut Desk, view: u32) {
     }
 }
 
-/// Folds headers anywhere, and hides lines.
+/// Contracts headers and hides lines, chosen at random.
 fn fold_anywhere(desk: &mut Desk, view: u32, dice: &mut Dice, count: usize) {
     let lines = desk.lines(view);
     for _ in 0..count {
@@ -64,7 +64,7 @@ fn fold_anywhere(desk: &mut Desk, view: u32, dice: &mut Dice, count: usize) {
     }
 }
 
-/// Draws windows of fifty lines, a screen on or anywhere.
+/// Draws windows of fifty lines, one screen further or anywhere.
 fn draw_windows(desk: &mut Desk, view: u32, dice: &mut Dice, count: usize) {
     let lines = desk.lines(view);
     let mut first = 0usize;
@@ -78,7 +78,7 @@ fn draw_windows(desk: &mut Desk, view: u32, dice: &mut Dice, count: usize) {
     }
 }
 
-/// Walks the marked lines from one to the next.
+/// Walks through the marked lines from one to the next.
 fn walk_markers(desk: &mut Desk, view: u32, dice: &mut Dice) {
     let mask = argument(dice.within(1, 62));
     let mut line = 0i64;
@@ -91,7 +91,7 @@ fn walk_markers(desk: &mut Desk, view: u32, dice: &mut Dice) {
     }
 }
 
-/// The same back from the last line to the first.
+/// Walks back through them from the last line to the first.
 fn walk_back(desk: &mut Desk, view: u32, dice: &mut Dice) {
     let mask = argument(dice.within(1, 62));
     let mut line = argument(desk.lines(view));
@@ -104,7 +104,7 @@ fn walk_back(desk: &mut Desk, view: u32, dice: &mut Dice) {
     }
 }
 
-/// Styles, folds and marks a document of so many lines, and draws it.
+/// Styles, folds and marks a document of this many lines, and draws it.
 fn paint_document(
     desk: &mut Desk,
     alloc: Global,

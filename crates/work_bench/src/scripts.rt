@@ -1,4 +1,4 @@
-//! Recorded sessions: listed, read again, run with their notes printed and without them, checked, and stepped through.
+//! Recorded sessions: listed, read again, run with notes and without, checked, and stepped through.
 
 ghost use Rattle.std.specs.Prelude.{◌≡◌, None, false};
 
@@ -13,7 +13,7 @@ use script_jobs::{run_quietly, run_script};
 use script_stepper::Stepper;
 use std::alloc::{AllocError, Global};
 
-/// Takes in what is written, and how much it is.
+/// A sink that adds the bytes written to it, and their number, to a digest.
 #[derive(Drop)]
 struct DigestSink {
     digest: Digest,
@@ -21,7 +21,7 @@ struct DigestSink {
 }
 
 impl DigestSink {
-    /// Nothing yet.
+    /// Returns an empty sink.
     fn new() -> Self
         ensures { result.failed ≡ false }
     {
@@ -43,7 +43,7 @@ impl Sink for DigestSink {
     }
 }
 
-/// Appends a message to the view 1; nothing where it does not fit.
+/// Appends a message to view 1, if it fits.
 fn push(
     script: &mut Script,
     alloc: Global,
@@ -72,7 +72,7 @@ fn push_word(script: &mut Script, alloc: Global, dice: &mut Dice) -> Result<(), 
     push(script, alloc, Kind::AddText, 1, 0, b" ")
 }
 
-/// A message without a text that somebody sent in a document of so many bytes: which one, and its first argument.
+/// Returns a message without a text to a document of this length, chosen at random: its kind and its first argument.
 fn plain_deed(dice: &mut Dice, length: usize) -> (Kind, i64) {
     match dice.below(10) {
         0 => (Kind::GotoPos, argument(dice.below(length))),
@@ -88,7 +88,7 @@ fn plain_deed(dice: &mut Dice, length: usize) -> (Kind, i64) {
     }
 }
 
-/// Appends a thing that somebody did: a word typed, or another message.
+/// Appends one action of a user: a word typed, or another message.
 fn push_deed(
     script: &mut Script,
     alloc: Global,
@@ -102,7 +102,7 @@ fn push_deed(
     push(script, alloc, kind, w, 3, &[])
 }
 
-/// A session that opens a view on a text and does so many things in it.
+/// Returns a session that opens a view on a text and performs this many actions in it.
 fn recorded(
     alloc: Global,
     dice: &mut Dice,
@@ -128,7 +128,7 @@ fn recorded(
     Ok(script)
 }
 
-/// A session of few messages with long texts, each byte of which is spelled by an escape.
+/// Returns a session of few messages with long texts, in which each byte is spelled by an escape.
 fn escaped(alloc: Global, dice: &mut Dice, count: usize) -> Result<Script, AllocError> {
     let mut script = Script::new(alloc);
     let _ = script.push(Command::OpenView);
@@ -152,7 +152,7 @@ fn escaped(alloc: Global, dice: &mut Dice, count: usize) -> Result<Script, Alloc
     Ok(script)
 }
 
-/// Runs a script with its notes and without, and checks it.
+/// Runs a script with notes and without, and checks it.
 fn run_each_way(desk: &mut Desk, alloc: Global, listing: &[u8]) {
     let mut sink = DigestSink::new();
     let files = Vec::new(alloc);
@@ -177,7 +177,7 @@ fn list_and_run(desk: &mut Desk, alloc: Global, script: &Script) {
     }
 }
 
-/// Steps through a script to its end, and back a few times.
+/// Steps through a script to its end, and goes back a few times.
 fn step_through(desk: &mut Desk, alloc: Global, listing: &[u8]) {
     let Ok(script) = assemble(alloc, listing) else {
         return;
@@ -205,7 +205,7 @@ fn list_and_step(desk: &mut Desk, alloc: Global, script: &Script) {
     }
 }
 
-/// Works with recorded sessions of three kinds.
+/// Works on recorded sessions of three kinds.
 pub fn scripts(
     desk: &mut Desk,
     alloc: Global,

@@ -1,9 +1,9 @@
-//! Texts as editors have them: source code, as far as the lengths of its lines, its indentation and its words go.
+//! Texts as editors have them: like source code in the lengths of lines, the indentation and the words.
 
 use crate::dice::Dice;
 use std::alloc::{AllocError, Global};
 
-/// What lines end with.
+/// A kind of line end.
 #[derive(Clone, Copy)]
 pub enum Ends {
     /// LF.
@@ -52,29 +52,29 @@ const WORDS: [&[u8]; 32] = [
     b"\xc3\xbcbersicht",
 ];
 
-/// What stands between words.
+/// The bytes between words.
 const JOINTS: [&[u8]; 16] = [
     b" ", b" ", b".", b"(", b") ", b" = ", b", ", b" ", b"_", b": ", b" + ", b"[", b"] ", b" == ",
     b".", b" ",
 ];
 
-/// How many lines texts are made of.
+/// From how many different lines texts are made.
 const STOCKED: usize = 1024;
 
 /// The deepest indentation.
 const SPACES: &[u8] = b"                                        ";
 
-/// A word of source code.
+/// Returns a word of source code.
 pub fn word(dice: &mut Dice) -> &'static [u8] {
     WORDS.get(dice.below(32)).copied().unwrap_or(b"x")
 }
 
-/// What stands between two words.
+/// Returns the bytes between two words.
 fn joint(dice: &mut Dice) -> &'static [u8] {
     JOINTS.get(dice.below(16)).copied().unwrap_or(b" ")
 }
 
-/// The bytes that end a line.
+/// Returns the bytes of a line end.
 pub fn end_of(ends: Ends) -> &'static [u8] {
     match ends {
         Ends::Feeds => b"\n",
@@ -84,7 +84,7 @@ pub fn end_of(ends: Ends) -> &'static [u8] {
     }
 }
 
-/// Appends words and what stands between them.
+/// Appends words with the bytes between them.
 fn append_words(text: &mut Vec<u8>, dice: &mut Dice, count: usize) -> Result<(), AllocError> {
     for _ in 0..count {
         text.extend_from_slice(word(dice))?;
@@ -93,7 +93,7 @@ fn append_words(text: &mut Vec<u8>, dice: &mut Dice, count: usize) -> Result<(),
     Ok(())
 }
 
-/// Lines without their indentation and ends, of which texts are made.
+/// Lines without indentation and line end, from which texts are made.
 #[derive(Drop)]
 struct Stock {
     text: Vec<u8>,
@@ -101,7 +101,7 @@ struct Stock {
 }
 
 impl Stock {
-    /// As many lines as stand below, of one to six words.
+    /// Returns `STOCKED` lines, of one to six words.
     fn new(alloc: Global, dice: &mut Dice) -> Result<Self, AllocError> {
         let mut stock = Stock {
             text: Vec::new(alloc),
@@ -115,7 +115,7 @@ impl Stock {
         Ok(stock)
     }
 
-    /// One of the lines.
+    /// Returns one of the lines.
     fn line(&self, dice: &mut Dice) -> &[u8] {
         let index = dice.below(STOCKED.wrapping_sub(1));
         let from = self.ends.get(index).copied().unwrap_or(0);
@@ -124,12 +124,12 @@ impl Stock {
     }
 }
 
-/// The indentation of a line, four spaces for each level.
+/// Returns the indentation of a line, four spaces for each level.
 fn indentation(levels: usize) -> &'static [u8] {
     SPACES.get(..levels.wrapping_mul(4)).unwrap_or(SPACES)
 }
 
-/// How deep the next line stands: mostly as deep as the one before.
+/// Returns the depth of the next line: mostly that of the line before.
 pub fn next_depth(dice: &mut Dice, depth: usize) -> usize {
     match dice.below(8) {
         0 | 1 if depth < 9 => depth.wrapping_add(1),
@@ -139,7 +139,7 @@ pub fn next_depth(dice: &mut Dice, depth: usize) -> usize {
     }
 }
 
-/// Source code of so many lines, of 36 bytes in the mean and 0 to some 150, one in ten of which is empty.
+/// Returns source code of this many lines, of 36 bytes on average and up to about 150. One in ten is empty.
 pub fn source_lines(
     alloc: Global,
     dice: &mut Dice,
@@ -160,7 +160,7 @@ pub fn source_lines(
     Ok(text)
 }
 
-/// Text of so many words without a line end.
+/// Returns a text of this many words without a line end.
 pub fn one_line(alloc: Global, dice: &mut Dice, words: usize) -> Result<Vec<u8>, AllocError> {
     let stock = Stock::new(alloc, dice)?;
     let mut text = Vec::with_capacity(alloc, words.saturating_mul(8))?;
@@ -170,7 +170,7 @@ pub fn one_line(alloc: Global, dice: &mut Dice, words: usize) -> Result<Vec<u8>,
     Ok(text)
 }
 
-/// Text of so many pieces, each one of two bytes, mostly the first of them.
+/// Returns a text of this many pieces of two bytes each: mostly `often`, and sometimes `seldom`.
 pub fn two_pieces(
     alloc: Global,
     dice: &mut Dice,
