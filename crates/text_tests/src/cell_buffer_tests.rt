@@ -1,9 +1,10 @@
-//! `cell_buffer`: each call that takes memory once on its happy path, and what editing costs.
+//! `cell_buffer`: each call that allocates once with success, and the cost of editing.
 use cell_buffer::Cells;
 use std::alloc::Global;
 use std::process::Abort;
 
-// Of each long test, one function owns the cells, and others, to which they are lent, do all else: what owns cells over many calls takes long to prove.
+// In each long test one function owns the cells and lends them to others, which do the rest: owning cells over many calls makes a proof
+// slow.
 
 fn put_text_in(rt: &impl Abort, cells: &mut Cells) {
     assert_eq!(rt; cells.room(), 0);
@@ -33,7 +34,7 @@ fn set_styles_of_five(rt: &impl Abort, cells: &mut Cells) {
     assert!(rt; cells.set_styles(3, &[8, 9]) == Some((3, 2)));
 }
 
-// The styles from a place on are these.
+// Asserts that the styles from a place on are these.
 fn assert_styles(rt: &impl Abort, cells: &Cells, place: usize, wanted: &[u8]) {
     let length = cells.len();
     assert!(rt; place <= length && wanted.len() <= length - place);
@@ -155,7 +156,7 @@ fn a_refused_growth_changes_nothing(rt: HostRuntime) {
     assert_refused(&rt, &mut cells);
 }
 
-// One byte more at the end, and a style for it.
+// Appends one byte, and sets its style.
 fn append_styled(rt: &impl Abort, cells: &mut Cells) {
     let len = cells.len();
     assert!(rt; cells.room() > 0 && cells.keeps_styles());
@@ -178,7 +179,7 @@ fn assert_moves(rt: &impl Abort, cells: &mut Cells) {
     assert_eq!(rt; cells.gaps(), (1, 1));
 }
 
-// A thousand bytes one by one at the end, of which the last always has a style, and then one at the start.
+// A thousand bytes appended one by one, of which the last always has a style, and then one byte inserted at the start.
 #[test]
 fn moves_are_counted(rt: HostRuntime) {
     let mut cells = Cells::new(rt.alloc());
@@ -204,7 +205,7 @@ fn assert_moves_before_the_last(rt: &impl Abort, cells: &mut Cells) {
     assert_eq!(rt; cells.gaps(), (1, 1));
 }
 
-// The same in front of a cell whose style is stored, so that those of the new ones are stored with them.
+// The same before a cell whose style is stored, so that the styles of the new cells are stored, too.
 #[test]
 fn moves_before_a_styled_cell_are_counted(rt: HostRuntime) {
     let mut cells = Cells::new(rt.alloc());
@@ -227,7 +228,7 @@ fn no_moves_of_styles_that_are_not_kept(rt: HostRuntime) {
     assert_no_moves_of_styles(&rt, &mut cells);
 }
 
-// Bytes behind all styles that were set.
+// Inserts bytes behind all styles that were set.
 fn assert_nothing_moves_behind_styles(rt: &impl Abort, cells: &mut Cells) {
     cells.keep_styles().expect(rt, "memory");
     cells.reserve(6).expect(rt, "memory");
@@ -240,7 +241,7 @@ fn assert_nothing_moves_behind_styles(rt: &impl Abort, cells: &mut Cells) {
     assert_styles(rt, cells, 1, &[5, 0, 0]);
 }
 
-// The last of six bytes, of which two are styled.
+// The style of the last of six bytes, of which two are styled.
 fn assert_style_of_the_last(rt: &impl Abort, cells: &mut Cells) {
     assert!(rt; cells.len() == 6 && cells.keeps_styles());
     assert!(rt; cells.set_styles(5, &[7]) == Some((5, 1)));

@@ -1,4 +1,4 @@
-//! Rows of calls of `Decorations`, at each kind of place.
+//! Series of calls of `Decorations`, at each width of places.
 use decorations::Decorations;
 use partitioning::Place;
 use std::alloc::Global;
@@ -31,7 +31,7 @@ fn set<P: Place>(
     indicators.fill(indicator, place, count, value)
 }
 
-// The run about a place of the text.
+// Returns the run around a place of the text.
 fn run_about<P: Place>(
     rt: &impl Abort,
     indicators: &Decorations<P>,
@@ -43,9 +43,9 @@ fn run_about<P: Place>(
     indicators.run(indicator, place)
 }
 
-// Of each test, one function owns the lists, and others, to which they are lent, do all else: what owns them over many calls takes long to prove.
+// In each test one function owns the lists and lends them to others, which do the rest: owning them over many calls makes a proof slow.
 
-// One insertion of as many bytes as asked for, and the last place has 0 in each list.
+// Inserts `count` bytes at once, and asserts that the last place is 0 in each list.
 fn insert_once<P: Place>(rt: &impl Abort, indicators: &mut Decorations<P>, count: usize) {
     assert!(rt; 0 < count && count <= P::GREATEST);
     indicators.reserve(1).expect(rt, "memory");
@@ -60,7 +60,7 @@ fn insert_once<P: Place>(rt: &impl Abort, indicators: &mut Decorations<P>, count
     }
 }
 
-// Empty, with room for one insertion.
+// An empty list with room for one insertion.
 fn one_insertion<P: Place>(rt: &impl Abort, alloc: Global, count: usize) {
     let mut indicators = Decorations::<P>::new(alloc);
     insert_once(rt, &mut indicators, count);
@@ -72,7 +72,7 @@ fn insertion_of_a_great_length(rt: HostRuntime) {
     one_insertion::<u64>(&rt, rt.alloc(), 1 << 40);
 }
 
-// Two indicators, of which one ends where the text does.
+// Fills two indicators, one of which ends at the end of the text.
 fn fill_two<P: Place>(rt: &impl Abort, indicators: &mut Decorations<P>) {
     put(rt, indicators, 0, 10);
     // 0 0 7 7 7 0 0 0 0 0, and 31 on the last three
@@ -83,12 +83,12 @@ fn fill_two<P: Place>(rt: &impl Abort, indicators: &mut Decorations<P>) {
     );
     assert!(rt; indicators.mask_at(4) == 1 << 4 && indicators.mask_at(9) == 1 << 31);
     assert!(rt; indicators.mask_at(10) == 0 && indicators.value(4, 10) == 0);
-    // what has the value already is no change
+    // setting the same value again changes nothing
     assert!(rt; set(rt, indicators, 4, 1, 3, 7) == Some((1, 1)));
     assert!(rt; set(rt, indicators, 4, 1, 4, 7) == None);
 }
 
-// At its start an indicator does not grow, inside it does, and at the text's end nothing does.
+// An insertion at the start of an indicator does not lengthen it, one inside does, and one at the end of the text lengthens none.
 fn insert_about_two<P: Place>(rt: &impl Abort, indicators: &mut Decorations<P>) {
     put(rt, indicators, 1, 1);
     assert!(rt; indicators.value(4, 1) == 0 && run_about(rt, indicators, 4, 2) == (2, 6));
@@ -98,7 +98,7 @@ fn insert_about_two<P: Place>(rt: &impl Abort, indicators: &mut Decorations<P>) 
     assert!(rt; indicators.value(31, 13) == 0 && run_about(rt, indicators, 31, 12) == (10, 13));
 }
 
-// One goes with its bytes, the other by a fill with 0.
+// Empties two indicators: one by deleting its bytes, and one by a fill with 0.
 fn empty_two<P: Place>(rt: &impl Abort, indicators: &mut Decorations<P>) {
     take(rt, indicators, 2, 6);
     assert!(rt; !indicators.is_used(4) && indicators.is_used(31));
@@ -140,7 +140,7 @@ fn fill_by_itself(rt: &impl Abort, indicators: &mut Decorations<u32>) {
     assert!(rt; indicators.value(1, 8) == 2_147_483_647);
 }
 
-// Each list by itself, with the greatest value.
+// Each list on its own, with the greatest value.
 #[test]
 fn two_indicators(rt: HostRuntime) {
     let mut indicators = Decorations::<u32>::new(rt.alloc());
@@ -157,7 +157,7 @@ fn reserve_for_many(rt: &impl Abort, indicators: &mut Decorations<u32>) {
     assert!(rt; indicators.value(31, 50_009) == 7);
 }
 
-// Room for many insertions is made at once.
+// Room for many insertions is reserved at once.
 #[test]
 fn many_insertions(rt: HostRuntime) {
     let mut indicators: Decorations<u32> = Decorations::new(rt.alloc());

@@ -1,5 +1,5 @@
-//! Each call that takes memory, at a large size. `tools/heap.sh` runs each of these tests once more where the heap may hold no more than the sizes justify,
-//! as its table says: a growth that no one needed is refused there, and the test fails.
+//! Each call that allocates, at a large size. `tools/heap.sh` runs each of these tests again with a heap limited to what
+//! the sizes justify, as its table says. A growth that nothing needs fails there, and with it the test.
 
 use cell_buffer::Cells;
 use decorations::Decorations;
@@ -10,7 +10,8 @@ use std::process::Abort;
 use test_support::{LARGE, LINE, LINES, MARKED_LINES, large_text};
 use undo_history::{StepKind, UndoHistory};
 
-// Of each long test, one function owns what it is of, and others, to which that is lent, do all else: what owns it over many calls takes long to prove.
+// In each long test one function owns the value under test and lends it to others, which do the rest: owning it over
+// many calls makes a proof slow.
 
 fn put_in_at_once(rt: &impl Abort, whole: &mut SplitVector<u8>, text: &[u8]) {
     assert!(rt; whole.is_empty());
@@ -78,7 +79,7 @@ fn style_all(rt: &impl Abort, cells: &mut Cells) {
     assert_eq!(rt; cells.set_style_run(0, len, 1), Some((0, LARGE)));
 }
 
-// Each change moves both gaps over the whole text, so that growth by little is paid for.
+// Each change moves both gaps over the whole text, which pays for growth by a 64th.
 fn change_at_both_ends(rt: &impl Abort, cells: &mut Cells) {
     for i in 0..256 {
         cells.reserve(128).expect(rt, "memory");
@@ -92,7 +93,7 @@ fn change_at_both_ends(rt: &impl Abort, cells: &mut Cells) {
     assert_eq!(rt; cells.len(), LARGE + 32_768);
 }
 
-// That its blocks grow by little shows where the heap is bounded.
+// Only the limited heap shows that the blocks grow by a 64th.
 #[test]
 fn a_large_text_that_is_changed(rt: HostRuntime) {
     let text = large_text(rt.alloc()).expect(&rt, "memory");
@@ -132,7 +133,7 @@ fn cut_one_by_one<P: Place>(rt: &impl Abort, table: &mut Partitioning<P>) {
     assert_eq!(rt; table.count(), LINES);
 }
 
-// So many look-ups that each may read a few starts, and not all of them.
+// So many look-ups that each may read a few starts, but not all of them.
 fn look_all_places_up<P: Place>(rt: &impl Abort, table: &Partitioning<P>) {
     for place in 0..LARGE {
         let mut probes = Probes::new();
@@ -157,12 +158,12 @@ fn many_large_partitions(rt: HostRuntime) {
     partitions_one_by_one::<u64>(&rt, rt.alloc());
 }
 
-// As many starts as are looked up without a jump, and more than these.
+// The greatest number of starts that are looked up without a jump, and a number above it.
 const FEW_STARTS: usize = 131_072;
 
 const MANY_STARTS: usize = 140_000;
 
-// Puts starts in at the end, each two behind the one before, until there are so many.
+// Inserts starts at the end, each two behind the one before, until there are `count`.
 fn cut_in_twos(rt: &impl Abort, table: &mut Partitioning<u32>, count: usize) {
     assert!(rt; count <= MANY_STARTS);
     for index in table.count()..count {
@@ -175,7 +176,7 @@ fn cut_in_twos(rt: &impl Abort, table: &mut Partitioning<u32>, count: usize) {
     assert_eq!(rt; table.count(), count);
 }
 
-// Places far apart, up to behind the end, even ones and odd.
+// Looks up even and odd places far apart, up to behind the end.
 fn look_twos_up(rt: &impl Abort, table: &Partitioning<u32>) {
     let last = table.count() - 1;
     for turn in 0..300 {
@@ -191,7 +192,7 @@ fn move_step(rt: &impl Abort, table: &mut Partitioning<u32>, index: usize) {
     assert_eq!(rt; table.step_at(), index);
 }
 
-// Once all starts are kept as they are, once most as their distances to the end, and once there are many.
+// Looks up while all starts are stored as they are, while most are stored as distances to the end, and while there are many.
 fn look_up_three_times(rt: &impl Abort, table: &mut Partitioning<u32>) {
     table.reserve(MANY_STARTS).expect(rt, "memory");
     assert_eq!(rt; table.length(), 0);
@@ -241,10 +242,10 @@ fn many_steps(rt: HostRuntime) {
     append_many_steps(&rt, &mut history);
 }
 
-/// How long a line is, in bytes, on which an indicator is set.
+/// The length in bytes of a line on which an indicator is set.
 const MARKED_LINE: usize = 10;
 
-// A text of `LARGE` bytes, in which an indicator is set on the first half of each marked line.
+// Sets an indicator on the first half of each marked line in a text of `LARGE` bytes.
 fn fill_line_by_line<P: Place>(rt: &impl Abort, indicators: &mut Decorations<P>) {
     indicators.reserve(1).expect(rt, "memory");
     assert!(rt; indicators.length() == 0 && LARGE <= P::GREATEST);
@@ -291,7 +292,7 @@ fn fill_all(rt: &impl Abort, indicators: &mut Decorations<u32>) {
     assert_eq!(rt; indicators.fill(31, 0, LARGE, 7), Some((0, LARGE)));
 }
 
-// Each in the midst of the value, that it gets, with room for all made at once.
+// Inserts bytes in the middle of a range, which get its value, with room reserved for all at once.
 fn insert_in_the_midst(rt: &impl Abort, indicators: &mut Decorations<u32>) {
     for line in 0..MARKED_LINES {
         indicators.reserve(MARKED_LINES - line).expect(rt, "memory");

@@ -1,4 +1,4 @@
-//! Tests of the texts, their cells, runs and steps, over their public calls.
+//! Tests of texts, their cells, runs and steps, by public calls.
 #![tactic(auto)]
 
 #[cfg(test)]

@@ -1,4 +1,4 @@
-//! Rows of calls, at both kinds of place. Each helper tests what its call asks for.
+//! Series of calls, at both widths of places. Each helper asserts the postcondition of its call.
 use partitioning::{Partitioning, Place, Probes};
 use std::alloc::Global;
 use std::process::Abort;
@@ -32,7 +32,7 @@ fn join<P: Place>(rt: &impl Abort, table: &mut Partitioning<P>, index: usize) {
     table.remove(index);
 }
 
-// The partitions start so, and end at the length.
+// Asserts that the partitions have these starts, and that the last ends at the length.
 fn assert_starts<P: Place>(
     rt: &impl Abort,
     table: &Partitioning<P>,
@@ -47,7 +47,7 @@ fn assert_starts<P: Place>(
     assert_eq!(rt; table.length(), length);
 }
 
-// Of each test, one function owns the table, and others, to which it is lent, do all else: what owns one over many calls takes long to prove.
+// In each test one function owns the table and lends it to others, which do the rest: owning one over many calls makes a proof slow.
 
 fn cut_in_three<P: Place>(rt: &impl Abort, table: &mut Partitioning<P>) {
     assert_starts(rt, table, &[0], 0);
@@ -94,7 +94,7 @@ fn edits_at_both_places(rt: HostRuntime) {
     row_of_edits::<u64>(&rt, rt.alloc());
 }
 
-// One partition of as many bytes as there are partitions to be, cut into partitions of one byte.
+// Returns one partition of `count` bytes, cut into partitions of one byte.
 fn single_bytes<P: Place>(rt: &impl Abort, alloc: Global, count: usize) -> Partitioning<P> {
     let mut table = Partitioning::new(alloc).expect(rt, "memory");
     put_in(rt, &mut table, 0, count);
@@ -104,7 +104,7 @@ fn single_bytes<P: Place>(rt: &impl Abort, alloc: Global, count: usize) -> Parti
     table
 }
 
-// Each look-up reads at least and at most so many starts.
+// Asserts that each look-up reads at least and at most this many starts.
 fn assert_reads<P: Place>(rt: &impl Abort, table: &Partitioning<P>, least: u64, most: u64) {
     let partitions = table.count();
     assert!(rt; 0 < partitions && partitions <= 1000);
@@ -150,7 +150,7 @@ fn counts_at_both_places(rt: HostRuntime) {
     row_of_counts::<u64>(&rt, rt.alloc());
 }
 
-// A start that comes or goes on either side of the step leaves the others as they are stored.
+// Inserting or removing a start on either side of the step leaves the others as they are stored.
 fn move_starts<P: Place>(rt: &impl Abort, table: &mut Partitioning<P>) {
     put_in(rt, table, 0, 4);
     let stepped = table.stepped();

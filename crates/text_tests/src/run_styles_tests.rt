@@ -1,4 +1,4 @@
-//! Rows of calls, at each kind of place and at several kinds of values. Each helper tests what its call asks for.
+//! Series of calls, at each width of places and for several types of values. Each helper asserts the postcondition of its call.
 ghost use Rattle.run_styles.specs.Expansion.{IsExact};
 
 use partitioning::Place;
@@ -55,7 +55,7 @@ fn take_out<P: Place, V: Copy + Eq>(
     styles.delete_range(place, count);
 }
 
-// At each place the value is the default or the other, as `others` says, and the runs end where it changes.
+// Asserts that the value at each place is the default or the other one, as `others` says, and that the runs end where it changes.
 fn assert_values<P: Place, V: Copy + Eq>(
     rt: &impl Abort,
     styles: &RunStyles<P, V>,
@@ -156,7 +156,7 @@ fn row_of_deletions<P: Place, V: Copy + Eq>(rt: &impl Abort, alloc: Global, defa
     assert_values(rt, &styles, &[false], default, other);
 }
 
-// A body that keeps a plain list of values cannot run this.
+// Too long for an implementation that stores a plain list of values.
 fn long_list<P: Place, V: Copy + Eq>(
     rt: &impl Abort,
     alloc: Global,

@@ -1,4 +1,4 @@
-//! The calls in rows, at several types of items. The lists are written out by hand.
+//! Series of calls, for several types of items. The expected lists are written by hand.
 use split_vector::SplitVector;
 use std::alloc::AllocError;
 use std::process::Abort;
@@ -9,7 +9,7 @@ struct Mark {
     kind: u8,
 }
 
-/// The two halves as one list.
+/// Returns the two halves as one list.
 fn joined(v: &SplitVector<u8>, rt: &HostRuntime) -> Result<Vec<u8>, AllocError> {
     let (left, right) = v.halves();
     let mut all = left.to_vec(rt.alloc())?;
@@ -111,7 +111,7 @@ fn moves_are_counted(rt: HostRuntime) {
     assert_eq!(rt; v.len(), 1001);
 }
 
-// Of each long test, one function owns the list, and others, to which it is lent, do all else: what owns one over many calls takes long to prove.
+// In each long test one function owns the list and lends it to others, which do the rest: owning one over many calls makes a proof slow.
 
 fn grow_about_the_gap(rt: &impl Abort, v: &mut SplitVector<u32>) {
     v.reserve(4).expect(rt, "memory");

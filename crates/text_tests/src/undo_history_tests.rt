@@ -1,8 +1,8 @@
-//! `undo_history`: steps appended, undone and redone. What joins is written out by hand.
+//! `undo_history`: steps appended, undone and redone. Which steps coalesce is written by hand.
 use std::process::Abort;
 use undo_history::{ChangeKind, StepKind, UndoHistory};
 
-// Of each long test, one function owns the history, and others, to which it is lent, do all else: what owns one over many calls takes long to prove.
+// In each long test one function owns the history and lends it to others, which do the rest: owning one over many calls makes a proof slow.
 
 fn type_three_letters(rt: &impl Abort, history: &mut UndoHistory) {
     assert!(rt; history.is_at_save_point());
@@ -137,7 +137,7 @@ fn groups_and_container_steps(rt: HostRuntime) {
     stop_and_start_collecting(&rt, &mut history);
 }
 
-// One transaction of an insertion and a deletion, and one of an insertion and a token.
+// Appends a transaction of an insertion and a deletion, and one of an insertion and a container's step.
 fn append_two_transactions(rt: &impl Abort, history: &mut UndoHistory) {
     history.reserve(4, 9).expect(rt, "memory");
     history.append_reserved(false, StepKind::Insert, 0, b"one");
