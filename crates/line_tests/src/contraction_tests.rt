@@ -1,4 +1,4 @@
-//! Lines of a view, shown and hidden, folded, and carried through what becomes of lines.
+//! The lines of a view: shown and hidden, folded, and changed by edits of lines.
 
 use contraction::{Contraction, Levels, folds};
 use line_index::LineEdit;
@@ -6,7 +6,7 @@ use partitioning::Place;
 use std::alloc::Global;
 use std::process::Abort;
 
-// All lines of a view, visible and expanded, with room to fold.
+// Returns a view with this many lines, all visible and expanded, with room for folds.
 fn view_of<P: Place>(rt: &impl Abort, alloc: Global, lines: usize) -> Contraction<P> {
     assert!(rt; lines <= P::GREATEST);
     let mut view = Contraction::new(alloc, lines).expect(rt, "memory");
@@ -15,7 +15,7 @@ fn view_of<P: Place>(rt: &impl Abort, alloc: Global, lines: usize) -> Contractio
     view
 }
 
-// The lines are as many as these, and visible where these say so.
+// Asserts that there are as many lines as in `wanted`, and which of them are visible.
 fn assert_visible<P: Place>(rt: &impl Abort, view: &Contraction<P>, wanted: &[bool]) {
     assert!(rt; view.count() == wanted.len());
     for line in 0..wanted.len() {
@@ -23,7 +23,7 @@ fn assert_visible<P: Place>(rt: &impl Abort, view: &Contraction<P>, wanted: &[bo
     }
 }
 
-// The lines are as many as these, and expanded where these say so.
+// Asserts that there are as many lines as in `wanted`, and which of them are expanded.
 fn assert_expanded<P: Place>(rt: &impl Abort, view: &Contraction<P>, wanted: &[bool]) {
     assert!(rt; view.count() == wanted.len());
     for line in 0..wanted.len() {
@@ -88,7 +88,7 @@ fn join<P: Place>(rt: &impl Abort, view: &mut Contraction<P>, line: usize, count
     view.carry(&[LineEdit::Join { line, count }]);
 }
 
-// Of each test, one function owns the view, and others, to which it is lent, do all else: what owns one over many calls takes long to prove.
+// In each test one function owns the view and lends it to others, which do the rest: owning one over many calls makes a proof slow.
 
 fn fold_inside<P: Place>(rt: &impl Abort, view: &mut Contraction<P>, levels: &Levels) {
     assert!(rt; view.is_all_visible());

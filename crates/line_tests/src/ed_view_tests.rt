@@ -1,5 +1,5 @@
-//! A view that is set, folded, carried by steps, and attached to another document. What folds and steps leave are the
-//! answers of the worked examples `folding`, `hidden_lines` and `folding_of_two_views`.
+//! A view that is set, folded, moved by steps, and attached to another document. The expected results of folds and steps are
+//! those of the worked examples `folding`, `hidden_lines` and `folding_of_two_views`.
 
 use contraction::Levels;
 use ed_model::ViewChange;
@@ -9,7 +9,7 @@ use line_rows::LineRows;
 use selection::{Movement, Selection};
 use std::process::Abort;
 
-// The lines are as many as these, and visible where these say so.
+// Asserts that there are as many lines as in `wanted`, and which of them are visible.
 fn assert_visible(rt: &impl Abort, view: &View, wanted: &[bool]) {
     assert!(rt; view.lines().count() == wanted.len());
     for line in 0..wanted.len() {
@@ -17,7 +17,7 @@ fn assert_visible(rt: &impl Abort, view: &View, wanted: &[bool]) {
     }
 }
 
-// The lines are as many as these, and expanded where these say so.
+// Asserts that there are as many lines as in `wanted`, and which of them are expanded.
 fn assert_expanded(rt: &impl Abort, view: &View, wanted: &[bool]) {
     assert!(rt; view.lines().count() == wanted.len());
     for line in 0..wanted.len() {
@@ -25,7 +25,7 @@ fn assert_expanded(rt: &impl Abort, view: &View, wanted: &[bool]) {
     }
 }
 
-// Makes room for a change of a line's fold, which is there, and makes it.
+// Makes room for a change of the fold of an existing line, and makes the change.
 fn fold(rt: &impl Abort, view: &mut View, levels: &Levels, change: ViewChange) {
     let lines = view.lines().count();
     assert!(rt; levels.count() == lines);
@@ -42,7 +42,7 @@ fn fold(rt: &impl Abort, view: &mut View, levels: &Levels, change: ViewChange) {
     view.change(levels, change);
 }
 
-// A line end is put in at the place, so that a line comes before the line.
+// Inserts a line end at `place`, so that there is a new line before `line`.
 fn put_line_end_in(rt: &impl Abort, view: &mut View, place: usize, line: usize) {
     let lines = view.lines().count();
     assert!(rt; line <= lines && lines < 1000);
@@ -54,7 +54,7 @@ fn put_line_end_in(rt: &impl Abort, view: &mut View, place: usize, line: usize) 
     );
 }
 
-// A line end is taken out at the place, so that the next line joins the line.
+// Deletes a line end at `place`, so that the next line is joined to `line`.
 fn take_line_end_out(rt: &impl Abort, view: &mut View, place: usize, line: usize) {
     let lines = view.lines().count();
     assert!(rt; lines < 1000);
@@ -67,8 +67,8 @@ fn take_line_end_out(rt: &impl Abort, view: &mut View, place: usize, line: usize
     );
 }
 
-// Of each test, one function owns the view on one way out, and another one, to which it is lent, does all else: what owns a view
-// on many ways out takes long to prove.
+// In each test one function owns the view with a single way out, and lends it to another one, which does the rest: owning a view with many
+// ways out makes a proof slow.
 
 fn assert_inner_folds(rt: &impl Abort, view: &mut View) {
     let before = [0x2400, 0x2401];
@@ -94,7 +94,7 @@ fn inner_folds_of_a_view_stay_contracted(rt: HostRuntime) {
     assert_inner_folds(&rt, &mut view);
 }
 
-// Four lines, with the levels that a document keeps of them.
+// Makes four lines, with the levels that a document stores.
 fn make_rows(rt: &impl Abort, rows: &mut LineRows) {
     assert!(rt; rows.count() == 1);
     assert!(rt; rows.reserve(3).is_ok());
@@ -113,7 +113,7 @@ fn assert_folded_by_rows(rt: &impl Abort, rows: &LineRows, view: &mut View) {
     assert_expanded(rt, view, &[true, false, true, true]);
 }
 
-// The levels are lent.
+// The view borrows the levels.
 #[test]
 fn view_is_folded_by_the_levels_of_rows(rt: HostRuntime) {
     let mut rows = LineRows::new(rt.alloc());
@@ -138,7 +138,7 @@ fn first_line_of_a_view_is_never_hidden(rt: HostRuntime) {
     assert_first_line_stays(&rt, &mut view);
 }
 
-// Anchor and caret, and the ends of the target, stand here.
+// Asserts the anchor, the caret and the ends of the target.
 fn assert_places(rt: &impl Abort, view: &View, anchor: usize, caret: usize, target: Target) {
     assert!(rt; view.selection() == Selection { anchor, caret });
     assert!(rt; view.target() == target);
@@ -180,7 +180,7 @@ fn assert_new(rt: &impl Abort, view: &View) {
     assert!(rt; view.converts_pastes() && !view.records());
 }
 
-// Each setting of its own is another one than a new view has; it stands elsewhere, and its second line is hidden.
+// Changes each setting from that of a new view, moves the positions, and hides the second line.
 fn change_all(rt: &impl Abort, view: &mut View) {
     let levels = Levels::new(&[], &[], 2);
     for change in [

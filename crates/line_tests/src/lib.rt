@@ -1,4 +1,4 @@
-//! Tests of lines and of what goes with them, in a document and in a view, over their public calls.
+//! Tests of lines and their state, in a document and in a view, by public calls.
 #![tactic(auto)]
 
 #[cfg(test)]

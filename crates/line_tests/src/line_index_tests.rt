@@ -1,4 +1,4 @@
-//! Small texts, edited step by step. Each helper makes the new text, and hands it in cut in two.
+//! Small texts, edited step by step. Each helper builds the new text, and passes it in two halves.
 ghost use Rattle.std.specs.Prelude.{◌≡◌, ◌+◌, ◌≤◌, ◌++◌, length, []};
 ghost use Rattle.line_index.specs.Index.{IsIndexOf};
 
@@ -42,7 +42,7 @@ pub(crate) fn insert<P: Place>(
     (new, change)
 }
 
-// The index is that of the new text afterwards, but no test goes on from there.
+// The index is that of the new text afterwards. No test continues from it.
 fn delete<P: Place>(
     rt: &impl Abort,
     alloc: Global,
@@ -70,7 +70,7 @@ fn delete<P: Place>(
     (new, change)
 }
 
-// The lines start so.
+// Asserts that the lines have these starts.
 fn assert_starts<P: Place>(rt: &impl Abort, index: &LineIndex<P>, starts: &[usize], length: usize) {
     let count = index.count();
     assert_eq!(rt; count, starts.len());
@@ -80,7 +80,7 @@ fn assert_starts<P: Place>(rt: &impl Abort, index: &LineIndex<P>, starts: &[usiz
     assert_eq!(rt; index.length(), length);
 }
 
-// Of each test, one function owns the index, and others, to which it is lent, do all else: what owns one over many calls takes long to prove.
+// In each test one function owns the index and lends it to others, which do the rest: owning one over many calls makes a proof slow.
 
 fn edit_in_a_row<P: Place>(rt: &impl Abort, alloc: Global, index: &mut LineIndex<P>)
     requires { IsIndexOf [] index.old }
@@ -168,7 +168,7 @@ fn line_ends_of_unicode(rt: HostRuntime) {
     break_a_line_end(&rt, alloc, &mut second);
 }
 
-// What is kept of each line is told of the step by these edits.
+// Asserts the edits by which the change describes the step to the rows of lines.
 fn assert_edits(rt: &impl Abort, change: &LineChange, wanted: &[LineEdit]) {
     assert!(rt; change.old_lines.at < 1 << 63);
     assert!(rt; change.old_lines.one_behind < 1 << 63);
@@ -180,7 +180,7 @@ fn assert_edits(rt: &impl Abort, change: &LineChange, wanted: &[LineEdit]) {
     assert_eq!(rt; edits.as_slice(), wanted);
 }
 
-// The old lines come to these new ones.
+// Asserts to which new lines the old ones move.
 fn assert_moves(rt: &impl Abort, change: &LineChange, lines: &[usize]) {
     for (line, new) in lines.iter().enumerate() {
         assert!(rt; line <= usize::MAX - change.new_lines.two_behind);
@@ -238,7 +238,7 @@ fn ends_of_lines(rt: HostRuntime) {
     assert_ends(&rt, alloc, &mut index);
 }
 
-// Lines of five letters, a CR and an LF, and at last one that a CR alone ends.
+// Returns lines of five letters with a CR and an LF, and a last one that ends with a CR alone.
 fn long_text(rt: &impl Abort, alloc: Global) -> Vec<u8> {
     let mut text: Vec<u8> = Vec::new(alloc);
     for place in 0..1000 {
@@ -281,8 +281,8 @@ fn lines_of_a_long_text(rt: HostRuntime) {
     }
 }
 
-// Eleven bytes with four line ends, over and over: more than two groups of four rows, with the borders of rows and groups
-// behind a CR, behind an LF, and between the two.
+// Eleven bytes with four line ends, repeated: more than two groups of four rows, so that rows and groups begin behind a CR, behind an LF,
+// and between the two.
 #[test]
 fn lines_of_many_rows(rt: HostRuntime) {
     let mut text: Vec<u8> = Vec::new(rt.alloc());
@@ -363,7 +363,7 @@ fn complete_a_cr_lf(rt: &impl Abort, alloc: Global, index: &mut LineIndex<u32>)
     assert_edits(rt, &change, &[]);
 }
 
-// A CR LF is split and joined again, and an LF comes behind a CR alone: its row stays with the line behind it.
+// Splits a CR LF and joins it again, and inserts an LF behind a single CR, whose row stays with the line behind it.
 #[test]
 fn edits_about_line_ends(rt: HostRuntime) {
     let alloc = rt.alloc();
@@ -377,7 +377,7 @@ fn edits_about_line_ends(rt: HostRuntime) {
     complete_a_cr_lf(&rt, alloc, &mut second);
 }
 
-// The bytes of one step come piece after piece: the row of line 1 goes with `Y`.
+// Inserts the bytes of one step piece by piece: the row of line 1 moves with `Y`.
 fn insert_pieces<P: Place>(rt: &impl Abort, alloc: Global, index: &mut LineIndex<P>)
     requires { IsIndexOf [] index.old }
 {
@@ -403,7 +403,7 @@ fn one_change_of_many_pieces(rt: HostRuntime) {
     row_of_pieces::<u64>(&rt, rt.alloc());
 }
 
-// Another setting of line ends, with the lines that come by it or are joined.
+// Sets which line ends count, and asserts the lines that are added or joined.
 fn set_types<P: Place>(
     rt: &impl Abort,
     alloc: Global,
@@ -524,7 +524,7 @@ fn change_settings_between(rt: &impl Abort, alloc: Global, index: &mut LineIndex
     assert_starts(rt, index, &[0, 4, 7, 13], 16);
 }
 
-// Line ends of both kinds: those of Unicode lie in the first line, the third and the last, at the text's end.
+// Line ends of both kinds: the Unicode ones are in the first line, in the third, and in the last at the end of the text.
 #[test]
 fn settings_with_line_ends_between(rt: HostRuntime) {
     let alloc = rt.alloc();

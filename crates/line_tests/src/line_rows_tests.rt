@@ -1,10 +1,10 @@
-//! Rows of calls of `LineRows`.
+//! Series of calls of `LineRows`.
 use contraction::folds;
 use line_index::LineEdit;
 use line_rows::{BASE_LEVEL, LineRows};
 use std::process::Abort;
 
-// `count` fresh lines come before a line.
+// Inserts `count` fresh lines before a line.
 fn come(rt: &impl Abort, rows: &mut LineRows, line: usize, count: usize) {
     rows.reserve(count).expect(rt, "memory");
     let lines = rows.count();
@@ -12,7 +12,7 @@ fn come(rt: &impl Abort, rows: &mut LineRows, line: usize, count: usize) {
     rows.carry(&[LineEdit::Come { line, count }]);
 }
 
-// The `count` lines behind a line are joined to it.
+// Joins the `count` lines behind a line to it.
 fn join(rt: &impl Abort, rows: &mut LineRows, line: usize, count: usize) {
     let lines = rows.count();
     assert!(rt; lines <= 1000 && line < lines && count < lines - line);
@@ -42,7 +42,7 @@ fn has(rt: &impl Abort, rows: &LineRows, line: usize, mask: u32, level: u32, sta
     assert!(rt; rows.mask(line) == mask && rows.level(line) == level && rows.state(line) == state);
 }
 
-// Of each test, one function owns the rows, and others, to which they are lent, do all else: what owns them over many calls takes long to prove.
+// In each test one function owns the rows and lends them to others, which do the rest: owning them over many calls makes a proof slow.
 
 fn set_two_of_four(rt: &impl Abort, rows: &mut LineRows) {
     assert!(rt; rows.count() == 1 && rows.next_handle() == 1);
@@ -57,7 +57,7 @@ fn set_two_of_four(rt: &impl Abort, rows: &mut LineRows) {
     has(rt, rows, 2, 1 << 31, 0x401, 9);
 }
 
-// Fresh lines before line 1 move it on, and are fresh; lines that meet keep all markers, and the first's level and state.
+// Fresh lines before line 1 move it down, and have no state. Joined lines keep all markers, and the level and state of the first.
 fn move_and_join(rt: &impl Abort, rows: &mut LineRows) {
     come(rt, rows, 1, 2);
     assert!(rt; rows.count() == 6);
@@ -87,7 +87,7 @@ fn start_again(rt: &impl Abort, rows: &mut LineRows) {
     has(rt, rows, 0, 0, BASE_LEVEL, 0);
 }
 
-// Rows go with their lines.
+// Rows move with their lines.
 #[test]
 fn rows_through_edits(rt: HostRuntime) {
     let mut rows = LineRows::new(rt.alloc());
@@ -113,7 +113,7 @@ fn reserve_for_many(rt: &impl Abort, rows: &mut LineRows) {
     assert!(rt; rows.level(99_999) == 0x401);
 }
 
-// Room for many lines, and for all that they can have, is made at once.
+// Room for many lines, and for all of their state, is reserved at once.
 #[test]
 fn rows_of_many_lines(rt: HostRuntime) {
     let mut rows = LineRows::new(rt.alloc());
@@ -125,7 +125,7 @@ fn parent(rt: &impl Abort, rows: &LineRows, line: usize) -> Option<usize> {
     folds::fold_parent(&rows.fold_levels(), line)
 }
 
-// A header of a smaller number than all others comes, is joined with a line, and goes.
+// A header with a smaller number than all others is added, joined with a line, and removed.
 fn look_for_parents(rt: &impl Abort, rows: &mut LineRows) {
     come(rt, rows, 1, 5);
     assert!(rt; parent(rt, rows, 5) == None);

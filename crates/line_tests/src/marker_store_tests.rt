@@ -1,4 +1,4 @@
-//! Rows of calls of a store of markers. Each helper tests what its call asks for.
+//! Series of calls of a store of markers. Each helper asserts the postcondition of its call.
 use marker_store::{GREATEST_LINES, MarkerStore};
 use std::alloc::Global;
 use std::process::Abort;
@@ -30,7 +30,7 @@ fn merge(rt: &impl Abort, store: &mut MarkerStore, line: usize, count: usize) {
     store.merge(line, count);
 }
 
-// There are so many lines, with these masks.
+// Asserts the number of lines, and their masks.
 fn assert_masks(rt: &impl Abort, store: &MarkerStore, masks: &[u32]) {
     let lines = store.lines();
     assert_eq!(rt; lines, masks.len());
@@ -39,7 +39,7 @@ fn assert_masks(rt: &impl Abort, store: &MarkerStore, masks: &[u32]) {
     }
 }
 
-// Of each test, one function owns the store, and others, to which it is lent, do all else: what owns one over many calls takes long to prove.
+// In each test one function owns the store and lends it to others, which do the rest: owning one over many calls makes a proof slow.
 
 fn mark_four_lines(rt: &impl Abort, store: &mut MarkerStore) {
     shift(rt, store, 1, 3);
@@ -49,7 +49,7 @@ fn mark_four_lines(rt: &impl Abort, store: &mut MarkerStore) {
     assert_eq!(rt; add(rt, store, 1, 3), 4);
 }
 
-// Four lines: two copies of 3 with a 5 between them on line 1, and a 0 on line 3. Handles are 1 to 4.
+// Returns four lines: two markers 3 with a 5 between them on line 1, and a 0 on line 3. The handles are 1 to 4.
 fn marked_lines(rt: &impl Abort, alloc: Global) -> MarkerStore {
     let mut store = MarkerStore::new(alloc);
     mark_four_lines(rt, &mut store);

@@ -1,4 +1,4 @@
-//! Positions about a step, and each key on a text of three lines, in each two halves and at both widths of places.
+//! Positions around a step, and each key on a text of three lines, split into two halves at each place, for both widths of places.
 ghost use Rattle.std.specs.Prelude.{◌≡◌, ◌++◌};
 ghost use Rattle.line_index.specs.Index.{IsIndexOf};
 
@@ -28,7 +28,7 @@ fn selection(anchor: usize, caret: usize) -> Selection
     Selection { anchor, caret }
 }
 
-// Where anchor and caret are after the key, however the text is halved; None where that makes a difference.
+// Returns anchor and caret after the key if all splits of the text agree, and `None` otherwise.
 fn after_key<P: Place>(
     rt: &impl Abort,
     lines: &LineIndex<P>,
@@ -97,7 +97,7 @@ fn assert_keys<P: Place>(rt: &impl Abort, lines: &LineIndex<P>)
     }
 }
 
-// One function owns the index, and another, to which it is lent, does all else: what owns one over many calls takes long to prove.
+// One function owns the index and lends it to another, which does the rest: owning one over many calls makes a proof slow.
 fn keys_at<P: Place>(rt: &impl Abort, alloc: Global) {
     let lines = index_of::<P>(rt, alloc, &TEXT);
     assert_keys(rt, &lines);
