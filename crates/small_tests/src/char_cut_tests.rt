@@ -1,11 +1,11 @@
-//! Cuts of a text with a character of each kind, at each place and in each two halves.
+//! The cuts of a text with a character of each kind, at each place and for each split into two halves.
 
 use char_cut::{after, before, is_word};
 
-// `a`, U+00E9, CRLF, and a byte that begins no sequence
+// `a`, U+00E9, CRLF, and a byte that does not begin a sequence
 const MIXED: [u8; 6] = [0x61, 0xC3, 0xA9, 0x0D, 0x0A, 0x80];
 
-// Whether the cuts behind and before each place are these, however the text is halved.
+// Returns whether these are the cuts behind and before each place, for each split of the text.
 fn has_cuts(text: &[u8], behind: &[usize], in_front: &[usize]) -> bool {
     for middle in 0..=text.len() {
         let (first, second) = text.split_at(middle);
@@ -31,7 +31,7 @@ fn no_bytes_have_one_cut(rt: HostRuntime) {
     assert!(rt; has_cuts(&[], &[0], &[0]));
 }
 
-// The first and the last scalar value of each length, and texts that are just none.
+// The first and the last scalar value of each length, and byte sequences just beyond them.
 #[test]
 fn lengths_of_sequences(rt: HostRuntime) {
     let whole: [&[u8]; 9] = [

@@ -1,8 +1,8 @@
-//! Marks of messages, from the message table.
+//! The marks of messages, from the message table.
 
 use ed_types::{Columns, Kind, columns_of};
 
-/// The marks of a message, by their letters.
+/// Returns the marks of a message, given by their letters.
 fn marks(q: bool, n: bool, e: bool, r: bool) -> Option<Columns> {
     Some(Columns { q, n, e, r })
 }

@@ -1,10 +1,10 @@
-//! Values come and go under ids that rise. Each call that takes memory once on its happy path.
+//! Values inserted and removed under rising ids. Each call that allocates once with success.
 ghost use Rattle.std.specs.Prelude.{◌≡◌, ◌<◌, ◌^◌, ◌+◌, IfOk, IfErr};
 
 use id_table::IdTable;
 use std::alloc::AllocError;
 
-/// Puts a value behind all others, and makes room for it first. Answers its id, or 0 where no id is left.
+/// Appends a value, after making room for it. Returns its id, or 0 if no id is left.
 fn insert(table: &mut IdTable<u64>, value: u64) -> Result<u32, AllocError> {
     if table.next() == u32::MAX {
         return Ok(0);
@@ -13,7 +13,7 @@ fn insert(table: &mut IdTable<u64>, value: u64) -> Result<u32, AllocError> {
     Ok(table.insert_reserved(value))
 }
 
-/// The value of an id, or 0 where there is none.
+/// Returns the value of an id, or 0 if there is none.
 fn value_of(table: &IdTable<u64>, id: u32) -> u64 {
     match table.get(id) {
         None => 0,

@@ -1,5 +1,5 @@
-//! Each call that takes memory, at a large size. `tools/heap.sh` runs each of these tests once more where the heap may hold no more than the sizes justify,
-//! as its table says: a growth that no one needed is refused there, and the test fails.
+//! Each call that allocates, at a large size. `tools/heap.sh` runs each of these tests again with a heap limited to what
+//! the sizes justify, as its table says. A growth that nothing needs fails there, and with it the test.
 
 use ed_types::{Bytes, Kind, Message, Outcome};
 use macro_script::printing::append_outcome;
@@ -7,10 +7,10 @@ use macro_script::{Command, Script, assemble, list};
 use std::alloc::{AllocError, Global};
 use std::process::Abort;
 
-/// How many commands a long script has.
+/// The number of commands of a long script.
 const COMMANDS: u32 = 100_000;
 
-/// A command that puts ten bytes in at the front.
+/// Returns a command that inserts ten bytes at the start.
 fn insertion(alloc: Global) -> Result<Command, AllocError> {
     let text = Bytes::new(Vec::from_slice(alloc, b"abcdefghi\n")?);
     let message = Message {
@@ -22,7 +22,7 @@ fn insertion(alloc: Global) -> Result<Command, AllocError> {
     Ok(Command::SendMessage { view: 1, message })
 }
 
-// One function owns the script, and another, to which it is lent, fills it: what owns one over many calls takes long to prove.
+// One function owns the script and lends it to another, which fills it: owning one over many calls makes a proof slow.
 fn push_insertions(rt: &impl Abort, alloc: Global, script: &mut Script) {
     for _ in 0..COMMANDS {
         let command = insertion(alloc).expect(rt, "memory");
@@ -31,7 +31,7 @@ fn push_insertions(rt: &impl Abort, alloc: Global, script: &mut Script) {
     assert_eq!(rt; script.commands().len(), 100_000);
 }
 
-// The listing of a long script.
+// Returns the listing of a long script.
 fn long_listing(rt: &impl Abort, alloc: Global) -> Vec<u8> {
     let mut script = Script::new(alloc);
     push_insertions(rt, alloc, &mut script);
@@ -41,7 +41,7 @@ fn long_listing(rt: &impl Abort, alloc: Global) -> Vec<u8> {
 #[test]
 fn a_long_script_is_listed_and_read(rt: HostRuntime) {
     let listed = long_listing(&rt, rt.alloc());
-    // A first line of 6 bytes, and 32 for each command.
+    // 6 bytes in the first line, and 32 for each command.
     assert_eq!(rt; listed.len(), 3_200_006);
     let again = assemble(rt.alloc(), listed.as_slice()).expect(&rt, "a script");
     assert_eq!(rt; again.commands().len(), 100_000);

@@ -1,4 +1,4 @@
-//! Tests of the parts that stand apart from texts and lines, over their public calls.
+//! Tests of the parts that know neither texts nor lines, by public calls.
 #![tactic(auto)]
 
 #[cfg(test)]

@@ -1,4 +1,4 @@
-//! Tests of what no clause says: that memory suffices, and values from outside.
+//! Tests of what no clause states: that memory suffices, and values from outside.
 
 use ed_types::{Bytes, Kind, Message, Note, Outcome, Refusal, Reply};
 use macro_script::printing::{append_integer, append_number, append_outcome, append_text};
@@ -6,7 +6,7 @@ use macro_script::{Cause, Command, Script, ScriptFault, assemble, list};
 use std::alloc::{AllocError, Global};
 use std::process::Abort;
 
-/// The script of an insertion's notes, 95 bytes.
+/// The script of an insertion's notes, of 95 bytes.
 const INSERTION: &[u8] =
     b"sci 1\nopen\nsend 1 2003 0 0 \"ab\\x0a\"\nsend 1 2182 0 0 \"\"\nsend 1 2003 9 0 \"z\"\nsend 1 2007 -1 0 \"\"\n";
 
@@ -14,7 +14,8 @@ const INSERTION: &[u8] =
 const EVERY_KIND: &[u8] =
     b"sci 2\nopen\nload 1 4294967295\nsend 1 2282 4 -9223372036854775808 \"\\\"\\\\\\x00\\x80 ~\"\nexpect -1\nclose 1\n";
 
-// Of each long test, one function owns what it is of, and others, to which that is lent, do all else: what owns it over many calls takes long to prove.
+// In each long test one function owns the value under test and lends it to others, which do the rest: owning it over
+// many calls makes a proof slow.
 
 fn assert_listed_again(rt: &impl Abort, alloc: Global, text: &[u8]) {
     let script = assemble(alloc, text).expect(rt, "a script");
@@ -86,7 +87,7 @@ fn names_the_first_fault(rt: HostRuntime) {
     }
 }
 
-/// A text of so many bytes.
+/// Returns a text of `len` bytes.
 fn repeated(alloc: Global, len: usize) -> Result<Vec<u8>, AllocError> {
     let mut text = Vec::new(alloc);
     for _ in 0..len {
@@ -95,7 +96,7 @@ fn repeated(alloc: Global, len: usize) -> Result<Vec<u8>, AllocError> {
     Ok(text)
 }
 
-/// A script of one line with a text of so many bytes.
+/// Returns a script of one line with a text of `len` bytes.
 fn long_line(alloc: Global, len: usize) -> Result<Vec<u8>, AllocError> {
     let mut text = Vec::from_slice(alloc, b"sci 1\nsend 1 2003 0 0 \"")?;
     text.extend_from_slice(&repeated(alloc, len)?)?;
@@ -135,7 +136,7 @@ fn takes_the_longest_script(rt: HostRuntime) {
     assert_fault(&rt, rt.alloc(), &text, ScriptFault::TooLong);
 }
 
-/// A message with a text of so many bytes.
+/// Returns a message with a text of `len` bytes.
 fn long_message(alloc: Global, len: usize) -> Result<Command, AllocError> {
     let message = Message {
         number: Kind::InsertText.number(),
@@ -146,7 +147,7 @@ fn long_message(alloc: Global, len: usize) -> Result<Command, AllocError> {
     Ok(Command::SendMessage { view: 1, message })
 }
 
-// Pushes a message with a text of so many bytes.
+// Pushes a message with a text of this many bytes.
 fn push_long(
     rt: &impl Abort,
     alloc: Global,
@@ -177,7 +178,7 @@ fn pushes_up_to_the_limits(rt: HostRuntime) {
     assert_eq!(rt; again.commands().len(), 256);
 }
 
-// A reply with a note that has a text.
+// Returns a reply with a note that has a text.
 fn noted_reply(rt: &impl Abort, alloc: Global) -> Reply {
     let note = Note {
         view: 1,

@@ -1,17 +1,17 @@
-//! Notes of a reply, their texts, and the room for them.
+//! The notes of a reply, their texts, and the room for them.
 
 use ed_types::{Bytes, Note, Reply};
 use notify::{NoteList, blank};
 use std::process::Abort;
 
-// A note to a view.
+// Returns a note to a view.
 fn note_to(view: u32) -> Note {
     let mut note = blank(2008);
     note.view = view;
     note
 }
 
-// The note there is told to this view, with this text.
+// Asserts that the note at `index` is for this view and has this text.
 fn assert_note(rt: &impl Abort, reply: &Reply, index: usize, view: u32, text: &[u8]) {
     assert!(rt; index < reply.note_count());
     let (note, its) = reply.note(index);
@@ -20,7 +20,7 @@ fn assert_note(rt: &impl Abort, reply: &Reply, index: usize, view: u32, text: &[
     assert_eq!(rt; its, text);
 }
 
-// One function owns the notes, and others, to which they are lent, do all else: what owns them over many calls takes long to prove.
+// One function owns the notes and lends them to others, which do the rest: owning them over many calls makes a proof slow.
 fn put_six(rt: &impl Abort, notes: &mut NoteList) {
     notes.reserve(6, 5).expect(rt, "memory");
     notes.put(note_to(1), b"abc");

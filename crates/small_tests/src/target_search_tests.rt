@@ -1,4 +1,4 @@
-//! Searches in texts that are split at each place, and in longer ones.
+//! Searches in texts that are split at each place, and in longer texts.
 
 use std::alloc::{AllocError, Global};
 use std::process::Abort;
@@ -10,7 +10,7 @@ const MATCH_CASE: u32 = 4;
 
 const WORD_START: u32 = 0x10_0000;
 
-// Where the text, in two halves that meet at `middle`, has the pattern.
+// Asserts where the text, in two halves that meet at `middle`, has the pattern.
 fn assert_found_at(
     rt: &impl Abort,
     flags: u32,
@@ -27,7 +27,7 @@ fn assert_found_at(
     assert_eq!(rt; found, place, "in {text:?} split at {middle}");
 }
 
-// The same for each way to split it.
+// Asserts the same for each split.
 fn assert_found(
     rt: &impl Abort,
     flags: u32,
@@ -102,13 +102,13 @@ fn case(rt: HostRuntime) {
     assert_found(&rt, MATCH_CASE, b"ab AB", b"AB", 0, 5, Some(3));
     assert_found(&rt, 0, b"ab AB", b"aB", 5, 0, Some(3));
     assert_found(&rt, MATCH_CASE, b"AB ab", b"AB", 5, 0, Some(0));
-    // What is not an ASCII letter has one case alone, though it differs from another byte by 32.
+    // A byte that is no ASCII letter has a single case, even if it differs from another byte by 32.
     assert_found(&rt, 0, b"@[`{\xC0\xE0", b"`", 0, 6, Some(2));
     assert_found(&rt, 0, b"@[`{\xC0\xE0", b"{", 0, 6, Some(3));
     assert_found(&rt, 0, b"@[`{\xC0\xE0", b"\xE0", 0, 6, Some(5));
 }
 
-// Lines of `the quick brown fox`, 20 bytes each.
+// Returns lines of `the quick brown fox`, 20 bytes each.
 fn long_text(alloc: Global, lines: usize) -> Result<Vec<u8>, AllocError> {
     let mut text = Vec::new(alloc);
     for _ in 0..lines {
@@ -152,7 +152,7 @@ fn long_texts(rt: HostRuntime) {
     assert_found_in_a_long_text(&rt, text.as_slice());
 }
 
-// So many times `ab`, one after the other, then ` AB `, and as many again.
+// Returns `count` times `ab`, then ` AB `, and then `ab` as often again.
 fn text_of_candidates(alloc: Global, count: usize) -> Result<Vec<u8>, AllocError> {
     let mut text = Vec::new(alloc);
     for _ in 0..count {
