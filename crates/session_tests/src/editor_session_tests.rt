@@ -1,4 +1,4 @@
-//! Each call that takes memory on its happy path, limits, and refusals in their order.
+//! Each call that allocates, once with success, limits, and the order of refusals.
 
 use crate::exchanges::{
     closed, first_unmet, first_unmet_in, first_unmet_within, not_closed, not_opened, opened,
@@ -19,9 +19,9 @@ fn text_goes_in_and_out(rt: HostRuntime) {
         sent(Kind::GetCharAt, 1, 0, 98),
         sent(Kind::GetCharAt, 3, 0, 0),
         sent(Kind::GetCharAt, -1, 0, 0),
-        // The other view's document is another one.
+        // The other view has a document of its own.
         sent(Kind::GetLength, 0, 0, 0).of_view(2),
-        // -1 is the caret, which stays before the text that is put in there.
+        // -1 is the caret, which stays before the text inserted there.
         sent(Kind::InsertText, -1, 0, 0).with(b"xy"),
         sent(Kind::InsertText, -1, 0, 0).with(b"z"),
         sent(Kind::GetText, 0, 0, 6).handing_out(b"zxyab\n"),
@@ -65,7 +65,7 @@ fn message(alloc: Global, number: u32) -> Message {
     }
 }
 
-/// Every kind of command, with expects that are met and one that is not.
+/// Returns every kind of command, with `expect` commands that are met and one that is not.
 fn commands(rt: &impl Abort, alloc: Global) -> Vec<Command> {
     let mut commands = Vec::new(alloc);
     commands.push(Command::OpenView).expect(rt, "memory");
@@ -96,13 +96,13 @@ fn commands(rt: &impl Abort, alloc: Global) -> Vec<Command> {
     commands
 }
 
-/// What comes of commands in a new session, without files.
+/// Returns the outcomes of commands in a new session, without files.
 fn outcomes(alloc: Global, commands: &[Command]) -> Result<Vec<Outcome>, AllocError> {
     let mut run = Run::new(Session::new(alloc));
     run.run(alloc, &[], commands)
 }
 
-/// Whether an outcome is that of an expect of this value.
+/// Returns whether an outcome is that of an `expect` of this value.
 fn is_expected(outcome: &Outcome, was_met: bool, wanted: i64) -> bool {
     match outcome {
         Outcome::Expected { met, value } => *met == was_met && *value == wanted,
@@ -131,7 +131,7 @@ fn lines_follow_the_text(rt: HostRuntime) {
         sent(Kind::GetLineCount, 0, 0, 1),
         sent(Kind::InsertText, 0, 0, 0).with(b"x\r\na"),
         sent(Kind::GetLineCount, 0, 0, 2),
-        // Between CR and LF, and taken out again.
+        // Inserted between CR and LF, and deleted again.
         sent(Kind::InsertText, 2, 0, 0).with(b"z"),
         sent(Kind::GetLineCount, 0, 0, 3),
         sent(Kind::DeleteRange, 2, 1, 0),
@@ -145,7 +145,7 @@ fn lines_follow_the_text(rt: HostRuntime) {
     assert_eq!(rt; first_unmet(rt.alloc(), rows.as_slice()), None);
 }
 
-/// What a note tells of a step.
+/// The fields of a note of a step.
 #[derive(Clone, Copy)]
 struct Told {
     kind: u32,
@@ -155,7 +155,7 @@ struct Told {
     text: &'static [u8],
 }
 
-/// The note there is that of a change which view 1 is told.
+/// Asserts that the note at `index` tells view 1 of this change.
 fn assert_change(rt: &impl Abort, reply: &Reply, index: usize, told: Told) {
     assert!(rt; index < reply.note_count());
     let (note, text) = reply.note(index);
@@ -167,7 +167,7 @@ fn assert_change(rt: &impl Abort, reply: &Reply, index: usize, told: Told) {
     assert!(rt; text == told.text);
 }
 
-// Before the step, that the save point is left, and after it.
+// The notes before the step, that the save point is left, and after the step.
 fn assert_insertion(rt: &impl Abort, session: &mut Session) {
     let reply = session.send_lent(1, Kind::InsertText.number(), 0, 0, b"a\nb");
     let reply = reply.expect(rt, "a reply");
@@ -191,7 +191,7 @@ fn assert_insertion(rt: &impl Abort, session: &mut Session) {
     assert_change(rt, &reply, 2, after);
 }
 
-// Before a deletion its text is not told.
+// The note before a deletion has no text.
 fn assert_deletion(rt: &impl Abort, session: &mut Session) {
     let reply = session.send_lent(1, Kind::DeleteRange.number(), 1, 1, b"");
     let reply = reply.expect(rt, "a reply");

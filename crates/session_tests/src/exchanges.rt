@@ -1,11 +1,11 @@
-//! Tables of what a session is asked for and what it answers. A session is made by two functions that each own it on one way
-//! out: what owns one on many ways out takes long to prove.
+//! Tables of requests to a session, with the expected replies. A session is made by two functions, each of which owns it with
+//! a single way out: owning one with many ways out makes a proof slow.
 
 use ed_types::{Kind, Limits, Refusal};
 use editor_session::Session;
 use std::alloc::Global;
 
-/// What a session is asked for.
+/// A request to a session.
 #[derive(Clone, Copy)]
 enum Asked {
     OpenView,
@@ -13,7 +13,7 @@ enum Asked {
     Send { number: u32 },
 }
 
-/// What a session is asked for, and what it answers.
+/// A request to a session, with the expected reply.
 #[derive(Clone, Copy)]
 pub(crate) struct Exchange {
     asked: Asked,
@@ -26,7 +26,7 @@ pub(crate) struct Exchange {
 }
 
 impl Exchange {
-    /// Without text or arguments, about view 1.
+    /// Returns an exchange with view 1, without text or arguments.
     fn new(asked: Asked, answer: Result<i64, Refusal>) -> Self {
         Exchange {
             asked,
@@ -39,43 +39,43 @@ impl Exchange {
         }
     }
 
-    /// The same of another view.
+    /// Returns the same exchange with another view.
     pub(crate) fn of_view(self, view: u32) -> Self {
         Exchange { view, ..self }
     }
 
-    /// The same message with a text.
+    /// Returns the same message with a text.
     pub(crate) fn with(self, text: &'static [u8]) -> Self {
         Exchange { text, ..self }
     }
 
-    /// The same message, which also hands out this text.
+    /// Returns the same message, which also hands out this text.
     pub(crate) fn handing_out(self, handed_out: &'static [u8]) -> Self {
         Exchange { handed_out, ..self }
     }
 }
 
-/// A view is opened, with this id.
+/// Expects that a view is opened, with this id.
 pub(crate) fn opened(id: i64) -> Exchange {
     Exchange::new(Asked::OpenView, Ok(id))
 }
 
-/// No view is opened.
+/// Expects that opening a view is refused.
 pub(crate) fn not_opened(refusal: Refusal) -> Exchange {
     Exchange::new(Asked::OpenView, Err(refusal))
 }
 
-/// View 1 is closed.
+/// Expects that view 1 is closed.
 pub(crate) fn closed() -> Exchange {
     Exchange::new(Asked::CloseView, Ok(0))
 }
 
-/// View 1 is not closed.
+/// Expects that closing view 1 is refused.
 pub(crate) fn not_closed(refusal: Refusal) -> Exchange {
     Exchange::new(Asked::CloseView, Err(refusal))
 }
 
-/// A message to view 1 that answers a value.
+/// Expects this value from a message to view 1.
 pub(crate) fn sent(kind: Kind, w: i64, l: i64, value: i64) -> Exchange {
     let number = kind.number();
     Exchange {
@@ -85,7 +85,7 @@ pub(crate) fn sent(kind: Kind, w: i64, l: i64, value: i64) -> Exchange {
     }
 }
 
-/// A message to view 1 that is refused.
+/// Expects that a message to view 1 is refused.
 pub(crate) fn refused(kind: Kind, w: i64, l: i64, refusal: Refusal) -> Exchange {
     Exchange {
         answer: Err(refusal),
@@ -93,12 +93,12 @@ pub(crate) fn refused(kind: Kind, w: i64, l: i64, refusal: Refusal) -> Exchange 
     }
 }
 
-/// A message to view 1 with a number that no message has.
+/// Expects a refusal of a message to view 1 with a number that no message has.
 pub(crate) fn unknown(number: u32, refusal: Refusal) -> Exchange {
     Exchange::new(Asked::Send { number }, Err(refusal))
 }
 
-/// Whether a message is answered as it is to be.
+/// Returns whether a message has the expected reply.
 fn is_answered(session: &mut Session, row: &Exchange, number: u32) -> bool {
     match session.send_lent(row.view, number, row.w, row.l, row.text) {
         Ok(reply) => row.answer == Ok(reply.value()) && reply.text() == row.handed_out,
@@ -106,7 +106,7 @@ fn is_answered(session: &mut Session, row: &Exchange, number: u32) -> bool {
     }
 }
 
-/// Whether an exchange goes as it is to.
+/// Returns whether an exchange goes as expected.
 fn is_met(session: &mut Session, row: &Exchange) -> bool {
     match row.asked {
         Asked::OpenView => session.new_view().map(i64::from) == row.answer,
@@ -115,7 +115,7 @@ fn is_met(session: &mut Session, row: &Exchange) -> bool {
     }
 }
 
-/// The place of the first exchange that does not go as it is to, if there is one.
+/// Returns the index of the first exchange that does not go as expected, or `None`.
 pub(crate) fn first_unmet_in(session: &mut Session, rows: &[Exchange]) -> Option<usize> {
     for index in 0..rows.len() {
         if !is_met(session, &rows[index]) {
@@ -125,13 +125,13 @@ pub(crate) fn first_unmet_in(session: &mut Session, rows: &[Exchange]) -> Option
     None
 }
 
-/// The same in a new session.
+/// Does the same in a new session.
 pub(crate) fn first_unmet(alloc: Global, rows: &[Exchange]) -> Option<usize> {
     let mut session = Session::new(alloc);
     first_unmet_in(&mut session, rows)
 }
 
-/// The same in a new session with these limits, which it must take.
+/// Does the same in a new session with these limits, which must be valid.
 pub(crate) fn first_unmet_within(
     alloc: Global,
     limits: Limits,

@@ -1,5 +1,5 @@
-//! Sessions of large sizes: 16 MiB that are handed out, and as many views as may be open. `tools/heap.sh` runs
-//! each of these tests once more where the heap may hold no more than the sizes justify, as its table says.
+//! Sessions of large sizes: 16 MiB handed out, and the greatest number of open views. `tools/heap.sh` runs each of these
+//! tests again with a heap limited to what the sizes justify, as its table says.
 
 ghost use Rattle.std.specs.Prelude.{◌<◌, length};
 
@@ -8,7 +8,7 @@ use editor_session::Session;
 use std::alloc::{AllocError, Global};
 use std::process::Abort;
 
-/// What a message without text answers, or the number of its refusal below 0.
+/// Returns the value of a message without text, or the negated number of its refusal.
 fn value_of(session: &mut Session, view: u32, kind: Kind, w: i64, l: i64) -> i64 {
     match session.send_lent(view, kind.number(), w, l, &[]) {
         Ok(reply) => reply.value(),
@@ -16,15 +16,15 @@ fn value_of(session: &mut Session, view: u32, kind: Kind, w: i64, l: i64) -> i64
     }
 }
 
-/// The length of a large text, in bytes: 8 MiB. Each byte is handed out with its style behind it.
+/// The length of a large text in bytes: 8 MiB. It is handed out with a style after each byte.
 const TEXT: i64 = 8_388_608;
 
-/// It is put in piece by piece: the length of one in bytes, and how many there are.
+/// The text is inserted in pieces: the length of a piece in bytes, and the number of pieces.
 const PIECE: i64 = 1_048_576;
 
 const PIECES: i64 = 8;
 
-/// A piece, without line ends.
+/// Returns a piece, without line ends.
 fn piece(alloc: Global) -> Result<Vec<u8>, AllocError> {
     let mut piece = Vec::with_capacity(alloc, 1_048_576)?;
     for _ in 0..65_536 {
@@ -33,7 +33,7 @@ fn piece(alloc: Global) -> Result<Vec<u8>, AllocError> {
     Ok(piece)
 }
 
-// Neither notes nor a history keep what is put in.
+// Neither notes nor a history store the inserted text.
 fn put_pieces_in(rt: &impl Abort, session: &mut Session, piece: &[u8]) {
     assert_eq!(rt; session.new_view(), Ok(1));
     assert_eq!(rt; value_of(session, 1, Kind::SetModEventMask, 0, 0), 0);
@@ -45,7 +45,7 @@ fn put_pieces_in(rt: &impl Abort, session: &mut Session, piece: &[u8]) {
     assert_eq!(rt; value_of(session, 1, Kind::GetLength, 0, 0), TEXT);
 }
 
-// The last byte has a style, so that one is stored for each.
+// The last byte has a style, so that the document stores one for each byte.
 fn assert_styled(rt: &impl Abort, session: &mut Session) {
     assert_eq!(rt; value_of(session, 1, Kind::StartStyling, TEXT - 1, 0), 0);
     assert_eq!(rt; value_of(session, 1, Kind::SetStyling, 1, 5), 0);
@@ -69,12 +69,12 @@ fn styled_text_of_a_large_size(rt: HostRuntime) {
     assert_large_text_styled(&rt, &mut session, &piece);
 }
 
-/// How many views may be open, and the one that is typed in.
+/// The greatest number of open views, and the view in which the test types.
 const VIEWS: u32 = 1024;
 
 const TYPED_IN: u32 = 512;
 
-/// What a view is told: by which code and kind of change.
+/// The code and the kind of an expected note.
 #[derive(Clone, Copy)]
 struct Told {
     view: u32,
@@ -83,7 +83,7 @@ struct Told {
     text: &'static [u8],
 }
 
-/// The note there tells this, and a text that it has is the one that the reply keeps.
+/// Asserts that the note at `index` is the expected one, and that its text, if it has any, is that which the reply stores.
 fn assert_note(rt: &impl Abort, reply: &Reply, index: usize, told: Told)
     requires { index < length reply.now.notes }
 {
@@ -96,7 +96,7 @@ fn assert_note(rt: &impl Abort, reply: &Reply, index: usize, told: Told)
     assert!(rt; text.is_empty() || (note.text.start == 0 && note.text.end == 1));
 }
 
-/// All views from `first` to `last` are told of a typed `x`, that the save point is left, and of the `x` again.
+/// Asserts that all views from `first` to `last` are notified of a typed `x`, that the save point is left, and of the `x` again.
 fn assert_told(rt: &impl Abort, reply: &Reply, first: u32, last: u32) {
     let mut index = 0;
     for (code, kind, text) in [
@@ -119,13 +119,13 @@ fn assert_told(rt: &impl Abort, reply: &Reply, first: u32, last: u32) {
     assert_eq!(rt; reply.note_count(), index);
 }
 
-/// Types an `x` in a view, of which the views from `first` to `last` are told.
+/// Types an `x` in a view, and asserts that the views from `first` to `last` are notified.
 fn assert_typed(rt: &impl Abort, session: &mut Session, first: u32, last: u32) {
     let reply = session.send_lent(TYPED_IN, Kind::AddText.number(), 1, 0, b"x");
     assert_told(rt, &reply.expect(rt, "a reply"), first, last);
 }
 
-/// All views have this value, but for the one that was typed in.
+/// Asserts that all views have the same value, except that in which the test types.
 fn assert_values(rt: &impl Abort, session: &mut Session, kind: Kind, typed_in: i64, other: i64) {
     for view in 1..=VIEWS {
         let wanted = if view == TYPED_IN { typed_in } else { other };

@@ -1,4 +1,4 @@
-//! Bytes of a view's document lent as one slice, and the refusals in their order.
+//! Bytes of a view's document lent as one slice, and the order of refusals.
 
 ghost use Rattle.std.specs.Prelude.{◌≡◌};
 
@@ -7,7 +7,7 @@ use editor_session::Session;
 use std::alloc::{AllocError, Global};
 use std::process::Abort;
 
-/// Puts bytes in at a place of the first view's document. Answers whether that was done.
+/// Inserts bytes at a place of the first view's document, and returns whether that was done.
 fn put(session: &mut Session, place: i64, bytes: &[u8], alloc: Global) -> Result<bool, AllocError> {
     let mut text = Vec::with_capacity(alloc, bytes.len())?;
     text.extend_from_slice(bytes)?;
@@ -20,7 +20,7 @@ fn put(session: &mut Session, place: i64, bytes: &[u8], alloc: Global) -> Result
     Ok(session.send(1, &insertion).is_ok())
 }
 
-/// How many bytes are lent. A caller knows that the session is as it was, whether they are lent or refused.
+/// Returns how many bytes are lent. A caller knows that the session does not change, even if the range is refused.
 fn count_lent(
     session: &mut Session,
     view: u32,
@@ -42,7 +42,7 @@ fn assert_lent_or_refused(
 ) -> Result<(), AllocError> {
     assert_eq!(rt; session.new_view(), Ok(1));
     assert!(rt; put(session, 0, b"a\r\nb\nd", alloc)?);
-    // The gap lies before the last LF then.
+    // The gap is then before the last LF.
     assert!(rt; put(session, 4, b"\rc", alloc)?);
     assert_eq!(rt; session.lend_range(1, 3, 2), Ok(b"b\r".as_slice()));
     assert_eq!(rt; session.lend_range(1, 0, 8), Ok(b"a\r\nb\rc\nd".as_slice()));

@@ -1,4 +1,4 @@
-//! Tests of sessions, over their public calls.
+//! Tests of sessions, by public calls.
 #![tactic(auto)]
 
 #[cfg(test)]

@@ -1,4 +1,4 @@
-//! Messages at the limits of a session, and what each answers there.
+//! Messages at the limits of a session, with their replies.
 
 use crate::exchanges::{closed, first_unmet_within, not_opened, opened, refused, sent};
 use ed_types::{Kind, Limits, Refusal};
@@ -17,12 +17,12 @@ fn handles_are_used_up(rt: HostRuntime) {
         sent(Kind::MarkerAddSet, 0, 3, 0),
         sent(Kind::MarkerGet, 0, 0, 3),
         refused(Kind::MarkerAdd, 0, 0, Refusal::TooMany),
-        // A line that is not there is an answer, and a number that is none is refused before it.
+        // A line that does not exist has a value, and a number that no marker has is refused before.
         sent(Kind::MarkerAdd, 9, 0, -1),
         refused(Kind::MarkerAdd, 9, 32, Refusal::BadArgument),
-        // No bit is set: no handle is wanted.
+        // No bit is set, so that no handle is needed.
         sent(Kind::MarkerAddSet, 0, 0, 0),
-        // A handle is not given back.
+        // Deleting a marker does not free its handle.
         sent(Kind::MarkerDeleteAll, -1, 0, 0),
         refused(Kind::MarkerAdd, 0, 0, Refusal::TooMany),
     ];
@@ -89,7 +89,7 @@ fn a_conversion_is_too_long_after_some_step(rt: HostRuntime) {
         opened(1),
         sent(Kind::SetText, 0, 0, 0).with(b"ab\n\n"),
         refused(Kind::ConvertEols, 0, 0, Refusal::TooLong),
-        // Though each LF that is then deleted would make room again.
+        // It is too long although the LFs deleted afterwards would make room again.
         refused(Kind::ConvertEols, 1, 0, Refusal::TooLong),
         sent(Kind::ConvertEols, 2, 0, 0),
         sent(Kind::GetText, 0, 0, 4).handing_out(b"ab\n\n"),
@@ -112,12 +112,12 @@ fn references_are_limited(rt: HostRuntime) {
         sent(Kind::AddRefDocument, 0, 1, 0),
         refused(Kind::AddRefDocument, 0, 1, Refusal::TooMany),
         refused(Kind::SetDocPointer, 0, 1, Refusal::TooMany).of_view(2),
-        // Its own document too, though one reference would go.
+        // Also for the view's own document, although that would lose one reference.
         refused(Kind::SetDocPointer, 0, 1, Refusal::TooMany),
         refused(Kind::SetDocPointer, 0, 9, Refusal::NoSuchDocument),
         refused(Kind::AddRefDocument, 0, 0, Refusal::NoSuchDocument),
         sent(Kind::ReleaseDocument, 0, 1, 0),
-        // What is left is the view's own.
+        // The only reference left is the view's own.
         refused(Kind::ReleaseDocument, 0, 1, Refusal::NoSuchDocument),
         sent(Kind::SetDocPointer, 0, 1, 0).of_view(2),
         sent(Kind::GetDocPointer, 0, 0, 1).of_view(2),
@@ -140,7 +140,7 @@ fn groups_are_as_deep_as_the_limit(rt: HostRuntime) {
         sent(Kind::BeginUndoAction, 0, 0, 0),
         refused(Kind::BeginUndoAction, 0, 0, Refusal::TooMany),
         sent(Kind::AppendText, 1, 0, 0).with(b"a"),
-        // In a group nothing is undone.
+        // There is nothing to undo within a group.
         sent(Kind::CanUndo, 0, 0, 0),
         sent(Kind::Undo, 0, 0, 0),
         sent(Kind::GetLength, 0, 0, 1),
@@ -170,7 +170,7 @@ fn ids_are_limited(rt: HostRuntime) {
         refused(Kind::CreateDocument, 0, 2, Refusal::BadArgument),
         not_opened(Refusal::TooMany),
         closed(),
-        // No id is given again.
+        // No id is given twice.
         not_opened(Refusal::TooMany),
     ];
     assert_eq!(rt;
@@ -208,7 +208,7 @@ fn open_views_are_limited(rt: HostRuntime) {
         opened(1),
         not_opened(Refusal::TooMany),
         closed(),
-        // A refused view has used up no id.
+        // The refused view did not use an id.
         opened(2),
         sent(Kind::GetDocPointer, 0, 0, 2).of_view(2),
     ];
@@ -218,7 +218,7 @@ fn open_views_are_limited(rt: HostRuntime) {
     );
 }
 
-/// Why a session may not have these limits, if it may not.
+/// Returns why a session may not have these limits, or `None`.
 fn refusal_of(alloc: Global, limits: Limits) -> Option<Refusal> {
     Session::with_limits(alloc, limits).err()
 }
@@ -234,7 +234,7 @@ const NONE: Limits = Limits {
     depth: 0,
 };
 
-/// The greatest limits, but for one, which is taken of others.
+/// Returns the greatest limits with one of them replaced by that of `others`, for each of them.
 fn with_one_of(others: Limits) -> [Limits; 7] {
     let greatest = Limits::GREATEST;
     [
@@ -269,7 +269,7 @@ fn with_one_of(others: Limits) -> [Limits; 7] {
     ]
 }
 
-/// Limits that are each one more than the greatest.
+/// Limits that are each the greatest plus 1.
 const PAST_THE_GREATEST: Limits = Limits {
     doc_bytes: 0x8000_0000,
     large_bytes: 0x100_0000_0001,

@@ -1,17 +1,17 @@
-//! Text questions: their bytes are put into a buffer, whose memory is used again.
+//! Text questions: their bytes go to a buffer that is used again.
 
 use ed_types::Kind;
 use editor_session::Session;
 use std::process::Abort;
 
-/// Puts bytes in at a place of the first view's document.
+/// Inserts bytes at a place of the first view's document.
 fn put(rt: &impl Abort, session: &mut Session, place: i64, bytes: &[u8]) {
     let number = Kind::InsertText.number();
     let reply = session.send_lent(1, number, place, 0, bytes);
     assert!(rt; reply.is_ok());
 }
 
-/// A text question is answered by this value and these bytes.
+/// Asserts the value and the bytes of a text question.
 fn assert_read(
     rt: &impl Abort,
     session: &Session,
@@ -26,7 +26,7 @@ fn assert_read(
     assert_eq!(rt; into.as_slice(), bytes);
 }
 
-/// A message is not answered, and the buffer has these bytes still.
+/// Asserts that a message has no answer, and that the buffer still has these bytes.
 fn assert_unread(
     rt: &impl Abort,
     session: &Session,
@@ -47,7 +47,7 @@ fn texts_are_read_into_one_buffer(rt: HostRuntime) {
     let mut into = Vec::new(rt.alloc());
     assert_eq!(rt; session.new_view(), Ok(1));
     put(&rt, &mut session, 0, b"a\nb\nd");
-    // The gap lies behind the c then.
+    // The gap is then behind the c.
     put(&rt, &mut session, 2, b"c");
     let (session, into) = (&session, &mut into);
     assert_read(&rt, session, Kind::GetTextRange, 1, 3, into, 2, b"\nc");
@@ -59,7 +59,7 @@ fn texts_are_read_into_one_buffer(rt: HostRuntime) {
     assert_read(&rt, session, Kind::GetSelText, 0, 0, into, 0, b"");
     assert_read(&rt, session, Kind::GetTargetText, 0, 0, into, 0, b"");
     assert_read(&rt, session, Kind::GetLine, 2, 0, into, 1, b"d");
-    // What is refused, hands out nothing or is another message leaves the buffer.
+    // A question that is refused, a message that hands out nothing, and any other message leave the buffer unchanged.
     assert_unread(&rt, session, 1, Kind::GetTextRange, 3, 2, into, b"d");
     assert_unread(&rt, session, 1, Kind::GetTextRange, 0, 7, into, b"d");
     assert_unread(&rt, session, 1, Kind::GetLine, 3, 0, into, b"d");
