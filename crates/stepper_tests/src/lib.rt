@@ -1,4 +1,4 @@
-//! Tests of scripts that are done step by step, and of what is recorded, over public calls.
+//! Tests of scripts that are performed step by step, and of recordings, by public calls.
 #![tactic(auto)]
 
 #[cfg(test)]

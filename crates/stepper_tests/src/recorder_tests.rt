@@ -1,4 +1,4 @@
-//! What a view records: a script of it, which does the same in a new session.
+//! The recording of a view: a script that does the same in a new session.
 
 use ed_types::{Bytes, Command, Kind, Message, Outcome};
 use editor_session::{Run, Session};
@@ -6,25 +6,25 @@ use macro_script::{Recorder, Script, assemble, list};
 use std::alloc::Global;
 use std::process::Abort;
 
-/// A view that records is sent three letters, a question, the caret a character to the left, and a deletion of what lies before it.
-/// What it is sent before and after is not recorded.
+/// A view that records gets three letters, a question, a move of the caret one character to the left, and a deletion of the character
+/// before it. Messages before and after the recording are not in it.
 const MACRO: &[u8] =
     b"sci 1\nopen\nsend 1 2006 0 0 \"\"\nsend 1 3001 0 0 \"\"\nsend 1 2001 3 0 \"abc\"\nsend 1 2006 0 0 \"\"\nsend 1 2304 0 0 \"\"\nsend 1 2326 0 0 \"\"\nsend 1 3002 0 0 \"\"\nsend 1 2318 0 0 \"\"\n";
 
-/// The listing of what it records: ADDTEXT, CHARLEFT and DELETEBACK, as they were sent.
+/// The listing of its recording: ADDTEXT, CHARLEFT and DELETEBACK, as they were sent.
 const MACRO_LISTING: &[u8] =
     b"sci 2\nsend 1 2001 3 0 \"abc\"\nsend 1 2304 0 0 \"\"\nsend 1 2326 0 0 \"\"\n";
 
-/// Two views of a document record, each what it is sent itself, and nothing of what is refused.
+/// Two views of a document record, each its own messages, and no refused ones.
 const TWO_VIEWS: &[u8] =
     b"sci 1\nopen\nopen\nsend 2 2358 0 1 \"\"\nsend 1 3001 0 0 \"\"\nsend 2 3001 0 0 \"\"\nsend 1 2001 1 0 \"ab\"\nsend 1 2001 9 0 \"ab\"\nsend 2 2329 0 0 \"\"\nsend 1 2178 0 0 \"\"\n";
 
-/// The listings of what the first and the second of them record. The text is recorded whole, though its first byte alone goes in.
+/// The listings of the recordings of both views. The whole text is recorded, although only its first byte is inserted.
 const FIRST_LISTING: &[u8] = b"sci 2\nsend 1 2001 1 0 \"ab\"\nsend 1 2178 0 0 \"\"\n";
 
 const SECOND_LISTING: &[u8] = b"sci 2\nsend 2 2329 0 0 \"\"\n";
 
-/// Does commands, and feeds what is replied to a recorder.
+/// Performs commands, and passes the replies to a recorder.
 fn feed_replies(rt: &impl Abort, run: &mut Run, commands: &[Command], recorder: &mut Recorder) {
     for command in commands {
         let outcome = run.step(&[], command).expect(rt, "memory");
@@ -34,7 +34,7 @@ fn feed_replies(rt: &impl Abort, run: &mut Run, commands: &[Command], recorder: 
     }
 }
 
-/// What a view records where commands are done in a new session.
+/// Returns what a view records while commands are performed in a new session.
 fn recorded(rt: &impl Abort, alloc: Global, commands: &[Command], view: u32) -> Script {
     let mut run = Run::new(Session::new(alloc));
     let mut recorder = Recorder::new(alloc, view);
@@ -42,7 +42,7 @@ fn recorded(rt: &impl Abort, alloc: Global, commands: &[Command], view: u32) -> 
     recorder.finish()
 }
 
-/// What a view records has this listing.
+/// Asserts that the recording of a view has this listing.
 fn assert_recorded(rt: &impl Abort, alloc: Global, script: &[u8], view: u32, wanted: &[u8]) {
     let script = assemble(alloc, script).expect(rt, "a script");
     let recorded = recorded(rt, alloc, script.commands(), view);
@@ -58,7 +58,7 @@ fn a_recorder_takes_what_its_view_records(rt: HostRuntime) {
     assert_recorded(&rt, rt.alloc(), TWO_VIEWS, 2, SECOND_LISTING);
 }
 
-/// A message without arguments or text to view 1.
+/// Returns a message to view 1 without arguments or text.
 fn plain(alloc: Global, kind: Kind) -> Command {
     let message = Message {
         number: kind.number(),
@@ -69,18 +69,18 @@ fn plain(alloc: Global, kind: Kind) -> Command {
     Command::SendMessage { view: 1, message }
 }
 
-/// Does a command, which is not refused.
+/// Performs a command, which must not be refused.
 fn do_command(rt: &impl Abort, run: &mut Run, command: &Command) {
     let outcome = run.step(&[], command).expect(rt, "memory");
     assert!(rt; !matches!(&outcome, Outcome::Refused(_)));
 }
 
-/// View 1 answers a plain question without arguments by this value.
+/// Asserts the value of a plain question to view 1 without arguments.
 fn assert_answered(rt: &impl Abort, session: &Session, kind: Kind, value: i64) {
     assert_eq!(rt; session.ask(1, kind.number(), 0, 0), Some(value));
 }
 
-/// The text of view 1's document is this.
+/// Asserts the text of view 1's document.
 fn assert_text(rt: &impl Abort, alloc: Global, session: &Session, text: &[u8]) {
     let mut bytes = Vec::new(alloc);
     let value = session.read(1, Kind::GetText.number(), 0, 0, &mut bytes);
@@ -88,7 +88,7 @@ fn assert_text(rt: &impl Abort, alloc: Global, session: &Session, text: &[u8]) {
     assert!(rt; bytes.as_slice() == text);
 }
 
-/// The macro leaves `ac`, with the caret behind the a, and two transactions: the letters, and the deletion.
+/// Asserts that the macro leaves `ac`, with the caret behind the a, and two transactions: the letters, and the deletion.
 fn assert_replayed(rt: &impl Abort, alloc: Global, run: &mut Run, commands: &[Command]) {
     do_command(rt, run, &Command::OpenView);
     for command in commands {

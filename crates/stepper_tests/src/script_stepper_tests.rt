@@ -1,18 +1,18 @@
-//! A script forwards and back: that memory suffices, and that what comes of a command after going back is what came of it before.
+//! A script forwards and backwards: memory suffices, and a command has the same outcome again after going back.
 
 use ed_types::{Bytes, Outcome};
 use macro_script::assemble;
 use script_stepper::{StepFault, Stepper};
 
-/// A view, a text put in, all of the text handed out, and two questions, the first of which is refused.
+/// A view, a text inserted, the whole text handed out, and two questions, the first of which is refused.
 const INSERTION: &[u8] =
     b"sci 1\nopen\nsend 1 2003 0 0 \"ab\\x0a\"\nsend 1 2182 0 0 \"\"\nsend 1 2003 9 0 \"z\"\nsend 1 2007 -1 0 \"\"\n";
 
-/// Every command, with expects that are met but for the last.
+/// Every command. All `expect` commands except the last are met.
 const EVERY_COMMAND: &[u8] =
     b"sci 2\nopen\nexpect 1\nload 1 1\nload 1 2\nsend 1 2006 0 0 \"\"\nexpect 2\nclose 1\nexpect 1\n";
 
-/// The value that the next command answers, or the number of its refusal below 0; nothing at the end, or where memory is refused.
+/// Returns the value of the next command, or the negated number of its refusal; `None` at the end, or if an allocation fails.
 fn next_value(stepper: &mut Stepper) -> Option<i64> {
     match stepper.step() {
         Ok(Some(Outcome::Opened(id))) => Some(i64::from(id)),
@@ -24,7 +24,7 @@ fn next_value(stepper: &mut Stepper) -> Option<i64> {
     }
 }
 
-/// Whether the next commands answer these values.
+/// Returns whether the next commands have these values.
 fn gives(stepper: &mut Stepper, values: &[i64]) -> bool {
     for value in values {
         if next_value(stepper) != Some(*value) {
@@ -46,7 +46,7 @@ fn steps_back_and_forwards(rt: HostRuntime) {
     assert_eq!(rt; stepper.state(), 3);
     assert_eq!(rt; stepper.back(), Ok(true));
     assert!(rt; gives(&mut stepper, &[3]));
-    // The text is put in once, though its command is done twice.
+    // The text is inserted once, although its command is performed twice.
     assert_eq!(rt; stepper.back(), Ok(true));
     assert_eq!(rt; stepper.back(), Ok(true));
     assert_eq!(rt; stepper.state(), 1);
@@ -72,7 +72,7 @@ fn loads_files_and_keeps_values(rt: HostRuntime) {
         .expect(&rt, "memory");
     let mut stepper = Stepper::new(alloc, script, files);
     assert!(rt; gives(&mut stepper, &[1, 1, 0, -6, 2, 1, 0, 0]));
-    // An expect looks at the value of the command before it, also behind where the stepper went back to.
+    // An `expect` reads the value of the command before it, also right after going back.
     assert_eq!(rt; stepper.run_to(5), Ok(()));
     assert!(rt; gives(&mut stepper, &[1]));
 }

@@ -1,4 +1,4 @@
-//! A stepper's session beside that of a run of the same commands: all that can be asked of both without changing them is answered alike.
+//! A stepper's session beside that of a run of the same commands: both answer all questions in the same way.
 
 use ed_types::{Bytes, Command, Kind, Outcome};
 use editor_session::{Run, Session};
@@ -8,23 +8,23 @@ use script_stepper::Stepper;
 use std::alloc::Global;
 use std::process::Abort;
 
-/// Two views of a document with a selection, a marker, a fold, an indicator, styles and a target; edits, undo and redo; an expect that is
-/// not met, a view that goes, and a message that is refused.
+/// Two views of a document with a selection, a marker, a fold, an indicator, styles and a target; edits, undo and redo; an `expect` that
+/// is not met, a view that is closed, and a message that is refused.
 const TWO_VIEWS: &[u8] =
     b"sci 2\nopen\nload 1 1\nsend 1 2160 1 4 \"\"\nsend 1 2043 1 3 \"\"\nsend 1 2222 0 9216 \"\"\nsend 1 2222 1 1025 \"\"\nsend 1 2237 0 0 \"\"\nsend 1 2504 2 3 \"\"\nsend 1 2033 4 7 \"\"\nsend 1 2686 1 3 \"\"\nopen\nsend 2 2358 0 1 \"\"\nsend 2 2025 3 0 \"\"\nsend 1 2003 3 0 \"x\\x0ay\"\nsend 1 2092 1 9 \"\"\nsend 1 2176 0 0 \"\"\nsend 1 2011 0 0 \"\"\nsend 2 2645 2 1 \"\"\nexpect 1\nclose 2\nsend 1 2003 99 0 \"z\"\n";
 
-/// The file that it loads.
+/// The file that the script loads.
 const FILE: &[u8] = b"ab\ncd\nef";
 
-/// The text that it leaves.
+/// The text at the end of the script.
 const LAST_TEXT: &[u8] = b"abx\nycd\nef";
 
-/// The numbers of all questions lie from here up to the next one.
+/// The numbers of all questions are from this one up to the next constant.
 const FIRST_NUMBER: u32 = 2006;
 
 const PAST_NUMBERS: u32 = 2688;
 
-/// What is done: commands, with the files that they load.
+/// The work of a test: commands, with the files that they load.
 #[derive(Clone, Copy)]
 struct Work<'a> {
     alloc: Global,
@@ -41,7 +41,8 @@ struct Asked {
     l: i64,
 }
 
-/// What a session answers to a plain question or to a text question, whose bytes are put into a buffer. Nothing to other messages.
+/// Returns the answer of a session to a plain question, or to a text question, whose bytes go to a buffer. Returns `None` for other
+/// messages.
 fn answer_of(session: &Session, asked: Asked, bytes: &mut Vec<u8>) -> Option<i64> {
     let Asked { view, number, w, l } = asked;
     match session.ask(view, number, w, l) {
@@ -50,7 +51,7 @@ fn answer_of(session: &Session, asked: Asked, bytes: &mut Vec<u8>) -> Option<i64
     }
 }
 
-/// Whether two sessions answer alike, by the same bytes too.
+/// Returns whether two sessions give the same answer, with the same bytes.
 fn is_answered_alike(alloc: Global, one: &Session, other: &Session, asked: Asked) -> bool {
     let mut bytes = Vec::new(alloc);
     let mut other_bytes = Vec::new(alloc);
@@ -59,7 +60,7 @@ fn is_answered_alike(alloc: Global, one: &Session, other: &Session, asked: Asked
     answer == other_answer && bytes.as_slice() == other_bytes.as_slice()
 }
 
-/// Whether two sessions answer a message to a view alike, with each of many arguments about the places and lines that there are.
+/// Returns whether two sessions give the same answers to a message to a view, with many arguments around the places and lines that exist.
 fn is_alike_everywhere(
     alloc: Global,
     one: &Session,
@@ -78,14 +79,14 @@ fn is_alike_everywhere(
     true
 }
 
-/// Whether a message to a view is a question, as each of them is that a session answers without arguments.
+/// Returns whether a message to a view is a question: the session answers it without arguments.
 fn is_question(alloc: Global, session: &Session, view: u32, number: u32) -> bool {
     let (w, l) = (0, 0);
     let mut bytes = Vec::new(alloc);
     answer_of(session, Asked { view, number, w, l }, &mut bytes).is_some()
 }
 
-/// Both sessions answer all questions to a view alike.
+/// Asserts that both sessions give the same answers to all questions to a view.
 fn assert_view(rt: &impl Abort, alloc: Global, one: &Session, other: &Session, view: u32) {
     for number in FIRST_NUMBER..PAST_NUMBERS {
         let asks = is_question(alloc, one, view, number);
@@ -96,21 +97,21 @@ fn assert_view(rt: &impl Abort, alloc: Global, one: &Session, other: &Session, v
     }
 }
 
-/// Both sessions answer all questions to the views that there may be alike.
+/// Asserts that both sessions give the same answers to all questions to all views that there may be.
 fn assert_alike(rt: &impl Abort, alloc: Global, one: &Session, other: &Session) {
     for view in 1..4 {
         assert_view(rt, alloc, one, other, view);
     }
 }
 
-/// What an outcome prints, its notes too.
+/// Returns the printed form of an outcome, with its notes.
 fn printed(rt: &impl Abort, alloc: Global, outcome: &Outcome) -> Vec<u8> {
     let mut bytes = Vec::new(alloc);
     append_outcome(&mut bytes, outcome).expect(rt, "memory");
     bytes
 }
 
-/// Does the commands by a stepper and by a run: what comes of each is the same, and so are the sessions behind it.
+/// Performs the commands by a stepper and by a run, and asserts that outcomes and sessions are the same after each.
 fn assert_forwards(rt: &impl Abort, work: Work, stepper: &mut Stepper, run: &mut Run) {
     let Work {
         alloc,
@@ -129,7 +130,7 @@ fn assert_forwards(rt: &impl Abort, work: Work, stepper: &mut Stepper, run: &mut
     assert!(rt; stepped.is_none());
 }
 
-/// A session is the one that a run ends in.
+/// Asserts that a session is that at the end of a run.
 fn assert_stands_behind(rt: &impl Abort, work: Work, session: &Session) {
     let mut run = Run::new(Session::new(work.alloc));
     let done = run.run(work.alloc, work.files, work.commands);
@@ -137,7 +138,7 @@ fn assert_stands_behind(rt: &impl Abort, work: Work, session: &Session) {
     assert_alike(rt, work.alloc, session, run.session());
 }
 
-/// The first commands of some, with their files.
+/// Returns the first commands of a work, with its files.
 fn first<'a>(rt: &impl Abort, work: Work<'a>, count: usize) -> Work<'a> {
     let commands = work.commands.get(..count).expect(rt, "commands");
     Work { commands, ..work }
@@ -157,7 +158,7 @@ fn assert_back_and_anywhere(rt: &impl Abort, work: Work, stepper: &mut Stepper) 
     }
 }
 
-/// The text that is left, asked of the stepper's session.
+/// Asserts the last text, read from the stepper's session.
 fn assert_last_text(rt: &impl Abort, alloc: Global, session: &Session) {
     let mut bytes = Vec::new(alloc);
     let value = session.read(1, Kind::GetText.number(), 0, 0, &mut bytes);
@@ -166,7 +167,7 @@ fn assert_last_text(rt: &impl Abort, alloc: Global, session: &Session) {
     assert_eq!(rt; session.ask(1, Kind::GetLineCount.number(), 0, 0), Some(3));
 }
 
-/// The file that the script loads, by itself.
+/// Returns the single file that the script loads.
 fn files(rt: &impl Abort, alloc: Global) -> Vec<Bytes> {
     let mut files = Vec::new(alloc);
     let file = Vec::from_slice(alloc, FILE).expect(rt, "memory");
@@ -174,7 +175,7 @@ fn files(rt: &impl Abort, alloc: Global) -> Vec<Bytes> {
     files
 }
 
-/// The stepper goes forwards beside the run, then back, and anywhere.
+/// Moves the stepper forwards beside the run, then back, and then to each place.
 fn assert_steps(rt: &impl Abort, work: Work, stepper: &mut Stepper, run: &mut Run) {
     assert_forwards(rt, work, stepper, run);
     assert_last_text(rt, work.alloc, stepper.session());
