@@ -1,4 +1,4 @@
-//! Tests of what is done with scripts, over the public calls of `script_jobs`, `script_ends` and `job_words`.
+//! Tests of jobs on scripts, by the public calls of `script_jobs`, `script_ends` and `job_words`.
 #![tactic(auto)]
 
 #[cfg(test)]

@@ -1,11 +1,11 @@
-//! Ends over memory, which fail at a chosen call.
+//! Sources and sinks in memory, which fail at a chosen call.
 
 ghost use Rattle.std.specs.Prelude.{◌≡◌, Some, [], false};
 
 use script_ends::{ReadFailed, Sink, Source, WriteFailed};
 use std::alloc::Global;
 
-/// Bytes to be read, a piece at a time.
+/// A source of bytes, which are read in pieces.
 #[derive(Drop)]
 pub struct MemorySource<'a> {
     rest: &'a [u8],
@@ -15,7 +15,7 @@ pub struct MemorySource<'a> {
 }
 
 impl<'a> MemorySource<'a> {
-    /// These bytes, at most `piece` and at least one a call; after `good` calls each further one fails.
+    /// Returns a source of these bytes, at least one and at most `piece` of them for each call. All calls after the first `good` fail.
     pub fn new(bytes: &'a [u8], piece: usize, good: usize) -> Self
         ensures { result.failed ≡ false }
     {
@@ -47,7 +47,7 @@ impl<'a> Source for MemorySource<'a> {
     }
 }
 
-/// Bytes that were written, a piece at a time.
+/// A sink of bytes, which are written in pieces.
 #[derive(Drop)]
 pub struct MemorySink {
     bytes: Vec<u8>,
@@ -58,8 +58,8 @@ pub struct MemorySink {
 }
 
 impl MemorySink {
-    /// Nothing yet; takes at most `piece` bytes and at least one a call. After `good` calls each further one fails, or takes no
-    /// byte where the sink stalls.
+    /// Returns an empty sink that takes at least one and at most `piece` bytes for each call. All calls after the first `good`
+    /// fail, or take no byte if the sink stalls.
     pub fn new(alloc: Global, piece: usize, good: usize, stalls: bool) -> Self
         ensures { result.failed ≡ false }
     {
@@ -72,7 +72,7 @@ impl MemorySink {
         }
     }
 
-    /// What was written.
+    /// Returns the bytes that were written.
     pub fn bytes(&self) -> &[u8] {
         self.bytes.as_slice()
     }

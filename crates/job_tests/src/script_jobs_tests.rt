@@ -1,4 +1,4 @@
-//! Tests of what no clause says: that memory suffices, values from outside, and each call that fails.
+//! Tests of what no clause states: that memory suffices, values from outside, and each call that fails.
 
 ghost use Rattle.std.specs.Prelude.{◌≡◌, false};
 
@@ -11,7 +11,7 @@ use std::alloc::Global;
 use std::process::Abort;
 use std::test::Fail;
 
-/// The script `examples/hello.sci`, and what it prints. `tools/run_examples.py` runs all the examples.
+/// The script `examples/hello.sci`, and the text that it prints. `tools/run_examples.py` runs all examples.
 const HELLO: &[u8] =
     b"sci 1\nopen\nsend 1 2003 0 0 \"hello\"\nsend 1 2006 0 0 \"\"\nsend 1 2182 0 0 \"\"\n";
 
@@ -22,7 +22,7 @@ const HELLO_PRINTED: &[u8] =
 const HELLO_LISTING: &[u8] =
     b"sci 2\nopen\nsend 1 2003 0 0 \"hello\"\nsend 1 2006 0 0 \"\"\nsend 1 2182 0 0 \"\"\n";
 
-/// What a run from memory to memory answers, a few bytes at a time.
+/// Returns the result of a run from memory to memory, a few bytes at a time.
 fn run(
     alloc: Global,
     script: &[u8],
@@ -76,15 +76,15 @@ fn refuses_what_is_no_script(rt: HostRuntime) {
     }
 }
 
-/// How many reads of 7 bytes it takes to read HELLO, and to meet its end.
+/// How many reads of 7 bytes it takes to read HELLO and to see its end.
 const HELLO_READS: usize = 12;
 
-/// A job that asks for HELLO.
+/// Returns a job on HELLO.
 fn job_of_hello(alloc: Global, verb: &str) -> Result<Job, WordFault> {
     job(alloc, &[verb, "hello.sci"])
 }
 
-/// What a job of HELLO answers, from memory to memory.
+/// Returns the result of a job on HELLO, from memory to memory.
 fn do_hello(
     alloc: Global,
     verb: &str,
@@ -98,17 +98,17 @@ fn do_hello(
     Ok(do_job(alloc, &job, Vec::new(alloc), &mut source, sink))
 }
 
-/// What a check writes of it.
+/// The text that a check of it writes.
 const HELLO_CHECKED: &[u8] = b"ok 4\n";
 
-/// Each job, and what it writes of HELLO.
+/// Each job, with the text that it writes for HELLO.
 const JOBS: [(&str, &[u8]); 3] = [
     ("run", HELLO_PRINTED),
     ("list", HELLO_LISTING),
     ("check", HELLO_CHECKED),
 ];
 
-/// A job of HELLO whose reads fail after `good` of them.
+/// Runs a job on HELLO whose reads fail after `good` of them.
 fn stops_at_read(rt: &impl Abort, alloc: Global, verb: &str, good: usize) -> Result<(), Fail> {
     let mut sink = MemorySink::new(alloc, 5, 1000, false);
     let answer = do_hello(alloc, verb, good, &mut sink)?;
@@ -132,7 +132,7 @@ fn stops_at_each_failed_read(rt: HostRuntime) -> Result<(), Fail> {
     Ok(())
 }
 
-/// Where writes of 10 bytes fail after `good` of them, the answer is that fault, and the front of the text was written.
+/// Asserts that after `good` writes of 10 bytes the result is that fault, and that a prefix of the text was written.
 fn assert_stopped(
     rt: &impl Abort,
     answer: &Result<u64, RunFault>,
@@ -151,7 +151,7 @@ fn assert_stopped(
     }
 }
 
-/// A job of HELLO whose writes of 10 bytes fail after `good` of them, or take nothing where the sink stalls.
+/// Runs a job on HELLO whose writes of 10 bytes fail after `good` of them, or take no byte if the sink stalls.
 fn stops_at_write(
     rt: &impl Abort,
     alloc: Global,
@@ -177,14 +177,14 @@ fn stops_at_each_failed_write(rt: HostRuntime) -> Result<(), Fail> {
     Ok(())
 }
 
-/// The script `examples/all_notes_of_an_insertion.sci`, and what it prints.
+/// The script `examples/all_notes_of_an_insertion.sci`, and the text that it prints.
 const NOTES: &[u8] =
     b"sci 1\nopen\nsend 1 2003 0 0 \"ab\\x0a\"\nsend 1 2182 0 0 \"\"\nsend 1 2003 9 0 \"z\"\nsend 1 2007 -1 0 \"\"\n";
 
 const NOTES_PRINTED: &[u8] =
     b"= 1 \"\"\n= 0 \"\"\n@ 1 2008 1040 0 3 0 0 0 0 0 0 0 0 \"ab\\x0a\"\n@ 1 2003 0 0 0 0 0 0 0 0 0 0 0 \"\"\n@ 1 2008 8209 0 3 1 0 0 0 0 0 0 0 \"ab\\x0a\"\n= 3 \"ab\\x0a\"\n! 6\n= 0 \"\"\n";
 
-/// A run of NOTES whose writes of 10 bytes fail after `good` of them, or take nothing where the sink stalls.
+/// Runs NOTES with writes of 10 bytes that fail after `good` of them, or take no byte if the sink stalls.
 fn stops_amid_notes(rt: &impl Abort, alloc: Global, good: usize, stalls: bool) {
     let mut sink = MemorySink::new(alloc, 10, good, stalls);
     let answer = run(alloc, NOTES, 1000, &mut sink);
@@ -217,7 +217,7 @@ fn lists_and_checks(rt: HostRuntime) -> Result<(), Fail> {
     Ok(())
 }
 
-/// Words of their own.
+/// Returns copies of words.
 fn copies(alloc: Global, words: &[&str]) -> Result<Vec<String>, WordFault> {
     let mut copies = Vec::new(alloc);
     for word in words {
@@ -236,7 +236,7 @@ fn task(alloc: Global, words: &[&str]) -> Result<Task, WordFault> {
     read_task(alloc, &copies(alloc, words)?)
 }
 
-/// Whether words are these texts.
+/// Returns whether words are these texts.
 fn are_texts(words: &Words, texts: &[&str]) -> bool {
     let words = words.as_slice();
     for (at, text) in texts.iter().enumerate() {
@@ -248,22 +248,22 @@ fn are_texts(words: &Words, texts: &[&str]) -> bool {
     words.len() == texts.len()
 }
 
-/// Whether words are a job that runs this script with these files.
+/// Returns whether words are a job that runs this script with these files.
 fn is_run(alloc: Global, words: &[&str], wanted: &str, names: &[&str]) -> bool {
     matches!(&job(alloc, words), Ok(Job::Run { script, files }) if script.as_str() == wanted && are_texts(files, names))
 }
 
-/// Whether words are a job that lists this script.
+/// Returns whether words are a job that lists this script.
 fn is_list(alloc: Global, words: &[&str], wanted: &str) -> bool {
     matches!(&job(alloc, words), Ok(Job::List { script }) if script.as_str() == wanted)
 }
 
-/// Whether words are a job that checks this script.
+/// Returns whether words are a job that checks this script.
 fn is_check(alloc: Global, words: &[&str], wanted: &str) -> bool {
     matches!(&job(alloc, words), Ok(Job::Check { script }) if script.as_str() == wanted)
 }
 
-/// Whether words are no job.
+/// Returns whether words are no job.
 fn is_no_job(alloc: Global, words: &[&str]) -> bool {
     matches!(&job(alloc, words), Err(WordFault::Usage(_)))
 }
@@ -282,32 +282,32 @@ fn reads_words(rt: HostRuntime) {
     assert!(rt; is_no_job(rt.alloc(), &["run", "--wrong"]));
 }
 
-/// Whether words ask for steps through this script with these files.
+/// Returns whether words ask to step through this script with these files.
 fn is_step(alloc: Global, words: &[&str], wanted: &str, names: &[&str]) -> bool {
     matches!(&task(alloc, words), Ok(Task::Step { script, files }) if script.as_str() == wanted && are_texts(files, names))
 }
 
-/// Whether words ask for a run of this script with these files, without notes.
+/// Returns whether words ask for a run of this script with these files, without notes.
 fn is_quiet_run(alloc: Global, words: &[&str], wanted: &str, names: &[&str]) -> bool {
     matches!(&task(alloc, words), Ok(Task::RunQuietly { script, files }) if script.as_str() == wanted && are_texts(files, names))
 }
 
-/// Whether words ask for a check of this script that shows the line at fault.
+/// Returns whether words ask for a check of this script that shows the line at fault.
 fn is_showing_check(alloc: Global, words: &[&str], wanted: &str) -> bool {
     matches!(&task(alloc, words), Ok(Task::CheckAndShow { script }) if script.as_str() == wanted)
 }
 
-/// Whether words ask for a check of this script, among all tasks.
+/// Returns whether words ask, as a task, for a check of this script.
 fn is_check_task(alloc: Global, words: &[&str], wanted: &str) -> bool {
     matches!(&task(alloc, words), Ok(Task::Whole(Job::Check { script })) if script.as_str() == wanted)
 }
 
-/// Whether words ask for a run of this script, among all tasks.
+/// Returns whether words ask, as a task, for a run of this script.
 fn is_run_task(alloc: Global, words: &[&str], wanted: &str) -> bool {
     matches!(&task(alloc, words), Ok(Task::Whole(Job::Run { script, .. })) if script.as_str() == wanted)
 }
 
-/// Whether words ask for no task.
+/// Returns whether words are no task.
 fn is_no_task(alloc: Global, words: &[&str]) -> bool {
     matches!(&task(alloc, words), Err(WordFault::Usage(_)))
 }
@@ -321,7 +321,7 @@ fn reads_tasks(rt: HostRuntime) {
     assert!(rt; is_showing_check(rt.alloc(), &["check", "--show", "s"], "s"));
     assert!(rt; is_showing_check(rt.alloc(), &["check", "-", "--show"], "-"));
     assert!(rt; is_run_task(rt.alloc(), &["run", "-"], "-"));
-    // No job is asked for by these, but tasks.
+    // These words are tasks, but no jobs.
     assert!(rt; is_no_job(rt.alloc(), &["step", "s"]));
     assert!(rt; is_no_job(rt.alloc(), &["run", "--quiet", "s"]));
     assert!(rt; is_no_job(rt.alloc(), &["check", "--show", "s"]));
