@@ -89,7 +89,7 @@ pub steps_left : CellsFollowBytes → (who several : ℕ) (last changed : Bool) 
 steps_left law who several last changed (Text s) cs scene all = subst (λ text. AreStepsOf text (text_steps cs)) (sym (text_after law s scene.document)) all.1
 steps_left law who several last changed (ContainerStep token coalesce) cs scene all = all
 
--- The room in use and the room still needed are together at most the room that there was and the need in all.
+-- The room now is at least the old room and the `free` bytes, less what the changes so far needed.
 pub record LeavesRoom (old now : DocumentRoom) (free : ℕ) (whole rest : DocumentRoom) : Type 0 where
   pub text : old.text + free + rest.text ≤ now.text + whole.text
   pub lines : old.lines + rest.lines ≤ now.lines + whole.lines

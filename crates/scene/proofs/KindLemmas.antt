@@ -19,7 +19,7 @@ use Rattle.scene.specs.Hearing.{audience_of, with_note_text, hearers, masks_from
 use Rattle.scene.specs.StepNotes.{CanTellMade}
 use Rattle.scene.proofs.ToldSoFar.{length_told}
 
--- a mask without a bit of more kinds has none of fewer
+-- a mask that has no bit of two kinds together has none of one of them
 and_none : (m a b : ℕ) → bit_and m (bit_or b a) ≡ 0 → bit_and m a ≡ 0
 and_none m a b e =
     ap (bit_and m) (sym (and_or_self a b)) ∙ sym (and_assoc a m (bit_or b a)) ∙ ap (λ x. bit_and x a) e ∙ and_zero_l a
@@ -78,12 +78,12 @@ told_as_heard views note t shared n kind text =
     ∙ empty_or_some (filter (λ (v : View). meets v.mask n.kind) views) (λ vs. told vs (with_note_text t note shared) ≡ told vs n) refl
     (λ some. ap (told (filter (λ (v : View). meets v.mask n.kind) views)) (text some))
 
--- a list with an optional element in front is at least as long as without it
+-- an optional element in front makes a list longer by one at most
 in_or_not : {X : Type 0} (b : Bool) (x : X) (xs : List X) → (length xs ≤ length (cond b (x ∷ xs) xs)) × (length (cond b (x ∷ xs) xs) ≤ length xs + 1)
 in_or_not true x xs = (omega arith, omega arith)
 in_or_not false x xs = (omega arith, omega arith)
 
--- an element that the first list has is in one of the other two
+-- an element counted in the first list is counted in one of the other two
 counted_either : {X : Type 0} (both x y : Bool) (v : X) (together first second : List X) → (both ≡ true → (x || y) ≡ true) → length together ≤ length first + length second
     → length (cond both (v ∷ together) together) ≤ length (cond x (v ∷ first) first) + length (cond y (v ∷ second) second)
 counted_either both true y v together first second h le = let most = in_or_not both v together in let least = in_or_not y v second in omega arith

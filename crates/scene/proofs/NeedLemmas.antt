@@ -16,7 +16,7 @@ use Rattle.scene.specs.Needs.{user_kinds, leaving_count, notes_of_steps, bytes_o
 use Rattle.scene.proofs.ToldSoFar.{length_told}
 use Rattle.scene.proofs.KindLemmas.{meets_left, meets_right, hearers_more, before_kind_is, after_kind_is}
 
--- The kinds of a step do not depend on whether it begins a transaction.
+-- The kinds of a step are among `user_kinds`, whether it begins a transaction or not.
 
 made_more : (begins : Bool) (s : Step) (m : ℕ) → meets m (step_kinds performed_user (user_bits begins) s) ≡ true → meets m (user_kinds s) ≡ true
 made_more true s m h = h

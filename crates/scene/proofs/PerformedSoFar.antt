@@ -29,7 +29,7 @@ use Rattle.scene.proofs.KindLemmas.{none_by_masks}
 use Rattle.scene.proofs.ChangeNotes.{HearAlike, hear_alike_still, notes_alike, bytes_alike, none_of_all, performed_few, still_none}
 use Rattle.scene.proofs.ChangeSteps.{LeavesRoom, leaves_all, leaves_next, leaves_none, next_fits, steps_left}
 
--- No room is added except what deleted bytes leave.
+-- The changes add no room except what deleted bytes leave.
 
 pub made_none : (room : DocumentRoom) → IsAtMost room room no_room
 made_none room = record { text = omega arith; lines = omega arith; insertions = omega arith; steps = omega arith; bytes = omega arith }
@@ -117,7 +117,7 @@ quiet_notes direction k views gathered several quiet can e is =
       | inr apart ↦ none_of_all direction all W (none_by_masks (every_kind who) W (eqb-true _ 0 (and_parts several (bit_and (masks_of W) (every_kind who) == 0) apart).1))
     ]
 
--- and so does the next change
+-- and the next change needs none, either
 pub still_quiet : (direction : Direction) (rest : List Change) (changed : Bool) (old now : Kept) (views views' : Entries KeptView) (gathered gathered' : Gathered) (i : ℕ) (c : Change)
     → IsPerformedSoFar direction rest changed old views gathered now views' gathered'
     → notes_of_changes (watchers old.document views) (bits_of direction) (changes_of direction old.document.history) ≡ 0

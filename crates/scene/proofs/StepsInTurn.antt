@@ -51,7 +51,7 @@ text_after later s scene after e = ap (λ (x : Scene). text_of x.document) e ∙
 
 -- Rooms.
 
--- a step keeps all room that is left, and adds only that of the bytes it deletes
+-- a step uses at most the room that it needs, and adds only that of the bytes and markers that it deletes
 pub record StepLeaves (s : Step) (k k' : Kept) (v v' : Entries KeptView) : Type 0 where
   pub text_freed : k.room.text + bytes_out s ≤ k'.room.text + (room_of_step k.document.line_end_types s).text
   pub none_made : IsAtMost k'.room (with_freed (bytes_out s) k.room) no_room
@@ -147,7 +147,7 @@ made_left notes_law bytes_law s rest steps later was k0 k k' v0 v v' n0 n n' lef
 length_text : (d : Document) → length (text_of d) ≡ length d.cells
 length_text d = length-map d.cells (λ (c : Cell). c.byte)
 
--- the insertions and deletions that remain from this place on
+-- the insertions from `place` on, and all deletions, remain to be made
 pub record PutsLeft (to : LineEnd) (place : ℕ) (later : Bool) (k0 k : Kept) (v0 v : Entries KeptView) (n0 n : Gathered) : Type 0 where
   pub within : place ≤ length k.document.cells
   pub left : AreLeft (missing_in to (text_of k.document) place ++ deletions_of to (text_of k0.document)) later (conversion_steps to (text_of k0.document)) false k0 k v0 v n0 n

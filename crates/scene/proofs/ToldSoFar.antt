@@ -89,7 +89,7 @@ pub record AreToldInOrder (first second : List Notice) (old shared now : Gathere
   pub text_room : now.text_room ≡ shared.text_room
   pub text : now.shared ≡ shared.shared
 
--- the last note, for each of some views
+-- three lists of notes, appended one after the other
 pub record AreAllTold (first second third : List Notice) (old before now : Gathered) : Type 0 where
   pub notes : now.notes ≡ old.notes ++ first ++ second ++ third
   pub note_room : now.note_room + length now.notes ≡ old.note_room + length old.notes

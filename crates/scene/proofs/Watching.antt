@@ -152,7 +152,7 @@ module _ (movement : Movement) (edits : List LineEdit) where
   abbrev pub EachOnce : List ℕ → Type 0
   EachOnce ids = AllByRecursion (λ id. occurrences id ids ≡ 1) ids
 
-  -- an id that no later element has stays out of the rest of the list
+  -- the ids after one that does not occur again are each once in the rest, and their views can still follow
   fewer : (id : ℕ) (ids whole : List ℕ) (vs : List View) → occurrences id ids ≡ 0 → AllByRecursion (λ k. occurrences k (id ∷ whole) ≡ 1) ids → AllByRecursion (Ready vs) ids
       → AllByRecursion (λ k. occurrences k whole ≡ 1) ids × AllByRecursion (Ready (map (at id) vs)) ids
   fewer id [] whole vs none once ready = (tt, tt)
