@@ -29,7 +29,7 @@ use ed_model::{DocumentChange, plans_are_fit, soundness_is_kept};
 use ed_types::{Bytes, Kind, Refusal, Reply, kinds_and_numbers};
 use ed_view::View;
 use id_table::IdTable;
-use message_plans::{change_of, frequent_change_of, is_performed, transaction_of};
+use message_plans::{change_of, is_performed, transaction_of};
 use message_requests::{Request, SentMessage, SessionState};
 use notify::NoteList;
 use std::alloc::Global;
@@ -46,13 +46,17 @@ pub(crate) struct FrequentChange {
     pub value: i64,
 }
 
-/// The kind of message `number`, if it is a frequent change and `view` listens for changes of any of the three kinds. Such a view is
-/// usually notified, so the message takes the notifying path directly. `None` otherwise, even where other views listen.
+/// The kind of a frequent change, if `view` listens for changes of any of the three kinds. Such a view is usually notified, so the message
+/// takes the notifying path directly. `None` otherwise, even where other views listen.
 #[inline(always)]
-pub(crate) fn heard_change_of(state: &SessionState, view: u32, number: u32) -> Option<Kind>
-    ensures { IfSome result (λ kind. frequent_change_of number ≡ Some kind) }
+pub(crate) fn heard_change_of(
+    state: &SessionState,
+    view: u32,
+    frequent: Option<Kind>,
+) -> Option<Kind>
+    ensures { IfSome result (λ kind. frequent ≡ Some kind) }
 {
-    let kind = frequent_change_of(number)?;
+    let kind = frequent?;
     let view = state.views.get(view)?;
     if view.mask() & FREQUENT_CHANGES == 0 {
         return None;
@@ -293,22 +297,25 @@ fn go_as(
 }
 
 /// Does what a message to the view of an id asks for, and returns the value that is answered, if it is one of the frequent changes of a
-/// document, the table does not refuse it, nobody hears of it, and there is memory for it. Of all others it does nothing.
+/// document, the table does not refuse it, nobody hears of it, and there is memory for it. Of all others it does nothing. `frequent` is
+/// the kind of a change of a run's style, a marker or a fold level, and `None` for all other messages.
 #[inline(always)]
 pub(crate) fn settle(
     alloc: Global,
     state: &mut SessionState,
     view: u32,
+    frequent: Option<Kind>,
     number: u32,
     w: i64,
     l: i64,
 ) -> Option<i64>
     requires kept { IsKept state.old }
+    requires frequent { frequent ≡ frequent_change_of number }
     ensures answer { IfSome result (λ value. (text : List ℕ) → table (session_in state.old) view (message_with number w l text) ≡ Ok (session_in state.new, quiet value)) }
     ensures same { IfNone result (session_in state.new ≡ session_in state.old) }
     ensures kept { IsKept state.new }
 {
-    if let Some(kind) = frequent_change_of(number) {
+    if let Some(kind) = frequent {
         return settle_as(state, view, kind, number, w, l);
     }
     match transaction_of(number) {

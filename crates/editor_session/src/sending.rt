@@ -27,7 +27,7 @@ use crate::target::turn_target;
 use document::Document;
 use ed_model::{Plan, plans_are_fit};
 use ed_types::{Bytes, Kind, Refusal, Reply};
-use message_plans::{frequent_plan_of, target_message_of, text_question_of};
+use message_plans::{frequent_change_of, frequent_plan_of, target_message_of, text_question_of};
 use message_requests::{Request, SessionState};
 use std::alloc::Global;
 
@@ -140,26 +140,28 @@ fn answer_into_by_plan(
 }
 
 /// Does what a message to the view of an id asks for, and returns the value that is answered, if that takes no notes and no plan, or no
-/// more than the view's target. Of all others it does nothing.
+/// more than the view's target. Of all others it does nothing. `frequent` is as for `settle`.
 #[inline(always)]
 fn settle_at_once(
     alloc: Global,
     state: &mut SessionState,
     view: u32,
+    frequent: Option<Kind>,
     number: u32,
     w: i64,
     l: i64,
     text: &[u8],
 ) -> Option<i64>
     requires kept { IsKept state.old }
+    requires frequent { frequent ≡ frequent_change_of number }
     ensures answer { IfSome result (λ value. table (session_in state.old) view (message_with number w l text.now) ≡ Ok (session_in state.new, quiet value)) }
     ensures same { IfNone result (session_in state.new ≡ session_in state.old) }
     ensures kept { IsKept state.new }
 {
-    if let Some(_) = target_message_of(number) {
+    if frequent.is_none() && target_message_of(number).is_some() {
         return turn_target(state, view, number, w, l, text);
     }
-    settle(alloc, state, view, number, w, l)
+    settle(alloc, state, view, frequent, number, w, l)
 }
 
 /// Answers a message to the view of an id: the value is returned, and the text and the notes of its reply take the place of another's.
@@ -186,11 +188,12 @@ pub(crate) fn answer_into(
     ensures kept { IsKept state.new }
     ensures free { is_free (session_in state.old) view (message_with number w l text.now) ≡ true → IfErr result (λ refusal. refusal ≢ OutOfMemory) }
 {
-    if let Some(kind) = heard_change_of(state, view, number) {
+    let frequent = frequent_change_of(number);
+    if let Some(kind) = heard_change_of(state, view, frequent) {
         let made = answer_heard_change(alloc, state, view, kind, number, w, l, text);
         return keep_made(reply, made);
     }
-    match settle_at_once(alloc, state, view, number, w, l, text) {
+    match settle_at_once(alloc, state, view, frequent, number, w, l, text) {
         Some(value) => Ok(keep(reply, answer(alloc, value))),
         None => answer_into_by_plan(alloc, state, view, number, w, l, text, reply),
     }
@@ -318,10 +321,11 @@ pub(crate) fn answer_message(
     if let Some(_) = text_question_of(number) {
         return answer_text_question(alloc, state, view, number, w, l, text);
     }
-    if let Some(kind) = heard_change_of(state, view, number) {
+    let frequent = frequent_change_of(number);
+    if let Some(kind) = heard_change_of(state, view, frequent) {
         return answer_heard_change(alloc, state, view, kind, number, w, l, text);
     }
-    if let Some(value) = settle_at_once(alloc, state, view, number, w, l, text) {
+    if let Some(value) = settle_at_once(alloc, state, view, frequent, number, w, l, text) {
         return Ok(answer(alloc, value));
     }
     answer_by_plan(alloc, state, view, number, w, l, text)
