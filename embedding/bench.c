@@ -417,10 +417,10 @@ static void print_row(const row *r, const side *sides, int side_count, int mebib
       times[i][run] = timed(&sides[i], r, count);
     }
   for (int i = 0; i < side_count; i++) qsort(times[i], RUNS, sizeof times[i][0], by_size);
-  printf("| %-29s | %2d | %11.0f (%11.0f) |", r->name, mebibytes, times[0][0], times[0][RUNS / 2]);
+  printf("| %-29s | %2d | %11.1f (%11.1f) |", r->name, mebibytes, times[0][0], times[0][RUNS / 2]);
   if (side_count == 2) {
     double ratio = times[0][0] / times[1][0];
-    printf(" %11.0f (%11.0f) | %5.2f |", times[1][0], times[1][RUNS / 2], ratio);
+    printf(" %11.1f (%11.1f) | %5.2f |", times[1][0], times[1][RUNS / 2], ratio);
     log_sum += log(ratio);
     compared++;
   }

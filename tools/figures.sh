@@ -1,9 +1,15 @@
 #!/bin/sh
 # Measures what messages to a session take, by ed_bench as `rt ci` left it (`rt run` in crates/ed_bench leaves it too), and prints a row for each figure:
 # the least, the middle and the greatest of its runs, and what is aimed at. Run it on a machine that does nothing else, anywhere in the repository; it
-# takes some minutes. `tools/figures.sh 3` makes 3 runs of each in place of 9.
+# takes some minutes. `tools/figures.sh 3` makes 3 runs of each in place of 9; `tools/figures.sh --record` also writes its rows into docs/figures.txt,
+# and from there into the pages.
 set -u
 top=$(cd "$(dirname "$0")/.." && pwd)
+if [ "${1:-}" = --record ]; then
+    shift
+    "$top/tools/figures.sh" "$@" | "$top/tools/figures.py" --record tools/figures.sh
+    exit
+fi
 program=${ED_BENCH:-$top/crates/ed_bench/out/ed_bench}
 runs=${1:-9}
 [ -x "$program" ] || { echo "ed_bench was not built"; exit 2; }
@@ -64,7 +70,7 @@ nanos "GETCHARAT, far apart" "a byte asked for" 20
 nanos "LINEFROMPOSITION, far apart" "a line asked for" 120
 nanos "GETTEXTRANGE of 40 bytes, far apart" "40 bytes handed out, far apart" 60
 nanos "GETTEXTRANGE of 40 bytes, one behind the other" "40 bytes handed out, one behind the other" 60
-nanos "the same read into a buffer (Session::read), far apart" "40 bytes read, far apart" 60
+nanos 'GETTEXTRANGE of 40 bytes, read into a buffer (`Session::read`), far apart' "40 bytes read, far apart" 60
 nanos "the same, one behind the other" "40 bytes read, one behind the other" 60
 repeat hand_out $sixteen
 whole "GETTEXT of 16 MiB" "the whole text handed out" ""
@@ -106,9 +112,9 @@ repeat searches $sixteen 100000
 nanos "SETTARGETRANGE" "a target set" ""
 for way in "with case" "in any case"; do
     whole "SEARCHINTARGET over 16 MiB, rare, $way" "a rare pattern $way" ""
-    whole "the same without a session" "a rare pattern $way, without a session" ""
+    whole "SEARCHINTARGET over 16 MiB, rare, $way; the same without a session" "a rare pattern $way, without a session" ""
     nanos "SETTARGETRANGE and SEARCHINTARGET, common, $way" "a match found $way" ""
-    more "SEARCHINTARGET alone, more than without a session" "a match found $way" "a target set" "a match found $way, without a session" 200
+    more "SEARCHINTARGET alone, $way, more than without a session" "a match found $way" "a target set" "a match found $way, without a session" 200
 done
 for lines in $four $eight $sixteen; do
     repeat line_ends $lines
