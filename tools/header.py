@@ -10,7 +10,7 @@ message or a constant was added. With --check it writes nothing, and fails where
 - docs/MESSAGES.md names a constant or a note that DEFINED does not have, or the other way round, or with another number, or never with its number;
 - its calls and structs, with their names and types, its refusals, its version or the greatest limits are not those of the crates;
 - a checked form is declared otherwise than embedding/checked.c has it, a call that takes a pointer has no checked form, or one has no such call;
-- the header and a page do not have the same sentence on threads.
+- the header and a page do not have the same sentence on threads, or README.md has another count of messages.
 """
 import os
 import re
@@ -280,6 +280,12 @@ def threads_faults():
             yield f"{path} does not have the sentence on threads: {ON_THREADS}"
 
 
+def count_faults():
+    count = f"{len(messages())} of Scintilla's messages"
+    if count not in " ".join(read("README.md").split()):
+        yield f"README.md does not say that there are {count}"
+
+
 def refusals():
     """The header's names of what is answered, each with its number."""
     found = re.findall(r"^    (\w+) = (\d+),", read("crates/ed_types/src/refusal.rt"), re.M)
@@ -321,6 +327,7 @@ def faults(header):
     yield from checked_faults(found)
     yield from page_faults()
     yield from threads_faults()
+    yield from count_faults()
     if not has_greatest_limits(header):
         yield f"the greatest limits are not those of the definitions: {greatest_limits()}"
     version = re.search(r"const VERSION: u32 = (\d+);", sources)[1]
