@@ -20,7 +20,7 @@ HEAD = """# What is proved, crate by crate
 
 The exact statements, from the lowest crate up. Each is kept by the contract of a public function unless it says otherwise. *What is only tested* stands for
 what no contract says and a test runs, and names what neither a contract nor a test says. *What is trusted* is what the proofs rest on, and what has to hold
-outside of the component: nothing checks it. [`ARCHITECTURE.md`](ARCHITECTURE.md) has the layers and the words, the README of the repository the short form.
+outside of the component: nothing checks it. [`ARCHITECTURE.md`](ARCHITECTURE.md) has the layers and the words, [`PROMISES.md`](PROMISES.md) the short form.
 
 Written by `tools/proved.py` from the README of each crate, which has lines that use it too: a change belongs there.
 """
