@@ -25,6 +25,7 @@ IN_RUST = """fn main() -> Result<(), hongpilas::Refusal> {{
 """
 PACKAGE = f"""[package]
 name = "readme"
+version = "0.0.0"
 edition = "2021"
 
 [dependencies]
