@@ -2,6 +2,7 @@
  * messages. Then what is refused, what is sent while notes are told, and each growth refused in turn, for which it is linked with
  * --wrap=malloc,--wrap=realloc,--wrap=free. */
 #include <hongpilas_scintilla.h>
+#include <limits.h>
 #include <stdio.h>
 #include <stdlib.h>
 #include <string.h>
@@ -185,7 +186,7 @@ static void try_edges(void) {
   SciFnDirect send = hongpilas_direct;
   hongpilas_door *door = hongpilas_door_new();
   sptr_t view = hongpilas_door_open(door);
-  struct Sci_TextRange range = {{0, -1}, NULL};
+  struct Sci_TextRange range = {{0, -1}, NULL}, widest = {{LONG_MIN, LONG_MAX}, NULL};
   const char lone = 'x'; /* of which a call with a negative length reads nothing behind */
   hongpilas_limits none = {0, 0, 0, 0, 0, 0, 0}, few = HONGPILAS_GREATEST_LIMITS;
   send(view, SCI_ADDTEXT, 2, (sptr_t)"ab");
@@ -197,6 +198,7 @@ static void try_edges(void) {
   must(*hongpilas_refusal(view) == '\0', "nothing was refused");
   must(send(view, SCI_GETTEXTRANGE, 0, 0) == 0 && send(view, SCI_GETSTATUS, 0, 0) == SC_STATUS_FAILURE, "no range is refused");
   must(strcmp(hongpilas_refusal(view), "bad argument") == 0, "and why");
+  must(send(view, SCI_GETTEXTRANGE, 0, (sptr_t)&widest) == 0 && send(view, SCI_GETSTYLEDTEXT, 0, (sptr_t)&widest) == 0, "nor is the widest one");
   send(view, SCI_GETLENGTH, 0, 0);
   must(send(view, SCI_GETSTATUS, 0, 0) == SC_STATUS_FAILURE, "a status stays");
   send(view, SCI_SETSTATUS, SC_STATUS_OK, 0);
@@ -214,6 +216,31 @@ static void try_edges(void) {
   must(blocks == 0, "all blocks are given back");
 }
 
+/* What Scintilla has as an int is cut down to one: bits above its 32 say nothing. */
+static void try_ints(void) {
+  static const struct { unsigned int message; bool w_is_int, l_is_int; sptr_t w, l; } ints[] = {
+      {SCI_MARKERLINEFROMHANDLE, true, false, 1, 0},  {SCI_MARKERDELETEHANDLE, true, false, 1, 0},     {SCI_CONVERTEOLS, true, false, 2, 0},
+      {SCI_SETEOLMODE, true, false, 2, 0},            {SCI_SETSTYLING, false, true, 0, 5},             {SCI_MARKERADD, false, true, 0, 3},
+      {SCI_MARKERDELETE, false, true, 0, 3},          {SCI_MARKERDELETEALL, true, false, -1, 0},       {SCI_MARKERNEXT, false, true, 0, 1},
+      {SCI_MARKERPREVIOUS, false, true, 0, 1},        {SCI_SETLINESTATE, false, true, 0, 7},           {SCI_SETSEARCHFLAGS, true, false, 4, 0},
+      {SCI_SETFOLDLEVEL, false, true, 0, 0x2400},     {SCI_GETLASTCHILD, false, true, 0, -1},          {SCI_FOLDLINE, false, true, 0, 1},
+      {SCI_SETMODEVENTMASK, true, false, 3, 0},       {SCI_CREATEDOCUMENT, false, true, 0, 256},       {SCI_MARKERADDSET, false, true, 0, 1},
+      {SCI_SETINDICATORCURRENT, true, false, 8, 0},   {SCI_SETINDICATORVALUE, true, false, 2, 0},      {SCI_INDICATORVALUEAT, true, false, 8, 0},
+      {SCI_INDICATORSTART, true, false, 8, 0},        {SCI_INDICATOREND, true, false, 8, 0},           {SCI_ADDUNDOACTION, true, true, 5, 1},
+      {SCI_SETLINEENDTYPESALLOWED, true, false, 1, 0}};
+  const uptr_t above = (uptr_t)1 << 32;
+  hongpilas_door *doors[2] = {hongpilas_door_new(), hongpilas_door_new()};
+  sptr_t views[2] = {hongpilas_door_open(doors[0]), hongpilas_door_open(doors[1])};
+  for (size_t i = 0; i < sizeof ints / sizeof *ints; i++) {
+    uptr_t w = (uptr_t)ints[i].w ^ (ints[i].w_is_int ? above : 0), l = (uptr_t)ints[i].l ^ (ints[i].l_is_int ? above : 0);
+    sptr_t value = hongpilas_direct(views[0], ints[i].message, (uptr_t)ints[i].w, ints[i].l);
+    must(hongpilas_direct(views[1], ints[i].message, w, (sptr_t)l) == value, "an int is cut down: the value");
+    must(hongpilas_direct(views[1], SCI_GETSTATUS, 0, 0) == SC_STATUS_OK, "an int is cut down: the status");
+  }
+  for (int i = 0; i < 2; i++) hongpilas_door_free(doors[i]);
+  must(blocks == 0, "all blocks are given back");
+}
+
 /* ---- Messages while notes are told ---- */
 
 typedef struct meddler { hongpilas_door *door; sptr_t view; int notes, refused; } meddler;
@@ -224,6 +251,7 @@ static void meddle(SCNotification *note, void *data) {
   must(note->nmhdr.hwndFrom == (void *)m->view, "a note names its view");
   m->refused += hongpilas_direct(m->view, SCI_GETLENGTH, 0, 0) == 0 && hongpilas_direct(m->view, SCI_GETSTATUS, 0, 0) == SC_STATUS_FAILURE &&
                 strcmp(hongpilas_refusal(m->view), "sent while notes are told") == 0;
+  must(hongpilas_direct(m->view, SCI_MARKERLINEFROMHANDLE, 1, 0) == -1 && hongpilas_direct(m->view, SCI_MARKERADD, 0, 1) == -1, "and answers -1, or 0");
   hongpilas_direct(m->view, SCI_SETSTATUS, SC_STATUS_OK, 0);
   must(hongpilas_door_open(m->door) == 0, "no view is opened");
   hongpilas_door_close(m->view);
@@ -302,6 +330,7 @@ int main(int count, char **words) {
   }
   try_each_message();
   try_edges();
+  try_ints();
   try_meddling();
   try_growths();
   printf("texts that are none, refusals, messages while notes are told, and each growth refused in turn\n");

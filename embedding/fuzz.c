@@ -1,20 +1,25 @@
-/* fuzz: bytes become calls of all functions of hongpilas.h, over two sessions with up to four views each and a handful of documents, and each answer,
- * value, text and note is compared with that of the plain model (model.h), which is C++17 and linked beside this file. What the header promises beside
- * that is looked at, too: what a refusal leaves, how long lent bytes stand, which calls take memory, what is given back. Allocations are refused at
- * random, and each text that is sent and each buffer that is filled ends, or begins, at a page that nobody may touch.
+/* fuzz: bytes become calls over two sessions with up to four views each and a handful of documents, and each answer, value, text and note is compared
+ * with that of the plain model (model.h), which is C++17 and linked beside this file. What the headers promise beside that is looked at, too: what a
+ * refusal leaves, how long lent bytes stand, which calls take memory, what is given back. Allocations are refused at random, and each text that is
+ * sent and each buffer that is filled ends, or begins, at a page that nobody may touch.
+ *
+ * There are two ways in: the calls of hongpilas.h (fuzz_calls.h) and, where FUZZ_DOOR is in the environment, the door with Scintilla's manners
+ * (fuzz_door.h). The same input makes the same messages of the model by both, but for what the door takes as an int or up to a NUL.
  *
  * With -DLIBFUZZER it is a target of libFuzzer. Else it is a program:
  *   fuzz [--seed N] [--calls N] [--seconds N]    drawn by a generator of its own, for so many calls or seconds
  *   fuzz FILE..                                  these inputs, as a corpus or a failure has them
  * A difference is told on standard error, the input is written to fuzz.failed, and the program aborts.
  *
- * It is linked with a copy of the library that takes its memory by fuzz_malloc, fuzz_realloc and fuzz_free (objcopy --redefine-sym), so that nothing
- * else in the program does; see ./fuzzing. */
+ * It is linked with a copy of the library, and of the door, that takes its memory by fuzz_malloc, fuzz_realloc and fuzz_free, so that nothing else in
+ * the program does; see ./fuzzing. */
 #define _GNU_SOURCE
 #include "fuzz_draw.h"
 #include "model.h"
 
+#include <hongpilas_scintilla.h>
 #include <inttypes.h>
+#include <signal.h>
 #include <stdio.h>
 #include <stdlib.h>
 #include <string.h>
@@ -22,15 +27,27 @@
 #include <time.h>
 
 /* A call is drawn of a record of so many bytes. */
-enum { RECORD = 8, SIDES = 2, VIEWS = 4, LONGEST = 512, LOOK_EVERY = 64, INPUT_CALLS = 4000, MOST_NOTES_LOOKED_AT = 4 };
+enum { RECORD = 8, SIDES = 2, VIEWS = 4, LONGEST = 512, LOOK_EVERY = 64, INPUT_CALLS = 4000 };
 
-/* The two sessions: that of the library, that of the model, and the views. */
+/* A view as the door has it: what its status and its refusal have to be, and whether it has a callback. `told` is the latter at the note that is
+ * compared. No view where `id`, the model's, is 0. */
+typedef struct ear {
+  struct side *of;
+  uint32_t id;
+  sptr_t view;
+  int status;
+  const char *refusal;
+  bool hears, told;
+} ear;
+
+/* A session, as the way in has it, and that of the model; and the views. */
 typedef struct side {
-  hongpilas session;
   model *plain;
   uint32_t views[VIEWS];
   size_t view_count;
-  bool records[VIEWS];
+  hongpilas session;
+  hongpilas_door *door;
+  ear ears[VIEWS];
   const uint8_t *text; /* where the last reply's text lies */
   const uint8_t *lent; /* bytes that were lent and stand, or NULL */
   size_t lent_count;
@@ -41,17 +58,46 @@ typedef struct record {
   uint8_t operation, who, w_kind, w, l_kind, l, t_kind, t;
 } record;
 
+/* A message. Its text is placed at the end or at the beginning of its page; `how` chooses between forms of a call that are worth the same. */
+typedef struct message {
+  uint32_t view, number;
+  int64_t w, l;
+  const uint8_t *text;
+  size_t length;
+  bool at_end;
+  uint8_t how;
+} message;
+
+/* A way in: what a session is asked for, each compared with the model. Where a call answers, the model is not asked as yet. */
+typedef struct way {
+  const char *name;
+  hongpilas_answer (*open)(side *s, const hongpilas_limits *limits);
+  void (*close)(side *s);
+  hongpilas_answer (*new_view)(side *s, uint32_t *view);
+  hongpilas_answer (*close_view)(side *s, uint32_t view);
+  hongpilas_answer (*send)(side *s, const message *m); /* the model is sent it, too */
+  void (*lend)(side *s, uint32_t view, uint64_t start, uint64_t count, bool copies);
+  void (*compare_last)(side *s, bool stays); /* what the last message left; `stays` where it has to lie where it lay */
+  void (*read_last)(side *s, uint32_t view, const record *r);
+  void (*ask_names)(side *s, uint32_t view, const record *r);
+  void (*try_edges)(side *s, uint32_t view, const record *r); /* null pointers */
+} way;
+
+static const way *by; /* the one that is taken */
+
 static struct {
   const uint8_t *data;
   size_t size, at;      /* the input, and where the record that goes on begins */
+  uint64_t sent;        /* messages since the input began */
   const char *doing;    /* what is done, for a failure */
   uint32_t number;      /* the message */
   int64_t w, l;
 } now;
 
-/* What was done: records, messages that were sent, all calls of the library; of them refused for memory; requests for memory, and refused ones. */
+/* What was done: records, messages that were sent, all calls; of them refused for memory; requests for memory, and refused ones. Through the door:
+ * notifications that were heard, and messages that were sent while they were told. */
 static struct {
-  uint64_t inputs, records, messages, calls, out_of_memory, requests, refused, looks, answers[8];
+  uint64_t inputs, records, messages, calls, out_of_memory, requests, refused, looks, answers[8], heard, meddled;
 } counts;
 
 static void fail(const char *what) {
@@ -86,111 +132,72 @@ static void must_be_text(const uint8_t *found, size_t found_length, const uint8_
   if (length > 0 && memcmp(found, wanted, length) != 0) fail(what);
 }
 
-static void compare_note(size_t index, const hongpilas_note_data *a, const hongpilas_note_data *b) {
-  (void)index;
-  must_be(a->view, b->view, "a note's view");
-  must_be(a->code, b->code, "a note's code");
-  must_be(a->kind, b->kind, "a note's kind");
-  must_be(a->message, b->message, "a note's message");
-  must_be(a->position, b->position, "a note's position");
-  must_be(a->length, b->length, "a note's length");
-  must_be(a->lines, b->lines, "a note's lines");
-  must_be(a->line, b->line, "a note's line");
-  must_be(a->now, b->now, "a note's level now");
-  must_be(a->prev, b->prev, "a note's level before");
-  must_be(a->token, b->token, "a note's token");
-  must_be(a->w, b->w, "a note's w");
-  must_be(a->l, b->l, "a note's l");
-  must_be_text(a->text, a->text_length, b->text, b->text_length, "a note's text");
-}
-
-/* The last reply is that of the last message that was done: looked at through each call that lends. `stays` where it has to lie where it lay. */
-static void compare_last(side *s, bool stays) {
-  const uint8_t *text = NULL, *wanted = NULL;
-  size_t length = hongpilas_text(&s->session, &text), count = hongpilas_note_count(&s->session);
-  size_t wanted_length = model_text(s->plain, &wanted);
-  must_be(hongpilas_value(&s->session), model_value(s->plain), "the last value");
-  must_be_text(text, length, wanted, wanted_length, "the last text");
-  if (stays && length > 0) must(text == s->text, "the last text lies where it lay");
-  s->text = text;
-  must_be((int64_t)count, (int64_t)model_note_count(s->plain), "the count of notes");
-  counts.calls += 3 + count;
-  for (size_t i = 0; i < count; i++) {
-    hongpilas_note_data a, b;
-    must(hongpilas_note(&s->session, i, &a) && model_note(s->plain, i, &b), "there is a note");
-    compare_note(i, &a, &b);
-  }
-}
-
 /* Bytes that were lent stand until the next call: they are read once more, and then given up. */
 static void give_up_lent(side *s) {
   if (s->lent != NULL) must(memcmp(s->lent, s->lent_copy, s->lent_count) == 0, "lent bytes stand");
   s->lent = NULL;
 }
 
-/* Sending. A door is a way in for messages. */
-
-typedef struct door {
-  const char *name;
-  hongpilas_answer (*send)(hongpilas *session, uint32_t view, uint32_t number, int64_t w, int64_t l, const uint8_t *text, size_t length, int64_t *value);
-} door;
-
-static hongpilas_answer by_call(hongpilas *session, uint32_t view, uint32_t number, int64_t w, int64_t l, const uint8_t *text, size_t length,
-                                int64_t *value) {
-  return hongpilas_call(session, view, number, w, l, length == 0 ? NULL : text, length, value);
+static void keep_lent(side *s, const uint8_t *bytes, size_t count) {
+  if (count == 0 || count > sizeof s->lent_copy) return;
+  s->lent = bytes;
+  s->lent_count = count;
+  memcpy(s->lent_copy, bytes, count);
 }
 
-/* The door with Scintilla's manners, once there is one, is a row more: it needs a function that turns w, l and a text into what Scintilla's takes. */
-static const door doors[] = {{"hongpilas_send", hongpilas_send}, {"hongpilas_call", by_call}};
+/* The names of answers, as PROFILE and the header have them. */
+static const char *const answer_names[] = {"done",          "out of memory", "no such view", "unknown message", "no such document",
+                                           "text too long", "bad argument",  "too many"};
 
-/* Sends a message to both. Where memory was refused the model is not told, but would have done it. */
-static hongpilas_answer send_by(const door *door, side *s, uint32_t view, uint32_t number, int64_t w, int64_t l, const uint8_t *text, size_t length) {
-  int64_t value = -77, wanted_value = -77;
-  now.doing = door->name;
-  now.number = number;
-  now.w = w;
-  now.l = l;
+/* Memory ran out in a call: a growth was refused, and the model, which is not told, would have done the message. */
+static void look_at_refused_growth(const side *s, const message *m) {
+  int64_t value = 0;
+  const char *marks = model_marks(m->number);
+  bool is_recorded = false;
+  hongpilas_note_data note;
+  counts.out_of_memory++;
+  counts.answers[1]++;
+  must(was_refused, "memory runs out only where a growth was refused");
+  must(marks != NULL, "an unknown message takes no memory");
+  model *aside = model_copy(s->plain);
+  must_be(model_send(aside, m->view, m->number, m->w, m->l, m->text, m->length, &value), HONGPILAS_DONE,
+          "what is refused otherwise takes no memory: the answer");
+  if (model_note(aside, 0, &note)) is_recorded = note.code == SCN_MACRORECORD;
+  must(strchr(marks, 'N') == NULL || is_recorded, "a message that is marked N takes no memory");
+  model_free(aside);
+}
+
+static void begin_message(side *s, const message *m, const char *doing) {
+  now.doing = doing;
+  now.number = m->number;
+  now.w = m->w;
+  now.l = m->l;
+  now.sent++;
   give_up_lent(s);
   was_refused = false;
-  hongpilas_answer answer = door->send(&s->session, view, number, w, l, text, length, &value);
-  refuse_in = 0;
   counts.messages++;
   counts.calls++;
-  if (answer == HONGPILAS_OUT_OF_MEMORY) {
-    counts.out_of_memory++;
-    counts.answers[1]++;
-    must(was_refused, "memory runs out only where a growth was refused");
-    const char *marks = model_marks(number);
-    must(marks != NULL, "an unknown message takes no memory");
-    model *aside = model_copy(s->plain);
-    hongpilas_answer otherwise = model_send(aside, view, number, w, l, text, length, &wanted_value);
-    must_be(otherwise, HONGPILAS_DONE, "what is refused otherwise takes no memory: the answer");
-    bool is_recorded = false;
-    hongpilas_note_data note;
-    if (model_note(aside, 0, &note)) is_recorded = note.code == SCN_MACRORECORD;
-    must(strchr(marks, 'N') == NULL || is_recorded, "a message that is marked N takes no memory");
-    must_be(value, -77, "a refused call leaves the value");
-    model_free(aside);
-    compare_last(s, true);
-    return answer;
-  }
-  hongpilas_answer wanted = model_send(s->plain, view, number, w, l, text, length, &wanted_value);
-  must_be(answer, wanted, "the answer");
-  must_be(value, wanted_value, "the value");
-  counts.answers[answer & 7]++;
-  compare_last(s, answer != HONGPILAS_DONE);
-  return answer;
+}
+
+#include "fuzz_calls.h"
+#include "fuzz_door.h"
+
+/* Sending what has two numbers alone. */
+
+static hongpilas_answer send_numbers(side *s, uint32_t view, uint32_t number, int64_t w, int64_t l) {
+  static const uint8_t none = 0;
+  message m = {view, number, w, l, &none, 0, now.sent % 2 == 0, (uint8_t)(now.sent * 167 >> 2)};
+  return by->send(s, &m);
 }
 
 static int64_t ask(side *s, uint32_t view, uint32_t number, int64_t w, int64_t l) {
-  static const uint8_t none = 0;
   counts.looks++;
-  return send_by(&doors[0], s, view, number, w, l, &none, 0) == HONGPILAS_DONE ? hongpilas_value(&s->session) : 0;
+  return send_numbers(s, view, number, w, l) == HONGPILAS_DONE ? model_value(s->plain) : 0;
 }
 
 /* Looking at a whole view: text, styles and what has no argument; then lines, places and indicators, `most` of each. */
 static void look_at(side *s, uint32_t view, int64_t most) {
-  static const uint32_t plain[] = {SCI_GETTEXT,        SCI_GETCURRENTPOS,  SCI_GETANCHOR,     SCI_GETENDSTYLED,          SCI_GETMODIFY,
+  static const uint32_t plain[] = {SCI_GETCURRENTPOS,  SCI_GETANCHOR,     SCI_GETENDSTYLED,          SCI_GETMODIFY,
                                    SCI_CANUNDO,        SCI_CANREDO,        SCI_GETREADONLY,   SCI_GETTARGETSTART,        SCI_GETTARGETEND,
                                    SCI_GETDOCPOINTER,  SCI_GETEOLMODE,     SCI_GETSEARCHFLAGS, SCI_GETUNDOCOLLECTION,    SCI_GETALLLINESVISIBLE,
                                    SCI_GETMODEVENTMASK, SCI_GETDOCUMENTOPTIONS, SCI_GETLINEENDTYPESALLOWED, SCI_GETPASTECONVERTENDINGS, SCI_GETINDICATORCURRENT,
@@ -199,6 +206,7 @@ static void look_at(side *s, uint32_t view, int64_t most) {
                                      SCI_GETLINEVISIBLE,   SCI_GETFOLDEXPANDED,    SCI_VISIBLEFROMDOCLINE, SCI_GETFOLDPARENT, SCI_DOCLINEFROMVISIBLE};
   static const uint32_t of_place[] = {SCI_LINEFROMPOSITION, SCI_POSITIONBEFORE, SCI_POSITIONAFTER, SCI_GETSTYLEAT};
   int64_t length = ask(s, view, SCI_GETLENGTH, 0, 0), lines = ask(s, view, SCI_GETLINECOUNT, 0, 0);
+  ask(s, view, SCI_GETTEXT, length, 0);
   for (size_t i = 0; i < sizeof plain / sizeof *plain; i++) ask(s, view, plain[i], 0, 0);
   ask(s, view, SCI_GETSTYLEDTEXT, 0, -1);
   for (int64_t line = 0, step = lines / most + 1; line < lines; line += step) {
@@ -209,7 +217,8 @@ static void look_at(side *s, uint32_t view, int64_t most) {
     ask(s, view, SCI_MARKERLINEFROMHANDLE, handle, 0);
   for (int64_t place = 0, step = length / most + 1; place < length; place += step) {
     for (size_t i = 0; i < sizeof of_place / sizeof *of_place; i++) ask(s, view, of_place[i], place, 0);
-    int64_t mask = ask(s, view, SCI_INDICATORALLONFOR, place, 0);
+    /* A mask may be an int, whose highest bit is its sign. */
+    int64_t mask = (int64_t)(uint32_t)ask(s, view, SCI_INDICATORALLONFOR, place, 0);
     for (int64_t indicator = 0; indicator < 32; indicator++) {
       if ((mask >> indicator & 1) == 0) continue;
       ask(s, view, SCI_INDICATORVALUEAT, indicator, place);
@@ -227,10 +236,10 @@ static void look_at_all(side *s, int64_t most) {
 
 static void open_view(side *s) {
   uint32_t view = 0xFFFFFFFF, wanted = 0xFFFFFFFF;
-  now.doing = "hongpilas_new_view";
+  now.doing = "opening a view";
   give_up_lent(s);
   was_refused = false;
-  hongpilas_answer answer = hongpilas_new_view(&s->session, &view);
+  hongpilas_answer answer = by->new_view(s, &view);
   refuse_in = 0;
   counts.calls++;
   if (answer == HONGPILAS_OUT_OF_MEMORY) {
@@ -245,96 +254,19 @@ static void open_view(side *s) {
     must_be(view, wanted, "the view's id");
     if (answer == HONGPILAS_DONE) s->views[s->view_count++] = view;
   }
-  compare_last(s, true);
+  by->compare_last(s, true);
 }
 
 static void close_view(side *s, uint32_t view, size_t slot) {
-  now.doing = "hongpilas_close_view";
+  now.doing = "closing a view";
   give_up_lent(s);
   uint64_t requests = counts.requests;
-  must_be(hongpilas_close_view(&s->session, view), model_close_view(s->plain, view), "the answer");
+  must_be(by->close_view(s, view), model_close_view(s->plain, view), "the answer");
   must(requests == counts.requests, "closing a view takes no memory");
   refuse_in = 0;
   counts.calls++;
   if (slot < s->view_count) s->views[slot] = s->views[--s->view_count];
-  compare_last(s, true);
-}
-
-/* Lends a range, or copies it, and reads it. What was lent stands on until the next call on this session. */
-static void lend(side *s, uint32_t view, uint64_t start, uint64_t count, bool copies) {
-  const uint8_t *bytes = NULL, *wanted = NULL;
-  now.doing = copies ? "hongpilas_copy_range" : "hongpilas_lend_range";
-  now.w = (int64_t)start;
-  now.l = (int64_t)count;
-  give_up_lent(s);
-  hongpilas_answer answer = model_lend_range(s->plain, view, start, count, &wanted);
-  uint64_t requests = counts.requests;
-  counts.calls++;
-  if (copies) {
-    /* No room is there for more than a text can have. */
-    size_t room = count > PAGE ? 0 : (size_t)count;
-    uint8_t *into = place_for(1, room, count % 2 == 0);
-    if (room > 0) memset(into, 0x77, room);
-    must_be(hongpilas_copy_range(&s->session, view, start, into, count), answer, "the answer");
-    if (answer == HONGPILAS_DONE) must_be_text(into, room, wanted, count, "the copied range");
-    else for (size_t i = 0; i < room; i++) must(into[i] == 0x77, "a refused call leaves the buffer");
-  } else {
-    must_be(hongpilas_lend_range(&s->session, view, start, count, &bytes), answer, "the answer");
-    if (answer == HONGPILAS_DONE) must_be_text(bytes, count, wanted, count, "the lent range");
-    else must(bytes == NULL, "a refused call leaves the pointer");
-  }
-  must(requests == counts.requests, "lending takes no memory");
-  refuse_in = 0;
-  compare_last(s, true);
-  if (!copies && answer == HONGPILAS_DONE && count > 0 && count <= sizeof s->lent_copy) {
-    s->lent = bytes;
-    s->lent_count = (size_t)count;
-    memcpy(s->lent_copy, bytes, (size_t)count);
-  }
-}
-
-/* The calls that copy what the last reply has, with little room and from places past the end. */
-static void copy_last(side *s, const record *r) {
-  const uint8_t *text = NULL;
-  size_t length = model_text(s->plain, &text), start = r->w % 3 == 0 ? (size_t)hostile_number(r->w_kind, r->w, &(around){0}) : r->w, room = r->l;
-  size_t rest = start < length ? length - start : 0, wanted = rest < room ? rest : room;
-  uint8_t *into = place_for(1, room, r->t % 2 == 0);
-  now.doing = "hongpilas_copy_text";
-  counts.calls += 3;
-  memset(into, 0x77, room);
-  must_be((int64_t)hongpilas_copy_text(&s->session, start, into, room), (int64_t)wanted, "how much was copied");
-  if (wanted > 0) must_be_text(into, wanted, text + start, wanted, "the copied text");
-  for (size_t i = wanted; i < room; i++) must(into[i] == 0x77, "a copy leaves the rest of the buffer");
-  now.doing = "hongpilas_copy_note_text";
-  hongpilas_note_data note, found;
-  size_t index = r->t_kind % 16 == 0 ? SIZE_MAX : model_note_count(s->plain) == 0 ? 0 : r->t_kind % (model_note_count(s->plain) + 1);
-  bool is_there = model_note(s->plain, index, &note);
-  memset(&found, 0x77, sizeof found);
-  must_be(hongpilas_note(&s->session, index, &found), is_there, "whether there is such a note");
-  if (!is_there) {
-    must(found.view == 0x77777777, "no note leaves the place for one");
-    must_be((int64_t)hongpilas_copy_note_text(&s->session, index, start, into, room), 0, "the text of no note");
-    return;
-  }
-  compare_note(index, &found, &note);
-  rest = start < note.text_length ? note.text_length - start : 0;
-  wanted = rest < room ? rest : room;
-  must_be((int64_t)hongpilas_copy_note_text(&s->session, index, start, into, room), (int64_t)wanted, "how much of a note was copied");
-  if (wanted > 0) must_be_text(into, wanted, note.text + start, wanted, "a note's copied text");
-}
-
-static void ask_names(const record *r) {
-  static const char *names[] = {"done", "out of memory", "no such view", "unknown message", "no such document", "text too long", "bad argument", "too many"};
-  const uint8_t *name = NULL;
-  uint32_t answer = r->w_kind < 208 ? r->w % 9 : (uint32_t)hostile_number(r->w_kind, r->w, &(around){0});
-  size_t length = hongpilas_refusal_name(answer, &name), room = r->l % 24, wanted = length < room ? length : room;
-  uint8_t *into = place_for(1, room, true);
-  now.doing = "hongpilas_refusal_name";
-  counts.calls += 3;
-  must_be(hongpilas_version(), HONGPILAS_VERSION, "the version");
-  if (answer >= 1 && answer <= 7) must_be_text(name, length, (const uint8_t *)names[answer], strlen(names[answer]), "the name of a refusal");
-  must_be((int64_t)hongpilas_copy_refusal_name(answer, into, room), (int64_t)wanted, "how much of a name was copied");
-  must_be_text(into, wanted, name, wanted, "the copied name");
+  by->compare_last(s, true);
 }
 
 /* Opens a session, with limits that are drawn: first at times with one that is out of range, which has to be refused; then low ones, or none. */
@@ -342,17 +274,18 @@ static void open_session(side *s, const record *r, bool is_low) {
   hongpilas_limits limits = HONGPILAS_GREATEST_LIMITS;
   hongpilas_answer answer = HONGPILAS_DONE;
   memset(s, 0x5C, sizeof *s); /* anything may stand there before */
+  memset(s->ears, 0, sizeof s->ears);
   s->view_count = 0;
   s->lent = NULL;
   s->text = NULL;
-  now.doing = "hongpilas_new_with_limits";
+  now.doing = "opening a session";
   if (r->l % 8 == 0) {
     hongpilas_limits wrong = limits;
     uint64_t *all[] = {&wrong.doc_bytes, &wrong.large_bytes, &wrong.handles, &wrong.ids, &wrong.refs, &wrong.views, &wrong.depth};
     uint64_t *one = all[r->w % 7];
     *one = r->t % 3 == 0 ? 0 : r->t % 3 == 1 ? *one + 1 : UINT64_MAX;
     counts.calls++;
-    must_be(hongpilas_new_with_limits(&s->session, &wrong), HONGPILAS_BAD_ARGUMENT, "wrong limits");
+    must_be(by->open(s, &wrong), HONGPILAS_BAD_ARGUMENT, "wrong limits");
     must(model_new(&wrong) == NULL, "wrong limits in the model");
   }
   if (is_low) {
@@ -367,20 +300,20 @@ static void open_session(side *s, const record *r, bool is_low) {
   counts.calls++;
   do {
     was_refused = false;
-    answer = is_low ? hongpilas_new_with_limits(&s->session, &limits) : hongpilas_new(&s->session);
+    answer = by->open(s, is_low ? &limits : NULL);
     must(answer == HONGPILAS_DONE || (answer == HONGPILAS_OUT_OF_MEMORY && was_refused), "a session opens");
     refuse_in = 0;
   } while (answer != HONGPILAS_DONE);
   s->plain = model_new(&limits);
   must(s->plain != NULL, "a session of the model opens");
-  compare_last(s, false);
+  by->compare_last(s, false);
   open_view(s);
 }
 
 static void close_session(side *s) {
-  now.doing = "hongpilas_free";
+  now.doing = "giving a session back";
   give_up_lent(s);
-  hongpilas_free(s->session);
+  by->close(s);
   model_free(s->plain);
   counts.calls++;
 }
@@ -393,49 +326,53 @@ static void send_drawn(side *s, uint32_t view, uint32_t number, const record *r)
   bool is_sweeping = number == SCI_CLEARALL || number == SCI_SETTEXT || number == SCI_SETDOCPOINTER;
   if (is_sweeping && r->who % 64 >= 16) number = SCI_APPENDTEXT;
   size_t length = draw_text(number == SCI_SEARCHINTARGET ? r->t_kind % 108 : r->t_kind, r->t, drawn);
-  uint8_t *text = place_for(0, length, r->t % 2 == 0);
-  memcpy(text, drawn, length);
   around a = {model_peek(s->plain, view, SCI_GETLENGTH), model_peek(s->plain, view, SCI_GETLINECOUNT), model_peek(s->plain, view, SCI_GETCURRENTPOS),
               (int64_t)length, model_peek(s->plain, view, SCI_MARKERADD)};
   const char *shape = shape_of(number);
   int64_t w = draw_number(shape[0], r->w_kind, r->w, number == SCI_SETSTYLING ? model_peek(s->plain, view, SCI_GETENDSTYLED) : 0, &a);
-  int64_t l = draw_number(shape[1], r->l_kind, r->l, w, &a);
+  message m = {view, number, w, draw_number(shape[1], r->l_kind, r->l, w, &a), drawn, length, r->t % 2 == 0, r->t_kind};
   if (r->who >= 208) {
     refuse_in = 1 + (r->who >> 3) % 3;
     refuse_all_then = (r->who >> 5) % 2 == 1;
   }
-  const door *door = &doors[r->t_kind % (sizeof doors / sizeof *doors)];
-  if (send_by(door, s, view, number, w, l, text, length) == HONGPILAS_OUT_OF_MEMORY) {
+  if (by->send(s, &m) == HONGPILAS_OUT_OF_MEMORY) {
     if (r->t % 8 == 0) look_at_all(s, 4);
     else look_at(s, view, 2);
   }
   int64_t grown = model_peek(s->plain, view, SCI_GETLENGTH);
-  static const uint8_t none = 0;
-  if (grown > LONGEST) send_by(&doors[0], s, view, SCI_DELETERANGE, grown / 8, grown / 2 + grown / 4, &none, 0);
+  if (grown > LONGEST) send_numbers(s, view, SCI_DELETERANGE, grown / 8, grown / 2 + grown / 4);
 }
 
 /* Gives lines levels, one in the other, and at times markers and states; and folds some. */
 static void dress(side *s, uint32_t view, const record *r) {
-  static const uint8_t none = 0;
   uint32_t mixed = (uint32_t)(r->w * 256 + r->l) * 2654435761u + r->t;
   int64_t lines = model_peek(s->plain, view, SCI_GETLINECOUNT);
   for (int64_t line = 0; line < lines; line++) {
     mixed = mixed * 1664525u + 1013904223u;
     int64_t level = 0x400 + (mixed >> 16) % 4;
     if ((mixed >> 20) % 8 < 5) level |= SC_FOLDLEVELHEADERFLAG;
-    send_by(&doors[0], s, view, SCI_SETFOLDLEVEL, line, level, &none, 0);
-    if ((mixed >> 23) % 8 == 0) send_by(&doors[0], s, view, SCI_MARKERADDSET, line, mixed >> 24, &none, 0);
-    if ((mixed >> 26) % 8 == 0) send_by(&doors[0], s, view, SCI_SETLINESTATE, line, mixed >> 28, &none, 0);
+    send_numbers(s, view, SCI_SETFOLDLEVEL, line, level);
+    if ((mixed >> 23) % 8 == 0) send_numbers(s, view, SCI_MARKERADDSET, line, mixed >> 24);
+    if ((mixed >> 26) % 8 == 0) send_numbers(s, view, SCI_SETLINESTATE, line, mixed >> 28);
   }
   for (int64_t line = 0; line < lines; line++) {
     mixed = mixed * 1664525u + 1013904223u;
-    if ((mixed >> 16) % 3 == 0) send_by(&doors[0], s, view, SCI_FOLDLINE, (mixed >> 18) % lines, (mixed >> 28) % 3, &none, 0);
-    if ((mixed >> 21) % 16 == 0) send_by(&doors[0], s, view, SCI_ENSUREVISIBLE, (mixed >> 18) % lines, 0, &none, 0);
+    if ((mixed >> 16) % 3 == 0) send_numbers(s, view, SCI_FOLDLINE, (mixed >> 18) % lines, (mixed >> 28) % 3);
+    if ((mixed >> 21) % 16 == 0) send_numbers(s, view, SCI_ENSUREVISIBLE, (mixed >> 18) % lines, 0);
   }
 }
 
+static void do_lend(side *s, uint32_t view, const record *r) {
+  int64_t length = model_peek(s->plain, view, SCI_GETLENGTH);
+  around a = {length, 1, 0, 0, 1};
+  int64_t start = draw_number('p', r->w_kind, r->w, 0, &a), count = draw_number(r->t % 2 == 0 ? 's' : 'p', r->l_kind, r->l, start, &a);
+  /* A copy is told of no more room than there is. */
+  bool copies = r->operation > 234 && count >= 0 && count <= PAGE;
+  if (r->t % 4 == 1 && start >= 0 && start <= length) count = count < 0 || count > length - start ? length - start : count;
+  by->lend(s, r->t == 255 ? 77777 : view, (uint64_t)start, (uint64_t)count, copies);
+}
+
 static void do_record(side *s, const record *r) {
-  static const uint8_t none = 0;
   const uint32_t *numbers = model_numbers();
   counts.records++;
   now.number = 0;
@@ -455,7 +392,7 @@ static void do_record(side *s, const record *r) {
         if (r->who >= 208) refuse_in = 1 + r->who % 3, refuse_all_then = r->who % 2 == 0;
         open_view(s);
         int64_t document = model_peek(s->plain, s->views[0], SCI_GETDOCPOINTER);
-        if (r->w % 4 != 0) send_by(&doors[0], s, s->views[s->view_count - 1], SCI_SETDOCPOINTER, 0, document, &none, 0);
+        if (r->w % 4 != 0) send_numbers(s, s->views[s->view_count - 1], SCI_SETDOCPOINTER, 0, document);
       }
       break;
     case 227:
@@ -463,31 +400,14 @@ static void do_record(side *s, const record *r) {
       break;
     case 228: close_view(s, s->view_count < VIEWS ? 1000 + r->w : 0, VIEWS); break;
     case 229: case 230: case 231: case 232: case 233: case 234:
-    case 235: case 236: case 237: case 238: {
-      int64_t length = model_peek(s->plain, view, SCI_GETLENGTH);
-      around a = {length, 1, 0, 0, 1};
-      int64_t start = draw_number('p', r->w_kind, r->w, 0, &a), count = draw_number(r->t % 2 == 0 ? 's' : 'p', r->l_kind, r->l, start, &a);
-      /* A copy is told of no more room than there is. */
-      bool copies = r->operation > 234 && count >= 0 && count <= PAGE;
-      if (r->t % 4 == 1 && start >= 0 && start <= length) count = count < 0 || count > length - start ? length - start : count;
-      lend(s, r->t == 255 ? 77777 : view, (uint64_t)start, (uint64_t)count, copies);
-      break;
-    }
-    case 239: case 240: case 241: case 242: copy_last(s, r); break;
-    case 243: ask_names(r); break;
+    case 235: case 236: case 237: case 238: do_lend(s, view, r); break;
+    case 239: case 240: case 241: case 242: by->read_last(s, view, r); break;
+    case 243: by->ask_names(s, view, r); break;
     case 244: /* a number that is no message, and a view that is none */
       send_drawn(s, view, r->w_kind < 128 ? 2000u + r->w * 9u % 2100u : (uint32_t)hostile_number(r->w_kind, r->w, &(around){0}), r);
       break;
-    case 245: send_by(&doors[0], s, 5000 + r->w, numbers[r->l % 144], r->w, r->l, &none, 0); break;
-    case 246: { /* what hongpilas_call takes beside hongpilas_send */
-      now.doing = "hongpilas_call";
-      give_up_lent(s);
-      must_be(hongpilas_call(NULL, view, SCI_GETLENGTH, 0, 0, NULL, 0, NULL), HONGPILAS_NO_SUCH_VIEW, "no session");
-      must_be(hongpilas_call(&s->session, view, SCI_INSERTTEXT, 0, 0, NULL, 1 + r->w, NULL), HONGPILAS_BAD_ARGUMENT, "no text");
-      counts.calls += 2;
-      compare_last(s, true);
-      break;
-    }
+    case 245: send_numbers(s, 5000 + r->w, numbers[r->l % 144], r->w, r->l); break;
+    case 246: by->try_edges(s, view, r); break;
     case 247: /* a new session in place of this one */
       if (r->who < 64) {
         close_session(s);
@@ -506,9 +426,10 @@ int LLVMFuzzerTestOneInput(const uint8_t *data, size_t size);
 int LLVMFuzzerTestOneInput(const uint8_t *data, size_t size) {
   static side sides[SIDES];
   record first = {0, 0, 0, 63, 0, 15, 0, 7};
+  if (by == NULL) by = getenv("FUZZ_DOOR") != NULL ? &way_by_door : &way_by_calls;
   now.data = data;
   now.size = size;
-  now.at = 0;
+  now.at = now.sent = 0;
   refuse_in = 0;
   counts.inputs++;
   /* The first record has the limits of the second session. */
@@ -538,6 +459,14 @@ static uint64_t next_random(uint64_t *state) {
   return x ^ x >> 31;
 }
 
+#ifndef HAS_ASAN
+/* Where no sanitizer tells of a touched page, this does. */
+static void on_fault(int signal_number) {
+  signal(signal_number, SIG_DFL);
+  fail("memory that nobody may touch");
+}
+#endif
+
 static void run_file(const char *path) {
   static uint8_t bytes[1 << 20];
   FILE *file = fopen(path, "rb");
@@ -551,14 +480,15 @@ static void run_file(const char *path) {
 }
 
 static void print_counts(double seconds) {
-  printf("fuzz: %" PRIu64 " inputs, %" PRIu64 " calls drawn, %" PRIu64 " messages sent (%" PRIu64 " of them to look), %" PRIu64
+  printf("fuzz: by %s: %" PRIu64 " inputs, %" PRIu64 " calls drawn, %" PRIu64 " messages sent (%" PRIu64 " of them to look), %" PRIu64
          " calls in all, in %.0f seconds\n",
-         counts.inputs, counts.records, counts.messages, counts.looks, counts.calls, seconds);
+         by == NULL ? "nothing" : by->name, counts.inputs, counts.records, counts.messages, counts.looks, counts.calls, seconds);
   printf("fuzz: answers of messages: done %" PRIu64 ", out of memory %" PRIu64 ", no such view %" PRIu64 ", unknown message %" PRIu64
          ", no such document %" PRIu64 ", too long %" PRIu64 ", bad argument %" PRIu64 ", too many %" PRIu64 "\n", counts.answers[0], counts.answers[1], counts.answers[2], counts.answers[3],
          counts.answers[4], counts.answers[5], counts.answers[6], counts.answers[7]);
   printf("fuzz: requests for memory: %" PRIu64 ", refused %" PRIu64 "; calls that were refused for it %" PRIu64 "\n", counts.requests, counts.refused,
          counts.out_of_memory);
+  if (counts.heard > 0) printf("fuzz: notifications heard: %" PRIu64 "; messages sent while they were told: %" PRIu64 "\n", counts.heard, counts.meddled);
 }
 
 static double seconds_now(void) {
@@ -571,6 +501,10 @@ int main(int count, char **words) {
   uint64_t seed = 1, most_calls = UINT64_MAX;
   double most_seconds = 1e18, begun = seconds_now();
   bool draws = count == 1;
+#ifndef HAS_ASAN
+  signal(SIGSEGV, on_fault);
+  signal(SIGBUS, on_fault);
+#endif
   for (int i = 1; i < count; i++) {
     if (strncmp(words[i], "--", 2) != 0) {
       run_file(words[i]);

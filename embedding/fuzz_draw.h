@@ -9,7 +9,7 @@ enum { MOST_TEXT = 256 };
 
 /* What a message's arguments are, w and l. p a place, c one close by, e an end of a range, s the rest of a span, l a line, t the text's length, m a
  * marker, h a handle, f a fold level, i an indicator, y a style, d a document, 0 mostly off, 1 mostly on, 2 up to 2, 3 up to 3, g flags of a search,
- * x a mask, o options, - nothing. */
+ * x a mask, o options, - nothing. GETTEXT and GETCURLINE take how many bytes they may write through Scintilla's door alone. */
 typedef struct shape {
   uint32_t number;
   const char *w_and_l;
@@ -17,7 +17,7 @@ typedef struct shape {
 
 static const shape shapes[] = {
     {SCI_ADDTEXT, "t-"},           {SCI_INSERTTEXT, "p-"},         {SCI_GETCHARAT, "p-"},         {SCI_GETSTYLEAT, "p-"},      {SCI_GETSTYLEDTEXT, "pe"},
-    {SCI_GETLINEENDPOSITION, "l-"}, {SCI_SETREADONLY, "0-"},        {SCI_GETLINE, "l-"},           {SCI_GETTEXTRANGE, "pe"},    {SCI_LINEFROMPOSITION, "p-"},
+    {SCI_GETLINEENDPOSITION, "l-"}, {SCI_GETTEXT, "p-"}, {SCI_GETCURLINE, "p-"}, {SCI_SETREADONLY, "0-"},        {SCI_GETLINE, "l-"},           {SCI_GETTEXTRANGE, "pe"},    {SCI_LINEFROMPOSITION, "p-"},
     {SCI_POSITIONFROMLINE, "l-"},  {SCI_APPENDTEXT, "t-"},         {SCI_LINELENGTH, "l-"},        {SCI_POSITIONBEFORE, "p-"},  {SCI_POSITIONAFTER, "p-"},
     {SCI_DELETERANGE, "ps"},       {SCI_GOTOLINE, "l-"},           {SCI_GOTOPOS, "p-"},           {SCI_SETEMPTYSELECTION, "p-"}, {SCI_SETANCHOR, "p-"},
     {SCI_SETCURRENTPOS, "p-"},     {SCI_SETSELECTIONSTART, "p-"},  {SCI_SETSELECTIONEND, "p-"},   {SCI_SETSEL, "pc"},          {SCI_COPYRANGE, "pe"},

@@ -1,5 +1,5 @@
-/* The heap that fuzz.c and load.c give the library (fuzz_malloc, fuzz_realloc, fuzz_free), which can refuse a growth, and memory that ends at a page that
- * nobody may touch. Included by one file of a program, behind its `must` and `counts`. */
+/* The heap that fuzz.c gives the library (fuzz_malloc, fuzz_realloc, fuzz_free), which can refuse a growth, and memory that ends at a page that nobody may
+ * touch. Included by one file of a program, behind its `must` and `counts`. */
 #ifndef FUZZ_HEAP_H
 #define FUZZ_HEAP_H
 
@@ -94,24 +94,24 @@ void *fuzz_realloc(void *bytes, size_t size) {
   return moved;
 }
 
-/* Memory between two pages that nobody may touch. */
+/* Memory between two pages that nobody may touch: for a text that is sent, a buffer that is filled, and a struct that says where that is. */
 
-enum { PAGE = 4096 };
+enum { PAGE = 4096, ROOM = 4 * PAGE };
 
 static uint8_t *guarded(int which) {
-  static uint8_t *pages[2];
-  if (pages[which] == NULL) {
-    uint8_t *all = mmap(NULL, 3 * PAGE, PROT_NONE, MAP_PRIVATE | MAP_ANONYMOUS, -1, 0);
-    must(all != MAP_FAILED && mprotect(all + PAGE, PAGE, PROT_READ | PROT_WRITE) == 0, "there is a guarded page");
-    pages[which] = all + PAGE;
+  static uint8_t *rooms[3];
+  if (rooms[which] == NULL) {
+    uint8_t *all = mmap(NULL, ROOM + 2 * PAGE, PROT_NONE, MAP_PRIVATE | MAP_ANONYMOUS, -1, 0);
+    must(all != MAP_FAILED && mprotect(all + PAGE, ROOM, PROT_READ | PROT_WRITE) == 0, "there is guarded memory");
+    rooms[which] = all + PAGE;
   }
-  return pages[which];
+  return rooms[which];
 }
 
 /* A place for `size` bytes that end, or begin, at such a page. */
 static uint8_t *place_for(int which, size_t size, bool at_end) {
-  must(size <= PAGE, "a text fits a page");
-  return guarded(which) + (at_end ? PAGE - size : 0);
+  must(size <= ROOM, "a text fits the guarded memory");
+  return guarded(which) + (at_end ? ROOM - size : 0);
 }
 
 #endif

@@ -29,6 +29,7 @@ typedef enum takes {
   NUMBERS, /* two numbers */
   INT_W,   /* two numbers, the first an int */
   INT_L,   /* two numbers, the second an int */
+  INTS,    /* two ints */
   BITS_L,  /* two numbers, the second an int whose bits count */
   COUNTED, /* l is a text of w bytes */
   OFFERED, /* the same; a null one is none, and nothing is done */
@@ -92,9 +93,9 @@ static const manner manners[] = {
     {SCI_INDICATORVALUEAT, INT_W, AS_INT, 0},
     {SCI_INDICATORSTART, INT_W, AS_IT_IS, 0},
     {SCI_INDICATOREND, INT_W, AS_IT_IS, 0},
-    {SCI_ADDUNDOACTION, INT_W, AS_IT_IS, 0},
-    {SCI_SETLINEENDTYPESALLOWED, INT_W, AS_IT_IS, 0},
+    {SCI_ADDUNDOACTION, INTS, AS_IT_IS, 0},
     {SCI_GETRANGEPOINTER, LENT, AS_IT_IS, 0},
+    {SCI_SETLINEENDTYPESALLOWED, INT_W, AS_IT_IS, 0},
     {SCI_GETTARGETTEXT, ASKED, AS_IT_IS, 0},
 };
 
@@ -177,8 +178,9 @@ static span span_of_range(door_view *view, const struct Sci_TextRange *range) {
   if (range == NULL) return none;
   end = range->chrg.cpMax == -1 ? length : range->chrg.cpMax;
   found.start = range->chrg.cpMin;
+  if (found.start < 0 || found.start > end || end > length) return none;
   found.count = end - found.start;
-  return found.start < 0 || found.count < 0 || end > length ? none : found;
+  return found;
 }
 
 static span span_between(int64_t from, int64_t to) {
@@ -276,6 +278,7 @@ static hongpilas_answer send_as(door_view *view, const manner *way, uptr_t w, sp
   switch (way->taken) {
     case INT_W: return send_text(view, way->message, (uptr_t)(sptr_t)(int)w, l, NULL, 0, value);
     case INT_L: return send_text(view, way->message, w, (int)l, NULL, 0, value);
+    case INTS: return send_text(view, way->message, (uptr_t)(sptr_t)(int)w, (int)l, NULL, 0, value);
     case BITS_L: return send_text(view, way->message, w, (sptr_t)(unsigned int)l, NULL, 0, value);
     case ASKED: return give_text(view, way->message, w, l, value);
     case STYLED: return give_styled(view, (const struct Sci_TextRange *)l, value);

@@ -124,14 +124,20 @@ void hongpilas_door_close(sptr_t view);
  *  - a document is the number that GETDOCPOINTER and CREATEDOCUMENT return, and 0 is a new one;
  *  - what Scintilla has as an int is truncated to one, and a byte that is returned is a char.
  *
+ * If the pointer to a text is null, ADDTEXT, INSERTTEXT, REPLACESEL, SETTEXT and SETSTYLINGEX do nothing and return 0, as
+ * in Scintilla; APPENDTEXT, COPYTEXT, SEARCHINTARGET and REPLACETARGET take an empty text if w is 0, and are refused
+ * otherwise. A negative length is refused, and no byte of the text is read; the -1 of REPLACETARGET is no length. A
+ * range is refused if the pointer to it is null, or if it does not lie in the text.
+ *
  * Beside the messages of the profile a view has three more: SCI_GETSTATUS and SCI_SETSTATUS, below, and
  * SCI_GETRANGEPOINTER, which lends the l bytes of the document from w on, without a copy and without a closing NUL.
  * They are valid until the next message to a view of the same door.
  *
  * A refused call changes nothing and writes nothing. The view's status becomes SC_STATUS_BADALLOC if an allocation
  * failed, and SC_STATUS_FAILURE otherwise. The result is that of Scintilla for a message that does nothing: 0, or -1
- * for MARKERADD and SEARCHINTARGET. As in Scintilla the status stays until SCI_SETSTATUS. SCI_GETSTATUS returns it, and
- * so does the second form, a SciFnDirectStatus. A message that the profile does not have returns 0, with no status. */
+ * for MARKERADD, MARKERLINEFROMHANDLE and SEARCHINTARGET. As in Scintilla the status stays until SCI_SETSTATUS.
+ * SCI_GETSTATUS returns it, and so does the second form, a SciFnDirectStatus. A message that the profile does not have
+ * returns 0, with no status. A view of 0 is no view: the result is 0, and the second form sets SC_STATUS_FAILURE. */
 sptr_t hongpilas_direct(sptr_t view, unsigned int message, uptr_t w, sptr_t l);
 sptr_t hongpilas_direct_status(sptr_t view, unsigned int message, uptr_t w, sptr_t l, int *status);
 

@@ -1,0 +1,493 @@
+/* The way in by the door with Scintilla's manners (hongpilas_scintilla.h), for fuzz.c. What w, l and the answer are there is written down below from
+ * Scintilla's documentation: of a message that is drawn it makes one for the door and one for the model, and of the model's answer, text and notes it
+ * makes the answer, the bytes and the notifications that the door has to give. */
+#ifndef FUZZ_DOOR_H
+#define FUZZ_DOOR_H
+
+/* Three letters: what w, l and the answer are in Scintilla's documentation.
+ * w, l: i an int, m an int whose bits count, - another number, or nothing.
+ * l: n a text of w bytes, N the same, of which a null one is none, Z a text up to its NUL, of which a null one is none, e either (up to its NUL where w
+ * is -1); a buffer: r for all bytes, s for all and a NUL, b for as many as w and a NUL; a Sci_TextRange whose bytes are closed: t by one NUL, u by two.
+ * The answer: i an int, c a char, 1 always 1, f -1 where it is refused, F an int that is -1 where it is refused, - another number. */
+typedef struct manners {
+  uint32_t number;
+  const char *letters;
+} manners;
+
+static const manners documented[] = {
+    {SCI_ADDTEXT, "-N-"},          {SCI_INSERTTEXT, "-Z-"},      {SCI_GETCHARAT, "--c"},     {SCI_GETSTYLEAT, "--c"},          {SCI_GETSTYLEDTEXT, "-u-"},
+    {SCI_SETREADONLY, "--1"},      {SCI_GETCURLINE, "-b-"},      {SCI_GETLINE, "-r-"},       {SCI_GETTEXTRANGE, "-t-"},        {SCI_SETTEXT, "-Z1"},
+    {SCI_GETTEXT, "-b-"},          {SCI_APPENDTEXT, "-n-"},      {SCI_GETSELTEXT, "-s-"},    {SCI_REPLACESEL, "-Z-"},          {SCI_COPYTEXT, "-n-"},
+    {SCI_ADDUNDOACTION, "ii-"},    {SCI_SETEOLMODE, "i--"},      {SCI_CONVERTEOLS, "i--"},   {SCI_MARKERADD, "-iF"},           {SCI_MARKERADDSET, "-m-"},
+    {SCI_MARKERDELETE, "-i-"},     {SCI_MARKERDELETEALL, "i--"}, {SCI_MARKERGET, "--i"},     {SCI_MARKERDELETEHANDLE, "i--"},  {SCI_MARKERNEXT, "-i-"},
+    {SCI_MARKERPREVIOUS, "-i-"},   {SCI_SETLINESTATE, "-i-"},    {SCI_GETLINESTATE, "--i"},  {SCI_MARKERLINEFROMHANDLE, "i-f"}, {SCI_SETSTYLING, "-i-"},
+    {SCI_SETSTYLINGEX, "-N-"},     {SCI_INDICATORSTART, "i--"},  {SCI_INDICATOREND, "i--"},  {SCI_SETINDICATORCURRENT, "i--"}, {SCI_SETINDICATORVALUE, "i--"},
+    {SCI_INDICATORALLONFOR, "--i"}, {SCI_INDICATORVALUEAT, "i-i"}, {SCI_GETTARGETTEXT, "-r-"}, {SCI_SETSEARCHFLAGS, "i--"},    {SCI_SEARCHINTARGET, "-nf"},
+    {SCI_REPLACETARGET, "-e-"},    {SCI_SETFOLDLEVEL, "-i-"},    {SCI_GETFOLDLEVEL, "--i"},  {SCI_GETLASTCHILD, "-i-"},        {SCI_FOLDLINE, "-i-"},
+    {SCI_CREATEDOCUMENT, "-i-"},   {SCI_SETLINEENDTYPESALLOWED, "i--"}, {SCI_SETMODEVENTMASK, "i--"}};
+
+static const char *manners_of(uint32_t number) {
+  for (size_t i = 0; i < sizeof documented / sizeof *documented; i++)
+    if (documented[i].number == number) return documented[i].letters;
+  return "---";
+}
+
+/* What is answered where a message is refused, and of a value of the model. */
+static sptr_t refused_value(uint32_t number) { return manners_of(number)[2] == 'f' || manners_of(number)[2] == 'F' ? -1 : 0; }
+
+static sptr_t answered_value(uint32_t number, int64_t value) {
+  switch (manners_of(number)[2]) {
+    case 'c': return (char)value;
+    case 'i':
+    case 'F': return (int)value;
+    case '1': return 1;
+    default: return value;
+  }
+}
+
+static ear *ear_of(side *s, uint32_t id) {
+  for (size_t i = 0; i < VIEWS && id != 0; i++)
+    if (s->ears[i].id == id) return &s->ears[i];
+  return NULL;
+}
+
+/* Hearing. What is heard is kept, and compared when the model has done the message. */
+
+typedef struct heard_note {
+  SCNotification note;
+  const ear *by;
+  size_t text, text_length; /* in `texts`; a length of SIZE_MAX where there is none */
+  ear *switched;            /* a view that was given its callback, or lost it, while this was told */
+} heard_note;
+
+static struct {
+  side *teller; /* the session that may tell notes now */
+  size_t count, room, texts_used, texts_room;
+  heard_note *notes;
+  uint8_t *texts;
+} heard;
+
+static void make_room(void **block, size_t *room, size_t wanted, size_t size) {
+  if (wanted <= *room) return;
+  *room = 2 * wanted;
+  *block = realloc(*block, *room * size);
+  must(*block != NULL, "the program has memory of its own");
+}
+
+static void hear(SCNotification *note, void *data);
+
+/* Sets a view's status to one of the program's own, so that what a call does to it is seen. A status is an int. */
+static void mark_status(ear *e) {
+  e->status = (int)(now.sent % 100000) + 10;
+  must_be(hongpilas_direct(e->view, SCI_SETSTATUS, (uptr_t)e->status | (uptr_t)now.sent << 32, (sptr_t)now.sent), 0, "what SETSTATUS answers");
+  counts.calls++;
+}
+
+static void must_stand(ear *e, int status) {
+  must_be(status, e->status, "the status");
+  must(strcmp(hongpilas_refusal(e->view), e->refusal) == 0, "why a call was last refused");
+}
+
+static sptr_t status_of(ear *e) {
+  counts.calls++;
+  return hongpilas_direct(e->view, SCI_GETSTATUS, (uptr_t)-1, -1);
+}
+
+/* What is sent while notes are told is refused, of any view; none is opened or closed, and nothing is given back. A callback may be set. */
+static void meddle(heard_note *h) {
+  static const uint32_t numbers[] = {SCI_GETLENGTH, SCI_GETTEXT, SCI_MARKERADD, SCI_SEARCHINTARGET, SCI_UNDO, SCI_GETRANGEPOINTER, SCI_GETSTYLEDTEXT, SCI_INSERTTEXT,
+                                     SCI_ADDTEXT, SCI_MARKERLINEFROMHANDLE, SCI_SETDOCPOINTER, SCI_CLEARALL};
+  side *s = heard.teller;
+  ear *e = &s->ears[heard.count % VIEWS], *other = &s->ears[(heard.count + now.sent) % VIEWS];
+  uint32_t number = numbers[now.sent % (sizeof numbers / sizeof *numbers)];
+  uint8_t *into = place_for(1, 0, true); /* nothing may be written or read */
+  uint64_t requests = counts.requests;
+  size_t had = blocks;
+  if (e->id == 0) e = ear_of(s, h->by->id);
+  counts.meddled++;
+  mark_status(e);
+  must_be(status_of(e), e->status, "the status while notes are told");
+  must_be(hongpilas_direct(e->view, number, 1, (sptr_t)into), refused_value(number), "what is answered while notes are told");
+  e->status = SC_STATUS_FAILURE;
+  e->refusal = "sent while notes are told";
+  must_stand(e, (int)status_of(e));
+  must(hongpilas_door_open(s->door) == 0, "no view opens while notes are told");
+  hongpilas_door_close(e->view);
+  hongpilas_door_free(s->door);
+  must(counts.requests == requests && blocks == had, "no memory is taken or given back while notes are told");
+  counts.calls += 4;
+  if (other->id == 0 || now.sent % 3 != 0) return;
+  other->hears = !other->hears;
+  hongpilas_set_notify(other->view, other->hears ? hear : NULL, other);
+  h->switched = other;
+}
+
+static void hear(SCNotification *note, void *data) {
+  make_room((void **)&heard.notes, &heard.room, heard.count + 1, sizeof *heard.notes);
+  heard_note *h = &heard.notes[heard.count++];
+  counts.heard++;
+  h->by = data;
+  must(h->by->of == heard.teller, "a session tells its own views, and at its own calls");
+  h->note = *note;
+  h->switched = NULL;
+  h->text = heard.texts_used;
+  h->text_length = note->text == NULL ? SIZE_MAX : (size_t)note->length;
+  if (note->text != NULL) {
+    must(note->length > 0 && note->length <= ROOM, "a text has a length");
+    make_room((void **)&heard.texts, &heard.texts_room, heard.texts_used + h->text_length, 1);
+    memcpy(heard.texts + h->text, note->text, h->text_length);
+    heard.texts_used += h->text_length;
+  }
+  if ((now.sent + heard.count) % 41 == 0) meddle(h);
+  if (note->text != NULL) must(memcmp(heard.texts + h->text, note->text, h->text_length) == 0, "a notification's text stands until the callback returns");
+  memset(note, 0x77, sizeof *note); /* it is the view's own */
+}
+
+/* A call as the door takes it, and as the model does. */
+typedef struct door_call {
+  ear *by;
+  char kind;          /* what l is: a letter of its manners */
+  uptr_t w;
+  sptr_t l;
+  message plain;
+  bool is_nothing;    /* a null text, of which nothing is done */
+  bool is_bad;        /* a null text of which some bytes should be there, or no range */
+  uint8_t *buffer;    /* where a text goes to, or NULL */
+  size_t room, wanted; /* how much stands behind it, and how much of that is written */
+  uint8_t bytes[ROOM]; /* what is written */
+} door_call;
+
+static void compare_notification(const heard_note *h, const hongpilas_note_data *wanted, const door_call *c) {
+  const SCNotification *n = &h->note;
+  bool is_record = wanted->code == SCN_MACRORECORD;
+  must_be(h->by->id, wanted->view, "the view that is told");
+  must_be((sptr_t)n->nmhdr.hwndFrom, h->by->view, "a notification's view");
+  must_be((int64_t)n->nmhdr.idFrom, 0, "a notification's idFrom");
+  must_be(n->nmhdr.code, wanted->code, "a notification's code");
+  must_be(n->position, wanted->position, "a notification's position");
+  must_be(n->modificationType, (int)wanted->kind, "a notification's modificationType");
+  must_be(n->length, wanted->length, "a notification's length");
+  must_be(n->linesAdded, wanted->lines, "a notification's linesAdded");
+  must_be(n->message, (int)wanted->message, "a notification's message");
+  must_be((int64_t)n->wParam, is_record ? (int64_t)c->w : 0, "a notification's wParam");
+  must_be(n->lParam, is_record ? c->l : 0, "a notification's lParam");
+  must_be(n->line, wanted->line, "a notification's line");
+  must_be(n->foldLevelNow, wanted->now, "a notification's foldLevelNow");
+  must_be(n->foldLevelPrev, wanted->prev, "a notification's foldLevelPrev");
+  must_be(n->token, wanted->token, "a notification's token");
+  must(n->ch == 0 && n->modifiers == 0 && n->margin == 0 && n->listType == 0 && n->x == 0 && n->y == 0 && n->annotationLinesAdded == 0 && n->updated == 0 &&
+           n->listCompletionMethod == 0 && n->characterSource == 0, "what the profile does not have is 0 in a notification");
+  if (is_record || wanted->text_length == 0) must(h->text_length == SIZE_MAX, "a notification without a text has none");
+  else must_be_text(heard.texts + h->text, h->text_length, wanted->text, wanted->text_length, "a notification's text");
+}
+
+/* Each note of the model was told, in its order, to each view that had a callback then. */
+static void compare_heard(side *s, const door_call *c) {
+  hongpilas_note_data note;
+  size_t next = 0;
+  for (size_t i = 0; model_note(s->plain, i, &note); i++) {
+    ear *e = ear_of(s, note.view);
+    must(e != NULL, "a note is of a view that is open");
+    if (!e->told) continue;
+    must(next < heard.count, "each note is told");
+    compare_notification(&heard.notes[next], &note, c);
+    ear *switched = heard.notes[next].switched;
+    if (switched != NULL) switched->told = !switched->told;
+    next++;
+  }
+  must_be((int64_t)heard.count, (int64_t)next, "how many notes are told");
+}
+
+/* Sending. */
+
+/* The text that is sent: its bytes at a guarded page, with a NUL behind them where that is its end. A negative length leads to bytes that nobody may
+ * touch. Without a text, w is 0 or the message is refused. */
+static void give_text(door_call *c, const message *m, bool is_null) {
+  bool is_closed = c->kind == 'Z' || (c->kind == 'e' && m->w == -1);
+  const uint8_t *nul = is_closed ? memchr(m->text, 0, m->length) : NULL;
+  size_t length = nul != NULL ? (size_t)(nul - m->text) : m->length;
+  if (!is_closed) {
+    if (m->w < 0) length = 0;
+    else if (m->w < (int64_t)length) length = (size_t)m->w;
+    else c->w = length, c->plain.w = (int64_t)length;
+  }
+  uint8_t *text = place_for(0, length + is_closed, m->at_end);
+  memcpy(text, m->text, length);
+  if (is_closed) text[length] = 0;
+  else if (m->w < 0) text = guarded(0) - 1;
+  c->plain.length = length;
+  c->l = (sptr_t)text;
+  if (!is_null) return;
+  c->l = 0;
+  c->is_nothing = c->kind == 'N' || c->kind == 'Z';
+  c->is_bad = !c->is_nothing && c->w != 0;
+  c->plain.length = 0;
+}
+
+/* The buffer that is filled, with exactly the room that it has to have, and what has to be written into it by the model's answer. */
+static void give_buffer(side *s, door_call *c, const message *m, hongpilas_answer answer, bool is_null) {
+  static const char closed[] = {'s', 1, 'b', 1, 't', 1, 'u', 2};
+  const uint8_t *text = NULL;
+  size_t count = answer == HONGPILAS_DONE ? model_text(s->plain, &text) : 0, nuls = 0;
+  bool is_range = c->kind == 't' || c->kind == 'u';
+  for (size_t i = 0; i < sizeof closed; i += 2)
+    if (closed[i] == c->kind) nuls = (size_t)closed[i + 1];
+  if (c->kind == 'b' && count > c->w) count = c->w;
+  must(count + nuls <= ROOM, "a text fits the guarded memory");
+  c->wanted = is_null || answer != HONGPILAS_DONE ? 0 : count + nuls;
+  c->room = m->at_end ? c->wanted : c->wanted + 16;
+  if (!is_null) {
+    c->buffer = place_for(1, c->room, m->at_end);
+    memset(c->buffer, 0x77, c->room);
+    if (count > 0) memcpy(c->bytes, text, count);
+    memset(c->bytes + count, 0, nuls);
+  }
+  c->l = (sptr_t)c->buffer;
+  if (!is_range) return;
+  struct Sci_TextRange range = {{(Sci_PositionCR)m->w, (Sci_PositionCR)m->l}, (char *)c->buffer};
+  c->l = (sptr_t)memcpy(place_for(2, sizeof range, true), &range, sizeof range);
+  c->w = (uptr_t)now.sent; /* it is not looked at */
+}
+
+/* The value that a question has to answer: of a null buffer how long the text is. */
+static sptr_t value_of_question(const side *s, const door_call *c) {
+  const uint8_t *text;
+  size_t length = model_text(s->plain, &text);
+  if (c->buffer == NULL || c->kind != 'b') return (sptr_t)length;
+  if (c->plain.number == SCI_GETCURLINE) return model_value(s->plain);
+  return (sptr_t)(c->w < length ? c->w : length);
+}
+
+static void must_be_written(const door_call *c, bool is_done) {
+  if (is_done && c->wanted > 0) must(memcmp(c->buffer, c->bytes, c->wanted) == 0, "what is written into a buffer");
+  for (size_t i = is_done ? c->wanted : 0; c->buffer != NULL && i < c->room; i++) must(c->buffer[i] == 0x77, "the rest of a buffer stays");
+}
+
+/* Makes the call by one form or the other, with the notes that are told, and answers its value. */
+static sptr_t make_call(side *s, const door_call *c, int *status) {
+  sptr_t value;
+  struct Sci_TextRange range;
+  bool has_range = (c->kind == 't' || c->kind == 'u') && c->l != 0;
+  if (has_range) memcpy(&range, (const void *)c->l, sizeof range);
+  for (size_t i = 0; i < VIEWS; i++) s->ears[i].told = s->ears[i].hears;
+  heard.count = heard.texts_used = 0;
+  heard.teller = s;
+  if (c->plain.how / 2 % 2 == 0) {
+    value = hongpilas_direct_status(c->by->view, c->plain.number, c->w, c->l, status);
+  } else {
+    value = hongpilas_direct(c->by->view, c->plain.number, c->w, c->l);
+    *status = (int)status_of(c->by);
+  }
+  heard.teller = NULL;
+  refuse_in = 0;
+  if (has_range) must(memcmp(&range, (const void *)c->l, sizeof range) == 0, "a range is only read");
+  return value;
+}
+
+static bool is_question(char kind) { return strchr("rsbtu", kind) != NULL; }
+
+/* What w and l are cut down to for the model, where they are ints. */
+static message as_ints(const message *m) {
+  const char *letters = manners_of(m->number);
+  message cut = *m;
+  if (letters[0] == 'i') cut.w = (int)m->w;
+  if (letters[1] == 'i') cut.l = (int)m->l;
+  if (letters[1] == 'm') cut.l = (uint32_t)m->l;
+  return cut;
+}
+
+/* A refused growth changes nothing, tells nothing and writes nothing. A text that is asked for takes no memory, but with its styles. */
+static hongpilas_answer see_refused_growth(side *s, const door_call *c, sptr_t value) {
+  must(!is_question(c->kind) || (c->plain.number == SCI_GETSTYLEDTEXT && c->buffer != NULL), "a text is given without memory");
+  look_at_refused_growth(s, &c->plain);
+  c->by->status = SC_STATUS_BADALLOC;
+  c->by->refusal = answer_names[HONGPILAS_OUT_OF_MEMORY];
+  must_be(value, refused_value(c->plain.number), "what is answered where memory is refused");
+  must_be((int64_t)heard.count, 0, "a refused call tells nothing");
+  must_be_written(c, false);
+  must_stand(c->by, SC_STATUS_BADALLOC);
+  return HONGPILAS_OUT_OF_MEMORY;
+}
+
+/* The answer of the model. It was asked a question before, so that the buffer is as large as it has to be; other messages it is sent once the door has
+ * done them. */
+static hongpilas_answer answer_of_model(side *s, const door_call *c) {
+  int64_t value;
+  if (c->is_bad) return HONGPILAS_BAD_ARGUMENT;
+  if (c->is_nothing) return HONGPILAS_DONE;
+  return model_send(s->plain, c->plain.view, c->plain.number, c->plain.w, c->plain.l, c->plain.text, c->plain.length, &value);
+}
+
+static void prepare_call(side *s, door_call *c, const message *m, hongpilas_answer *answer) {
+  bool is_null = m->how / 4 % 16 == 5;
+  c->kind = manners_of(m->number)[1];
+  c->w = (uptr_t)m->w;
+  c->l = (sptr_t)m->l;
+  c->plain = as_ints(m);
+  c->is_nothing = c->is_bad = false;
+  c->buffer = NULL;
+  c->room = c->wanted = 0;
+  if (strchr("nNZe", c->kind) != NULL) give_text(c, m, is_null);
+  if (!is_question(c->kind)) return;
+  *answer = answer_of_model(s, c);
+  give_buffer(s, c, m, *answer, is_null);
+}
+
+static hongpilas_answer send_by_door(side *s, const message *m) {
+  static door_call c;
+  hongpilas_answer answer = HONGPILAS_DONE;
+  int status = 0;
+  begin_message(s, m, "hongpilas_direct");
+  c.by = ear_of(s, m->view);
+  if (c.by == NULL) {
+    must_be(hongpilas_direct(0, m->number, (uptr_t)m->w, m->l), 0, "what no view answers");
+    refuse_in = 0;
+    counts.answers[HONGPILAS_NO_SUCH_VIEW]++;
+    return HONGPILAS_NO_SUCH_VIEW;
+  }
+  prepare_call(s, &c, m, &answer);
+  if (refuse_in != 0 || c.by->status == SC_STATUS_BADALLOC || now.sent % 4 != 0) mark_status(c.by);
+  uint64_t requests = counts.requests;
+  sptr_t value = make_call(s, &c, &status);
+  if (was_refused && status == SC_STATUS_BADALLOC) return see_refused_growth(s, &c, value);
+  if (!is_question(c.kind)) answer = answer_of_model(s, &c);
+  else if (m->number != SCI_GETSTYLEDTEXT) must(requests == counts.requests, "a text is given without memory");
+  counts.answers[answer & 7]++;
+  bool is_done = answer == HONGPILAS_DONE, is_unknown = answer == HONGPILAS_UNKNOWN_MESSAGE;
+  if (!is_done && !is_unknown) {
+    c.by->status = SC_STATUS_FAILURE;
+    c.by->refusal = answer_names[answer];
+  }
+  must_stand(c.by, status);
+  if (!is_done) must_be(value, is_unknown ? 0 : refused_value(m->number), "what is answered where a message is refused");
+  else if (c.is_nothing) must_be(value, 0, "what is answered where nothing is done");
+  else must_be(value, is_question(c.kind) ? value_of_question(s, &c) : answered_value(m->number, model_value(s->plain)), "the value");
+  if (is_done && !is_question(c.kind) && !c.is_nothing) compare_heard(s, &c);
+  else must_be((int64_t)heard.count, 0, "what is not done tells nothing");
+  must_be_written(&c, is_done);
+  return answer;
+}
+
+/* Calls that are no messages. */
+
+/* What a view's status and refusal have to be, of all of them. */
+static void compare_ears(side *s, bool stays) {
+  (void)stays;
+  for (size_t i = 0; i < VIEWS; i++)
+    if (s->ears[i].id != 0) must_stand(&s->ears[i], (int)status_of(&s->ears[i]));
+}
+
+static hongpilas_answer open_door(side *s, const hongpilas_limits *limits) {
+  s->door = limits == NULL ? hongpilas_door_new() : hongpilas_door_new_with_limits(limits);
+  if (s->door != NULL) return HONGPILAS_DONE;
+  return was_refused ? HONGPILAS_OUT_OF_MEMORY : HONGPILAS_BAD_ARGUMENT;
+}
+
+static void close_door(side *s) {
+  hongpilas_door_free(s->door);
+  hongpilas_door_free(NULL);
+  counts.calls++;
+}
+
+/* A view takes memory of the door before what else may refuse it is looked at. */
+static hongpilas_answer open_by_door(side *s, uint32_t *view) {
+  uint32_t wanted = 0;
+  sptr_t opened = hongpilas_door_open(s->door);
+  model *aside = model_copy(s->plain);
+  hongpilas_answer answer = model_new_view(aside, &wanted);
+  model_free(aside);
+  if (opened == 0) return was_refused && answer == HONGPILAS_DONE ? HONGPILAS_OUT_OF_MEMORY : HONGPILAS_TOO_MANY;
+  ear *e = s->ears;
+  while (e->id != 0) e++;
+  *e = (ear){s, wanted, opened, SC_STATUS_OK, "", true, true};
+  *view = wanted;
+  hongpilas_set_notify(opened, hear, e);
+  counts.calls++;
+  return HONGPILAS_DONE;
+}
+
+static hongpilas_answer close_by_door(side *s, uint32_t view) {
+  ear *e = ear_of(s, view);
+  hongpilas_door_close(e == NULL ? 0 : e->view);
+  if (e == NULL) return HONGPILAS_NO_SUCH_VIEW;
+  e->id = 0;
+  return HONGPILAS_DONE;
+}
+
+/* SCI_GETRANGEPOINTER lends, and SCI_GETTEXTRANGE copies. */
+static void lend_by_door(side *s, uint32_t view, uint64_t start, uint64_t count, bool copies) {
+  ear *e = ear_of(s, view);
+  const uint8_t *wanted = NULL;
+  message m = {view, copies ? SCI_GETTEXTRANGE : SCI_GETRANGEPOINTER, (int64_t)start, (int64_t)(start + count), NULL, 0, count % 2 == 0, 0};
+  if (copies || e == NULL) {
+    by->send(s, &m);
+    return;
+  }
+  begin_message(s, &m, "SCI_GETRANGEPOINTER");
+  mark_status(e);
+  int status = 0;
+  uint64_t requests = counts.requests;
+  hongpilas_answer answer = model_lend_range(s->plain, view, start, count, &wanted);
+  const uint8_t *bytes = (const uint8_t *)hongpilas_direct_status(e->view, SCI_GETRANGEPOINTER, (uptr_t)start, (sptr_t)count, &status);
+  must(requests == counts.requests, "lending takes no memory");
+  if (answer == HONGPILAS_DONE) {
+    if (count > 0) must_be_text(bytes, count, wanted, count, "the lent range");
+    keep_lent(s, bytes, (size_t)count);
+  } else {
+    must(bytes == NULL, "a range that is refused is lent nowhere");
+    e->status = SC_STATUS_FAILURE;
+    e->refusal = answer_names[answer];
+  }
+  must_stand(e, status);
+}
+
+/* Texts that are asked for, oftener than the messages are drawn. */
+static void read_by_door(side *s, uint32_t view, const record *r) {
+  static const uint32_t numbers[] = {SCI_GETTEXT, SCI_GETCURLINE, SCI_GETLINE, SCI_GETSELTEXT, SCI_GETTEXTRANGE, SCI_GETSTYLEDTEXT, SCI_GETTARGETTEXT};
+  uint32_t number = numbers[r->t_kind % (sizeof numbers / sizeof *numbers)];
+  around a = {model_peek(s->plain, view, SCI_GETLENGTH), model_peek(s->plain, view, SCI_GETLINECOUNT), 0, 0, 1};
+  bool is_line = number == SCI_GETLINE, is_range = number == SCI_GETTEXTRANGE || number == SCI_GETSTYLEDTEXT;
+  int64_t w = draw_number(is_line ? 'l' : 'p', r->w_kind, r->w, 0, &a);
+  message m = {view, number, w, draw_number(is_range ? 'e' : '-', r->l_kind, r->l, w, &a), NULL, 0, r->t % 2 == 0, r->t};
+  by->send(s, &m);
+}
+
+/* A status is what it was set to, and no view has none. */
+static void set_status(side *s, uint32_t view, const record *r) {
+  ear *e = ear_of(s, view);
+  int64_t w = r->w_kind < 128 ? r->w % 4 : hostile_number(r->w_kind, r->w, &(around){0});
+  int status = 0;
+  now.doing = "SCI_SETSTATUS";
+  give_up_lent(s);
+  must_be(hongpilas_direct(e->view, SCI_SETSTATUS, (uptr_t)w, r->l), 0, "what SETSTATUS answers");
+  e->status = (int)w;
+  must_stand(e, (int)status_of(e));
+  must_be(hongpilas_direct_status(0, SCI_GETLENGTH, 0, 0, &status), 0, "what no view answers");
+  must_be(status, SC_STATUS_FAILURE, "the status of no view");
+  counts.calls += 3;
+}
+
+/* Null texts and null buffers of all messages that take any, no range, and a view that loses its callback, or gets it again. */
+static void try_null_pointers(side *s, uint32_t view, const record *r) {
+  static const uint32_t numbers[] = {SCI_ADDTEXT, SCI_INSERTTEXT, SCI_SETTEXT, SCI_REPLACESEL, SCI_SETSTYLINGEX, SCI_APPENDTEXT, SCI_COPYTEXT, SCI_SEARCHINTARGET,
+                                     SCI_REPLACETARGET, SCI_GETTEXT, SCI_GETCURLINE, SCI_GETLINE, SCI_GETSELTEXT, SCI_GETTEXTRANGE, SCI_GETSTYLEDTEXT, SCI_GETTARGETTEXT};
+  static const uint8_t some[8] = "abcdefg";
+  message m = {view, numbers[r->w % (sizeof numbers / sizeof *numbers)], r->l % 4 - 1, -1, some, sizeof some, true, 5 * 4};
+  ear *e = ear_of(s, view);
+  int status = 0;
+  by->send(s, &m);
+  mark_status(e);
+  must_be(hongpilas_direct_status(e->view, r->t % 2 == 0 ? SCI_GETTEXTRANGE : SCI_GETSTYLEDTEXT, 0, 0, &status), 0, "what no range answers");
+  e->status = SC_STATUS_FAILURE;
+  e->refusal = answer_names[HONGPILAS_BAD_ARGUMENT];
+  must_stand(e, status);
+  e->hears = r->t_kind % 4 != 0;
+  hongpilas_set_notify(e->view, e->hears ? hear : NULL, e);
+  hongpilas_door_close(0);
+  counts.calls += 3;
+}
+
+static const way way_by_door = {"the door",   open_door,    close_door,   open_by_door, close_by_door, send_by_door,
+                                lend_by_door, compare_ears, read_by_door, set_status,   try_null_pointers};
+
+#endif
