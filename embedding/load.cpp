@@ -1,8 +1,8 @@
 // load MEGABYTES MINUTES [SEED [LIBSCINTILLA]]: a document of so many MiB, with styles, markers, indicators, folds, hidden lines and three views, under
 // random work for so many minutes. Each call is timed. After each thousandth, text, lines, rows, flags, styles, indicators and positions are compared
-// with a plain model (blocks.hpp) about the places of the last work and at random ones, and after each hundred thousandth everywhere. At the end stand
-// the times, and the memory that the library holds beside what is alive. Where Scintilla's library is named it does the same work, and is timed too.
-// load huge GIGABYTES: one document above 4 GiB, see huge() below.
+// with a plain model (blocks.hpp) about the places of the last work and at random ones, and after each hundred thousandth everywhere. Each minute, or
+// each fifth in half an hour and more, it tells the memory that the library holds beside what is alive, and at the end the times. Where Scintilla's
+// library is named it does the same work, and is timed too. The document of 8 MiB has line ends of Unicode where Scintilla does not work beside.
 // It is linked with a copy of the library that takes its memory by load_malloc, load_realloc and load_free (objcopy --redefine-sym). C++17.
 #include "blocks.hpp"
 
@@ -13,6 +13,7 @@
 #include <cmath>
 #include <cstdio>
 #include <cstring>
+#include <ctime>
 #include <dlfcn.h>
 #include <malloc.h>
 
@@ -467,6 +468,14 @@ static void open_all(const char *scintilla) {
   }
 }
 
+// What is held now, beside what is alive: a row of a table.
+static void print_moment(double minutes, std::uint64_t done) {
+  double has = double(held) / 1048576, needs = alive() / 1048576;
+  std::printf("| %.0f | %" PRIu64 " | %" PRIu64 " | %" PRId64 " | %" PRId64 " | %zu | %.1f MiB | %.1f MiB | %.2f |\n", minutes, calls - done, compared,
+              plain.length(), plain.lines(), plain.history_bytes, needs, has, has / needs);
+  std::fflush(stdout);
+}
+
 static int work(double megabytes, double minutes, const char *scintilla) {
   open_all(scintilla);
   plain.unicode = scintilla == nullptr && megabytes == 8;
@@ -482,7 +491,8 @@ static int work(double megabytes, double minutes, const char *scintilla) {
   call(UNDOS, 0, SCI_EMPTYUNDOBUFFER);
   plain.forget();
   for (int g = 0; g < GROUPS; g++) ours[g] = theirs[g] = Times();
-  double begun = now_ns(), next = begun;
+  double begun = now_ns(), next = begun, every = minutes < 30 ? 60e9 : 300e9;
+  std::printf("| Minutes | calls | compared | text | lines | history | alive | held | held for each byte alive |\n|---|---|---|---|---|---|---|---|---|\n");
   std::uint64_t done = calls, next_compare = calls + 1000;
   while (now_ns() - begun < minutes * 60e9) {
     switch (below(12)) {
@@ -500,14 +510,14 @@ static int work(double megabytes, double minutes, const char *scintilla) {
       compare(compared % 100 == 99);
     }
     if (now_ns() < next) continue;
-    next = now_ns() + 60e9;
-    std::printf("load: %.0f minutes, %" PRIu64 " calls, %" PRIu64 " times compared, length %" PRId64 ", lines %" PRId64 ", held %.1f MiB, alive %.1f MiB\n",
-                (now_ns() - begun) / 60e9, calls - done, compared, plain.length(), plain.lines(), double(held) / 1048576, alive() / 1048576);
-    std::fflush(stdout);
+    print_moment((now_ns() - begun) / 60e9, done);
+    while (next <= now_ns()) next += every;
   }
+  print_moment((now_ns() - begun) / 60e9, done);
   compare(true);
-  std::printf("load: %g MiB, %.1f minutes, %" PRIu64 " calls; compared %" PRIu64 " times, %" PRIu64 " of these over the whole document\n", megabytes,
-              (now_ns() - begun) / 60e9, calls - done, compared, compared_whole);
+  std::printf("load: %g MiB, %.1f minutes, of which %.1f on a processor, %" PRIu64 " calls; compared %" PRIu64 " times, %" PRIu64
+              " of these over the whole document\n", megabytes, (now_ns() - begun) / 60e9, double(std::clock()) / CLOCKS_PER_SEC / 60, calls - done, compared,
+              compared_whole);
   print_times("Hongpilas, microseconds", ours);
   if (widgets[0] != nullptr) print_times("Scintilla, microseconds", theirs);
   std::printf("load: at the end the library holds %.1f MiB, at the most it held %.1f; alive are %.1f (%" PRId64 " bytes of text, %" PRId64
