@@ -285,6 +285,7 @@ static void open_session(side *s, const record *r, bool is_low) {
     uint64_t *one = all[r->w % 7];
     *one = r->t % 3 == 0 ? 0 : r->t % 3 == 1 ? *one + 1 : UINT64_MAX;
     counts.calls++;
+    was_refused = false;
     must_be(by->open(s, &wrong), HONGPILAS_BAD_ARGUMENT, "wrong limits");
     must(model_new(&wrong) == NULL, "wrong limits in the model");
   }
