@@ -505,12 +505,13 @@ static void search() {
 // A marker, a level, a state and a fold behind 2^32, over a line that comes and goes before them.
 static void mark() {
   Number line = line_of(far_place) + 4, handle = Number(markers.size()) + 1, lines = line_of(length) + 1;
+  Number others = tell(SCI_MARKERGET, line);
   known(tell(SCI_MARKERADD, line, 5), handle, "MARKERADD");
   tell(SCI_SETLINESTATE, line, 77);
   tell(SCI_SETFOLDLEVEL, line, SC_FOLDLEVELBASE | SC_FOLDLEVELHEADERFLAG);
   tell(SCI_SETFOLDLEVEL, line + 1, SC_FOLDLEVELBASE + 1);
   tell(SCI_INSERTTEXT, far_place, 0, "\n");
-  known(tell(SCI_MARKERGET, line + 1), 1 << 5, "MARKERGET");
+  known(tell(SCI_MARKERGET, line + 1), others | 1 << 5, "MARKERGET");
   known(tell(SCI_MARKERNEXT, 0, 1 << 5), line + 1, "MARKERNEXT");
   known(tell(SCI_MARKERPREVIOUS, lines, 1 << 5), line + 1, "MARKERPREVIOUS");
   known(tell(SCI_MARKERLINEFROMHANDLE, handle), line + 1, "MARKERLINEFROMHANDLE");
