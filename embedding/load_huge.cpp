@@ -3,7 +3,7 @@
 // text that repeats and of what was put in; it is compared about the places of the work after each thousandth call, and in full once the work is done and
 // once more when all of it is undone. Then messages of each kind are sent about 2^32, whose answers, texts and notes follow from the model. The times
 // of calls stand at the end; a jump from one place to another moves all bytes between, and has a row of its own.
-// It needs some 9 GB of memory at most. C++17.
+// It needs some 13 GB of memory at most: the text has grown by doubling, and the styles behind 2^32 are as long as it is. C++17.
 #include <hongpilas.h>
 
 #include <algorithm>
