@@ -1,13 +1,17 @@
 #!/usr/bin/env python3
 """Writes the table of wrong bodies in docs/WRONG_BODIES.md, from crates/*/must-fail and docs/refused.txt.
 
-    tools/refused.py             writes the table
-    tools/refused.py --check     writes nothing, and ends with status 1 where the table is not what it would write, where docs/refused.txt
-                                 names no body, or where the gate does not try a body that the page's first table names
+    tools/refused.py                    writes the table
+    tools/refused.py --check            writes nothing, and ends with status 1 where the table is not what it would write, where
+                                        docs/refused.txt names no body, or where the gate does not try a body of the page's first table
+    tools/refused.py --learn FOLDER     takes from the files of `tools/wrong_bodies --said FOLDER` which clauses refuse a body, puts them
+                                        into docs/refused.txt in the place of what stood there, and writes the table
 
-docs/refused.txt says which clauses refuse a body: a line `CRATE/NAME CLAUSE..` for each body of which that is known, sorted. A CLAUSE is
-the name of a clause of the function in which the body stands, `ensures` or `requires` if it has no name, FUNCTION.CLAUSE if it is a clause
-of another function, loop.CLAUSE if it belongs to a loop's invariant, and `invariant` for that of a type.
+docs/refused.txt has a line `CRATE/NAME CLAUSE..` for each body of which it is known which clauses are not proved with it, sorted. A
+CLAUSE is the name of one of the function in which the body stands, or `ensures` if it has no name; FUNCTION.CLAUSE of what a call requires,
+or FUNCTION.requires; loop.CLAUSE of a loop's invariant, or `loop`; invariant.CLAUSE of a type's, or `invariant`. Other goals have their own
+names, as `overflow_add` and `bounds`. `answers` and `uncovered` say that there is no such goal: an answer by hand no longer fits, or the
+borrow checker does not cover the body's form.
 
 A line `does: WORDS` in a body's block says what the body does, where its name does not: it stands behind the name."""
 import importlib.machinery
@@ -22,9 +26,25 @@ FIRST = "The first to be asked for"
 # A body of the page's first table: a crate, and names behind it; and what a block says of its body.
 NAMED = re.compile(r"`(\w+)`: ((?:`\w+`(?!:)(?:[,;] )?)+)")
 DOES = re.compile(r"^does: (.*)$", re.M)
+# What stands for no clause by its name.
+WORDS = {
+    "invariant": "the type's invariant",
+    "loop": "the loop's invariant",
+    "answers": "an answer by hand that no longer fits",
+    "uncovered": "the borrow checker, which does not cover it",
+}
+# What a check says of an item; of a goal that is open, in the line of its function or in a note before it; and of an answer by hand.
+JUDGED = re.compile(r"^\w+ \w+::(\S+): (proved|not proved|no proof)(.*)$")
+UNCOVERED = "the borrow checker does not cover this function"
+WAITING = re.compile(r"^: (?:it calls|the borrow checker's part in its proof is not made yet)")
+OPEN = re.compile(r"`search` did not prove ([^;]*)")
+NOTED = re.compile(r"^note: \S+:\d+:\d+: it is not proved that .*?\(`([^`]+)`\)")
+ANSWER = re.compile(r"^\./proofs/(\S+)/\w+\.antt:\d+:\d+: error: (?:`([^`]+)`: )?(.*)$", re.M)
+# What is wrong with an answer by hand whose goal is there, and is not what it proves.
+FITS = re.compile(r"the two types |no proof of ")
 BEGIN, END = (f"<!-- Written by tools/refused.py: {word} -->" for word in ("begin", "end"))
-HEAD = """# Which clauses refuse each wrong body: CRATE/NAME CLAUSE.. (tools/refused.py says how). The clauses were read by hand where
-# `tools/wrong_bodies --said` did not tell them.
+HEAD = """# Which clauses refuse each wrong body: CRATE/NAME CLAUSE.. (tools/refused.py says how they are written). What `tools/wrong_bodies --said`
+# has not told yet was read by hand.
 """
 
 
@@ -80,12 +100,69 @@ def clauses():
     return {tuple(name.split("/")): words for name, *words in rows}
 
 
+def goals_of(said):
+    """The open goals of each function that a check refuses for itself, by its path; `answers` where an answer by hand does not fit, and
+    `uncovered` where there are no goals."""
+    found, noted = {}, []
+    for line in said.split("\n"):
+        note, judged = NOTED.match(line), JUDGED.match(line)
+        if note:
+            noted.append(note[1])
+        elif judged:
+            path, verdict, rest = judged.groups()
+            if verdict != "proved" and not (verdict == "no proof" and WAITING.match(rest)):
+                found[path] = noted + [it for goals in OPEN.findall(rest) for it in re.findall(r"`([^`]+)`", goals)]
+                found[path] += ["uncovered"] * (UNCOVERED in rest)
+            noted = []
+    for folder, goal, fault in ANSWER.findall(said):
+        path = folder.replace("/", "::")
+        if path in found:
+            found[path].append(goal if goal and FITS.search(fault) else "answers")
+    return found
+
+
+def clause_of(goal):
+    """The clause that a goal is about, as docs/refused.txt has it."""
+    place, _, name = goal.partition("-clause-")
+    call, loop = re.match(r"(.+?)-requires\b", place), re.match(r".+-(?:init|preserved|smaller)\b", place)
+    if place.split("-")[0] == "returns":
+        return name or "ensures"
+    if call:
+        return f"{call[1]}.{name or 'requires'}"
+    owner = "loop" if loop else "invariant" if place.startswith("invariant_of-") else ""
+    return (f"{owner}.{name}" if name else owner) if owner else place.split("-")[0]
+
+
+def learned(folder):
+    """The clauses that the files of a folder tell of bodies, by crate and name."""
+    module, told, sources, all_bodies = wrong_bodies(), {}, {}, {}
+    for file in sorted(os.listdir(folder)):
+        with open(os.path.join(folder, file), encoding="utf-8") as it:
+            names, _, said = it.read().partition("\n\n")
+        goals = goals_of(said)
+        for crate, name in (it.split("/") for it in names.splitlines()):
+            if crate not in sources:
+                sources[crate] = module.Source(crate)
+                all_bodies[crate] = {it.name: it for it in module.bodies_of(crate, False, sources[crate])}
+            body = all_bodies[crate].get(name)
+            own = [goal for path, its in goals.items() if body and body.functions and body.is_among([path]) for goal in its]
+            told.setdefault((crate, name), []).extend(own)
+    return {it: clauses_of(goals) for it, goals in told.items() if goals}
+
+
+def clauses_of(goals):
+    """The clauses of goals, each once; what says less only where nothing else is told."""
+    found = list(dict.fromkeys(clause_of(it) for it in goals))
+    return [it for it in found if it not in ("answers", "uncovered", "unreachable.requires")] or found[:1]
+
+
 def shown(clause):
     """A clause in words."""
-    if clause == "invariant":
-        return "the invariant"
+    if clause in WORDS:
+        return WORDS[clause]
     owner, _, name = clause.rpartition(".")
-    return f"`{name}`" + (" of the loop" if owner == "loop" else f" of `{owner}`" if owner else "")
+    of = {"": "", "loop": " of the loop", "invariant": " of the invariant"}.get(owner, f" of `{owner}`")
+    return f"`{name}`{of}"
 
 
 def table(found, known):
@@ -93,7 +170,7 @@ def table(found, known):
     by_gate = sum(is_gate for _, _, is_gate in found.values())
     crates = sorted({crate for crate, _ in found})
     count = f"{len(found):,} wrong bodies in {len(crates)} crates. The gate tries {by_gate}, which are marked"
-    lines = [f"{count}. The clause that refuses a body is known of {len(known):,}."]
+    lines = [f"{count}. What refuses a body is known of {len(known):,}."]
     for crate in crates:
         rows = sorted((place, name, told, is_gate) for (of, name), (place, told, is_gate) in found.items() if of == crate)
         lines += ["", f"### `{crate}`: {len(rows)}", "", "| Name | Function | Refused by | Gate |", "|---|---|---|---|"]
@@ -131,11 +208,23 @@ def faults(found, known):
         yield f"{PAGE}: its table is not that of the wrong bodies: run tools/refused.py"
 
 
+def learn(folder, found, known):
+    """What is known with what the folder tells; writes docs/refused.txt."""
+    told = {it: words for it, words in learned(folder).items() if it in found}
+    known = dict(sorted({**known, **told}.items()))
+    write(FILE, HEAD + "".join(f"{'/'.join(it)} {' '.join(words)}\n" for it, words in known.items()))
+    print(f"{FILE}: {len(told)} of {len(known)} bodies are told by {folder}")
+    return known
+
+
 def main(arguments):
-    if arguments not in ([], ["--check"]):
+    is_learning = len(arguments) == 2 and arguments[0] == "--learn"
+    if arguments not in ([], ["--check"]) and not is_learning:
         sys.exit(__doc__)
     found, known = bodies(), clauses()
-    if not arguments:
+    if is_learning:
+        known = learn(arguments[1], found, known)
+    if arguments != ["--check"]:
         write(PAGE, page(found, known))
     wrong = list(faults(found, known))
     print("\n".join(wrong) or f"the table of {PAGE} is that of {len(found):,} wrong bodies")
