@@ -5,7 +5,7 @@
     tools/refused.py --check            writes nothing, and ends with status 1 where the table is not what it would write, where
                                         docs/refused.txt names no body, or where the gate does not try a body of the page's first table
     tools/refused.py --learn FOLDER     takes from the files of `tools/wrong_bodies --said FOLDER` which clauses refuse a body, puts them
-                                        into docs/refused.txt in the place of what stood there, and writes the table
+                                        into docs/refused.txt in the place of what stood there, if they say as much, and writes the table
 
 docs/refused.txt has a line `CRATE/NAME CLAUSE..` for each body of which it is known which clauses are not proved with it, sorted. A
 CLAUSE is the name of one of the function in which the body stands, or `ensures` if it has no name; FUNCTION.CLAUSE of what a call requires,
@@ -25,6 +25,8 @@ PAGE, FILE = "docs/WRONG_BODIES.md", "docs/refused.txt"
 FIRST = "The first to be asked for"
 # A body of the page's first table: a crate, and names behind it; and what a block says of its body.
 NAMED = re.compile(r"`(\w+)`: ((?:`\w+`(?!:)(?:[,;] )?)+)")
+# What says less than a clause's name: it does not take the place of one.
+LESS = ("ensures", "answers", "uncovered")
 DOES = re.compile(r"^does: (.*)$", re.M)
 # What stands for no clause by its name.
 WORDS = {
@@ -128,7 +130,7 @@ def clause_of(goal):
     if place.split("-")[0] == "returns":
         return name or "ensures"
     if call:
-        return f"{call[1]}.{name or 'requires'}"
+        return f"{call[1].split('-')[0]}.{name or 'requires'}"
     owner = "loop" if loop else "invariant" if place.startswith("invariant_of-") else ""
     return (f"{owner}.{name}" if name else owner) if owner else place.split("-")[0]
 
@@ -210,7 +212,7 @@ def faults(found, known):
 
 def learn(folder, found, known):
     """What is known with what the folder tells; writes docs/refused.txt."""
-    told = {it: words for it, words in learned(folder).items() if it in found}
+    told = {it: words for it, words in learned(folder).items() if it in found and not (it in known and words[0] in LESS)}
     known = dict(sorted({**known, **told}.items()))
     write(FILE, HEAD + "".join(f"{'/'.join(it)} {' '.join(words)}\n" for it, words in known.items()))
     print(f"{FILE}: {len(told)} of {len(known)} bodies are told by {folder}")
