@@ -1,5 +1,5 @@
 #!/usr/bin/env python3
-"""Writes the methods of all messages, the constants, Rust's declarations of the calls and the version into the wrappers for C++, Rust and Python.
+"""Writes the methods of all messages, the constants, the names of notes, Rust's declarations of the calls and the version into the wrappers for C++, Rust and Python.
 
 A message's name and number come from the definitions (crates/ed_types), its arguments, its answer and its sentence from its row of docs/MESSAGES.md.
 Run it at the top of the repository after a message, a row or a constant has changed. With --check it writes nothing, and fails where a wrapper is not
@@ -17,6 +17,7 @@ BEGIN = "Written by tools/wrappers.py: begin"
 END = "Written by tools/wrappers.py: end"
 CPP = "include/hongpilas.hpp"
 RUST = "bindings/rust/hongpilas/src/messages.rs"
+RUST_NOTES = "bindings/rust/hongpilas/src/notes.rs"
 RUST_CONSTANTS = "bindings/rust/hongpilas-sys/src/constants.rs"
 RUST_CALLS = "bindings/rust/hongpilas-sys/src/calls.rs"
 PYTHON = "bindings/python/src/hongpilas/_messages.py"
@@ -225,7 +226,9 @@ def rust_method(message):
     passed = [f"sys::SCI_{message.spelled}", f"length_of({text})" if message.takes_length else w, l,
               text if message.takes_length else f"{text}.as_ref()" if text else "&[]"]
     body += [f"self.{call}({', '.join(passed)})"]
-    head = f"    pub fn {message.snake}(&mut self{taken}) -> Result<{kind}, Refusal> {{"
+    # A question that lends nothing may stand among the arguments of another message.
+    lender = "&mut self" if message.changes or message.answers == "text" else "&self"
+    head = f"    pub fn {message.snake}({lender}{taken}) -> Result<{kind}, Refusal> {{"
     return [*told(message, 96, "    /// "), head, *(f"        {line}" for line in body), "    }", ""]
 
 
@@ -320,14 +323,11 @@ def spelled(number):
     return str(number) if number < 10 or 2000 <= number < 5000 else f"0x{number:X}"
 
 
-# What notes have, and the numbers of messages; all else is an argument.
-IN_NOTES = ("SCI_", "SCN_", "SC_MOD_", "SC_PERFORMED_", "SC_MULTI", "SC_STARTACTION", "SC_LASTSTEP")
-
-
 def rust_constant(name, title, number):
+    """The number of a message or a note has the type of such numbers; all else has that of arguments."""
     if title:
         return f"// {title}.\n"
-    kind = "u32" if name.startswith(IN_NOTES) else "i64"
+    kind = "u32" if name.startswith(("SCI_", "SCN_")) else "i64"
     return f"pub const {name}: {kind} = {number};\n"
 
 
@@ -360,6 +360,7 @@ def files(found):
     """What stands between the marks of each file."""
     yield CPP, cpp(found)
     yield RUST, rust(found)
+    yield RUST_NOTES, "".join(f'        sys::{name} => Some("{name}"),\n' for name, _ in header.notes())
     yield RUST_CONSTANTS, constants(rust_constant)
     yield RUST_CALLS, rust_calls()
     yield PYTHON, python(found)
