@@ -357,24 +357,26 @@ def expected():
 
 
 def files(found):
-    """What stands between the marks of each file."""
-    yield CPP, cpp(found)
-    yield RUST, rust(found)
-    yield RUST_NOTES, "".join(f'        sys::{name} => Some("{name}"),\n' for name, _ in header.notes())
-    yield RUST_CONSTANTS, constants(rust_constant)
-    yield RUST_CALLS, rust_calls()
-    yield PYTHON, python(found)
-    yield PYTHON_CONSTANTS, constants(python_constant)
-    yield "bindings/cpp/calls.cpp", "".join(f"  view.{call(it, it.name, 'true')};\n" for it in found)
-    yield "bindings/rust/hongpilas/examples/calls.rs", "".join(f"    view.{call(it, it.snake, 'true')}?;\n" for it in found)
-    yield "bindings/python/calls.py", "".join(f"    view.{call(it, it.snake, 'True')}\n" for it in found)
+    """What stands between the marks of each file, by their titles."""
+    yield CPP, {"": cpp(found), " names": "".join(f'    case {name}:\n      return "{name}";\n' for name, _ in header.notes())}
+    yield RUST, {"": rust(found)}
+    yield RUST_NOTES, {"": "".join(f'        sys::{name} => Some("{name}"),\n' for name, _ in header.notes())}
+    yield RUST_CONSTANTS, {"": constants(rust_constant)}
+    yield RUST_CALLS, {"": rust_calls()}
+    yield PYTHON, {"": python(found)}
+    yield PYTHON_CONSTANTS, {"": constants(python_constant)}
+    yield "bindings/cpp/calls.cpp", {"": "".join(f"  view.{call(it, it.name, 'true')};\n" for it in found)}
+    yield "bindings/rust/hongpilas/examples/calls.rs", {"": "".join(f"    view.{call(it, it.snake, 'true')}?;\n" for it in found)}
+    yield "bindings/python/calls.py", {"": "".join(f"    view.{call(it, it.snake, 'True')}\n" for it in found)}
 
 
-def written(path, text):
-    """A file with a text between its marks, which stand in comments of their own lines."""
+def written(path, texts):
+    """A file with each text between its marks, which stand in comments of their own lines, with the text's title at their ends."""
     lines = header.read(path).splitlines(True)
-    begin, end = (next(at for at, line in enumerate(lines) if mark in line) for mark in (BEGIN, END))
-    return "".join([*lines[: begin + 1], text, *lines[end:]])
+    for title, text in texts.items():
+        begin, end = (next(at for at, line in enumerate(lines) if line.endswith(f"{mark}{title}\n")) for mark in (BEGIN, END))
+        lines = [*lines[: begin + 1], *text.splitlines(True), *lines[end:]]
+    return "".join(lines)
 
 
 def versions():
@@ -403,7 +405,7 @@ def main():
         return
     found = messages()
     wrong = []
-    for path, new in [*((path, written(path, text)) for path, text in files(found)), *versions()]:
+    for path, new in [*((path, written(path, texts)) for path, texts in files(found)), *versions()]:
         if "--check" not in sys.argv[1:]:
             with open(os.path.join(header.TOP, path), "w", encoding="utf-8") as file:
                 file.write(new)
