@@ -5,7 +5,7 @@ from typing import Union
 
 from . import constants
 
-#: What a message takes as its text: an object with bytes, or a str, which is sent as UTF-8.
+#: What a message takes as its text: a bytes-like object, such as these, or a str, which is sent as UTF-8.
 Text = Union[bytes, bytearray, memoryview, str]
 
 

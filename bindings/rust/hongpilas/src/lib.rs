@@ -76,7 +76,15 @@ impl Session {
         Ok(Session { handle: UnsafeCell::new(handle), on_its_thread: PhantomData })
     }
 
-    /// Opens a view on a new document, and lends it. Its [`id`](View::id) leads to it later.
+    /// Opens a view on a new document, and lends it. Its [`id`](View::id) leads to it later. Of two views, one is lent at a time:
+    ///
+    /// ```compile_fail,E0499
+    /// let mut session = hongpilas::Session::new()?;
+    /// let first = session.new_view()?;
+    /// let second = session.new_view()?;
+    /// assert_ne!(first.id(), second.id());
+    /// # Ok::<(), hongpilas::Refusal>(())
+    /// ```
     ///
     /// # Errors
     /// [`Refusal::TooMany`], [`Refusal::OutOfMemory`].
@@ -226,6 +234,15 @@ impl fmt::Debug for Session {
 /// let mut session = hongpilas::Session::new()?;
 /// let mut view = session.new_view()?;
 /// let text = view.get_text()?;
+/// view.get_length()?;
+/// assert_eq!(text, b"");
+/// # Ok::<(), hongpilas::Refusal>(())
+/// ```
+///
+/// ```compile_fail,E0502
+/// let mut session = hongpilas::Session::new()?;
+/// let mut view = session.new_view()?;
+/// let text = view.text();
 /// view.get_length()?;
 /// assert_eq!(text, b"");
 /// # Ok::<(), hongpilas::Refusal>(())
