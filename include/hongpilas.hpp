@@ -13,9 +13,13 @@
  * Refusals. The methods of View throw Refused; those of ResultView, which view.results() is, return a Result instead,
  * with a value or a Refusal, as std::expected has. A refused call has changed nothing.
  *
- * Lent bytes. What GetLine and its kin return is a copy. GetLineView, text() and the text of a note are lent: they
- * stand until the next message that is done, and what lend_range lends until the next call. A text that is sent is none
- * of these: copy it first.
+ * The last reply. A session keeps one reply, whichever view it came from: its value, its text and its notes. Each
+ * message that is done takes its place, and a question such as GetLength is one, too; a refused one leaves it. So ask
+ * for what is wanted of a reply before anything else is sent.
+ *
+ * Lent bytes. What GetLine and its kin return is a copy, as is what notes() returns. GetLineView, text() and
+ * lent_notes() are lent: they stand until the next message that is done, questions too, and what lend_range lends until
+ * the next call. A text that is sent is none of these: copy it first.
  *
  * What the caller owes besides, above all that a session stays on one thread, stands at the top of hongpilas.h. */
 #ifndef HONGPILAS_HPP
@@ -40,6 +44,7 @@
 #include <string_view>
 #include <utility>
 #include <variant>
+#include <vector>
 
 /* Code that is built without exceptions has all but View, Session's constructors and new_view, and value() of a refused
  * Result ends it. */
@@ -147,9 +152,31 @@ class [[nodiscard]] Result<void> {
   hongpilas_answer answer_ = HONGPILAS_DONE;
 };
 
-/// A note: what a view is told. Fields that its code does not name are 0. Its text is lent as long as the reply is
-/// kept.
-struct Note {
+/// The name of a note's code: "SCN_MODIFIED" for 2008. Empty where no note has it.
+inline std::string_view note_name(std::uint32_t code) noexcept {
+  switch (code) {
+    // Written by tools/wrappers.py: begin names
+    case SCN_STYLENEEDED:
+      return "SCN_STYLENEEDED";
+    case SCN_SAVEPOINTREACHED:
+      return "SCN_SAVEPOINTREACHED";
+    case SCN_SAVEPOINTLEFT:
+      return "SCN_SAVEPOINTLEFT";
+    case SCN_MODIFYATTEMPTRO:
+      return "SCN_MODIFYATTEMPTRO";
+    case SCN_MODIFIED:
+      return "SCN_MODIFIED";
+    case SCN_MACRORECORD:
+      return "SCN_MACRORECORD";
+    // Written by tools/wrappers.py: end names
+    default:
+      return {};
+  }
+}
+
+/// A note: what a view is told. Fields that its code does not name are 0.
+template <class Text>
+struct BasicNote {
   std::uint32_t view;
   std::uint32_t code;
   std::uint32_t kind;
@@ -163,23 +190,30 @@ struct Note {
   std::int64_t token;
   std::int64_t w;
   std::int64_t l;
-  std::string_view text;
+  Text text;
 };
 
-/// The notes of the last reply, in the order in which they were told; they stand until the next message that is done.
-class Notes {
+/// A note with a text of its own: it stands as long as one likes.
+using Note = BasicNote<std::string>;
+/// A note whose text is lent as long as the reply is kept.
+using LentNote = BasicNote<std::string_view>;
+
+/// The notes of the last reply, for all views, in the order in which they were told. They are read from the session one
+/// by one, with no copy, and so stand until the next message that is done: a loop over them sends nothing, and asks
+/// nothing.
+class LentNotes {
  public:
   class iterator {
    public:
     using iterator_category = std::input_iterator_tag;
-    using value_type = Note;
+    using value_type = LentNote;
     using difference_type = std::ptrdiff_t;
     using pointer = void;
-    using reference = Note;
+    using reference = LentNote;
 
     iterator() noexcept = default;
     iterator(hongpilas_session *session, std::size_t index) noexcept : session_(session), index_(index) {}
-    Note operator*() const noexcept { return Notes(session_)[index_]; }
+    LentNote operator*() const noexcept { return LentNotes(session_)[index_]; }
     iterator &operator++() noexcept { return ++index_, *this; }
     iterator operator++(int) noexcept { return iterator(session_, index_++); }
     friend bool operator==(const iterator &one, const iterator &other) noexcept { return one.index_ == other.index_; }
@@ -189,16 +223,16 @@ class Notes {
     hongpilas_session *session_ = nullptr;
     std::size_t index_ = 0;
   };
-  using value_type = Note;
+  using value_type = LentNote;
   using const_iterator = iterator;
 
-  explicit Notes(hongpilas_session *session) noexcept : session_(session) {}
+  explicit LentNotes(hongpilas_session *session) noexcept : session_(session) {}
   std::size_t size() const noexcept { return hongpilas_note_count(session_); }
   bool empty() const noexcept { return size() == 0; }
   iterator begin() const noexcept { return iterator(session_, 0); }
   iterator end() const noexcept { return iterator(session_, size()); }
   /// The note with this index; one of zeros where there is none.
-  Note operator[](std::size_t index) const noexcept {
+  LentNote operator[](std::size_t index) const noexcept {
     hongpilas_note_data it = {};
     hongpilas_note(session_, index, &it);
     return {it.view, it.code, it.kind, it.message, it.position, it.length, it.lines,
@@ -208,6 +242,18 @@ class Notes {
  private:
   hongpilas_session *session_;
 };
+
+namespace detail {
+/// Copies of notes: those for one view, or for all where the view is 0, which no view is.
+inline std::vector<Note> copied(const LentNotes &notes, std::uint32_t view) {
+  std::vector<Note> found;
+  for (const LentNote &it : notes)
+    if (view == 0 || it.view == view)
+      found.push_back({it.view, it.code, it.kind, it.message, it.position, it.length, it.lines,
+                       it.line, it.now,  it.prev, it.token,   it.w,        it.l,      std::string(it.text)});
+  return found;
+}
+}  // namespace detail
 
 /// Limits of a session. To lower some: `hongpilas::Limits limits = hongpilas::greatest_limits; limits.views = 2;`.
 using Limits = hongpilas_limits;
@@ -227,7 +273,8 @@ struct Throwing {
   }
 };
 
-/// The policy of ResultView: a Result is returned, and nothing is thrown but std::bad_alloc, where a text is copied.
+/// The policy of ResultView: a Result is returned, and nothing is thrown but std::bad_alloc, where a text or notes are
+/// copied.
 struct Returning {
   template <class T>
   using Answer = Result<T>;
@@ -280,14 +327,17 @@ class BasicView {
     return Policy::answer(answer == HONGPILAS_DONE ? Result<void>() : Result<void>(static_cast<Refusal>(answer)));
   }
 
-  /// The session's last reply, whichever view it came from: its value, its text and its notes.
+  /// The session's last reply, whichever view it came from: its value, and its text, lent until the next message that
+  /// is done.
   std::int64_t value() const noexcept { return hongpilas_value(session_); }
   std::string_view text() const noexcept {
     const std::uint8_t *bytes = nullptr;
     const std::size_t length = hongpilas_text(session_, &bytes);
     return detail::lent(bytes, length);
   }
-  Notes notes() const noexcept { return Notes(session_); }
+  /// What this view is told by the session's last reply, whichever view that came from, as copies: they stand as long
+  /// as one likes. Session::notes() are those for all views.
+  std::vector<Note> notes() const { return detail::copied(LentNotes(session_), id_); }
 
   // Written by tools/wrappers.py: begin
   /// SCI_ADDTEXT, 2001. Inserts `text` at the caret; then anchor and caret stand after it, for an empty `text` too.
@@ -795,10 +845,14 @@ class Session {
     return ResultView(handle_.get(), id);
   }
 
-  /// The last reply: its value; its text, lent; and its notes. They stand until the next message that is done.
+  /// The last reply, whichever view it came from: its value, and its text, lent until the next message that is done,
+  /// questions too.
   std::int64_t value() const noexcept { return hongpilas_value(handle_.get()); }
   std::string_view text() const noexcept { return ResultView(handle_.get(), 0).text(); }
-  Notes notes() const noexcept { return Notes(handle_.get()); }
+  /// The last reply's notes, for all views, as copies: they stand as long as one likes.
+  std::vector<Note> notes() const { return detail::copied(lent_notes(), 0); }
+  /// The same with no copy, lent until the next message that is done, questions too.
+  LentNotes lent_notes() const noexcept { return LentNotes(handle_.get()); }
 
   /// The session for calls of hongpilas.h. It stays this object's.
   hongpilas_session *handle() noexcept { return handle_.get(); }

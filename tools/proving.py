@@ -10,6 +10,7 @@ on it is proved.
 import collections
 import os
 import re
+import shutil
 import subprocess
 import sys
 import time
@@ -81,6 +82,8 @@ def follow(lines, waited_for):
 
 def main():
     crate, command = sys.argv[1], sys.argv[2:]
+    if not shutil.which(command[0]):
+        return f"there is no `{command[0]}` on PATH: {crate} is proved and built by that of the toolchain"
     waited_for = at_or_below(crate)
     tell(f"{' '.join(command)} proves {crate} and the crates below it, {len(waited_for)} in all, as far as no earlier run has; this may take an hour")
     running = subprocess.Popen(command, stdout=subprocess.PIPE, stderr=subprocess.STDOUT, text=True, errors="replace")

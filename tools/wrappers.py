@@ -1,5 +1,5 @@
 #!/usr/bin/env python3
-"""Writes the methods of all messages, the constants, Rust's declarations of the calls and the version into the wrappers for C++, Rust and Python.
+"""Writes the methods of all messages, the constants, the names of notes, Rust's declarations of the calls and the version into the wrappers for C++, Rust and Python.
 
 A message's name and number come from the definitions (crates/ed_types), its arguments, its answer and its sentence from its row of docs/MESSAGES.md.
 Run it at the top of the repository after a message, a row or a constant has changed. With --check it writes nothing, and fails where a wrapper is not
@@ -17,6 +17,7 @@ BEGIN = "Written by tools/wrappers.py: begin"
 END = "Written by tools/wrappers.py: end"
 CPP = "include/hongpilas.hpp"
 RUST = "bindings/rust/hongpilas/src/messages.rs"
+RUST_NOTES = "bindings/rust/hongpilas/src/notes.rs"
 RUST_CONSTANTS = "bindings/rust/hongpilas-sys/src/constants.rs"
 RUST_CALLS = "bindings/rust/hongpilas-sys/src/calls.rs"
 PYTHON = "bindings/python/src/hongpilas/_messages.py"
@@ -225,7 +226,9 @@ def rust_method(message):
     passed = [f"sys::SCI_{message.spelled}", f"length_of({text})" if message.takes_length else w, l,
               text if message.takes_length else f"{text}.as_ref()" if text else "&[]"]
     body += [f"self.{call}({', '.join(passed)})"]
-    head = f"    pub fn {message.snake}(&mut self{taken}) -> Result<{kind}, Refusal> {{"
+    # A question that lends nothing may stand among the arguments of another message.
+    lender = "&mut self" if message.changes or message.answers == "text" else "&self"
+    head = f"    pub fn {message.snake}({lender}{taken}) -> Result<{kind}, Refusal> {{"
     return [*told(message, 96, "    /// "), head, *(f"        {line}" for line in body), "    }", ""]
 
 
@@ -320,14 +323,11 @@ def spelled(number):
     return str(number) if number < 10 or 2000 <= number < 5000 else f"0x{number:X}"
 
 
-# What notes have, and the numbers of messages; all else is an argument.
-IN_NOTES = ("SCI_", "SCN_", "SC_MOD_", "SC_PERFORMED_", "SC_MULTI", "SC_STARTACTION", "SC_LASTSTEP")
-
-
 def rust_constant(name, title, number):
+    """The number of a message or a note has the type of such numbers; all else has that of arguments."""
     if title:
         return f"// {title}.\n"
-    kind = "u32" if name.startswith(IN_NOTES) else "i64"
+    kind = "u32" if name.startswith(("SCI_", "SCN_")) else "i64"
     return f"pub const {name}: {kind} = {number};\n"
 
 
@@ -357,23 +357,26 @@ def expected():
 
 
 def files(found):
-    """What stands between the marks of each file."""
-    yield CPP, cpp(found)
-    yield RUST, rust(found)
-    yield RUST_CONSTANTS, constants(rust_constant)
-    yield RUST_CALLS, rust_calls()
-    yield PYTHON, python(found)
-    yield PYTHON_CONSTANTS, constants(python_constant)
-    yield "bindings/cpp/calls.cpp", "".join(f"  view.{call(it, it.name, 'true')};\n" for it in found)
-    yield "bindings/rust/hongpilas/examples/calls.rs", "".join(f"    view.{call(it, it.snake, 'true')}?;\n" for it in found)
-    yield "bindings/python/calls.py", "".join(f"    view.{call(it, it.snake, 'True')}\n" for it in found)
+    """What stands between the marks of each file, by their titles."""
+    yield CPP, {"": cpp(found), " names": "".join(f'    case {name}:\n      return "{name}";\n' for name, _ in header.notes())}
+    yield RUST, {"": rust(found)}
+    yield RUST_NOTES, {"": "".join(f'        sys::{name} => Some("{name}"),\n' for name, _ in header.notes())}
+    yield RUST_CONSTANTS, {"": constants(rust_constant)}
+    yield RUST_CALLS, {"": rust_calls()}
+    yield PYTHON, {"": python(found)}
+    yield PYTHON_CONSTANTS, {"": constants(python_constant)}
+    yield "bindings/cpp/calls.cpp", {"": "".join(f"  view.{call(it, it.name, 'true')};\n" for it in found)}
+    yield "bindings/rust/hongpilas/examples/calls.rs", {"": "".join(f"    view.{call(it, it.snake, 'true')}?;\n" for it in found)}
+    yield "bindings/python/calls.py", {"": "".join(f"    view.{call(it, it.snake, 'True')}\n" for it in found)}
 
 
-def written(path, text):
-    """A file with a text between its marks, which stand in comments of their own lines."""
+def written(path, texts):
+    """A file with each text between its marks, which stand in comments of their own lines, with the text's title at their ends."""
     lines = header.read(path).splitlines(True)
-    begin, end = (next(at for at, line in enumerate(lines) if mark in line) for mark in (BEGIN, END))
-    return "".join([*lines[: begin + 1], text, *lines[end:]])
+    for title, text in texts.items():
+        begin, end = (next(at for at, line in enumerate(lines) if line.endswith(f"{mark}{title}\n")) for mark in (BEGIN, END))
+        lines = [*lines[: begin + 1], *text.splitlines(True), *lines[end:]]
+    return "".join(lines)
 
 
 def versions():
@@ -402,7 +405,7 @@ def main():
         return
     found = messages()
     wrong = []
-    for path, new in [*((path, written(path, text)) for path, text in files(found)), *versions()]:
+    for path, new in [*((path, written(path, texts)) for path, texts in files(found)), *versions()]:
         if "--check" not in sys.argv[1:]:
             with open(os.path.join(header.TOP, path), "w", encoding="utf-8") as file:
                 file.write(new)

@@ -5,7 +5,7 @@
 
 #if __cplusplus >= 202002L
 #include <ranges>
-static_assert(std::ranges::input_range<hongpilas::Notes>);
+static_assert(std::ranges::input_range<hongpilas::LentNotes>);
 #endif
 static_assert(!std::is_copy_constructible_v<hongpilas::Session> &&
               std::is_nothrow_move_constructible_v<hongpilas::Session>);

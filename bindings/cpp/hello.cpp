@@ -3,20 +3,18 @@
 #include <hongpilas.hpp>
 
 #include <iostream>
-#include <string>
 #include <utility>
-#include <vector>
 
 using hongpilas::Note;
 using hongpilas::Session;
 using hongpilas::View;
 
-/* Says what the views were told of an insertion. */
+/* Says what the views were told of an insertion. notes() are copies: a loop over them may send messages. */
 static void tell(const Session &session) {
   for (const Note &note : session.notes())
     if (note.code == SCN_MODIFIED && (note.kind & SC_MOD_INSERTTEXT) != 0)
-      std::cout << "view " << note.view << " is told of " << note.text.size() << " bytes at " << note.position << ", "
-                << note.lines << " lines more\n";
+      std::cout << "view " << note.view << ", " << hongpilas::note_name(note.code) << ": " << note.text.size()
+                << " bytes at " << note.position << ", " << note.lines << " lines more\n";
 }
 
 /* A view that is const answers questions alone. */
@@ -39,21 +37,13 @@ static void edit(Session &session) {
   std::cout << "undone: \"" << writer.GetText() << "\", redo: " << std::boolalpha << writer.CanRedo() << "\n";
 }
 
-/* A recorded message, with a copy of its text. */
-struct Recorded {
-  Note note;
-  std::string text;
-};
-
 /* Records what is typed in a view, and sends it to another. */
 static void replay(Session &session) {
   View from = session.new_view(), to = session.new_view();
-  std::vector<Recorded> recorded;
   from.StartRecord();
   from.AddText("größer");
   for (const Note &note : session.notes())
-    if (note.code == SCN_MACRORECORD) recorded.push_back({note, std::string(note.text)});
-  for (const Recorded &it : recorded) to.send(it.note.message, it.note.w, it.note.l, it.text);
+    if (note.code == SCN_MACRORECORD) to.send(note.message, note.w, note.l, note.text);
   std::cout << "replayed: \"" << to.GetText() << "\"\n";
 }
 

@@ -1,7 +1,8 @@
 """Calls each method once. bindings/check has it loaded with a library that prints what it is sent."""
 from hongpilas import Session
 
-with Session() as view:
+with Session() as session:
+    view = session.new_view()
     # Written by tools/wrappers.py: begin
     view.add_text("ab")
     view.insert_text(11, "ab")

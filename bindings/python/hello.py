@@ -1,27 +1,25 @@
 """Two views of one document: a text goes in and out, each view is told, what is refused says why, and a macro is replayed."""
-from hongpilas import Limits, Refused, Session, constants
-
-NAMES = {number: name for name, number in vars(constants).items() if name.startswith("SCN_")}
+from hongpilas import Limits, Refused, Session, constants, note_name
 
 
 def tell(session):
     """Says what the views were told."""
     for note in session.notes():
-        print(f"view {note.view}: {NAMES[note.code]}, kind {note.kind:#x}, position {note.position}, lines {note.lines}, {note.text}")
+        print(f"view {note.view}: {note_name(note.code)}, kind {note.kind:#x}, position {note.position}, lines {note.lines}, {note.text}")
 
 
 def edit(session):
     """Puts a text in by one view, and reads it by another."""
-    reader = session.new_view()
-    reader.set_doc_pointer(session.get_doc_pointer())
-    session.insert_text(0, "hello,\nworld\n")
+    writer, reader = session.new_view(), session.new_view()
+    reader.set_doc_pointer(writer.get_doc_pointer())
+    writer.insert_text(0, "hello,\nworld\n")
     tell(session)
     print(reader.get_length(), "bytes,", reader.get_line_count(), "lines")
-    print(reader.get_line(1), reader.get_text_range(3, 8), reader.read(0, 5))
+    print(reader.get_line(1), reader.get_text_range(3, 8), reader.read_range(0, 5))
     reader.set_target_range(0, reader.get_length())
     print("found at", reader.search_in_target("wor"), "to", reader.get_target_end())
     reader.undo()
-    print("undone:", session.get_text(), "redo:", session.can_redo())
+    print("undone:", writer.get_text(), "redo:", writer.can_redo())
 
 
 def replay(session):
@@ -39,7 +37,7 @@ def attempt(what, call):
     """Says what a call raises."""
     try:
         call()
-    except (Refused, OverflowError, RuntimeError, ValueError) as fault:
+    except (Refused, OverflowError, RuntimeError, TypeError, ValueError) as fault:
         print(f"{what}: {type(fault).__name__}, {fault}")
 
 
@@ -47,18 +45,20 @@ def main():
     with Session() as session:
         edit(session)
         replay(session)
-        attempt("a range past the end", lambda: session.get_text_range(5, 99))
-        attempt("no such message", lambda: session.send(9999))
-        attempt("a number that is too great", lambda: session.goto_pos(1 << 63))
-        attempt("a range before the text", lambda: session.read(-1, 2))
-        closed = session.new_view()
+        view, closed = session.view(1), session.new_view()
+        attempt("a range past the end", lambda: view.get_text_range(5, 99))
+        attempt("no such message", lambda: view.send(9999))
+        attempt("a number that is too great", lambda: view.goto_pos(1 << 63))
+        attempt("a range before the text", lambda: view.read_range(-1, 2))
+        attempt("a number as a text", lambda: view.append_text(3))
         closed.close()
         attempt("a view that was closed", closed.get_length)
-    attempt("a session that was closed", session.get_length)
+    attempt("a session that was closed", view.get_length)
     with Session(Limits(doc_bytes=10)) as session:
-        attempt("eleven bytes where ten may be", lambda: session.set_text("hello world"))
-        session.set_text("hello")
-        print(session.get_text())
+        view = session.new_view()
+        attempt("eleven bytes where ten may be", lambda: view.set_text("hello world"))
+        view.set_text("hello")
+        print(view.get_text())
 
 
 if __name__ == "__main__":

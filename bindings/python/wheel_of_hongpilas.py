@@ -17,7 +17,12 @@ PLACES = ("../../embedding/out", "../../lib")
 
 def library():
     """The path of the shared object."""
-    places = [os.environ.get("HONGPILAS")] if "HONGPILAS" in os.environ else [os.path.join(HERE, place, LIBRARY) for place in PLACES]
+    named = os.environ.get("HONGPILAS")
+    if named and not os.path.isabs(named):
+        raise SystemExit(f"HONGPILAS={named} has no meaning here, since pip builds in a folder of its own: name the shared object from / on")
+    if named and not os.path.isfile(named):
+        raise SystemExit(f"HONGPILAS names the shared object itself, as /usr/local/lib/{LIBRARY}: no file is at {named}")
+    places = [named] if named else [os.path.join(HERE, place, LIBRARY) for place in PLACES]
     for place in places:
         if os.path.isfile(place):
             return place

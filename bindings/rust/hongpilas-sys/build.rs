@@ -1,5 +1,6 @@
-//! Finds the library for C, and has it linked. It is looked for in the folder that HONGPILAS_LIB_DIR names; without that variable where
-//! `make -C embedding` builds it, where the tarball has it, and where systems install it.
+//! Finds the library for C, and has it linked. It is looked for in the folder that HONGPILAS_LIB_DIR names, by its whole path: cargo does
+//! not tell from which folder it was called. Without that variable it is looked for where `make -C embedding` builds it, where the tarball
+//! has it, and where systems install it.
 use std::env;
 use std::path::{Path, PathBuf};
 
@@ -9,7 +10,7 @@ const PLACES: [&str; 5] =
 fn places() -> Vec<PathBuf> {
     let here = PathBuf::from(env::var_os("CARGO_MANIFEST_DIR").unwrap_or_default());
     match env::var_os("HONGPILAS_LIB_DIR") {
-        Some(named) => vec![here.join(named)],
+        Some(named) => vec![PathBuf::from(named)],
         None => PLACES.iter().map(|place| here.join(place)).collect(),
     }
 }
@@ -20,6 +21,10 @@ fn is_there(place: &Path) -> bool {
 
 fn main() {
     println!("cargo:rerun-if-env-changed=HONGPILAS_LIB_DIR");
+    if let Some(named) = env::var_os("HONGPILAS_LIB_DIR").filter(|named| Path::new(named).is_relative()) {
+        eprintln!("HONGPILAS_LIB_DIR={} is relative: name the folder from / on", named.to_string_lossy());
+        std::process::exit(1);
+    }
     let looked_in = places();
     let Some(place) = looked_in.iter().find(|place| is_there(place)) else {
         let list: Vec<String> = looked_in.iter().map(|place| place.display().to_string()).collect();

@@ -3,15 +3,16 @@
     from hongpilas import Session
 
     with Session() as session:
-        session.insert_text(0, "hello, world")
-        print(session.get_text_range(0, 5), session.notes())
+        view = session.new_view()
+        view.insert_text(0, "hello, world")
+        print(session.notes(), view.get_text_range(0, 5))
 
-Messages are methods by their names in snake case, of a session for its first view, and of each View. What is refused raises Refused, and has
-changed nothing. Texts are bytes; a str that is sent is sent as UTF-8.
+Messages are methods of a View, by their names in snake case. What is refused raises Refused, and has changed nothing. Texts are bytes; a str that
+is sent is sent as UTF-8.
 """
 from . import constants
 from ._library import Refusal
 from ._messages import Messages, Text
-from ._session import Limits, Note, Refused, Session, View
+from ._session import Limits, Note, Refused, Session, View, note_name
 
-__all__ = ["Limits", "Messages", "Note", "Refusal", "Refused", "Session", "Text", "View", "constants"]
+__all__ = ["Limits", "Messages", "Note", "Refusal", "Refused", "Session", "Text", "View", "constants", "note_name"]

@@ -58,9 +58,18 @@ def whole(kind: Any, number: int) -> int:
     return number
 
 
+def library() -> str:
+    """The path of the shared object. HONGPILAS names it from the caller's folder."""
+    named = os.environ.get("HONGPILAS")
+    path = os.path.abspath(named) if named else os.path.join(HERE, "libhongpilas.so")
+    if named and not os.path.isfile(path):
+        raise ImportError(f"HONGPILAS names the shared object itself, as /usr/local/lib/libhongpilas.so: no file is at {path}")
+    return path
+
+
 def load() -> Any:
     """The shared object, with the types of its calls."""
-    lib = ctypes.CDLL(os.environ.get("HONGPILAS") or os.path.join(HERE, "libhongpilas.so"))
+    lib = ctypes.CDLL(library())
     word, size, number = ctypes.POINTER(Handle), ctypes.c_size_t, ctypes.c_int64
     address, view = ctypes.POINTER(ctypes.c_void_p), ctypes.c_uint32
     types: dict[str, tuple[Any, list[Any]]] = {

@@ -5,13 +5,18 @@ from typing import Union
 
 from . import constants
 
-#: What a message takes as its text: bytes, or a str, which is sent as UTF-8.
+#: What a message takes as its text: a bytes-like object, such as these, or a str, which is sent as UTF-8.
 Text = Union[bytes, bytearray, memoryview, str]
 
 
 def as_bytes(text: Text) -> bytes:
-    """The bytes of a text that is sent."""
-    return text.encode() if isinstance(text, str) else bytes(text)
+    """The bytes of a text that is sent. Raises TypeError where it is no text: bytes() would make NULs of a number, and bytes of a list."""
+    if isinstance(text, str):
+        return text.encode()
+    try:
+        return memoryview(text).tobytes()
+    except TypeError:
+        raise TypeError(f"a text is a str or a bytes-like object, and not {type(text).__name__}") from None
 
 
 class Messages:

@@ -5,7 +5,7 @@ import re
 from typing import Iterator, NamedTuple, Sequence
 
 from ._library import Refusal
-from ._session import Note, Refused, Session, View
+from ._session import Note, Refused, Session
 
 SCRIPT_BYTES = 16 * 1024 * 1024
 LINE_BYTES = 65_536
@@ -174,19 +174,19 @@ class Runner:
         return self.session.new_view().id, b"", []
 
     def close(self, view: int) -> tuple[int, bytes, list[Note]]:
-        View(self.session, view).close()
+        self.session.view(view).close()
         return 0, b"", []
 
     def load(self, view: int, file: int) -> tuple[int, bytes, list[Note]]:
-        here = View(self.session, view)
-        here.read(0, 0)  # no such view is found before no such file
+        here = self.session.view(view)
+        here.read_range(0, 0)  # no such view is found before no such file
         if not 1 <= file <= len(self.files):
             raise Refused(Refusal.BAD_ARGUMENT)
         here.set_text(self.files[file - 1])
         return self.reply()
 
     def send(self, view: int, number: int, w: int, l: int, text: bytes) -> tuple[int, bytes, list[Note]]:
-        View(self.session, view).send(number, w, l, text)
+        self.session.view(view).send(number, w, l, text)
         return self.reply()
 
     def reply(self) -> tuple[int, bytes, list[Note]]:

@@ -4,7 +4,7 @@
 #![allow(non_camel_case_types)]
 
 mod calls;
-mod constants;
+pub mod constants;
 
 pub use calls::*;
 pub use constants::*;

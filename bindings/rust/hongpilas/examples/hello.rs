@@ -8,7 +8,7 @@ fn shown(text: &[u8]) -> Cow<'_, str> {
 }
 
 /// Says what the views were told of an insertion.
-fn tell(session: &Session) {
+fn tell(session: &mut Session) {
     for note in session.notes() {
         if note.code == SCN_MODIFIED && note.kind & SC_MOD_INSERTTEXT != 0 {
             println!(
@@ -34,7 +34,7 @@ fn edit(session: &mut Session) -> Result<(), Refusal> {
     println!("{} bytes, {} lines", view.get_length()?, view.get_line_count()?);
     println!("line 1 is {:?}", shown(view.get_line(1)?));
     println!("lent: {:?}", shown(view.lend_range(0, 5)?));
-    view.set_target_range(0, 13)?;
+    view.set_target_range(0, view.get_length()?)?;
     println!("found at {} to {}", view.search_in_target("wor")?, view.get_target_end()?);
     view.undo()?;
     println!("redo: {}, undone: {:?}", view.can_redo()?, shown(view.get_text()?));

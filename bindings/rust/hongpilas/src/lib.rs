@@ -4,15 +4,17 @@ mod messages;
 mod notes;
 mod refusal;
 
-pub use notes::{Note, Notes};
+pub use notes::{note_name, Note, Notes};
 pub use refusal::Refusal;
 
+/// The calls for C. Their names are not among those of `hongpilas::*`: there, the session of C would take the crate's own name.
+pub use hongpilas_sys as sys;
+#[doc(no_inline)]
+pub use hongpilas_sys::constants::*;
 pub use hongpilas_sys::hongpilas_limits as Limits;
 pub use hongpilas_sys::HONGPILAS_GREATEST_LIMITS as GREATEST_LIMITS;
-#[doc(no_inline)]
-pub use hongpilas_sys::*;
+pub use hongpilas_sys::HONGPILAS_VERSION;
 
-use hongpilas_sys as sys;
 use std::cell::UnsafeCell;
 use std::fmt;
 use std::marker::PhantomData;
@@ -74,7 +76,15 @@ impl Session {
         Ok(Session { handle: UnsafeCell::new(handle), on_its_thread: PhantomData })
     }
 
-    /// Opens a view on a new document, and lends it. Its [`id`](View::id) leads to it later.
+    /// Opens a view on a new document, and lends it. Its [`id`](View::id) leads to it later. Of two views, one is lent at a time:
+    ///
+    /// ```compile_fail,E0499
+    /// let mut session = hongpilas::Session::new()?;
+    /// let first = session.new_view()?;
+    /// let second = session.new_view()?;
+    /// assert_ne!(first.id(), second.id());
+    /// # Ok::<(), hongpilas::Refusal>(())
+    /// ```
     ///
     /// # Errors
     /// [`Refusal::TooMany`], [`Refusal::OutOfMemory`].
@@ -103,7 +113,7 @@ impl Session {
         View { session: self, id }
     }
 
-    /// The last reply's value; 0 before the first message that was done.
+    /// The last reply's value: that of the last message that was done, to whichever view. 0 before the first one.
     pub fn value(&self) -> i64 {
         // SAFETY: the session is open.
         unsafe { sys::hongpilas_value(self.at()) }
@@ -111,7 +121,7 @@ impl Session {
 
     /// The last reply's text, lent until the next message: behind that it is not there to be used.
     ///
-    /// ```compile_fail,E0502
+    /// ```compile_fail,E0499
     /// let mut session = hongpilas::Session::new()?;
     /// session.new_view()?.get_text()?;
     /// let text = session.text();
@@ -119,16 +129,18 @@ impl Session {
     /// assert_eq!(text, b"");
     /// # Ok::<(), hongpilas::Refusal>(())
     /// ```
-    pub fn text(&self) -> &[u8] {
+    pub fn text(&mut self) -> &[u8] {
         let mut bytes = ptr::null();
-        // SAFETY: the session is open. The reply stays as long as the session is borrowed: what takes its place borrows it as mutable.
+        // SAFETY: the session is open, and is borrowed as mutable as long as the bytes are lent: so nothing takes the reply's place.
         unsafe {
             let length = sys::hongpilas_text(self.at(), &mut bytes);
             lent(bytes, length)
         }
     }
 
-    /// The last reply's notes, lent until the next message.
+    /// The last reply's notes, for all views, lent until the next message. A question takes the reply's place, too: to ask while one
+    /// goes through notes, keep what is wanted of them, by [`Note`]'s fields or a `to_vec()` of its text. [`View::notes`] are those for
+    /// one view.
     ///
     /// ```
     /// use hongpilas::{Session, SCN_MODIFIED, SC_MOD_INSERTTEXT};
@@ -142,20 +154,20 @@ impl Session {
     ///
     /// A note goes with them:
     ///
-    /// ```compile_fail,E0502
+    /// ```compile_fail,E0499
     /// let mut session = hongpilas::Session::new()?;
     /// session.new_view()?.insert_text(0, "hello")?;
     /// let note = session.notes().next();
-    /// session.view(1).undo()?;
+    /// session.view(1).get_length()?;
     /// assert!(note.is_some());
     /// # Ok::<(), hongpilas::Refusal>(())
     /// ```
-    pub fn notes(&self) -> Notes<'_> {
-        // SAFETY: the session is open, and all other calls borrow it as mutable.
-        unsafe { Notes::of(self.at()) }
+    pub fn notes(&mut self) -> Notes<'_> {
+        // SAFETY: the session is open, and is borrowed as mutable as long as the notes are lent.
+        unsafe { Notes::of(self.at(), None) }
     }
 
-    /// The session for calls of `hongpilas_sys`. It stays this value's: it is not given back by them.
+    /// The session for calls of [`sys`]. It stays this value's: it is not given back by them.
     pub fn as_ptr(&self) -> *mut sys::hongpilas {
         self.at()
     }
@@ -204,6 +216,65 @@ impl fmt::Debug for Session {
 /// assert_ne!(first, second);
 /// # Ok::<(), hongpilas::Refusal>(())
 /// ```
+///
+/// A question that lends nothing borrows the view as shared, and so may stand among the arguments of another message:
+///
+/// ```
+/// let mut session = hongpilas::Session::new()?;
+/// let mut view = session.new_view()?;
+/// view.insert_text(0, "one\ntwo")?;
+/// view.set_target_range(view.get_target_end()?, view.get_length()?)?;
+/// assert_eq!(view.get_line(view.get_line_count()? - 1)?, b"two");
+/// # Ok::<(), hongpilas::Refusal>(())
+/// ```
+///
+/// It takes the last reply's place, so that nothing that is lent is there beside it, be it a text, notes or bytes of the document:
+///
+/// ```compile_fail,E0502
+/// let mut session = hongpilas::Session::new()?;
+/// let mut view = session.new_view()?;
+/// let text = view.get_text()?;
+/// view.get_length()?;
+/// assert_eq!(text, b"");
+/// # Ok::<(), hongpilas::Refusal>(())
+/// ```
+///
+/// ```compile_fail,E0502
+/// let mut session = hongpilas::Session::new()?;
+/// let mut view = session.new_view()?;
+/// let text = view.text();
+/// view.get_length()?;
+/// assert_eq!(text, b"");
+/// # Ok::<(), hongpilas::Refusal>(())
+/// ```
+///
+/// ```compile_fail,E0502
+/// let mut session = hongpilas::Session::new()?;
+/// let mut view = session.new_view()?;
+/// view.insert_text(0, "one")?;
+/// for note in view.notes() {
+///     assert!(note.position <= view.get_length()?);
+/// }
+/// # Ok::<(), hongpilas::Refusal>(())
+/// ```
+///
+/// ```compile_fail,E0502
+/// let mut session = hongpilas::Session::new()?;
+/// let mut view = session.new_view()?;
+/// let bytes = view.lend_range(0, 0)?;
+/// view.get_length()?;
+/// assert_eq!(bytes, b"");
+/// # Ok::<(), hongpilas::Refusal>(())
+/// ```
+///
+/// ```compile_fail,E0502
+/// let mut session = hongpilas::Session::new()?;
+/// let mut view = session.new_view()?;
+/// let text = view.session().text();
+/// view.get_length()?;
+/// assert_eq!(text, b"");
+/// # Ok::<(), hongpilas::Refusal>(())
+/// ```
 #[derive(Debug)]
 pub struct View<'s> {
     session: &'s mut Session,
@@ -216,24 +287,38 @@ impl View<'_> {
         self.id
     }
 
-    /// The session, to look at its last reply.
-    pub fn session(&self) -> &Session {
+    /// The session, to look at its last reply, or at its other views.
+    pub fn session(&mut self) -> &mut Session {
         self.session
     }
 
-    /// The last reply's value.
+    /// The value of the session's last reply.
     pub fn value(&self) -> i64 {
         self.session.value()
     }
 
-    /// The last reply's text, lent until the next message.
-    pub fn text(&self) -> &[u8] {
+    /// The text of the session's last reply, lent until the next message.
+    pub fn text(&mut self) -> &[u8] {
         self.session.text()
     }
 
-    /// The last reply's notes, lent until the next message.
-    pub fn notes(&self) -> Notes<'_> {
-        self.session.notes()
+    /// What this view is told by the session's last reply, whichever view that came from; lent until the next message.
+    /// [`Session::notes`] are those for all views.
+    ///
+    /// ```
+    /// let mut session = hongpilas::Session::new()?;
+    /// let (first, second) = (session.new_view()?.id(), session.new_view()?.id());
+    /// let document = session.view(first).get_doc_pointer()?;
+    /// session.view(second).set_doc_pointer(document)?;
+    /// session.view(first).insert_text(0, "hello")?;
+    /// assert_eq!(session.notes().len(), 6);
+    /// assert!(session.view(second).notes().all(|note| note.view == second));
+    /// assert_eq!(session.view(second).notes().len(), 3);
+    /// # Ok::<(), hongpilas::Refusal>(())
+    /// ```
+    pub fn notes(&mut self) -> Notes<'_> {
+        // SAFETY: the session is open, and is borrowed as mutable as long as the notes are lent.
+        unsafe { Notes::of(self.session.at(), Some(self.id)) }
     }
 
     /// Sends any message, and returns its value. The message table says what `w`, `l` and the text stand for.
@@ -241,9 +326,13 @@ impl View<'_> {
     /// # Errors
     /// The refusals that the message table states, and then nothing has changed.
     pub fn send(&mut self, number: u32, w: i64, l: i64, text: &[u8]) -> Result<i64, Refusal> {
+        self.as_number(number, w, l, text)
+    }
+
+    fn as_number(&self, number: u32, w: i64, l: i64, text: &[u8]) -> Result<i64, Refusal> {
         let mut value = 0;
-        // SAFETY: the session is open. The pointer of a slice is never null, and as the session is borrowed as mutable, none of
-        // its bytes are lent.
+        // SAFETY: the session is open, and no other call goes on in it: it stays on its thread, and the library calls nobody. The
+        // pointer of a slice is never null. None of the session's bytes are lent: all that lends borrows it as mutable.
         let answer = unsafe {
             sys::hongpilas_send(self.session.at(), self.id, number, w, l, text.as_ptr(), text.len(), &mut value)
         };
@@ -297,12 +386,8 @@ impl View<'_> {
         self.send(number, w, l, text).map(drop)
     }
 
-    fn as_number(&mut self, number: u32, w: i64, l: i64, text: &[u8]) -> Result<i64, Refusal> {
-        self.send(number, w, l, text)
-    }
-
-    fn as_flag(&mut self, number: u32, w: i64, l: i64, text: &[u8]) -> Result<bool, Refusal> {
-        self.send(number, w, l, text).map(|value| value != 0)
+    fn as_flag(&self, number: u32, w: i64, l: i64, text: &[u8]) -> Result<bool, Refusal> {
+        self.as_number(number, w, l, text).map(|value| value != 0)
     }
 
     fn as_lent(&mut self, number: u32, w: i64, l: i64, text: &[u8]) -> Result<&[u8], Refusal> {

@@ -31,29 +31,29 @@ impl View<'_> {
     }
 
     /// SCI_GETLENGTH, 2006. Returns the text's length.
-    pub fn get_length(&mut self) -> Result<i64, Refusal> {
+    pub fn get_length(&self) -> Result<i64, Refusal> {
         self.as_number(sys::SCI_GETLENGTH, 0, 0, &[])
     }
 
     /// SCI_GETCHARAT, 2007. Returns the byte at `position`, 0 to 255; 0 outside 0..n-1. Here n
     /// is the text's length.
-    pub fn get_char_at(&mut self, position: i64) -> Result<i64, Refusal> {
+    pub fn get_char_at(&self, position: i64) -> Result<i64, Refusal> {
         self.as_number(sys::SCI_GETCHARAT, position, 0, &[])
     }
 
     /// SCI_GETCURRENTPOS, 2008. Returns the caret.
-    pub fn get_current_pos(&mut self) -> Result<i64, Refusal> {
+    pub fn get_current_pos(&self) -> Result<i64, Refusal> {
         self.as_number(sys::SCI_GETCURRENTPOS, 0, 0, &[])
     }
 
     /// SCI_GETANCHOR, 2009. Returns the anchor.
-    pub fn get_anchor(&mut self) -> Result<i64, Refusal> {
+    pub fn get_anchor(&self) -> Result<i64, Refusal> {
         self.as_number(sys::SCI_GETANCHOR, 0, 0, &[])
     }
 
     /// SCI_GETSTYLEAT, 2010. Returns the style of the byte at `position`; 0 outside 0..n-1.
     /// Here n is the text's length.
-    pub fn get_style_at(&mut self, position: i64) -> Result<i64, Refusal> {
+    pub fn get_style_at(&self, position: i64) -> Result<i64, Refusal> {
         self.as_number(sys::SCI_GETSTYLEAT, position, 0, &[])
     }
 
@@ -88,12 +88,12 @@ impl View<'_> {
 
     /// SCI_CANREDO, 2016. Returns whether no group is open, the document is not read-only and
     /// the future is not empty.
-    pub fn can_redo(&mut self) -> Result<bool, Refusal> {
+    pub fn can_redo(&self) -> Result<bool, Refusal> {
         self.as_flag(sys::SCI_CANREDO, 0, 0, &[])
     }
 
     /// SCI_MARKERLINEFROMHANDLE, 2017. Returns the line of `handle`, else -1.
-    pub fn marker_line_from_handle(&mut self, handle: i64) -> Result<i64, Refusal> {
+    pub fn marker_line_from_handle(&self, handle: i64) -> Result<i64, Refusal> {
         self.as_number(sys::SCI_MARKERLINEFROMHANDLE, handle, 0, &[])
     }
 
@@ -103,7 +103,7 @@ impl View<'_> {
     }
 
     /// SCI_GETUNDOCOLLECTION, 2019. Returns whether undo is collected.
-    pub fn get_undo_collection(&mut self) -> Result<bool, Refusal> {
+    pub fn get_undo_collection(&self) -> Result<bool, Refusal> {
         self.as_flag(sys::SCI_GETUNDOCOLLECTION, 0, 0, &[])
     }
 
@@ -132,7 +132,7 @@ impl View<'_> {
     }
 
     /// SCI_GETENDSTYLED, 2028. Returns end styled.
-    pub fn get_end_styled(&mut self) -> Result<i64, Refusal> {
+    pub fn get_end_styled(&self) -> Result<i64, Refusal> {
         self.as_number(sys::SCI_GETENDSTYLED, 0, 0, &[])
     }
 
@@ -143,7 +143,7 @@ impl View<'_> {
     }
 
     /// SCI_GETEOLMODE, 2030. Returns the line end that NEWLINE and PASTE insert.
-    pub fn get_eol_mode(&mut self) -> Result<i64, Refusal> {
+    pub fn get_eol_mode(&self) -> Result<i64, Refusal> {
         self.as_number(sys::SCI_GETEOLMODE, 0, 0, &[])
     }
 
@@ -185,19 +185,19 @@ impl View<'_> {
 
     /// SCI_MARKERGET, 2046. Returns the mask of `line`, bit k for number k; bad line 0. Here a
     /// bad line is one that is not there.
-    pub fn marker_get(&mut self, line: i64) -> Result<i64, Refusal> {
+    pub fn marker_get(&self, line: i64) -> Result<i64, Refusal> {
         self.as_number(sys::SCI_MARKERGET, line, 0, &[])
     }
 
     /// SCI_MARKERNEXT, 2047. Returns the least line from `line` on whose mask meets the low 32
     /// bits of `mask`, else -1.
-    pub fn marker_next(&mut self, line: i64, mask: i64) -> Result<i64, Refusal> {
+    pub fn marker_next(&self, line: i64, mask: i64) -> Result<i64, Refusal> {
         self.as_number(sys::SCI_MARKERNEXT, line, mask, &[])
     }
 
     /// SCI_MARKERPREVIOUS, 2048. Returns the greatest line up to `line` whose mask meets the
     /// low 32 bits of `mask`, else -1.
-    pub fn marker_previous(&mut self, line: i64, mask: i64) -> Result<i64, Refusal> {
+    pub fn marker_previous(&self, line: i64, mask: i64) -> Result<i64, Refusal> {
         self.as_number(sys::SCI_MARKERPREVIOUS, line, mask, &[])
     }
 
@@ -226,18 +226,18 @@ impl View<'_> {
 
     /// SCI_GETLINESTATE, 2093. Returns the state of `line`; bad line 0. Here a bad line is one
     /// that is not there.
-    pub fn get_line_state(&mut self, line: i64) -> Result<i64, Refusal> {
+    pub fn get_line_state(&self, line: i64) -> Result<i64, Refusal> {
         self.as_number(sys::SCI_GETLINESTATE, line, 0, &[])
     }
 
     /// SCI_GETLINEENDPOSITION, 2136. Returns where the end of `line` begins; the text's length
     /// from the last line on; -1 below 0.
-    pub fn get_line_end_position(&mut self, line: i64) -> Result<i64, Refusal> {
+    pub fn get_line_end_position(&self, line: i64) -> Result<i64, Refusal> {
         self.as_number(sys::SCI_GETLINEENDPOSITION, line, 0, &[])
     }
 
     /// SCI_GETREADONLY, 2140. Returns whether the document is read-only.
-    pub fn get_read_only(&mut self) -> Result<bool, Refusal> {
+    pub fn get_read_only(&self) -> Result<bool, Refusal> {
         self.as_flag(sys::SCI_GETREADONLY, 0, 0, &[])
     }
 
@@ -255,7 +255,7 @@ impl View<'_> {
     }
 
     /// SCI_GETSELECTIONSTART, 2143. Returns the selection's start.
-    pub fn get_selection_start(&mut self) -> Result<i64, Refusal> {
+    pub fn get_selection_start(&self) -> Result<i64, Refusal> {
         self.as_number(sys::SCI_GETSELECTIONSTART, 0, 0, &[])
     }
 
@@ -267,7 +267,7 @@ impl View<'_> {
     }
 
     /// SCI_GETSELECTIONEND, 2145. Returns the selection's end.
-    pub fn get_selection_end(&mut self) -> Result<i64, Refusal> {
+    pub fn get_selection_end(&self) -> Result<i64, Refusal> {
         self.as_number(sys::SCI_GETSELECTIONEND, 0, 0, &[])
     }
 
@@ -278,12 +278,12 @@ impl View<'_> {
     }
 
     /// SCI_GETLINECOUNT, 2154. Returns the number of lines.
-    pub fn get_line_count(&mut self) -> Result<i64, Refusal> {
+    pub fn get_line_count(&self) -> Result<i64, Refusal> {
         self.as_number(sys::SCI_GETLINECOUNT, 0, 0, &[])
     }
 
     /// SCI_GETMODIFY, 2159. Returns whether the document is not at its save point.
-    pub fn get_modify(&mut self) -> Result<bool, Refusal> {
+    pub fn get_modify(&self) -> Result<bool, Refusal> {
         self.as_flag(sys::SCI_GETMODIFY, 0, 0, &[])
     }
 
@@ -308,13 +308,13 @@ impl View<'_> {
 
     /// SCI_LINEFROMPOSITION, 2166. Returns the line of `position`, clamped. Here clamped means
     /// brought into 0..n, n the text's length.
-    pub fn line_from_position(&mut self, position: i64) -> Result<i64, Refusal> {
+    pub fn line_from_position(&self, position: i64) -> Result<i64, Refusal> {
         self.as_number(sys::SCI_LINEFROMPOSITION, position, 0, &[])
     }
 
     /// SCI_POSITIONFROMLINE, 2167. Returns the start of `line`; below 0 that of the line of the
     /// selection's start; the text's length for `line` = the number of lines; -1 beyond.
-    pub fn position_from_line(&mut self, line: i64) -> Result<i64, Refusal> {
+    pub fn position_from_line(&self, line: i64) -> Result<i64, Refusal> {
         self.as_number(sys::SCI_POSITIONFROMLINE, line, 0, &[])
     }
 
@@ -330,13 +330,13 @@ impl View<'_> {
     }
 
     /// SCI_CANPASTE, 2173. Returns whether the document is not read-only.
-    pub fn can_paste(&mut self) -> Result<bool, Refusal> {
+    pub fn can_paste(&self) -> Result<bool, Refusal> {
         self.as_flag(sys::SCI_CANPASTE, 0, 0, &[])
     }
 
     /// SCI_CANUNDO, 2174. Returns whether no group is open, the document is not read-only and
     /// the past is not empty.
-    pub fn can_undo(&mut self) -> Result<bool, Refusal> {
+    pub fn can_undo(&self) -> Result<bool, Refusal> {
         self.as_flag(sys::SCI_CANUNDO, 0, 0, &[])
     }
 
@@ -387,7 +387,7 @@ impl View<'_> {
     }
 
     /// SCI_GETTEXTLENGTH, 2183. Returns the text's length.
-    pub fn get_text_length(&mut self) -> Result<i64, Refusal> {
+    pub fn get_text_length(&self) -> Result<i64, Refusal> {
         self.as_number(sys::SCI_GETTEXTLENGTH, 0, 0, &[])
     }
 
@@ -398,7 +398,7 @@ impl View<'_> {
     }
 
     /// SCI_GETTARGETSTART, 2191. Returns the target's start.
-    pub fn get_target_start(&mut self) -> Result<i64, Refusal> {
+    pub fn get_target_start(&self) -> Result<i64, Refusal> {
         self.as_number(sys::SCI_GETTARGETSTART, 0, 0, &[])
     }
 
@@ -409,7 +409,7 @@ impl View<'_> {
     }
 
     /// SCI_GETTARGETEND, 2193. Returns the target's end.
-    pub fn get_target_end(&mut self) -> Result<i64, Refusal> {
+    pub fn get_target_end(&self) -> Result<i64, Refusal> {
         self.as_number(sys::SCI_GETTARGETEND, 0, 0, &[])
     }
 
@@ -437,20 +437,20 @@ impl View<'_> {
     }
 
     /// SCI_GETSEARCHFLAGS, 2199. Returns the flags.
-    pub fn get_search_flags(&mut self) -> Result<i64, Refusal> {
+    pub fn get_search_flags(&self) -> Result<i64, Refusal> {
         self.as_number(sys::SCI_GETSEARCHFLAGS, 0, 0, &[])
     }
 
     /// SCI_VISIBLEFROMDOCLINE, 2220. Returns the display line of `line`; for a hidden one that
     /// of the last visible line before it; bad line -1. Here a bad line is one that is not
     /// there.
-    pub fn visible_from_doc_line(&mut self, line: i64) -> Result<i64, Refusal> {
+    pub fn visible_from_doc_line(&self, line: i64) -> Result<i64, Refusal> {
         self.as_number(sys::SCI_VISIBLEFROMDOCLINE, line, 0, &[])
     }
 
     /// SCI_DOCLINEFROMVISIBLE, 2221. Returns the line shown at `display_line`; 0 up to 0; the
     /// number of lines past the last.
-    pub fn doc_line_from_visible(&mut self, display_line: i64) -> Result<i64, Refusal> {
+    pub fn doc_line_from_visible(&self, display_line: i64) -> Result<i64, Refusal> {
         self.as_number(sys::SCI_DOCLINEFROMVISIBLE, display_line, 0, &[])
     }
 
@@ -461,20 +461,20 @@ impl View<'_> {
 
     /// SCI_GETFOLDLEVEL, 2223. Returns the level of `line`; bad line 1024 (SC_FOLDLEVELBASE).
     /// Here a bad line is one that is not there.
-    pub fn get_fold_level(&mut self, line: i64) -> Result<i64, Refusal> {
+    pub fn get_fold_level(&self, line: i64) -> Result<i64, Refusal> {
         self.as_number(sys::SCI_GETFOLDLEVEL, line, 0, &[])
     }
 
     /// SCI_GETLASTCHILD, 2224. `level` in -1..2^31-1; returns the last child of `line`, by its
     /// own number for `level` = -1, else by `level`'s low 12 bits; bad line -1. Here a bad line
     /// is one that is not there.
-    pub fn get_last_child(&mut self, line: i64, level: i64) -> Result<i64, Refusal> {
+    pub fn get_last_child(&self, line: i64, level: i64) -> Result<i64, Refusal> {
         self.as_number(sys::SCI_GETLASTCHILD, line, level, &[])
     }
 
     /// SCI_GETFOLDPARENT, 2225. Returns the fold parent of `line`; none, or bad line: -1. Here
     /// a bad line is one that is not there.
-    pub fn get_fold_parent(&mut self, line: i64) -> Result<i64, Refusal> {
+    pub fn get_fold_parent(&self, line: i64) -> Result<i64, Refusal> {
         self.as_number(sys::SCI_GETFOLDPARENT, line, 0, &[])
     }
 
@@ -490,7 +490,7 @@ impl View<'_> {
 
     /// SCI_GETLINEVISIBLE, 2228. Returns whether `line` is visible; bad line false. Here a bad
     /// line is one that is not there.
-    pub fn get_line_visible(&mut self, line: i64) -> Result<bool, Refusal> {
+    pub fn get_line_visible(&self, line: i64) -> Result<bool, Refusal> {
         self.as_flag(sys::SCI_GETLINEVISIBLE, line, 0, &[])
     }
 
@@ -502,7 +502,7 @@ impl View<'_> {
 
     /// SCI_GETFOLDEXPANDED, 2230. Returns whether `line` is expanded; bad line false. Here a
     /// bad line is one that is not there.
-    pub fn get_fold_expanded(&mut self, line: i64) -> Result<bool, Refusal> {
+    pub fn get_fold_expanded(&self, line: i64) -> Result<bool, Refusal> {
         self.as_flag(sys::SCI_GETFOLDEXPANDED, line, 0, &[])
     }
 
@@ -519,7 +519,7 @@ impl View<'_> {
     }
 
     /// SCI_GETALLLINESVISIBLE, 2236. Returns whether all lines are visible.
-    pub fn get_all_lines_visible(&mut self) -> Result<bool, Refusal> {
+    pub fn get_all_lines_visible(&self) -> Result<bool, Refusal> {
         self.as_flag(sys::SCI_GETALLLINESVISIBLE, 0, 0, &[])
     }
 
@@ -622,12 +622,12 @@ impl View<'_> {
 
     /// SCI_LINELENGTH, 2350. Returns the length of `line` with its end; bad line 0. Here a bad
     /// line is one that is not there.
-    pub fn line_length(&mut self, line: i64) -> Result<i64, Refusal> {
+    pub fn line_length(&self, line: i64) -> Result<i64, Refusal> {
         self.as_number(sys::SCI_LINELENGTH, line, 0, &[])
     }
 
     /// SCI_GETDOCPOINTER, 2357. Returns the id of the view's document.
-    pub fn get_doc_pointer(&mut self) -> Result<i64, Refusal> {
+    pub fn get_doc_pointer(&self) -> Result<i64, Refusal> {
         self.as_number(sys::SCI_GETDOCPOINTER, 0, 0, &[])
     }
 
@@ -666,26 +666,26 @@ impl View<'_> {
     }
 
     /// SCI_GETMODEVENTMASK, 2378. Returns the mask.
-    pub fn get_mod_event_mask(&mut self) -> Result<i64, Refusal> {
+    pub fn get_mod_event_mask(&self) -> Result<i64, Refusal> {
         self.as_number(sys::SCI_GETMODEVENTMASK, 0, 0, &[])
     }
 
     /// SCI_GETDOCUMENTOPTIONS, 2379. Returns the options of the view's document.
-    pub fn get_document_options(&mut self) -> Result<i64, Refusal> {
+    pub fn get_document_options(&self) -> Result<i64, Refusal> {
         self.as_number(sys::SCI_GETDOCUMENTOPTIONS, 0, 0, &[])
     }
 
     /// SCI_POSITIONBEFORE, 2417. Returns the greatest cut below `position` (clamped), or 0.
     /// Here clamped means brought into 0..n, n the text's length; a cut is a place between two
     /// characters.
-    pub fn position_before(&mut self, position: i64) -> Result<i64, Refusal> {
+    pub fn position_before(&self, position: i64) -> Result<i64, Refusal> {
         self.as_number(sys::SCI_POSITIONBEFORE, position, 0, &[])
     }
 
     /// SCI_POSITIONAFTER, 2418. Returns the least cut above `position` (clamped), or the text's
     /// length. Here clamped means brought into 0..n, n the text's length; a cut is a place
     /// between two characters.
-    pub fn position_after(&mut self, position: i64) -> Result<i64, Refusal> {
+    pub fn position_after(&self, position: i64) -> Result<i64, Refusal> {
         self.as_number(sys::SCI_POSITIONAFTER, position, 0, &[])
     }
 
@@ -715,7 +715,7 @@ impl View<'_> {
     }
 
     /// SCI_GETPASTECONVERTENDINGS, 2468. Returns whether this view converts what it pastes.
-    pub fn get_paste_convert_endings(&mut self) -> Result<bool, Refusal> {
+    pub fn get_paste_convert_endings(&self) -> Result<bool, Refusal> {
         self.as_flag(sys::SCI_GETPASTECONVERTENDINGS, 0, 0, &[])
     }
 
@@ -725,7 +725,7 @@ impl View<'_> {
     }
 
     /// SCI_GETINDICATORCURRENT, 2501. Returns the view's current indicator.
-    pub fn get_indicator_current(&mut self) -> Result<i64, Refusal> {
+    pub fn get_indicator_current(&self) -> Result<i64, Refusal> {
         self.as_number(sys::SCI_GETINDICATORCURRENT, 0, 0, &[])
     }
 
@@ -736,7 +736,7 @@ impl View<'_> {
     }
 
     /// SCI_GETINDICATORVALUE, 2503. Returns the value that this view fills in.
-    pub fn get_indicator_value(&mut self) -> Result<i64, Refusal> {
+    pub fn get_indicator_value(&self) -> Result<i64, Refusal> {
         self.as_number(sys::SCI_GETINDICATORVALUE, 0, 0, &[])
     }
 
@@ -756,25 +756,25 @@ impl View<'_> {
 
     /// SCI_INDICATORALLONFOR, 2506. Returns bit k for each indicator k that is not 0 at
     /// `position`; 0 outside 0..n-1. Here n is the text's length.
-    pub fn indicator_all_on_for(&mut self, position: i64) -> Result<i64, Refusal> {
+    pub fn indicator_all_on_for(&self, position: i64) -> Result<i64, Refusal> {
         self.as_number(sys::SCI_INDICATORALLONFOR, position, 0, &[])
     }
 
     /// SCI_INDICATORVALUEAT, 2507. `number` in 0..31; returns its value at `position`; 0
     /// outside 0..n-1. Here n is the text's length.
-    pub fn indicator_value_at(&mut self, number: i64, position: i64) -> Result<i64, Refusal> {
+    pub fn indicator_value_at(&self, number: i64, position: i64) -> Result<i64, Refusal> {
         self.as_number(sys::SCI_INDICATORVALUEAT, number, position, &[])
     }
 
     /// SCI_INDICATORSTART, 2508. `number` in 0..31; returns where the longest run of one value
     /// that holds `position` starts; 0 outside 0..n-1. Here n is the text's length.
-    pub fn indicator_start(&mut self, number: i64, position: i64) -> Result<i64, Refusal> {
+    pub fn indicator_start(&self, number: i64, position: i64) -> Result<i64, Refusal> {
         self.as_number(sys::SCI_INDICATORSTART, number, position, &[])
     }
 
     /// SCI_INDICATOREND, 2509. `number` in 0..31; returns the place just after the longest run
     /// of one value that holds `position`; 0 outside 0..n-1. Here n is the text's length.
-    pub fn indicator_end(&mut self, number: i64, position: i64) -> Result<i64, Refusal> {
+    pub fn indicator_end(&self, number: i64, position: i64) -> Result<i64, Refusal> {
         self.as_number(sys::SCI_INDICATOREND, number, position, &[])
     }
 
@@ -798,7 +798,7 @@ impl View<'_> {
     }
 
     /// SCI_GETSELECTIONEMPTY, 2650. Returns whether anchor and caret are at one place.
-    pub fn get_selection_empty(&mut self) -> Result<bool, Refusal> {
+    pub fn get_selection_empty(&self) -> Result<bool, Refusal> {
         self.as_flag(sys::SCI_GETSELECTIONEMPTY, 0, 0, &[])
     }
 
@@ -811,13 +811,13 @@ impl View<'_> {
 
     /// SCI_GETLINEENDTYPESALLOWED, 2657. Returns the types of line ends that the document
     /// allows.
-    pub fn get_line_end_types_allowed(&mut self) -> Result<i64, Refusal> {
+    pub fn get_line_end_types_allowed(&self) -> Result<i64, Refusal> {
         self.as_number(sys::SCI_GETLINEENDTYPESALLOWED, 0, 0, &[])
     }
 
     /// SCI_GETLINEENDTYPESACTIVE, 2658. Returns the types of line ends that are active: those
     /// that the document allows.
-    pub fn get_line_end_types_active(&mut self) -> Result<i64, Refusal> {
+    pub fn get_line_end_types_active(&self) -> Result<i64, Refusal> {
         self.as_number(sys::SCI_GETLINEENDTYPESACTIVE, 0, 0, &[])
     }
 

@@ -1,6 +1,6 @@
 //! What the examples do not show: which types cross threads, what a refused message leaves, and that ids and sizes meet the library's.
 
-use hongpilas::{Limits, Note, Refusal, Session, View, GREATEST_LIMITS, HONGPILAS_VERSION, SCN_MODIFIED};
+use hongpilas::{note_name, Limits, Note, Refusal, Session, View, GREATEST_LIMITS, HONGPILAS_VERSION, SCN_MODIFIED};
 
 /// `is_not` names one function where `T` is not `Send`, and one of two where it is: then a call of it does not compile.
 trait SentOrNot<Which> {
@@ -31,7 +31,8 @@ fn a_refusal_leaves_the_last_reply() -> Result<(), Refusal> {
     assert_eq!(view.get_line(1)?, b"two");
     assert_eq!(view.get_text_range(3, 2), Err(Refusal::BadArgument));
     assert_eq!(view.send(9999, 0, 0, b""), Err(Refusal::UnknownMessage));
-    assert_eq!((view.value(), view.text(), view.notes().len()), (3, &b"two"[..], 0));
+    assert_eq!((view.value(), view.notes().len()), (3, 0));
+    assert_eq!(view.text(), b"two");
     Ok(())
 }
 
@@ -79,6 +80,36 @@ fn notes_are_told_in_order() -> Result<(), Refusal> {
 }
 
 #[test]
+fn a_view_has_its_own_notes() -> Result<(), Refusal> {
+    let mut session = Session::new()?;
+    let (first, second) = (session.new_view()?.id(), session.new_view()?.id());
+    let document = session.view(first).get_doc_pointer()?;
+    session.view(second).set_doc_pointer(document)?;
+    session.view(first).add_text("ab")?;
+    assert_eq!(session.notes().map(|note| note.view).collect::<Vec<u32>>(), [1, 2, 1, 2, 1, 2]);
+    for id in [first, second] {
+        let mut view = session.view(id);
+        let mut notes = view.notes();
+        assert_eq!((notes.len(), notes.next().map(|note| note.view), notes.len()), (3, Some(id), 2));
+        assert_eq!(notes.map(|note| (note.view, note.code)).collect::<Vec<_>>(), [(id, 2003), (id, 2008)]);
+    }
+    assert_eq!(session.view(3).notes().count(), 0);
+    assert!(session.notes().all(|note| note_name(note.code).is_some()));
+    Ok(())
+}
+
+#[test]
+fn questions_stand_among_arguments() -> Result<(), Refusal> {
+    let mut session = Session::new()?;
+    let mut view = session.new_view()?;
+    view.set_text("one\ntwo")?;
+    view.set_target_range(view.get_target_end()?, view.get_length()?)?;
+    view.goto_line(view.get_line_count()? - 1)?;
+    assert_eq!((view.get_target_end()?, view.get_current_pos()?), (7, 4));
+    Ok(())
+}
+
+#[test]
 fn views_close_and_are_used_up() -> Result<(), Refusal> {
     let mut session = Session::with_limits(&Limits { views: 1, ..GREATEST_LIMITS })?;
     let id = session.new_view()?.id();
@@ -110,5 +141,5 @@ fn refusals_have_names() {
     assert_eq!(Refusal::OutOfMemory.name(), "out of memory");
     assert_eq!(Refusal::TooMany.number(), 7);
     // SAFETY: a call without arguments.
-    assert_eq!(unsafe { hongpilas::hongpilas_version() }, HONGPILAS_VERSION);
+    assert_eq!(unsafe { hongpilas::sys::hongpilas_version() }, HONGPILAS_VERSION);
 }
