@@ -1,6 +1,6 @@
 /* Each message of the profile in Scintilla's manner, as a program sends it that knows Scintilla: prints what comes of it. `door --sent` lists the
- * messages. Then what is refused, what is sent while notes are told, and each growth refused in turn, for which it is linked with
- * --wrap=malloc,--wrap=realloc,--wrap=free. */
+ * messages. Then null texts, views and doors, what is refused, what is sent while notes are told, and each growth refused in turn, for which it is
+ * linked with --wrap=malloc,--wrap=realloc,--wrap=free. */
 #include <hongpilas_scintilla.h>
 #include <limits.h>
 #include <stdio.h>
@@ -77,7 +77,9 @@ static void hear(SCNotification *note, void *data) {
 
 typedef enum form { NUMBERS, BYTES, BUFFER, RANGE, NONE } form;
 
-/* A call: of `first` or `second`. What `l` stands for is its form. */
+enum { FIRST, SECOND, NO_VIEW, VIEWS };
+
+/* A call: of the first view, the second, or none. What `l` stands for is its form. */
 typedef struct step {
   const char *name;
   unsigned int number;
@@ -93,6 +95,7 @@ typedef struct step {
 #define INTO(name, w) {#name, SCI_##name, BUFFER, 0, w, 0, NULL}
 #define ASK(name, w) {#name, SCI_##name, NONE, 0, w, 0, NULL}
 #define PART(name, from, to) {#name, SCI_##name, RANGE, 0, from, to, NULL}
+#define LOST(name, w, l) {#name, SCI_##name, NUMBERS, NO_VIEW, w, l, NULL}
 
 static const step steps[] = {
     TEXT(SETTEXT, 0, "one\ntwo\r\nthr\xC3\xA9" "e"), SEND(GETLENGTH, 0, 0), SEND(GETTEXTLENGTH, 0, 0), SEND(GETLINECOUNT, 0, 0), ASK(GETTEXT, 0),
@@ -136,6 +139,16 @@ static const step steps[] = {
     TEXT(ADDTEXT, 2, "abc"), SEND(STOPRECORD, 0, 0), OTHER(SETDOCPOINTER, 0, 0), OTHER(GETDOCPOINTER, 0, 0),
 };
 
+/* Null texts, and a null range; then calls of no view. */
+static const step nulls[] = {
+    TEXT(SETTEXT, 0, "ab"), ASK(SETTEXT, 0), ASK(ADDTEXT, 3), ASK(INSERTTEXT, 0), ASK(REPLACESEL, 0), ASK(SETSTYLINGEX, 1), ASK(APPENDTEXT, 0),
+    ASK(APPENDTEXT, 1), ASK(COPYTEXT, 0), ASK(COPYTEXT, 1), SEND(TARGETWHOLEDOCUMENT, 0, 0), ASK(SEARCHINTARGET, 0), ASK(SEARCHINTARGET, 1),
+    ASK(REPLACETARGET, 1), ASK(REPLACETARGET, -1), ASK(REPLACETARGET, 0), ASK(GETTEXTRANGE, 0), ASK(GETSTYLEDTEXT, 0), INTO(GETTEXT, 9),
+    LOST(GETSTATUS, 0, 0), LOST(SETSTATUS, 0, 0), LOST(GETSTATUS, 0, 0), LOST(GETLENGTH, 0, 0), LOST(UNDO, 0, 0), LOST(MARKERADD, 0, 1),
+    LOST(MARKERLINEFROMHANDLE, 1, 0), LOST(MARKERNEXT, 0, 1), LOST(MARKERPREVIOUS, 0, 1), LOST(GETFOLDPARENT, 0, 0), LOST(SEARCHINTARGET, 0, 0),
+    LOST(ADDTEXT, 0, 0), LOST(GETTEXT, 0, 0), LOST(GETRANGEPOINTER, 0, 0),
+};
+
 enum { ROOM = 128, UNWRITTEN = '~' };
 
 /* Prints what was written into a buffer: all up to where nothing was. */
@@ -154,6 +167,8 @@ static void take_step(const sptr_t *views, const step *s) {
   memset(buffer, UNWRITTEN, sizeof buffer);
   printf("%s %ld", s->name, (long)s->w);
   if (s->form == NUMBERS || s->form == RANGE) printf(" %ld", (long)s->l);
+  if (s->form == NONE) printf(" NULL");
+  if (s->view == NO_VIEW) printf(" to no view");
   if (s->form == BYTES) putchar(' ');
   if (s->form == BYTES) print_bytes(s->text, strlen(s->text));
   putchar('\n');
@@ -168,9 +183,9 @@ static void take_step(const sptr_t *views, const step *s) {
 static void try_each_message(void) {
   static char names[2][8] = {"first", "second"};
   hongpilas_door *door = hongpilas_door_new();
-  sptr_t views[2] = {0, 0};
+  sptr_t views[VIEWS] = {0, 0, 0};
   must(door != NULL, "a door opens");
-  for (int i = 0; i < 2; i++) {
+  for (int i = FIRST; i <= SECOND; i++) {
     views[i] = hongpilas_door_open(door);
     hongpilas_set_notify(views[i], hear, names[i]);
   }
@@ -180,7 +195,27 @@ static void try_each_message(void) {
   must(blocks == 0, "all blocks are given back");
 }
 
-/* ---- What is no message, and null pointers ---- */
+/* ---- Null texts, views and doors ---- */
+
+/* The view 0 and a null door are harmless to each call. */
+static void try_nulls(void) {
+  hongpilas_door *door = hongpilas_door_new();
+  sptr_t views[VIEWS] = {hongpilas_door_open(door), 0, 0};
+  for (size_t i = 0; i < sizeof nulls / sizeof *nulls; i++) take_step(views, &nulls[i]);
+  printf("hongpilas_direct_status with no place for the status\n  = %ld\n",
+         (long)hongpilas_direct_status(views[FIRST], SCI_GETLINECOUNT, 0, 0, NULL));
+  printf("hongpilas_refusal of no view\n  = %s\n", hongpilas_refusal(0));
+  hongpilas_set_notify(0, hear, NULL);
+  hongpilas_set_notify(0, NULL, NULL);
+  hongpilas_door_close(0);
+  hongpilas_door_free(door);
+  printf("hongpilas_door_open of no door\n  = %ld\n", (long)hongpilas_door_open(NULL));
+  printf("hongpilas_door_new_with_limits without limits\n  = %s\n", hongpilas_door_new_with_limits(NULL) == NULL ? "NULL" : "a door");
+  hongpilas_door_free(NULL);
+  must(blocks == 0, "all blocks are given back");
+}
+
+/* ---- What is no message, and what is refused ---- */
 
 static void try_edges(void) {
   SciFnDirect send = hongpilas_direct;
@@ -191,11 +226,9 @@ static void try_edges(void) {
   hongpilas_limits none = {0, 0, 0, 0, 0, 0, 0}, few = HONGPILAS_GREATEST_LIMITS;
   send(view, SCI_ADDTEXT, 2, (sptr_t)"ab");
   must(send(view, 9999, 1, 1) == 0 && send(view, SCI_GETSTATUS, 0, 0) == SC_STATUS_OK, "an unknown message answers 0, with no status");
-  must(send(0, SCI_GETLENGTH, 0, 0) == 0, "no view answers 0");
-  must(send(view, SCI_ADDTEXT, 2, 0) == 0 && send(view, SCI_SETTEXT, 0, 0) == 0 && send(view, SCI_REPLACESEL, 0, 0) == 0, "a null text is none");
-  must(send(view, SCI_GETSTATUS, 0, 0) == SC_STATUS_OK && send(view, SCI_GETLENGTH, 0, 0) == 2, "and nothing is done");
   must(send(view, SCI_GETTEXTRANGE, 0, (sptr_t)&range) == 2 && send(view, SCI_GETSTYLEDTEXT, 0, (sptr_t)&range) == 4, "a range into no buffer");
   must(*hongpilas_refusal(view) == '\0', "nothing was refused");
+  must(send(view, SCI_ADDUNDOACTION, 1, (sptr_t)0x100000000 | UNDO_NONE) == 0 && *hongpilas_refusal(view) == '\0', "what is an int is cut to one");
   must(send(view, SCI_GETTEXTRANGE, 0, 0) == 0 && send(view, SCI_GETSTATUS, 0, 0) == SC_STATUS_FAILURE, "no range is refused");
   must(strcmp(hongpilas_refusal(view), "bad argument") == 0, "and why");
   must(send(view, SCI_GETTEXTRANGE, 0, (sptr_t)&widest) == 0 && send(view, SCI_GETSTYLEDTEXT, 0, (sptr_t)&widest) == 0, "nor is the widest one");
@@ -245,6 +278,11 @@ static void try_ints(void) {
 
 typedef struct meddler { hongpilas_door *door; sptr_t view; int notes, refused; } meddler;
 
+/* Messages that answer -1 where nothing is found or added. */
+static const unsigned int finding[] = {
+    SCI_MARKERADD, SCI_MARKERLINEFROMHANDLE, SCI_MARKERNEXT, SCI_MARKERPREVIOUS, SCI_SEARCHINTARGET, SCI_GETFOLDPARENT,
+};
+
 static void meddle(SCNotification *note, void *data) {
   meddler *m = (meddler *)data;
   m->notes++;
@@ -252,6 +290,7 @@ static void meddle(SCNotification *note, void *data) {
   m->refused += hongpilas_direct(m->view, SCI_GETLENGTH, 0, 0) == 0 && hongpilas_direct(m->view, SCI_GETSTATUS, 0, 0) == SC_STATUS_FAILURE &&
                 strcmp(hongpilas_refusal(m->view), "sent while notes are told") == 0;
   must(hongpilas_direct(m->view, SCI_MARKERLINEFROMHANDLE, 1, 0) == -1 && hongpilas_direct(m->view, SCI_MARKERADD, 0, 1) == -1, "and answers -1, or 0");
+  for (size_t i = 0; i < sizeof finding / sizeof *finding; i++) must(hongpilas_direct(m->view, finding[i], 0, 0) == -1, "nothing is found");
   hongpilas_direct(m->view, SCI_SETSTATUS, SC_STATUS_OK, 0);
   must(hongpilas_door_open(m->door) == 0, "no view is opened");
   hongpilas_door_close(m->view);
@@ -329,10 +368,11 @@ int main(int count, char **words) {
     return 0;
   }
   try_each_message();
+  try_nulls();
   try_edges();
   try_ints();
   try_meddling();
   try_growths();
-  printf("texts that are none, refusals, messages while notes are told, and each growth refused in turn\n");
+  printf("refusals, messages while notes are told, and each growth refused in turn\n");
   return 0;
 }

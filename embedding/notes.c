@@ -57,8 +57,9 @@ static const char *name_of(const name *names, size_t count, uint32_t number) {
 
 static void must(hongpilas_answer answer) {
   if (answer == HONGPILAS_DONE) return;
-  const uint8_t *text;
-  size_t length = hongpilas_refusal_name(answer, &text);
+  const uint8_t *text = NULL;
+  size_t length = 0;
+  hongpilas_checked_refusal_name(answer, &text, &length);
   printf("refused: %.*s\n", (int)length, (const char *)text);
   exit(1);
 }
@@ -116,7 +117,7 @@ static void send(uint32_t view, uint32_t message, int64_t w, int64_t l, const vo
   hongpilas_note_data note;
   must(hongpilas_call(&session, view, message, w, l, text, length, NULL));
   printf("%s to view %u\n", NAME_IN(messages, message), (unsigned)view);
-  for (size_t i = 0; hongpilas_note(&session, i, &note); i++) {
+  for (size_t i = 0; hongpilas_checked_note(&session, i, &note) == HONGPILAS_DONE; i++) {
     show_note(&note);
     if (note.code == SCN_MACRORECORD) record(&note);
   }
@@ -144,9 +145,10 @@ static void replay(uint32_t view) {
 }
 
 static void show_document(uint32_t view) {
-  const uint8_t *bytes;
+  const uint8_t *bytes = NULL;
+  size_t length = 0;
   must(hongpilas_call(&session, view, SCI_GETTEXT, 0, 0, NULL, 0, NULL));
-  size_t length = hongpilas_text(&session, &bytes);
+  must(hongpilas_checked_text(&session, &bytes, &length));
   printf("view %u has ", (unsigned)view);
   show_text(bytes, length);
   putchar('\n');
@@ -184,9 +186,9 @@ static void show_masks(uint32_t view, uint32_t other) {
 
 int main(void) {
   uint32_t first = 0, second = 0;
-  must(hongpilas_new(&session));
-  must(hongpilas_new_view(&session, &first));
-  must(hongpilas_new_view(&session, &second));
+  must(hongpilas_checked_new(&session));
+  must(hongpilas_checked_new_view(&session, &first));
+  must(hongpilas_checked_new_view(&session, &second));
   record_macro(first);
   show_document(first);
   printf("%zu messages recorded\n", step_count);
@@ -195,6 +197,6 @@ int main(void) {
   show_document(second);
   show_other_notes(first);
   show_masks(first, second);
-  hongpilas_free(session);
+  hongpilas_checked_free(&session);
   return 0;
 }

@@ -50,7 +50,8 @@ typedef struct manner {
 } manner;
 
 /* By their numbers; what does not stand here takes two numbers, answers one, and 0 where it is refused. Ints are those of Scintilla's
- * documentation, also what it calls by the name of an enumeration. */
+ * documentation, also what it calls by the name of an enumeration. What answers -1 by that documentation if nothing is found or added answers
+ * -1 where it is refused. */
 static const manner manners[] = {
     {SCI_ADDTEXT, OFFERED, AS_IT_IS, 0},
     {SCI_INSERTTEXT, CLOSED, AS_IT_IS, 0},
@@ -67,6 +68,8 @@ static const manner manners[] = {
     {SCI_MARKERDELETE, INT_L, AS_IT_IS, 0},
     {SCI_MARKERDELETEALL, INT_W, AS_IT_IS, 0},
     {SCI_MARKERGET, NUMBERS, AS_INT, 0},
+    {SCI_MARKERNEXT, NUMBERS, AS_IT_IS, -1},
+    {SCI_MARKERPREVIOUS, NUMBERS, AS_IT_IS, -1},
     {SCI_SETSTYLINGEX, OFFERED, AS_IT_IS, 0},
     {SCI_SETLINESTATE, INT_L, AS_IT_IS, 0},
     {SCI_GETLINE, ASKED, AS_IT_IS, 0},
@@ -81,6 +84,7 @@ static const manner manners[] = {
     {SCI_SETSEARCHFLAGS, INT_W, AS_IT_IS, 0},
     {SCI_SETFOLDLEVEL, INT_L, AS_IT_IS, 0},
     {SCI_GETLASTCHILD, INT_L, AS_IT_IS, 0},
+    {SCI_GETFOLDPARENT, NUMBERS, AS_IT_IS, -1},
     {SCI_FOLDLINE, INT_L, AS_IT_IS, 0},
     {SCI_APPENDTEXT, COUNTED, AS_IT_IS, 0},
     {SCI_SETMODEVENTMASK, INT_W, AS_IT_IS, 0},
@@ -303,7 +307,7 @@ sptr_t hongpilas_direct(sptr_t ptr, unsigned int message, uptr_t w, sptr_t l) {
   manner way = manner_of(message);
   hongpilas_answer answer;
   int64_t value = 0;
-  if (view == NULL) return 0;
+  if (view == NULL) return message == SCI_GETSTATUS ? SC_STATUS_FAILURE : way.refused;
   if (message == SCI_GETSTATUS) return view->status;
   if (message == SCI_SETSTATUS) {
     view->status = (int)w;
@@ -322,14 +326,15 @@ sptr_t hongpilas_direct(sptr_t ptr, unsigned int message, uptr_t w, sptr_t l) {
 
 sptr_t hongpilas_direct_status(sptr_t ptr, unsigned int message, uptr_t w, sptr_t l, int *status) {
   sptr_t answer = hongpilas_direct(ptr, message, w, l);
-  *status = ptr == 0 ? SC_STATUS_FAILURE : ((const door_view *)ptr)->status;
+  if (status != NULL) *status = ptr == 0 ? SC_STATUS_FAILURE : ((const door_view *)ptr)->status;
   return answer;
 }
 
-const char *hongpilas_refusal(sptr_t view) { return ((const door_view *)view)->refusal; }
+const char *hongpilas_refusal(sptr_t view) { return view == 0 ? "no such view" : ((const door_view *)view)->refusal; }
 
 void hongpilas_set_notify(sptr_t ptr, hongpilas_notify notify, void *data) {
   door_view *view = (door_view *)ptr;
+  if (view == NULL) return;
   view->door->listeners += (size_t)(notify != NULL) - (size_t)(view->notify != NULL);
   view->notify = notify;
   view->data = data;
@@ -343,7 +348,7 @@ hongpilas_door *hongpilas_door_new(void) {
 }
 
 hongpilas_door *hongpilas_door_new_with_limits(const hongpilas_limits *limits) {
-  hongpilas_door *door = (hongpilas_door *)malloc(sizeof *door);
+  hongpilas_door *door = limits == NULL ? NULL : (hongpilas_door *)malloc(sizeof *door);
   if (door == NULL) return NULL;
   if (hongpilas_new_with_limits(&door->session, limits) != HONGPILAS_DONE) {
     free(door);
@@ -368,7 +373,7 @@ void hongpilas_door_free(hongpilas_door *door) {
 
 sptr_t hongpilas_door_open(hongpilas_door *door) {
   door_view *view;
-  if (door->is_telling) return 0;
+  if (door == NULL || door->is_telling) return 0;
   view = (door_view *)malloc(sizeof *view);
   if (view == NULL) return 0;
   memset(view, 0, sizeof *view);

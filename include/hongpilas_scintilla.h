@@ -6,12 +6,17 @@
  *     SciFnDirect send = hongpilas_direct;
  *     hongpilas_door *door = hongpilas_door_new();
  *     sptr_t view = hongpilas_door_open(door);
- *     hongpilas_set_notify(view, hear, NULL);
- *     send(view, SCI_ADDTEXT, 5, (sptr_t)"hello");
+ *     if (view != 0) {
+ *       hongpilas_set_notify(view, hear, NULL);
+ *       send(view, SCI_ADDTEXT, 5, (sptr_t)"hello");
+ *     }
+ *     hongpilas_door_free(door);
  *
  * docs/MESSAGES.md has the messages. Its column "Beside Scintilla", and docs/PROFILE.md, state the differences.
- * The duties of the caller in hongpilas.h hold here, too: one call at a time, on one thread, and none from a signal
- * handler. A text and a buffer belong to the caller: copy the text of a note before you send it. */
+ * A null door and the view 0 are harmless in every call below, which says what it does with them. The duties of the
+ * caller in hongpilas.h hold here, too: one call at a time, on one thread, and none from a signal handler; a door that
+ * was freed, and a view that was closed or whose door was freed, is used by no call. A text and a buffer belong to the
+ * caller: copy the text of a note before you send it. */
 #ifndef HONGPILAS_SCINTILLA_H
 #define HONGPILAS_SCINTILLA_H
 
@@ -105,49 +110,56 @@ extern "C" {
 /* A door: a session, and the views that were opened through it. */
 typedef struct hongpilas_door hongpilas_door;
 
-/* Opens a session without views, with the greatest limits or with lower ones. Returns NULL if an allocation fails, or
- * if a limit is out of its range. The third call frees the session with all its views. It does nothing while a notify
- * function, below, runs. */
+/* Opens a session without views, with the greatest limits or with lower ones. Returns NULL if an allocation fails, if
+ * `limits` is null, or if a limit is out of its range. The third call frees the session with all its views. It does
+ * nothing if the door is null, and nothing while a notify function, below, runs. */
 hongpilas_door *hongpilas_door_new(void);
 hongpilas_door *hongpilas_door_new_with_limits(const hongpilas_limits *limits);
 void hongpilas_door_free(hongpilas_door *door);
 
-/* Opens a view on a new document, and returns its handle for all calls below, or 0 if an allocation fails or no more
- * views may be open. The second call closes a view. Neither does anything while a notify function runs. */
+/* Opens a view on a new document, and returns its handle for all calls below, or 0 if the door is null, an allocation
+ * fails or no more views may be open. The second call closes a view, and does nothing if the view is 0. Neither does
+ * anything while a notify function runs. */
 sptr_t hongpilas_door_open(hongpilas_door *door);
 void hongpilas_door_close(sptr_t view);
 
 /* Sends a message to a view: a SciFnDirect. w, l and the result are Scintilla's:
- *  - a text is a pointer, to w bytes or to bytes that end with a NUL, as the message says;
- *  - a text that the message returns is written to the caller's buffer, with the closing NULs that Scintilla writes
- *    there; if the pointer is null, only its length is returned;
+ *  - a text is a pointer: to bytes that end with a NUL for INSERTTEXT, REPLACESEL and SETTEXT, and for REPLACETARGET if
+ *    w is -1; otherwise to w bytes;
+ *  - of a null text, ADDTEXT, INSERTTEXT, REPLACESEL, SETTEXT and SETSTYLINGEX do nothing, whatever w is: they return 0
+ *    and leave the status, as in Scintilla. To APPENDTEXT, COPYTEXT, REPLACETARGET and SEARCHINTARGET it is an empty
+ *    text if w is 0, and refused otherwise;
+ *  - a text that the message returns is written to the caller's buffer, and closed as in Scintilla: by GETTEXT and
+ *    GETCURLINE at most w bytes and a NUL, by GETSELTEXT and GETTEXTRANGE all bytes and a NUL, by GETLINE and
+ *    GETTARGETTEXT all bytes and no NUL, by GETSTYLEDTEXT all bytes with their styles and two NULs. If the pointer to
+ *    the buffer is null, only the length is returned, without the NULs. A null Sci_TextRange is refused;
  *  - a document is the number that GETDOCPOINTER and CREATEDOCUMENT return, and 0 is a new one;
- *  - what Scintilla has as an int is truncated to one, and a byte that is returned is a char.
+ *  - what Scintilla has as an int is truncated to one, and a byte that is returned is a char;
+ *  - SETTEXT and SETREADONLY return 1, as in Scintilla, where docs/MESSAGES.md has 0.
  *
- * If the pointer to a text is null, ADDTEXT, INSERTTEXT, REPLACESEL, SETTEXT and SETSTYLINGEX do nothing and return 0, as
- * in Scintilla; APPENDTEXT, COPYTEXT, SEARCHINTARGET and REPLACETARGET take an empty text if w is 0, and are refused
- * otherwise. A negative length is refused, and no byte of the text is read; the -1 of REPLACETARGET is no length. A
- * range is refused if the pointer to it is null, or if it does not lie in the text.
+ * A negative length is refused, and no byte of the text is read; the -1 of REPLACETARGET is no length. A range is refused if
+ * it does not lie in the text.
  *
  * Beside the messages of the profile a view has three more: SCI_GETSTATUS and SCI_SETSTATUS, below, and
  * SCI_GETRANGEPOINTER, which lends the l bytes of the document from w on, without a copy and without a closing NUL.
- * They are valid until the next message to a view of the same door.
+ * They are valid until the next message to a view of the same door. If l is 0, the address means nothing.
  *
  * A refused call changes nothing and writes nothing. The view's status becomes SC_STATUS_BADALLOC if an allocation
- * failed, and SC_STATUS_FAILURE otherwise. The result is that of Scintilla for a message that does nothing: 0, or -1
- * for MARKERADD, MARKERLINEFROMHANDLE and SEARCHINTARGET. As in Scintilla the status stays until SCI_SETSTATUS.
- * SCI_GETSTATUS returns it, and so does the second form, a SciFnDirectStatus. A message that the profile does not have
- * returns 0, with no status. A view of 0 is no view: the result is 0, and the second form sets SC_STATUS_FAILURE. */
+ * failed, and SC_STATUS_FAILURE otherwise. The result is 0, or -1 for the messages by which Scintilla says so that
+ * nothing is found or added: MARKERADD, MARKERLINEFROMHANDLE, MARKERNEXT, MARKERPREVIOUS, SEARCHINTARGET and
+ * GETFOLDPARENT. As in Scintilla the status stays until SCI_SETSTATUS. SCI_GETSTATUS returns it, and the second form, a
+ * SciFnDirectStatus, sets *status to it, unless `status` is null. A message that the profile does not have returns 0,
+ * with no status. The view 0 refuses each message, and has the status SC_STATUS_FAILURE always. */
 sptr_t hongpilas_direct(sptr_t view, unsigned int message, uptr_t w, sptr_t l);
 sptr_t hongpilas_direct_status(sptr_t view, unsigned int message, uptr_t w, sptr_t l, int *status);
 
-/* Returns why the view last refused a call, such as "bad argument", or "" if it has refused none since it was opened.
- * The string is valid until the next call. */
+/* Returns why the view last refused a call, such as "bad argument", or "" if it has refused none since it was opened;
+ * of the view 0 "no such view". The string is valid until the next call. */
 const char *hongpilas_refusal(sptr_t view);
 
-/* Sets the notify function of a view, which is called with each of its notifications; NULL for none. The functions are
- * called after a message is done and before hongpilas_direct returns: note by note, in their order, for each view that
- * hears the note. What a notification points to is valid until the function returns.
+/* Sets the notify function of a view, which is called with each of its notifications; NULL for none. Does nothing if
+ * the view is 0. The functions are called after a message is done and before hongpilas_direct returns: note by note,
+ * in their order, for each view that hears the note. What a notification points to is valid until the function returns.
  *
  * While a notify function runs, no view of the door takes a message except SCI_GETSTATUS and SCI_SETSTATUS. It is
  * refused as "sent while notes are told". The remaining notes are sent as usual. */

@@ -1,11 +1,11 @@
 #!/usr/bin/env python3
 """Writes each example of examples/ as a theorem of the crate ed_model: its script, read and run by the definitions, prints its output.
 
-Run it anywhere in the repository after an example was added or changed; the gate proves what it writes. With --check it writes nothing, and
-ends with status 1 where a file of the crate has other words than it would write: so no script or output is changed without its theorem.
+Run it anywhere in the repository after an example was added or changed; the gate proves what it writes, which is laid out as `rt fmt` leaves
+it. With --check it writes nothing, and ends with status 1 where a file of the crate is not what it would write: so no script or output is
+changed without its theorem.
 """
 import os
-import re
 import sys
 
 TOP = os.path.dirname(os.path.dirname(os.path.abspath(__file__)))
@@ -50,7 +50,7 @@ def lines_of(data):
         return "[]"
     if not data.endswith(b"\n"):
         sys.exit("an example's last line has no end")
-    return "".join("        " + quoted(line) + " ∷\n" for line in data[:-1].split(b"\n")) + "        []"
+    return "".join("    " + quoted(line) + " ∷\n" for line in data[:-1].split(b"\n")) + "    []"
 
 
 def read(path):
@@ -87,15 +87,10 @@ def pages():
     return found
 
 
-def words(text):
-    """The words of a file, a quoted text as one: `rt fmt` lays files out otherwise, and leaves these."""
-    return re.findall(r'"(?:[^"\\]|\\.)*"|[^\s"]+|"', text)
-
-
 def is_written(place, text):
-    """Whether a file of the crate is there, with these words."""
+    """Whether a file of the crate is there, with this text."""
     path = os.path.join(MODEL, place)
-    return os.path.exists(path) and words(read(path).decode(errors="replace")) == words(text)
+    return os.path.exists(path) and read(path) == text.encode()
 
 
 def main(arguments):
