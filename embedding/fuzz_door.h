@@ -19,12 +19,12 @@ static const manners documented[] = {
     {SCI_SETREADONLY, "--1"},      {SCI_GETCURLINE, "-b-"},      {SCI_GETLINE, "-r-"},       {SCI_GETTEXTRANGE, "-t-"},        {SCI_SETTEXT, "-Z1"},
     {SCI_GETTEXT, "-b-"},          {SCI_APPENDTEXT, "-n-"},      {SCI_GETSELTEXT, "-s-"},    {SCI_REPLACESEL, "-Z-"},          {SCI_COPYTEXT, "-n-"},
     {SCI_ADDUNDOACTION, "ii-"},    {SCI_SETEOLMODE, "i--"},      {SCI_CONVERTEOLS, "i--"},   {SCI_MARKERADD, "-iF"},           {SCI_MARKERADDSET, "-m-"},
-    {SCI_MARKERDELETE, "-i-"},     {SCI_MARKERDELETEALL, "i--"}, {SCI_MARKERGET, "--i"},     {SCI_MARKERDELETEHANDLE, "i--"},  {SCI_MARKERNEXT, "-i-"},
-    {SCI_MARKERPREVIOUS, "-i-"},   {SCI_SETLINESTATE, "-i-"},    {SCI_GETLINESTATE, "--i"},  {SCI_MARKERLINEFROMHANDLE, "i-f"}, {SCI_SETSTYLING, "-i-"},
+    {SCI_MARKERDELETE, "-i-"},     {SCI_MARKERDELETEALL, "i--"}, {SCI_MARKERGET, "--i"},     {SCI_MARKERDELETEHANDLE, "i--"},  {SCI_MARKERNEXT, "-if"},
+    {SCI_MARKERPREVIOUS, "-if"},   {SCI_SETLINESTATE, "-i-"},    {SCI_GETLINESTATE, "--i"},  {SCI_MARKERLINEFROMHANDLE, "i-f"}, {SCI_SETSTYLING, "-i-"},
     {SCI_SETSTYLINGEX, "-N-"},     {SCI_INDICATORSTART, "i--"},  {SCI_INDICATOREND, "i--"},  {SCI_SETINDICATORCURRENT, "i--"}, {SCI_SETINDICATORVALUE, "i--"},
     {SCI_INDICATORALLONFOR, "--i"}, {SCI_INDICATORVALUEAT, "i-i"}, {SCI_GETTARGETTEXT, "-r-"}, {SCI_SETSEARCHFLAGS, "i--"},    {SCI_SEARCHINTARGET, "-nf"},
-    {SCI_REPLACETARGET, "-e-"},    {SCI_SETFOLDLEVEL, "-i-"},    {SCI_GETFOLDLEVEL, "--i"},  {SCI_GETLASTCHILD, "-i-"},        {SCI_FOLDLINE, "-i-"},
-    {SCI_CREATEDOCUMENT, "-i-"},   {SCI_SETLINEENDTYPESALLOWED, "i--"}, {SCI_SETMODEVENTMASK, "i--"}};
+    {SCI_REPLACETARGET, "-e-"},    {SCI_SETFOLDLEVEL, "-i-"},    {SCI_GETFOLDLEVEL, "--i"},  {SCI_GETFOLDPARENT, "--f"},       {SCI_GETLASTCHILD, "-i-"},
+    {SCI_FOLDLINE, "-i-"},         {SCI_CREATEDOCUMENT, "-i-"},   {SCI_SETLINEENDTYPESALLOWED, "i--"}, {SCI_SETMODEVENTMASK, "i--"}};
 
 static const char *manners_of(uint32_t number) {
   for (size_t i = 0; i < sizeof documented / sizeof *documented; i++)
@@ -96,7 +96,7 @@ static sptr_t status_of(ear *e) {
 /* What is sent while notes are told is refused, of any view; none is opened or closed, and nothing is given back. A callback may be set. */
 static void meddle(heard_note *h) {
   static const uint32_t numbers[] = {SCI_GETLENGTH, SCI_GETTEXT, SCI_MARKERADD, SCI_SEARCHINTARGET, SCI_UNDO, SCI_GETRANGEPOINTER, SCI_GETSTYLEDTEXT, SCI_INSERTTEXT,
-                                     SCI_ADDTEXT, SCI_MARKERLINEFROMHANDLE, SCI_SETDOCPOINTER, SCI_CLEARALL};
+                                     SCI_ADDTEXT, SCI_MARKERLINEFROMHANDLE, SCI_SETDOCPOINTER, SCI_CLEARALL, SCI_MARKERNEXT, SCI_MARKERPREVIOUS, SCI_GETFOLDPARENT};
   side *s = heard.teller;
   ear *e = &s->ears[heard.count % VIEWS], *other = &s->ears[(heard.count + now.sent) % VIEWS];
   uint32_t number = numbers[now.sent % (sizeof numbers / sizeof *numbers)];
@@ -340,7 +340,7 @@ static hongpilas_answer send_by_door(side *s, const message *m) {
   begin_message(s, m, "hongpilas_direct");
   c.by = ear_of(s, m->view);
   if (c.by == NULL) {
-    must_be(hongpilas_direct(0, m->number, (uptr_t)m->w, m->l), 0, "what no view answers");
+    must_be(hongpilas_direct(0, m->number, (uptr_t)m->w, m->l), refused_value(m->number), "what no view answers");
     refuse_in = 0;
     counts.answers[HONGPILAS_NO_SUCH_VIEW]++;
     return HONGPILAS_NO_SUCH_VIEW;
@@ -452,19 +452,31 @@ static void read_by_door(side *s, uint32_t view, const record *r) {
   by->send(s, &m);
 }
 
-/* A status is what it was set to, and no view has none. */
+/* No view and no door are harmless to each call, and no view has always failed. */
+static void try_no_view(const record *r) {
+  int status = 0;
+  must_be(hongpilas_direct(0, SCI_SETSTATUS, r->w % 4, r->l), 0, "what SETSTATUS answers to no view");
+  must_be(hongpilas_direct(0, SCI_GETSTATUS, (uptr_t)r->w, r->l), SC_STATUS_FAILURE, "the status that no view answers");
+  must_be(hongpilas_direct_status(0, SCI_GETLENGTH, 0, 0, &status), 0, "what no view answers");
+  must_be(status, SC_STATUS_FAILURE, "the status of no view");
+  must(strcmp(hongpilas_refusal(0), answer_names[HONGPILAS_NO_SUCH_VIEW]) == 0, "why no view refuses");
+  hongpilas_set_notify(0, r->l % 2 == 0 ? hear : NULL, NULL);
+  must(hongpilas_door_open(NULL) == 0 && hongpilas_door_new_with_limits(NULL) == NULL, "what no door opens, and no limits");
+  counts.calls += 7;
+}
+
+/* A status is what it was set to, also where the second form has no place for it. */
 static void set_status(side *s, uint32_t view, const record *r) {
   ear *e = ear_of(s, view);
   int64_t w = r->w_kind < 128 ? r->w % 4 : hostile_number(r->w_kind, r->w, &(around){0});
-  int status = 0;
   now.doing = "SCI_SETSTATUS";
   give_up_lent(s);
-  must_be(hongpilas_direct(e->view, SCI_SETSTATUS, (uptr_t)w, r->l), 0, "what SETSTATUS answers");
+  if (r->t % 2 == 0) must_be(hongpilas_direct(e->view, SCI_SETSTATUS, (uptr_t)w, r->l), 0, "what SETSTATUS answers");
+  else must_be(hongpilas_direct_status(e->view, SCI_SETSTATUS, (uptr_t)w, r->l, NULL), 0, "what SETSTATUS answers");
   e->status = (int)w;
   must_stand(e, (int)status_of(e));
-  must_be(hongpilas_direct_status(0, SCI_GETLENGTH, 0, 0, &status), 0, "what no view answers");
-  must_be(status, SC_STATUS_FAILURE, "the status of no view");
-  counts.calls += 3;
+  try_no_view(r);
+  counts.calls++;
 }
 
 /* Null texts and null buffers of all messages that take any, no range, and a view that loses its callback, or gets it again. */

@@ -125,20 +125,18 @@ void hongpilas_door_close(sptr_t view);
 
 /* Sends a message to a view: a SciFnDirect. w, l and the result are Scintilla's:
  *  - a text is a pointer: to bytes that end with a NUL for INSERTTEXT, REPLACESEL and SETTEXT, and for REPLACETARGET if
- *    w is -1; otherwise to w bytes;
+ *    w is -1; otherwise to w bytes. Any other negative length is refused, and no byte of the text is read;
  *  - of a null text, ADDTEXT, INSERTTEXT, REPLACESEL, SETTEXT and SETSTYLINGEX do nothing, whatever w is: they return 0
  *    and leave the status, as in Scintilla. To APPENDTEXT, COPYTEXT, REPLACETARGET and SEARCHINTARGET it is an empty
  *    text if w is 0, and refused otherwise;
  *  - a text that the message returns is written to the caller's buffer, and closed as in Scintilla: by GETTEXT and
  *    GETCURLINE at most w bytes and a NUL, by GETSELTEXT and GETTEXTRANGE all bytes and a NUL, by GETLINE and
  *    GETTARGETTEXT all bytes and no NUL, by GETSTYLEDTEXT all bytes with their styles and two NULs. If the pointer to
- *    the buffer is null, only the length is returned, without the NULs. A null Sci_TextRange is refused;
+ *    the buffer is null, only the length is returned, without the NULs. A Sci_TextRange is refused if its pointer is
+ *    null, or if it does not lie in the text;
  *  - a document is the number that GETDOCPOINTER and CREATEDOCUMENT return, and 0 is a new one;
  *  - what Scintilla has as an int is truncated to one, and a byte that is returned is a char;
  *  - SETTEXT and SETREADONLY return 1, as in Scintilla, where docs/MESSAGES.md has 0.
- *
- * A negative length is refused, and no byte of the text is read; the -1 of REPLACETARGET is no length. A range is refused if
- * it does not lie in the text.
  *
  * Beside the messages of the profile a view has three more: SCI_GETSTATUS and SCI_SETSTATUS, below, and
  * SCI_GETRANGEPOINTER, which lends the l bytes of the document from w on, without a copy and without a closing NUL.
