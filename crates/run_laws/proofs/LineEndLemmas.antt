@@ -78,7 +78,7 @@ keeps to (b ∷ bs) f p front e = go (is_unwanted f to b bs) (λ q start h. keep
 
 -- Insertions followed by deletions, for an LF, for a CR, and for any other byte.
 
-by_byte : (P : ℕ → Type 0) (b : ℕ) → P 10 → P 13 → ((b == 10) ≡ false → (b == 13) ≡ false → P b) → P b
+pub by_byte : (P : ℕ → Type 0) (b : ℕ) → P 10 → P 13 → ((b == 10) ≡ false → (b == 13) ≡ false → P b) → P b
 by_byte P b feed return other = go (b == 10) (b == 13) refl refl
   where
     go : (x y : Bool) → (b == 10) ≡ x → (b == 13) ≡ y → P b
