@@ -62,26 +62,7 @@ changes_performed_id who several lines_changed (ContainerStep token coalesce ∷
 
 pub changed_id : (bytes : List ℕ) (change : DocumentChange) (d : Document) → (changed_document bytes change d).id ≡ d.id
 changed_id bytes (document_change.SetReadOnly on) d = refl
-changed_id bytes (document_change.SetLineEnd to) d = refl
-changed_id bytes (document_change.SetLineEndTypes to) d = refl
-changed_id bytes document_change.SetSavePoint d = refl
-changed_id bytes document_change.BeginGroup d = refl
-changed_id bytes document_change.EndGroup d = refl
-changed_id bytes document_change.ForgetHistory d = refl
-changed_id bytes (document_change.CollectUndo on) d = refl
-changed_id bytes (document_change.AppendContainer token coalesce) d = refl
-changed_id bytes (document_change.AddMarker line number) d = refl
-changed_id bytes (document_change.AddMarkers line mask) d = refl
-changed_id bytes (document_change.DeleteMarker line number) d = refl
-changed_id bytes (document_change.DeleteMarkers number) d = refl
-changed_id bytes (document_change.DeleteHandle handle) d = refl
-changed_id bytes (document_change.SetLevel line level) d = refl
-changed_id bytes (document_change.SetState line state) d = refl
-changed_id bytes (document_change.SetEndStyled place) d = refl
-changed_id bytes (document_change.StyleRun count style) d = refl
-changed_id bytes (document_change.StyleBytes count) d = refl
-changed_id bytes (document_change.NeedStyle start past) d = refl
-changed_id bytes (document_change.FillIndicator indicator start count value) d = refl
+changed_id bytes _ d = refl
 
 pub own_id : (r : Request) (p : Plan) → (own_after r p).id ≡ r.document.id
 own_id r (plan.Edit change value after) = edit_made_id (steps_of r change) (scene_of r)
@@ -90,12 +71,7 @@ own_id r plan.Undo =
 own_id r plan.Redo =
     let cs = redo_changes r.document.history in changes_performed_id notes.performed_redo (notes.bit_if (nat_lt 1 (length cs)) notes.multi_step) false cs (scene_of r)
 own_id r (plan.ChangeDocument change value) = changed_id r.message.text change r.document
-own_id r (plan.Answer value) = refl
-own_id r (plan.HandOut value start count) = refl
-own_id r (plan.HandOutStyled start count) = refl
-own_id r plan.Attempt = refl
-own_id r (plan.ChangeView change value) = refl
-own_id r (plan.ChangeSession change value) = refl
+own_id r _ = refl
 
 -- a new document, with any views and references
 abbrev pub IsMadeNew : Document → Type 0

@@ -146,26 +146,7 @@ with_view_ids new views = same_ids (λ (v : View). cond (v.id == new.id) new v) 
 
 lines_ids : (change : DocumentChange) (d : Document) (v : View) → (changed_lines change d v).id ≡ v.id
 lines_ids (document_change.SetLineEndTypes to) d v = either (λ (w : View). w.id ≡ v.id) (v.document == d.id) _ v refl refl
-lines_ids (document_change.SetReadOnly on) d v = refl
-lines_ids (document_change.SetLineEnd to) d v = refl
-lines_ids document_change.SetSavePoint d v = refl
-lines_ids document_change.BeginGroup d v = refl
-lines_ids document_change.EndGroup d v = refl
-lines_ids document_change.ForgetHistory d v = refl
-lines_ids (document_change.CollectUndo on) d v = refl
-lines_ids (document_change.AppendContainer token coalesce) d v = refl
-lines_ids (document_change.AddMarker line number) d v = refl
-lines_ids (document_change.AddMarkers line mask) d v = refl
-lines_ids (document_change.DeleteMarker line number) d v = refl
-lines_ids (document_change.DeleteMarkers number) d v = refl
-lines_ids (document_change.DeleteHandle handle) d v = refl
-lines_ids (document_change.SetLevel line level) d v = refl
-lines_ids (document_change.SetState line state) d v = refl
-lines_ids (document_change.SetEndStyled place) d v = refl
-lines_ids (document_change.StyleRun count style) d v = refl
-lines_ids (document_change.StyleBytes count) d v = refl
-lines_ids (document_change.NeedStyle start past) d v = refl
-lines_ids (document_change.FillIndicator indicator start count value) d v = refl
+lines_ids _ d v = refl
 
 -- the next ids do not decrease, and the views keep their ids
 record Keeps (s t : Session) : Type 0 where
@@ -208,19 +189,7 @@ history_keeps r who cs new = record {
 
 pub view_change_ids : (levels : List ℕ) (what : ViewChange) (v : View) → (changed_view levels what v).id ≡ v.id
 view_change_ids levels (view_change.Select anchor caret) v = refl
-view_change_ids levels (view_change.SetTarget start past) v = refl
-view_change_ids levels (view_change.SetSearchFlags flags) v = refl
-view_change_ids levels (view_change.SetMask mask) v = refl
-view_change_ids levels (view_change.SetIndicator indicator) v = refl
-view_change_ids levels (view_change.SetIndicatorValue value) v = refl
-view_change_ids levels (view_change.SetPasteConversion on) v = refl
-view_change_ids levels (view_change.SetRecording on) v = refl
-view_change_ids levels (view_change.ShowLines first past) v = refl
-view_change_ids levels (view_change.HideLines first past) v = refl
-view_change_ids levels (view_change.SetExpanded line on) v = refl
-view_change_ids levels (view_change.Contract line) v = refl
-view_change_ids levels (view_change.Expand line) v = refl
-view_change_ids levels (view_change.EnsureVisible line) v = refl
+view_change_ids levels _ v = refl
 
 performed_keeps : (r : Request) (p : Plan) → Keeps r.session (performed r p).0
 performed_keeps r (plan.Answer value) = keeps_same r.session

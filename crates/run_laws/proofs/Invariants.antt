@@ -61,12 +61,7 @@ module _ (Holds : Document → Type 0) (low : ℕ) (new : (e : Document) → low
   own_holds r plan.Undo h = transaction_holds notes.performed_undo (undo_changes r.document.history) (undone r.document.history) (scene_of r) h
   own_holds r plan.Redo h = transaction_holds notes.performed_redo (redo_changes r.document.history) (redone r.document.history) (scene_of r) h
   own_holds r (plan.ChangeDocument change value) h = changed r.message.text change r.document h
-  own_holds r (plan.Answer value) h = h
-  own_holds r (plan.HandOut value start count) h = h
-  own_holds r (plan.HandOutStyled start count) h = h
-  own_holds r plan.Attempt h = h
-  own_holds r (plan.ChangeView change value) h = h
-  own_holds r (plan.ChangeSession change value) h = h
+  own_holds r _ h = h
 
   abbrev Stays : Document → Document → Type 0
   Stays d e = Holds d → Holds e

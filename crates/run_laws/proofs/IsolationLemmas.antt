@@ -242,26 +242,7 @@ lines_id (document_change.FillIndicator indicator start count value) d v = refl
 
 lines_document : (change : DocumentChange) (d : Document) (v : View) → (changed_lines change d v).document ≡ v.document
 lines_document (document_change.SetLineEndTypes to) d v = either (λ (w : View). w.document ≡ v.document) (v.document == d.id) _ v refl refl
-lines_document (document_change.SetReadOnly on) d v = refl
-lines_document (document_change.SetLineEnd to) d v = refl
-lines_document document_change.SetSavePoint d v = refl
-lines_document document_change.BeginGroup d v = refl
-lines_document document_change.EndGroup d v = refl
-lines_document document_change.ForgetHistory d v = refl
-lines_document (document_change.CollectUndo on) d v = refl
-lines_document (document_change.AppendContainer token coalesce) d v = refl
-lines_document (document_change.AddMarker line number) d v = refl
-lines_document (document_change.AddMarkers line mask) d v = refl
-lines_document (document_change.DeleteMarker line number) d v = refl
-lines_document (document_change.DeleteMarkers number) d v = refl
-lines_document (document_change.DeleteHandle handle) d v = refl
-lines_document (document_change.SetLevel line level) d v = refl
-lines_document (document_change.SetState line state) d v = refl
-lines_document (document_change.SetEndStyled place) d v = refl
-lines_document (document_change.StyleRun count style) d v = refl
-lines_document (document_change.StyleBytes count) d v = refl
-lines_document (document_change.NeedStyle start past) d v = refl
-lines_document (document_change.FillIndicator indicator start count value) d v = refl
+lines_document _ d v = refl
 
 put_alike : (id : ℕ) (new : View) (vs ws : List View) → Alike id vs ws → Alike id (with_view new vs) (with_view new ws)
 put_alike id new [] [] h = tt

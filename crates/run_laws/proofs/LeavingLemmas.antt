@@ -31,19 +31,7 @@ use Rattle.run_laws.proofs.Alike.{IsAlike, AreAlike, alike_same, all_alike, alik
 -- a change of a view keeps its document
 pub view_change_document : (levels : List ℕ) (what : ViewChange) (v : View) → (changed_view levels what v).document ≡ v.document
 view_change_document levels (view_change.Select anchor caret) v = refl
-view_change_document levels (view_change.SetTarget start past) v = refl
-view_change_document levels (view_change.SetSearchFlags flags) v = refl
-view_change_document levels (view_change.SetMask mask) v = refl
-view_change_document levels (view_change.SetIndicator indicator) v = refl
-view_change_document levels (view_change.SetIndicatorValue value) v = refl
-view_change_document levels (view_change.SetPasteConversion on) v = refl
-view_change_document levels (view_change.SetRecording on) v = refl
-view_change_document levels (view_change.ShowLines first past) v = refl
-view_change_document levels (view_change.HideLines first past) v = refl
-view_change_document levels (view_change.SetExpanded line on) v = refl
-view_change_document levels (view_change.Contract line) v = refl
-view_change_document levels (view_change.Expand line) v = refl
-view_change_document levels (view_change.EnsureVisible line) v = refl
+view_change_document levels _ v = refl
 
 -- the views with the sender's id are attached to its document
 abbrev pub Once : ℕ → ℕ → List View → Type 0
@@ -125,26 +113,7 @@ module _ (Own : ℕ → Type 0) (sender document : ℕ) (apart : Own document �
   lines_leave : (change : DocumentChange) (d : Document) → d.id ≡ document → (v : View) → IsAlike Own v (changed_lines change d v)
   lines_leave (document_change.SetLineEndTypes to) d e v =
       changed_if (v.document == d.id) _ v (λ t. record { id = refl; document = refl; own = λ o. absurd (apart (subst Own (eqb-true v.document d.id t ∙ e) o)) })
-  lines_leave (document_change.SetReadOnly on) d e v = alike_same Own v
-  lines_leave (document_change.SetLineEnd to) d e v = alike_same Own v
-  lines_leave document_change.SetSavePoint d e v = alike_same Own v
-  lines_leave document_change.BeginGroup d e v = alike_same Own v
-  lines_leave document_change.EndGroup d e v = alike_same Own v
-  lines_leave document_change.ForgetHistory d e v = alike_same Own v
-  lines_leave (document_change.CollectUndo on) d e v = alike_same Own v
-  lines_leave (document_change.AppendContainer token coalesce) d e v = alike_same Own v
-  lines_leave (document_change.AddMarker line number) d e v = alike_same Own v
-  lines_leave (document_change.AddMarkers line mask) d e v = alike_same Own v
-  lines_leave (document_change.DeleteMarker line number) d e v = alike_same Own v
-  lines_leave (document_change.DeleteMarkers number) d e v = alike_same Own v
-  lines_leave (document_change.DeleteHandle handle) d e v = alike_same Own v
-  lines_leave (document_change.SetLevel line level) d e v = alike_same Own v
-  lines_leave (document_change.SetState line state) d e v = alike_same Own v
-  lines_leave (document_change.SetEndStyled place) d e v = alike_same Own v
-  lines_leave (document_change.StyleRun count style) d e v = alike_same Own v
-  lines_leave (document_change.StyleBytes count) d e v = alike_same Own v
-  lines_leave (document_change.NeedStyle start past) d e v = alike_same Own v
-  lines_leave (document_change.FillIndicator indicator start count value) d e v = alike_same Own v
+  lines_leave _ d e v = alike_same Own v
 
   all_lines_leave : (change : DocumentChange) (d : Document) → d.id ≡ document → (views : List View) → Once sender document views → AreAlike Own views (map (changed_lines change d) views)
   all_lines_leave change d e views once = alike_changed Own (λ (v : View). v.id ≡ sender → v.document ≡ document) (changed_lines change d) (λ v p. lines_leave change d e v) views once

@@ -139,42 +139,11 @@ lines_id (document_change.FillIndicator indicator start count value) d v = refl
 
 lines_record : (change : DocumentChange) (d : Document) (v : View) → (changed_lines change d v).records ≡ v.records
 lines_record (document_change.SetLineEndTypes to) d v = either (λ (w : View). w.records ≡ v.records) (v.document == d.id) _ v refl refl
-lines_record (document_change.SetReadOnly on) d v = refl
-lines_record (document_change.SetLineEnd to) d v = refl
-lines_record document_change.SetSavePoint d v = refl
-lines_record document_change.BeginGroup d v = refl
-lines_record document_change.EndGroup d v = refl
-lines_record document_change.ForgetHistory d v = refl
-lines_record (document_change.CollectUndo on) d v = refl
-lines_record (document_change.AppendContainer token coalesce) d v = refl
-lines_record (document_change.AddMarker line number) d v = refl
-lines_record (document_change.AddMarkers line mask) d v = refl
-lines_record (document_change.DeleteMarker line number) d v = refl
-lines_record (document_change.DeleteMarkers number) d v = refl
-lines_record (document_change.DeleteHandle handle) d v = refl
-lines_record (document_change.SetLevel line level) d v = refl
-lines_record (document_change.SetState line state) d v = refl
-lines_record (document_change.SetEndStyled place) d v = refl
-lines_record (document_change.StyleRun count style) d v = refl
-lines_record (document_change.StyleBytes count) d v = refl
-lines_record (document_change.NeedStyle start past) d v = refl
-lines_record (document_change.FillIndicator indicator start count value) d v = refl
+lines_record _ d v = refl
 
 view_change_records : (levels : List ℕ) (what : ViewChange) (v : View) (l : Leave) (answer : ℤ) → l.recording ≡ false → KeepsTo l (plan.ChangeView what answer) → (changed_view levels what v).records ≡ v.records
 view_change_records levels (view_change.SetRecording on) v l answer barred keeps = absurd (cc)
-view_change_records levels (view_change.Select anchor caret) v l answer barred keeps = refl
-view_change_records levels (view_change.SetTarget start past) v l answer barred keeps = refl
-view_change_records levels (view_change.SetSearchFlags flags) v l answer barred keeps = refl
-view_change_records levels (view_change.SetMask mask) v l answer barred keeps = refl
-view_change_records levels (view_change.SetIndicator indicator) v l answer barred keeps = refl
-view_change_records levels (view_change.SetIndicatorValue value) v l answer barred keeps = refl
-view_change_records levels (view_change.SetPasteConversion on) v l answer barred keeps = refl
-view_change_records levels (view_change.ShowLines first past) v l answer barred keeps = refl
-view_change_records levels (view_change.HideLines first past) v l answer barred keeps = refl
-view_change_records levels (view_change.SetExpanded line on) v l answer barred keeps = refl
-view_change_records levels (view_change.Contract line) v l answer barred keeps = refl
-view_change_records levels (view_change.Expand line) v l answer barred keeps = refl
-view_change_records levels (view_change.EnsureVisible line) v l answer barred keeps = refl
+view_change_records levels _ v l answer barred keeps = refl
 
 attached_records : (o : Option Document) (v : View) (s : Session) → v.records ≡ true → Records v.id s.views → Records v.id (with_attached o v s).views
 attached_records None v s e h = h

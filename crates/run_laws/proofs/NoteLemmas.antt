@@ -117,13 +117,7 @@ module _ (Code : ℕ → Type 0) (needed : Code notes.style_needed) (reached : C
       codes_if (marker_count old.rows == marker_count new.rows) (notes.heard views told) (codes_heard views told modified)
 
   codes_change : (sender : View) (views : List View) (old new : Document) (what : DocumentChange) → HaveCodes (change_told sender views old new what)
-  codes_change sender views old new (document_change.SetReadOnly on) = tt
-  codes_change sender views old new (document_change.SetLineEnd to) = tt
   codes_change sender views old new document_change.SetSavePoint = codes_told views (notes.blank notes.save_point_reached) reached
-  codes_change sender views old new document_change.BeginGroup = tt
-  codes_change sender views old new document_change.EndGroup = tt
-  codes_change sender views old new document_change.ForgetHistory = tt
-  codes_change sender views old new (document_change.CollectUndo on) = tt
   codes_change sender views old new (document_change.AppendContainer token coalesce) = codes_leaving views old.history
   codes_change sender views old new (document_change.AddMarker line number) = codes_marker line old new views
   codes_change sender views old new (document_change.AddMarkers line mask) = codes_marker line old new views
@@ -140,7 +134,6 @@ module _ (Code : ℕ → Type 0) (needed : Code notes.style_needed) (reached : C
   codes_change sender views old new (document_change.SetState line state) =
       let told = line_note notes.change_line_state line in
       codes_if (is_same (document_row old line).state state) (notes.heard views told) (codes_heard views told modified)
-  codes_change sender views old new (document_change.SetEndStyled place) = tt
   codes_change sender views old new (document_change.StyleRun count style) = codes_range notes.change_style (changed_range (styles_of old.cells) (styles_of new.cells)) views
   codes_change sender views old new (document_change.StyleBytes count) = codes_range notes.change_style (changed_range (styles_of old.cells) (styles_of new.cells)) views
   codes_change sender views old new (document_change.NeedStyle start past) =
@@ -148,19 +141,15 @@ module _ (Code : ℕ → Type 0) (needed : Code notes.style_needed) (reached : C
       let told : Notice = record n { position = pos past } in
       codes_told (sender ∷ []) told needed
   codes_change sender views old new (document_change.FillIndicator indicator start count value) = codes_range notes.change_indicator (changed_range (slice_index_or old.indicators indicator []) (slice_index_or new.indicators indicator [])) views
-  codes_change sender views old new (document_change.SetLineEndTypes to) = tt
+  codes_change sender views old new _ = tt
 
   pub plans_have_codes : (r : Request) (p : Plan) → (p ≡ plan.Attempt → Code notes.modify_attempt) → HaveCodes (performed r p).1.notes
-  plans_have_codes r (plan.Answer value) attempt = tt
-  plans_have_codes r (plan.HandOut value start count) attempt = tt
-  plans_have_codes r (plan.HandOutStyled start count) attempt = tt
   plans_have_codes r (plan.Edit change value after) attempt = codes_edit (steps_of r change) (scene_of r) tt
   plans_have_codes r plan.Attempt attempt = codes_told (watching r.session.views r.document) (notes.blank notes.modify_attempt) (attempt refl)
   plans_have_codes r plan.Undo attempt = codes_history r notes.performed_undo (undo_changes r.document.history) (undone r.document.history)
   plans_have_codes r plan.Redo attempt = codes_history r notes.performed_redo (redo_changes r.document.history) (redone r.document.history)
   plans_have_codes r (plan.ChangeDocument change value) attempt = codes_change r.view (watching r.session.views r.document) r.document (changed_document r.message.text change r.document) change
-  plans_have_codes r (plan.ChangeView change value) attempt = tt
-  plans_have_codes r (plan.ChangeSession change value) attempt = tt
+  plans_have_codes r _ attempt = tt
 
 -- No note of a plan is SCN_MACRORECORD.
 

@@ -105,26 +105,7 @@ module _ (view : ℕ) where
           ≡ cond b (let w = quiet v in record w { flags = regrouped flags_together d.line_end_types to (text_of d) v.flags }) (quiet v)
       go true = refl
       go false = refl
-  lines_quiet (document_change.SetReadOnly on) d v = refl
-  lines_quiet (document_change.SetLineEnd to) d v = refl
-  lines_quiet document_change.SetSavePoint d v = refl
-  lines_quiet document_change.BeginGroup d v = refl
-  lines_quiet document_change.EndGroup d v = refl
-  lines_quiet document_change.ForgetHistory d v = refl
-  lines_quiet (document_change.CollectUndo on) d v = refl
-  lines_quiet (document_change.AppendContainer token coalesce) d v = refl
-  lines_quiet (document_change.AddMarker line number) d v = refl
-  lines_quiet (document_change.AddMarkers line mask) d v = refl
-  lines_quiet (document_change.DeleteMarker line number) d v = refl
-  lines_quiet (document_change.DeleteMarkers number) d v = refl
-  lines_quiet (document_change.DeleteHandle handle) d v = refl
-  lines_quiet (document_change.SetLevel line level) d v = refl
-  lines_quiet (document_change.SetState line state) d v = refl
-  lines_quiet (document_change.SetEndStyled place) d v = refl
-  lines_quiet (document_change.StyleRun count style) d v = refl
-  lines_quiet (document_change.StyleBytes count) d v = refl
-  lines_quiet (document_change.NeedStyle start past) d v = refl
-  lines_quiet (document_change.FillIndicator indicator start count value) d v = refl
+  lines_quiet _ d v = refl
 
   -- Two scenes of one document that differ only in which views record, and in the notes.
   record Scenes (a b : Scene) : Type 0 where

@@ -351,19 +351,7 @@ module _ (c : Cited) (saved : List ℕ) where
   changed_saved bytes (document_change.AppendContainer token coalesce) d l answer barred keeps s = container_saved token coalesce d.history (text_of d) s
   changed_saved bytes (document_change.StyleRun count style) d l answer barred keeps s = subst (λ (now : List ℕ). Saved saved now d.history) (sym (text_styled (replicate count style) d)) s
   changed_saved bytes (document_change.StyleBytes count) d l answer barred keeps s = subst (λ (now : List ℕ). Saved saved now d.history) (sym (text_styled (take count bytes) d)) s
-  changed_saved bytes (document_change.SetReadOnly on) d l answer barred keeps s = s
-  changed_saved bytes (document_change.SetLineEnd to) d l answer barred keeps s = s
-  changed_saved bytes (document_change.SetLineEndTypes to) d l answer barred keeps s = s
-  changed_saved bytes (document_change.AddMarker line number) d l answer barred keeps s = s
-  changed_saved bytes (document_change.AddMarkers line mask) d l answer barred keeps s = s
-  changed_saved bytes (document_change.DeleteMarker line number) d l answer barred keeps s = s
-  changed_saved bytes (document_change.DeleteMarkers number) d l answer barred keeps s = s
-  changed_saved bytes (document_change.DeleteHandle handle) d l answer barred keeps s = s
-  changed_saved bytes (document_change.SetLevel line level) d l answer barred keeps s = s
-  changed_saved bytes (document_change.SetState line state) d l answer barred keeps s = s
-  changed_saved bytes (document_change.SetEndStyled place) d l answer barred keeps s = s
-  changed_saved bytes (document_change.NeedStyle start past) d l answer barred keeps s = s
-  changed_saved bytes (document_change.FillIndicator indicator start count value) d l answer barred keeps s = s
+  changed_saved bytes _ d l answer barred keeps s = s
 
   in_turn : (steps : List Step) (now : List ℕ) → AreStepsOf now steps → FitInTurn steps now
   in_turn [] now h = tt
@@ -401,12 +389,7 @@ module _ (c : Cited) (saved : List ℕ) where
           absurd (omega arith)
       go (t ∷ ts) some = redo_saved (scene_of r) t ts some (in_turn _ (text r) (c.redo_fits r sound)) s
   own_saved r (plan.ChangeDocument change value) l barred keeps sound fit_document fit may s = changed_saved r.message.text change r.document l value barred keeps s
-  own_saved r (plan.Answer value) l barred keeps sound fit_document fit may s = s
-  own_saved r (plan.HandOut value start count) l barred keeps sound fit_document fit may s = s
-  own_saved r (plan.HandOutStyled start count) l barred keeps sound fit_document fit may s = s
-  own_saved r plan.Attempt l barred keeps sound fit_document fit may s = s
-  own_saved r (plan.ChangeView change value) l barred keeps sound fit_document fit may s = s
-  own_saved r (plan.ChangeSession change value) l barred keeps sound fit_document fit may s = s
+  own_saved r _ l barred keeps sound fit_document fit may s = s
 
   -- Commands.
 

@@ -46,25 +46,7 @@ plain_styled new d h none = rw none (h none)
 changed_plain : (bytes : List ℕ) (change : DocumentChange) (d : Document) → HasNoStyles d → HasNoStyles (changed_document bytes change d)
 changed_plain bytes (change.StyleRun count style) d h = plain_styled (replicate count style) d h
 changed_plain bytes (change.StyleBytes count) d h = plain_styled (take count bytes) d h
-changed_plain bytes (change.SetReadOnly on) d h = h
-changed_plain bytes (change.SetLineEnd to) d h = h
-changed_plain bytes (change.SetLineEndTypes to) d h = h
-changed_plain bytes change.SetSavePoint d h = h
-changed_plain bytes change.BeginGroup d h = h
-changed_plain bytes change.EndGroup d h = h
-changed_plain bytes change.ForgetHistory d h = h
-changed_plain bytes (change.CollectUndo on) d h = h
-changed_plain bytes (change.AppendContainer token coalesce) d h = h
-changed_plain bytes (change.AddMarker line number) d h = h
-changed_plain bytes (change.AddMarkers line mask) d h = h
-changed_plain bytes (change.DeleteMarker line number) d h = h
-changed_plain bytes (change.DeleteMarkers number) d h = h
-changed_plain bytes (change.DeleteHandle handle) d h = h
-changed_plain bytes (change.SetLevel line level) d h = h
-changed_plain bytes (change.SetState line state) d h = h
-changed_plain bytes (change.SetEndStyled place) d h = h
-changed_plain bytes (change.NeedStyle start past) d h = h
-changed_plain bytes (change.FillIndicator indicator start count value) d h = h
+changed_plain bytes _ d h = h
 
 pub documents_without_styles_have_none : PlansFit → CommandKeepsSound → NewSessionIsSound → DocumentsWithoutStylesHaveNone
 documents_without_styles_have_none fits keeps new files commands limits =
