@@ -28,7 +28,7 @@ use Rattle.ed_model.specs.Notes as notes
 use Rattle.ed_model.specs.Requests.{Request, Planned, text}
 use Rattle.ed_model.specs.Edits.{steps_of, source_bytes, converted_if}
 use Rattle.ed_model.specs.FoldingPlans.{levels}
-use Rattle.ed_model.specs.Performing.{Scene, scene_of, session_of, document_after, view_after, step_made, sealed_scene, edit_made, followed, with_caret, caret_behind, leaving, change_performed, changes_performed, changes_lines, is_last, transaction_performed, save_point_change, history_performed, place_behind, container_note, last_bits, response}
+use Rattle.ed_model.specs.Performing.{Scene, scene_of, session_of, document_after, view_after, step_made, sealed_scene, edit_made, followed, with_caret, caret_behind, leaving, change_performed, changes_performed, transaction_performed, save_point_change, history_performed, place_behind, container_note, last_bits, response}
 use Rattle.ed_model.specs.Changes.{changed_document, changed_lines, changed_view, change_told}
 use Rattle.ed_model.specs.Table.{table, answered, with_recording, plan_of, performed, request, table_from_view, table_from_kind, table_from_document}
 use Rattle.ed_model.specs.TableLaws.{Answered}
@@ -37,7 +37,7 @@ use Rattle.ed_model.specs.Run.{Running, starting, after_command, after_message, 
 use Rattle.run_laws.specs.MessageKinds.{is_copying, is_about_documents}
 use Rattle.run_laws.specs.IsolationLaws.{Sending, sent, shows_other, goes_elsewhere, unless, without_others, own_outcomes, KeepsApart, DocumentsAreApart}
 use Rattle.run_laws.proofs.Finding.{document_id, view_id, found_all, replaced_found, mapped_found}
-use Rattle.run_laws.proofs.Walks.{step_keeps, sender_keeps, lines_keep, edit_related}
+use Rattle.run_laws.proofs.Walks.{step_keeps, sender_keeps, lines_keep, edit_related, changes_related}
 use Rattle.run_laws.proofs.IdLemmas.{after_id, lines_id}
 use Rattle.run_laws.proofs.TableWays.{of_table}
 use Rattle.run_laws.proofs.Going.{own_id}
@@ -121,22 +121,13 @@ change_same id who several last lines_changed (ContainerStep token coalesce) a b
       listed = h.listed;
     })
 
-changes_same : (id who several : ℕ) (lines_changed : Bool) (cs : List Change) (a b : Scene) → SameScenes id a b
-    → SameScenes id (changes_performed who several lines_changed cs a) (changes_performed who several lines_changed cs b)
-changes_same id who several lines_changed [] a b h = h
-changes_same id who several lines_changed (c ∷ cs) a b h =
-    let changed = cond lines_changed true (changes_lines c a.document) in
-    subst (λ (d : Document). SameScenes id (changes_performed who several lines_changed (c ∷ cs) a)
-    (changes_performed who several (cond lines_changed true (changes_lines c d)) cs (change_performed who several (is_last cs) (cond lines_changed true (changes_lines c d)) c b))) (sym h.document)
-    (changes_same id who several changed cs (change_performed who several (is_last cs) changed c a) (change_performed who several (is_last cs) changed c b) (change_same id who several (is_last cs) changed c a b h))
-
 -- a transaction performed in both scenes, with the same history afterwards
 transaction_same : (id who : ℕ) (cs : List Change) (new : History) (a b : Scene) → SameScenes id a b → SameScenes id (transaction_performed who cs new a) (transaction_performed who cs new b)
 transaction_same id who cs new a b h =
     let several = notes.bit_if (nat_lt 1 (length cs)) notes.multi_step in
     let x = changes_performed who several false cs a in
     let y = changes_performed who several false cs b in
-    let k : SameScenes id x y = changes_same id who several false cs a b h in
+    let k : SameScenes id x y = changes_related (SameScenes id) (λ x y same. same.document) (change_same id) who several false cs a b h in
     let heard : watching y.views y.document ≡ watching x.views x.document =
     ap (watching y.views) k.document ∙ watching_alike id x.views y.views x.document.views k.views k.listed in
     record {
@@ -219,10 +210,8 @@ abbrev at : Request → Session → Request
 at r t = record r { session = t }
 
 source_same : (r : Request) (t : Session) (from : Source) → t.clipboard ≡ r.session.clipboard → source_bytes (at r t) from ≡ source_bytes r from
-source_same r t source.Nothing e = refl
-source_same r t (source.MessageText count) e = refl
 source_same r t (source.Clipboard convert) e = same_converted convert r (at r t) t.clipboard refl ∙ ap (λ (bytes : List ℕ). converted_if convert r bytes) e
-source_same r t source.LineEnd e = refl
+source_same r t _ e = refl
 
 steps_of_same : (r : Request) (t : Session) (change : Edit) → t.clipboard ≡ r.session.clipboard → steps_of (at r t) change ≡ steps_of r change
 steps_of_same r t (edit.Replace start count from) e = ap (λ (bytes : List ℕ). replacement start count bytes (text r)) (source_same r t from e)

@@ -21,7 +21,7 @@ use Rattle.ed_model.specs.Requests.{Request, text}
 use Rattle.ed_model.specs.Edits.{steps_of}
 use Rattle.ed_model.specs.FoldingPlans.{levels}
 use Rattle.ed_model.specs.Performing.{scene_of, session_of, moved_view, view_after, edit_made, followed}
-use Rattle.ed_model.specs.Changes.{changed_lines, changed_view}
+use Rattle.ed_model.specs.Changes.{changed_lines, changed_view, session_changed}
 use Rattle.ed_model.specs.Table.{performed}
 use Rattle.run_laws.proofs.Finding.{replaced_other}
 use Rattle.run_laws.proofs.Walks.{attaches, followed_same, performed_views}
@@ -42,7 +42,6 @@ Once sender document views = AllByRecursion (λ (v : View). v.id ≡ sender → 
 -- a plan that is not about documents attaches no view
 attaches_none : (l : Leave) (what : SessionChange) (value : ℤ) → l.documents ≡ false → KeepsTo l (plan.ChangeSession what value) → attaches what ≡ true → ⊥
 attaches_none l (session_change.Attach id) value barred keeps e = cc
-attaches_none l session_change.AttachNew value barred keeps e = cc
 attaches_none l _ value barred keeps e = cc
 
 -- `Own` does not hold for the sender's document.
@@ -109,6 +108,13 @@ performed_leaves_views Own r p l apart barred keeps e once =
     further vs ws h k =
         alike_through Own r.session.views vs ws h (k (kept_on Own (λ n m. n ≡ r.view.id → m ≡ r.view.document) r.session.views vs h once))
 
+-- a change of the session that is not about documents changes the clipboard alone
+session_leaves : (r : Request) (what : SessionChange) (value : ℤ) (l : Leave) → l.documents ≡ false → KeepsTo l (plan.ChangeSession what value)
+    → session_changed r what ≡ (let s = r.session in record s { clipboard = (session_changed r what).clipboard })
+session_leaves r (session_change.Copy start count) value l barred keeps = refl
+session_leaves r (session_change.CopyText count) value l barred keeps = refl
+session_leaves r _ value l barred keeps = absurd (cc)
+
 pub performed_leaves_document : (r : Request) (p : Plan) (l : Leave) (id : ℕ) → l.documents ≡ false → KeepsTo l p → (id ≡ r.document.id → ⊥)
     → document_at (performed r p).0.documents id ≡ document_at r.session.documents id
 performed_leaves_document r (plan.Edit change value after) l id barred keeps other =
@@ -119,11 +125,7 @@ performed_leaves_document r plan.Undo l id barred keeps other = replaced_other r
 performed_leaves_document r plan.Redo l id barred keeps other = replaced_other r.session.documents (own_after r plan.Redo) id (λ e. other (e ∙ own_id r plan.Redo))
 performed_leaves_document r (plan.ChangeDocument change value) l id barred keeps other =
     replaced_other r.session.documents (own_after r (plan.ChangeDocument change value)) id (λ e. other (e ∙ own_id r (plan.ChangeDocument change value)))
-performed_leaves_document r (plan.ChangeSession (session_change.Attach d) value) l id barred keeps other = absurd (cc)
-performed_leaves_document r (plan.ChangeSession session_change.AttachNew value) l id barred keeps other = absurd (cc)
-performed_leaves_document r (plan.ChangeSession (session_change.Create options) value) l id barred keeps other = absurd (cc)
-performed_leaves_document r (plan.ChangeSession (session_change.AddReference d) value) l id barred keeps other = absurd (cc)
-performed_leaves_document r (plan.ChangeSession (session_change.Release d) value) l id barred keeps other = absurd (cc)
+performed_leaves_document r (plan.ChangeSession what value) l id barred keeps other = ap (λ (s : Session). document_at s.documents id) (session_leaves r what value l barred keeps)
 performed_leaves_document r _ l id barred keeps other = refl
 
 -- the clipboard after what follows an edit, if that takes nothing to it
@@ -146,6 +148,5 @@ performed_leaves_clipboard r _ l none barred keeps = refl
 pub performed_leaves_limits : (r : Request) (p : Plan) (l : Leave) → l.documents ≡ false → KeepsTo l p → (performed r p).0.limits ≡ r.session.limits
 performed_leaves_limits r (plan.Edit change value after) l none keeps =
     followed_same (λ (s : Session). s.limits) (λ s views. refl) (λ s clipboard. refl) r.view.id (text r) after (session_of r.session (edit_made (steps_of r change) (scene_of r)))
-performed_leaves_limits r (plan.ChangeSession (session_change.Attach d) value) l none keeps = absurd (cc)
-performed_leaves_limits r (plan.ChangeSession session_change.AttachNew value) l none keeps = absurd (cc)
+performed_leaves_limits r (plan.ChangeSession what value) l none keeps = ap (λ (s : Session). s.limits) (session_leaves r what value l none keeps)
 performed_leaves_limits r _ l none keeps = refl

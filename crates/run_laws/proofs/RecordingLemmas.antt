@@ -25,7 +25,7 @@ use Rattle.ed_model.specs.Notes as notes
 use Rattle.ed_model.specs.Requests.{Request, Planned, text}
 use Rattle.ed_model.specs.Edits.{steps_of}
 use Rattle.ed_model.specs.FoldingPlans.{levels}
-use Rattle.ed_model.specs.Performing.{Scene, scene_of, session_of, document_after, moved_view, view_after, step_made, sealed_scene, edit_made, followed, with_caret, with_target, caret_behind, change_performed, changes_performed, changes_lines, is_last, history_performed, place_behind}
+use Rattle.ed_model.specs.Performing.{Scene, scene_of, session_of, document_after, moved_view, view_after, step_made, sealed_scene, edit_made, followed, with_caret, with_target, caret_behind, change_performed, changes_performed, history_performed, place_behind}
 use Rattle.ed_model.specs.Changes.{changed_lines, changed_view}
 use Rattle.ed_model.specs.Table.{table, answered, plan_of, performed, request, table_from_view, table_from_kind, table_from_document}
 use Rattle.ed_model.specs.TableLaws.{Answered}
@@ -38,7 +38,7 @@ use Rattle.ed_model.specs.Changes.{with_attached, with_new_document, session_cha
 use Rattle.ed_model.specs.Run.{after_message}
 use Rattle.run_laws.specs.MacroLaws.{not_recording}
 use Rattle.run_laws.proofs.Finding.{view_id, mapped_found}
-use Rattle.run_laws.proofs.Walks.{edit_related}
+use Rattle.run_laws.proofs.Walks.{edit_related, changes_related}
 use Rattle.run_laws.proofs.PlanShapes.{same_converted, same_plan_recording}
 use Rattle.run_laws.proofs.IdLemmas.{view_change_ids}
 
@@ -125,18 +125,10 @@ module _ (view : ℕ) where
   edit_scenes : (steps : List Step) (a b : Scene) → Scenes a b → Scenes (edit_made steps a) (edit_made steps b)
   edit_scenes steps a b h = edit_related Scenes step_scenes sealed_scenes steps a b h
 
-  changes_scenes : (who several : ℕ) (in_a in_b : Bool) (cs : List Change) (a b : Scene) → Scenes a b → Scenes (changes_performed who several in_a cs a) (changes_performed who several in_b cs b)
-  changes_scenes who several in_a in_b [] a b h = h
-  changes_scenes who several in_a in_b (TextStep step ∷ cs) a b h =
-      let changed_a = cond in_a true (changes_lines (TextStep step) a.document) in
-      let changed_b = cond in_b true (changes_lines (TextStep step) b.document) in
-      changes_scenes who several changed_a changed_b cs (change_performed who several (is_last cs) changed_a (TextStep step) a) (change_performed who several (is_last cs) changed_b (TextStep step) b)
-      (record { document = ap (document_after step) h.document; views = step_views step a b h })
-  changes_scenes who several in_a in_b (ContainerStep token coalesce ∷ cs) a b h =
-      let changed_a = cond in_a true (changes_lines (ContainerStep token coalesce) a.document) in
-      let changed_b = cond in_b true (changes_lines (ContainerStep token coalesce) b.document) in
-      changes_scenes who several changed_a changed_b cs (change_performed who several (is_last cs) changed_a (ContainerStep token coalesce) a) (change_performed who several (is_last cs) changed_b (ContainerStep token coalesce) b)
-      (record { document = h.document; views = h.views })
+  change_scenes : (who several : ℕ) (last lines_changed : Bool) (c : Change) (a b : Scene) → Scenes a b
+      → Scenes (change_performed who several last lines_changed c a) (change_performed who several last lines_changed c b)
+  change_scenes who several last lines_changed (TextStep step) a b h = record { document = ap (document_after step) h.document; views = step_views step a b h }
+  change_scenes who several last lines_changed (ContainerStep token coalesce) a b h = record { document = h.document; views = h.views }
 
   -- Two sessions that differ only in whether the view records.
   pub record Same (s t : Session) : Type 0 where
@@ -173,7 +165,7 @@ module _ (view : ℕ) where
       let several = notes.bit_if (nat_lt 1 (length cs)) notes.multi_step in
       let x = changes_performed who several false cs (scene_of r) in
       let y = changes_performed who several false cs (scene_of (other r ws b)) in
-      let h : Scenes x y = changes_scenes who several false false cs (scene_of r) (scene_of (other r ws b)) (record { document = refl; views = e }) in
+      let h : Scenes x y = changes_related Scenes (λ a b k. k.document) change_scenes who several false cs (scene_of r) (scene_of (other r ws b)) (record { document = refl; views = e }) in
       let step = latest_text_step (reverse cs) in
       let s = r.session in
       record {

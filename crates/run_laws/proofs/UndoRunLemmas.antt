@@ -10,18 +10,18 @@ use Rattle.ed_types.specs.declared.script.Outcome.{Outcome}
 use Rattle.ed_types.specs.Notices.{Response}
 use Rattle.ed_types.specs.Messages.{kind_of}
 use Rattle.ed_model.specs.declared.plan.Plan.{Plan}
-use Rattle.ed_model.specs.History.{Change, can_undo, can_redo, undo_changes, redo_changes}
+use Rattle.ed_model.specs.History.{History, Change, can_undo, can_redo, undo_changes, redo_changes}
 use Rattle.ed_model.specs.declared.plan.Plan.TheVariants as plan
 use Rattle.ed_model.specs.Session.{Session, View, Document, view_at, document_at, text_of, new_session, limit_of}
 use Rattle.ed_model.specs.Requests.{Request, size}
 use Rattle.ed_model.specs.Edits.{stays_within}
 use Rattle.ed_model.specs.UndoPlans.{act_on_history, text_steps}
-use Rattle.ed_model.specs.Table.{table, answered, request}
+use Rattle.ed_model.specs.Table.{table, answered, plan_of, request}
 use Rattle.ed_model.specs.TableLaws.{Answered, LeavesSession, QueriesLeaveTheSession}
 use Rattle.ed_model.specs.SoundLaws.{IsSound, CommandKeepsSound, IsSoundInEveryState}
 use Rattle.ed_model.specs.RunUndoLaws.{UndoGoesBackInEveryRun}
 use Rattle.ed_model.specs.UndoLaws.{undone_text}
-use Rattle.ed_model.specs.UndoMessageLaws.{UndoIsNeverTooLong, RedoIsNeverTooLong}
+use Rattle.ed_model.specs.UndoMessageLaws.{IsNeverTooLong, UndoIsNeverTooLong, RedoIsNeverTooLong}
 use Rattle.ed_model.specs.RepeatedUndoLaws.{IsLeftAlone, LeavesAlone, MessagesLeaveOtherDocumentsAlone, OpeningLeavesDocumentsAlone, ClosingLeavesDocumentsAlone, AreAnswered, HasText, UndosGoBackThenRedosGoOn, UndoMessagesGoBack}
 use Rattle.ed_model.specs.PlansFit.{PlansFit}
 use Rattle.ed_model.specs.Run.{Running, starting, after_command, after_message, set_text_message, run_to}
@@ -72,18 +72,13 @@ IsAlwaysAnswered kind =
     (s : Session) (view : ℕ) (m : Message) (v : View) (d : Document) → IsSound s → kind_of m.number ≡ Some kind → view_at s.views view ≡ Some v → document_at s.documents v.document ≡ Some d
     → (done : Session × Response) × (table s view m ≡ Ok done)
 
-undo_is_answered : UndoIsNeverTooLong → IsAlwaysAnswered Undo
-undo_is_answered fits s view m v d sound is sees finds =
+-- UNDO or REDO, whose plan acts on the history, is answered
+is_answered : (kind : Kind) (can : History → Bool) (changes : History → List Change) (act : Plan)
+    → ((r : Request) → plan_of kind r ≡ act_on_history r (can r.document.history) (changes r.document.history) act) → IsNeverTooLong kind → IsAlwaysAnswered kind
+is_answered kind can changes act plans fits s view m v d sound is sees finds =
     let r = request s v d m in
     done_unless_too_long (table s view m)
-    (subst DoneOrTooLong (sym (table_at s view m v Undo d sees is finds)) (acts_or_too_long Undo r (can_undo d.history) (undo_changes d.history) plan.Undo))
-    (fits s view m sound is)
-
-redo_is_answered : RedoIsNeverTooLong → IsAlwaysAnswered Redo
-redo_is_answered fits s view m v d sound is sees finds =
-    let r = request s v d m in
-    done_unless_too_long (table s view m)
-    (subst DoneOrTooLong (sym (table_at s view m v Redo d sees is finds)) (acts_or_too_long Redo r (can_redo d.history) (redo_changes d.history) plan.Redo))
+    (subst DoneOrTooLong (sym (table_at s view m v kind d sees is finds ∙ ap (answered kind r) (plans r))) (acts_or_too_long kind r (can d.history) (changes d.history) act))
     (fits s view m sound is)
 
 -- Commands that do not concern the document leave it alone.
@@ -205,8 +200,8 @@ undo_goes_back_over_commands laws files limits before undos redos id k d found w
     let t = run_to files undos s in
     let sound : IsSound s.session = laws.sound files before limits in
     let sound_after : IsSound t.session = run_keeps undos s sound in
-    let undo = undo_is_answered laws.undo_fits in
-    let redo = redo_is_answered laws.redo_fits in (
+    let undo = is_answered Undo can_undo undo_changes plan.Undo (λ r. refl) laws.undo_fits in
+    let redo = is_answered Redo can_redo redo_changes plan.Redo (λ r. refl) laws.redo_fits in (
       (λ e end.
           let chain = chained laws files Undo undo id undos k s.session s e sound (alone_here id s.session d found) act end in
           let text = laws.there s.session t.session id d chain.0 found written depth (subst (λ n. n ≤ length d.history.past) (sym chain.1) enough) chain.2 in

@@ -1,5 +1,5 @@
 -- What each step keeps, the steps of a message keep: in a scene, in two scenes, and in the views of a session after a plan.
-use Rattle.std.proofs.Common.{◌≡◌, ℕ, ◌+◌, ◌==◌, nat_lt, cond, Bool, true, false, List, [], ◌∷◌, length, map, refl, Option, Some, None}
+use Rattle.std.proofs.Common.{◌≡◌, ℕ, ◌+◌, ◌==◌, nat_lt, cond, Bool, true, false, List, [], ◌∷◌, length, map, refl, sym, subst, Option, Some, None}
 use Rattle.std.specs.Prelude.{ℤ, reverse, slice_range}
 use Rattle.ed_model.specs.declared.plan.Follow.{Follow}
 use Rattle.ed_model.specs.declared.plan.Follow.TheVariants as follow
@@ -45,7 +45,22 @@ pub edit_kept : (P : Scene → Type 0) → ((later : Bool) (step : Step) (scene 
     → (steps : List Step) (scene : Scene) → P scene → P (edit_made steps scene)
 edit_kept P made sealed steps scene h = edit_related (λ (a b : Scene). P a) (λ later step a b p. made later step a p) (λ a b p. sealed a p) steps scene scene h
 
--- what each change of a transaction keeps, the transaction keeps
+-- what each change of a transaction keeps between two scenes of one document, the transaction keeps
+module _ (R : Scene → Scene → Type 0) (document_related : (a b : Scene) → R a b → b.document ≡ a.document)
+    (change_related : (who several : ℕ) (last lines_changed : Bool) (c : Change) (a b : Scene) → R a b
+    → R (change_performed who several last lines_changed c a) (change_performed who several last lines_changed c b)) where
+  pub changes_related : (who several : ℕ) (lines_changed : Bool) (cs : List Change) (a b : Scene) → R a b
+      → R (changes_performed who several lines_changed cs a) (changes_performed who several lines_changed cs b)
+  changes_related who several lines_changed [] a b h = h
+  changes_related who several lines_changed (c ∷ cs) a b h =
+      let changed = cond lines_changed true (changes_lines c a.document) in
+      subst (λ (d : Document). R (changes_performed who several lines_changed (c ∷ cs) a)
+      (changes_performed who several (cond lines_changed true (changes_lines c d)) cs (change_performed who several (is_last cs) (cond lines_changed true (changes_lines c d)) c b)))
+      (sym (document_related a b h))
+      (changes_related who several changed cs (change_performed who several (is_last cs) changed c a) (change_performed who several (is_last cs) changed c b)
+      (change_related who several (is_last cs) changed c a b h))
+
+-- .. and so in one scene
 pub changes_kept : (P : Scene → Type 0)
     → ((who several : ℕ) (last lines_changed : Bool) (c : Change) (scene : Scene) → P scene → P (change_performed who several last lines_changed c scene))
     → (who several : ℕ) (lines_changed : Bool) (cs : List Change) (scene : Scene) → P scene → P (changes_performed who several lines_changed cs scene)
